@@ -1,0 +1,4 @@
+pub mod Names
+pub mod Shape
+pub mod Group
+pub mod NewGroup

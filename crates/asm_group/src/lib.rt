@@ -1,0 +1,45 @@
+//! The words of a disk group, and what a group is for its users: names and paths, files and their bytes,
+//! templates and attributes. All other crates of definitions stand on these.
+#![tactic(auto)]
+
+/// The redundancy of a group, fixed at its creation.
+#[derive(Clone, Copy)]
+pub enum GroupKind {
+    External,
+    Normal,
+    High,
+}
+
+/// How a file's bytes lie on its extents.
+#[derive(Clone, Copy)]
+pub enum Stripe {
+    Coarse,
+    Fine,
+}
+
+/// The mode of a disk.
+#[derive(Clone, Copy)]
+pub enum Mode {
+    Online,
+    Offline,
+    Syncing,
+    Dropping,
+    Forced,
+}
+
+/// What a node of the alias tree is.
+#[derive(Clone, Copy)]
+pub enum NodeKind {
+    Directory,
+    System,
+    Alias,
+}
+
+/// What a pending operation does.
+#[derive(Clone, Copy)]
+pub enum PendingKind {
+    Create,
+    Remove,
+    Grow,
+    Shrink,
+}
