@@ -2,3 +2,5 @@ pub mod Names
 pub mod Shape
 pub mod Group
 pub mod NewGroup
+pub mod Refusal
+pub mod Rows

@@ -2,6 +2,8 @@
 //! templates and attributes. All other crates of definitions stand on these.
 #![tactic(auto)]
 
+ghost use Rattle.asm_group.specs.Rows.{NameRows, TemplateRows, RefusalRows};
+
 /// The redundancy of a group, fixed at its creation.
 #[derive(Clone, Copy)]
 pub enum GroupKind {
@@ -43,3 +45,18 @@ pub enum PendingKind {
     Grow,
     Shrink,
 }
+
+/// Which texts are names, and which names are one.
+pub fn name_rows()
+    ensures { NameRows }
+{}
+
+/// The system templates of each kind of group.
+pub fn template_rows()
+    ensures { TemplateRows }
+{}
+
+/// Refusals as they are printed.
+pub fn refusal_rows()
+    ensures { RefusalRows }
+{}
