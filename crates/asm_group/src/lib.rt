@@ -5,7 +5,7 @@
 ghost use Rattle.asm_group.specs.Rows.{NameRows, TemplateRows, RefusalRows};
 
 /// The redundancy of a group, fixed at its creation.
-#[derive(Clone, Copy)]
+#[derive(Clone, Copy, Debug, PartialEq, Eq)]
 pub enum GroupKind {
     External,
     Normal,
@@ -13,14 +13,14 @@ pub enum GroupKind {
 }
 
 /// How a file's bytes lie on its extents.
-#[derive(Clone, Copy)]
+#[derive(Clone, Copy, Debug, PartialEq, Eq)]
 pub enum Stripe {
     Coarse,
     Fine,
 }
 
 /// The mode of a disk.
-#[derive(Clone, Copy)]
+#[derive(Clone, Copy, Debug, PartialEq, Eq)]
 pub enum Mode {
     Online,
     Offline,
@@ -30,7 +30,7 @@ pub enum Mode {
 }
 
 /// What a node of the alias tree is.
-#[derive(Clone, Copy)]
+#[derive(Clone, Copy, Debug, PartialEq, Eq)]
 pub enum NodeKind {
     Directory,
     System,
@@ -38,7 +38,7 @@ pub enum NodeKind {
 }
 
 /// What a pending operation does.
-#[derive(Clone, Copy)]
+#[derive(Clone, Copy, Debug, PartialEq, Eq)]
 pub enum PendingKind {
     Create,
     Remove,
