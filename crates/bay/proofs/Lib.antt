@@ -1,0 +1,4 @@
+pub mod Calls
+pub mod Images
+pub mod Known
+pub mod Marks
