@@ -1,0 +1,80 @@
+-- What a gated slot shows, and what its calls do to an image.
+use Rattle.std.specs.Prelude.{◌≡◌, ◌⊎◌, ℕ, ◌+◌, ◌%◌, ◌≤◌, Bool, Option, Some, None, IsSome, List, if◌then◌else◌, ◌==◌}
+use Rattle.bay.specs.Image.{Image, window, Range, Same, ChangesOnly}
+use Rattle.bay.specs.State.{BayState, size_of}
+use Rattle.gate_slot.specs.declared.place.Place.{Place}
+
+-- the gate and the body of a place are whole sectors of an attached disk, and don't meet
+pub record IsUsable (state : BayState) (slot : ℕ) (place : Place) : Type 0 where
+  pub attached : IsSome (state.attached slot)
+  pub sector : (place.sector ≡ 512) ⊎ (place.sector ≡ 4096)
+  pub gate_inside : place.gate + place.sector ≤ size_of state slot
+  pub body_inside : place.body + place.len ≤ size_of state slot
+  pub gate_sectors : place.gate % place.sector ≡ 0
+  pub body_sectors : place.body % place.sector ≡ 0
+  pub len_sectors : place.len % place.sector ≡ 0
+  pub apart : (place.gate + place.sector ≤ place.body) ⊎ (place.body + place.len ≤ place.gate)
+
+-- the bytes of a gate
+abbrev pub GateOf : Place → ℕ → ℕ → ℕ → Type 0
+GateOf place slot = Range slot place.gate place.sector
+
+-- the bytes of a gate and of its body
+abbrev pub PlaceOf : Place → ℕ → ℕ → ℕ → Type 0
+PlaceOf place slot s k = GateOf place slot s k ⊎ Range slot place.body place.len s k
+
+-- no byte belongs to both places
+abbrev pub AreApart : Place → ℕ → Place → ℕ → Type 0
+AreApart place slot other other_slot = (s k : ℕ) → PlaceOf place slot s k → PlaceOf other other_slot s k → ⊥
+
+-- a gate is open where its first byte is A5
+abbrev pub is_open_in : Place → ℕ → Image → Bool
+is_open_in place slot image = image.byte slot place.gate == 165
+
+-- the bytes of a body
+abbrev pub body_in : Place → ℕ → Image → List ℕ
+body_in place slot image = window (image.byte slot) place.body place.len
+
+-- what a slot shows: its body where the gate is open, else nothing
+abbrev pub shown : Place → ℕ → Image → Option (List ℕ)
+shown place slot image = if is_open_in place slot image then Some (body_in place slot image) else None
+
+-- the gate's first byte is this, and nothing but the gate is changed
+pub record SetsGate (place : Place) (slot first : ℕ) (old new : Image) : Type 0 where
+  pub gate : new.byte slot place.gate ≡ first
+  pub elsewhere : ChangesOnly (GateOf place slot) old new
+
+-- the disks are the same, and it is known whether the gate is open
+pub record FoundGate (place : Place) (slot : ℕ) (answer : Bool) (old new : Image) : Type 0 where
+  pub gate : is_open_in place slot new ≡ answer
+  pub same : Same old new
+
+-- the slot is closed
+pub record Closes (place : Place) (slot : ℕ) (old new : Image) : Type 0 where
+  pub shows : shown place slot new ≡ None
+  pub elsewhere : ChangesOnly (GateOf place slot) old new
+
+-- while it is closed, it shows what it did, or nothing
+pub record MayClose (place : Place) (slot : ℕ) (old new : Image) : Type 0 where
+  pub shows : (shown place slot new ≡ shown place slot old) ⊎ (shown place slot new ≡ None)
+  pub elsewhere : ChangesOnly (GateOf place slot) old new
+
+-- the slot shows its body
+pub record Opens (place : Place) (slot : ℕ) (old new : Image) : Type 0 where
+  pub shows : shown place slot new ≡ Some (body_in place slot old)
+  pub elsewhere : ChangesOnly (GateOf place slot) old new
+
+-- while it is opened, it shows nothing or its body
+pub record MayOpen (place : Place) (slot : ℕ) (old new : Image) : Type 0 where
+  pub shows : (shown place slot new ≡ None) ⊎ (shown place slot new ≡ Some (body_in place slot old))
+  pub elsewhere : ChangesOnly (GateOf place slot) old new
+
+-- the slot shows a new body
+pub record HasPut (place : Place) (slot : ℕ) (body : List ℕ) (old new : Image) : Type 0 where
+  pub shows : shown place slot new ≡ Some body
+  pub elsewhere : ChangesOnly (PlaceOf place slot) old new
+
+-- while a body is put, the slot shows what it did, nothing, or the new body
+pub record MayPut (place : Place) (slot : ℕ) (body : List ℕ) (old new : Image) : Type 0 where
+  pub shows : (shown place slot new ≡ shown place slot old) ⊎ ((shown place slot new ≡ None) ⊎ (shown place slot new ≡ Some body))
+  pub elsewhere : ChangesOnly (PlaceOf place slot) old new

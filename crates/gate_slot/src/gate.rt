@@ -1,0 +1,173 @@
+// Gates and the bodies behind them: read, closed, filled, opened.
+ghost use Rattle.std.specs.Prelude.{◌≡◌, ◌+◌, ◌*◌, ◌%◌, None, false, ◌≤◌, ◌<◌, length, IfOk, OnOk, OnErr, IsSome, slice_index};
+ghost use Rattle.std.specs.Option.{ForSome};
+ghost use Rattle.bay.specs.Image.{window, Same, ChangesOnly, Range, Puts};
+ghost use Rattle.bay.specs.State.{IsSlot, KeepsAttached, IsOnSectors, size_of};
+ghost use Rattle.bay.specs.Counts.{Rose};
+ghost use Rattle.bay.specs.Moments.{Runs, Ends};
+ghost use Rattle.gate_slot.specs.Slot.{IsUsable, is_open_in, GateOf, SetsGate, FoundGate, MayClose, Closes, MayOpen, Opens, MayPut, HasPut, shown};
+
+use crate::Place;
+use bay::{Bay, Fault};
+
+/// The first byte of an open gate.
+const OPEN: u8 = 0xa5;
+
+/// The first byte of a gate that is closed by a write.
+const CLOSED: u8 = 0;
+
+/// The largest sector.
+const SECTOR_MAX: usize = 4096;
+
+// Reads into a buffer, and gives its first byte.
+fn first_byte<B: Bay>(bay: &mut B, slot: u32, at: u64, buf: &mut [u8]) -> Result<u8, Fault>
+    requires attached { IsSome ((B.state bay.old).attached slot) }
+    requires inside { at + length buf.old ≤ size_of (B.state bay.old) slot }
+    requires sectors { IsOnSectors at (length buf.old) }
+    requires some { 0 < length buf.old }
+    ensures byte { IfOk result (λ first. ForSome (B.state bay.old).holds (λ image. first ≡ image.byte slot at)) }
+    ensures attached { KeepsAttached (B.state bay.old) (B.state bay.new) }
+    ensures calls { (B.state bay.new).calls ≤ (B.state bay.old).calls + 1 }
+    ensures written { (B.state bay.new).written slot ≡ (B.state bay.old).written slot }
+    ensures runs { Runs (IsSlot slot) Same (B.state bay.old) (B.state bay.new) }
+    ensures cause { OnErr result (Rose ((B.state bay.old).faults slot) ((B.state bay.new).faults slot)) }
+{
+    bay.read(slot, at, buf)?;
+    Ok(buf[0])
+}
+
+// Writes, and syncs.
+fn write_synced<B: Bay>(bay: &mut B, slot: u32, at: u64, bytes: &[u8]) -> Result<(), Fault>
+    requires attached { IsSome ((B.state bay.old).attached slot) }
+    requires inside { at + length bytes.now ≤ size_of (B.state bay.old) slot }
+    requires sectors { IsOnSectors at (length bytes.now) }
+    ensures attached { KeepsAttached (B.state bay.old) (B.state bay.new) }
+    ensures calls { (B.state bay.new).calls ≤ (B.state bay.old).calls + 2 }
+    ensures written { (B.state bay.new).written slot ≤ (B.state bay.old).written slot + length bytes.now }
+    ensures runs { Runs (IsSlot slot) (ChangesOnly (Range slot at (length bytes.now))) (B.state bay.old) (B.state bay.new) }
+    ensures done { OnOk result (Ends (Puts slot at bytes.now) (B.state bay.old) (B.state bay.new)) }
+    ensures cause { OnErr result (Rose ((B.state bay.old).faults slot) ((B.state bay.new).faults slot)) }
+{
+    bay.write(slot, at, bytes)?;
+    bay.sync(slot)
+}
+
+// A sector with this first byte, and zeros.
+fn gate_sector(first: u8) -> [u8; SECTOR_MAX]
+    ensures { slice_index result 0 ≡ first }
+{
+    let mut sector = [0; SECTOR_MAX];
+    sector[0] = first;
+    sector
+}
+
+// Writes the gate's sector.
+fn write_gate<B: Bay>(bay: &mut B, slot: u32, place: Place, first: u8) -> Result<(), Fault>
+    requires { IsUsable (B.state bay.old) slot place }
+    ensures attached { KeepsAttached (B.state bay.old) (B.state bay.new) }
+    ensures calls { (B.state bay.new).calls ≤ (B.state bay.old).calls + 2 }
+    ensures written { (B.state bay.new).written slot ≤ (B.state bay.old).written slot + place.sector }
+    ensures runs { Runs (IsSlot slot) (ChangesOnly (GateOf place slot)) (B.state bay.old) (B.state bay.new) }
+    ensures done { OnOk result (Ends (SetsGate place slot first) (B.state bay.old) (B.state bay.new)) }
+    ensures cause { OnErr result (Rose ((B.state bay.old).faults slot) ((B.state bay.new).faults slot)) }
+{
+    let sector = gate_sector(first);
+    write_synced(bay, slot, place.gate, &sector[..place.sector as usize])
+}
+
+/// Whether the gate is open.
+pub fn is_open<B: Bay>(bay: &mut B, slot: u32, place: Place) -> Result<bool, Fault>
+    requires { IsUsable (B.state bay.old) slot place }
+    ensures open { IfOk result (λ answer. ForSome (B.state bay.old).holds (λ image. answer ≡ is_open_in place slot image)) }
+    ensures attached { KeepsAttached (B.state bay.old) (B.state bay.new) }
+    ensures calls { (B.state bay.new).calls ≤ (B.state bay.old).calls + 1 }
+    ensures written { (B.state bay.new).written slot ≡ (B.state bay.old).written slot }
+    ensures runs { Runs (IsSlot slot) Same (B.state bay.old) (B.state bay.new) }
+    ensures cause { OnErr result (Rose ((B.state bay.old).faults slot) ((B.state bay.new).faults slot)) }
+{
+    let mut sector = [0; SECTOR_MAX];
+    let first = first_byte(bay, slot, place.gate, &mut sector[..place.sector as usize])?;
+    Ok(first == OPEN)
+}
+
+// Whether the gate is open, in each image that a stop may leave.
+fn is_open_synced<B: Bay>(bay: &mut B, slot: u32, place: Place) -> Result<bool, Fault>
+    requires { IsUsable (B.state bay.old) slot place }
+    ensures attached { KeepsAttached (B.state bay.old) (B.state bay.new) }
+    ensures calls { (B.state bay.new).calls ≤ (B.state bay.old).calls + 2 }
+    ensures written { (B.state bay.new).written slot ≡ (B.state bay.old).written slot }
+    ensures runs { Runs (IsSlot slot) Same (B.state bay.old) (B.state bay.new) }
+    ensures done { IfOk result (λ answer. Ends (FoundGate place slot answer) (B.state bay.old) (B.state bay.new)) }
+    ensures cause { OnErr result (Rose ((B.state bay.old).faults slot) ((B.state bay.new).faults slot)) }
+{
+    bay.sync(slot)?;
+    is_open(bay, slot, place)
+}
+
+/// Closes the gate. One that is closed isn't written, since a write that a stop cuts short may open it.
+pub fn close_gate<B: Bay>(bay: &mut B, slot: u32, place: Place) -> Result<(), Fault>
+    requires { IsUsable (B.state bay.old) slot place }
+    ensures attached { KeepsAttached (B.state bay.old) (B.state bay.new) }
+    ensures calls { (B.state bay.new).calls ≤ (B.state bay.old).calls + 4 }
+    ensures written { (B.state bay.new).written slot ≤ (B.state bay.old).written slot + place.sector }
+    ensures runs { Runs (IsSlot slot) (MayClose place slot) (B.state bay.old) (B.state bay.new) }
+    ensures shut { ForSome (B.state bay.old).holds (λ image. is_open_in place slot image ≡ false) → Runs (IsSlot slot) Same (B.state bay.old) (B.state bay.new) }
+    ensures done { OnOk result (Ends (Closes place slot) (B.state bay.old) (B.state bay.new)) }
+    ensures cause { OnErr result (Rose ((B.state bay.old).faults slot) ((B.state bay.new).faults slot)) }
+{
+    if !is_open_synced(bay, slot, place)? {
+        return Ok(());
+    }
+    write_gate(bay, slot, place, CLOSED)
+}
+
+/// Writes a part of the body of a closed slot.
+pub fn fill_body<B: Bay>(
+    bay: &mut B,
+    slot: u32,
+    place: Place,
+    from: u64,
+    bytes: &[u8],
+) -> Result<(), Fault>
+    requires usable { IsUsable (B.state bay.old) slot place }
+    requires closed { ForSome (B.state bay.old).holds (λ image. shown place slot image ≡ None) }
+    requires inside { from + length bytes.now ≤ place.len }
+    requires sectors { (from % place.sector ≡ 0) × (length bytes.now % place.sector ≡ 0) }
+    ensures attached { KeepsAttached (B.state bay.old) (B.state bay.new) }
+    ensures calls { (B.state bay.new).calls ≤ (B.state bay.old).calls + 2 }
+    ensures written { (B.state bay.new).written slot ≤ (B.state bay.old).written slot + length bytes.now }
+    ensures runs { Runs (IsSlot slot) (ChangesOnly (Range slot (place.body + from) (length bytes.now))) (B.state bay.old) (B.state bay.new) }
+    ensures done { OnOk result (Ends (Puts slot (place.body + from) bytes.now) (B.state bay.old) (B.state bay.new)) }
+    ensures cause { OnErr result (Rose ((B.state bay.old).faults slot) ((B.state bay.new).faults slot)) }
+{
+    write_synced(bay, slot, place.body + from, bytes)
+}
+
+/// Opens the gate.
+pub fn open_gate<B: Bay>(bay: &mut B, slot: u32, place: Place) -> Result<(), Fault>
+    requires { IsUsable (B.state bay.old) slot place }
+    ensures attached { KeepsAttached (B.state bay.old) (B.state bay.new) }
+    ensures calls { (B.state bay.new).calls ≤ (B.state bay.old).calls + 2 }
+    ensures written { (B.state bay.new).written slot ≤ (B.state bay.old).written slot + place.sector }
+    ensures runs { Runs (IsSlot slot) (MayOpen place slot) (B.state bay.old) (B.state bay.new) }
+    ensures done { OnOk result (Ends (Opens place slot) (B.state bay.old) (B.state bay.new)) }
+    ensures cause { OnErr result (Rose ((B.state bay.old).faults slot) ((B.state bay.new).faults slot)) }
+{
+    write_gate(bay, slot, place, OPEN)
+}
+
+/// Puts a body in the place of the one that is there. At each moment the slot shows the old body, nothing or the new one.
+pub fn put<B: Bay>(bay: &mut B, slot: u32, place: Place, body: &[u8]) -> Result<(), Fault>
+    requires usable { IsUsable (B.state bay.old) slot place }
+    requires whole { length body.now ≡ place.len }
+    ensures attached { KeepsAttached (B.state bay.old) (B.state bay.new) }
+    ensures calls { (B.state bay.new).calls ≤ (B.state bay.old).calls + 8 }
+    ensures written { (B.state bay.new).written slot ≤ (B.state bay.old).written slot + 2 * place.sector + place.len }
+    ensures runs { Runs (IsSlot slot) (MayPut place slot body.now) (B.state bay.old) (B.state bay.new) }
+    ensures done { OnOk result (Ends (HasPut place slot body.now) (B.state bay.old) (B.state bay.new)) }
+    ensures cause { OnErr result (Rose ((B.state bay.old).faults slot) ((B.state bay.new).faults slot)) }
+{
+    close_gate(bay, slot, place)?;
+    fill_body(bay, slot, place, 0, body)?;
+    open_gate(bay, slot, place)
+}
