@@ -1,0 +1,79 @@
+// The disks as images in files.
+ghost use Rattle.std.specs.Prelude.{◌≡◌, ℕ, None};
+
+use crate::slots::{SlotMap, attach_in, make_in, read_in, sync_in, write_in};
+use bay::{Bay, BayError, Fault};
+use std::collections::BTreeMap;
+
+/// The disks as images in files, or on devices, by slot. An attached image stays open and locked as long as the bay
+/// lasts: a second program, or a second slot whose path leads to the same file, gets a fault. `make` makes files alone.
+/// `calls`, `written` and the counts of faults are kept; what the images hold isn't told.
+#[derive(Drop)]
+pub struct FileBay {
+    runtime: HostRuntime,
+    slots: SlotMap,
+    calls: u64,
+}
+
+impl FileBay {
+    ghost use Rattle.bay_file.specs.FileBays.{state_of};
+
+    /// A bay with no image attached.
+    pub fn new(runtime: HostRuntime) -> Self
+        ensures calls { (state_of result).calls ≡ 0 }
+        ensures detached { (s : ℕ) → (state_of result).attached s ≡ None }
+        ensures faults { (s : ℕ) → (state_of result).faults s ≡ 0 }
+        ensures written { (s : ℕ) → (state_of result).written s ≡ 0 }
+    {
+        FileBay {
+            runtime,
+            slots: BTreeMap::new(runtime.alloc()),
+            calls: 0,
+        }
+    }
+}
+
+impl Bay for FileBay {
+    ghost use Rattle.bay_file.specs.FileBays.{state_of};
+    ghost use Rattle.bay_file.specs.FileSound.{sound};
+
+    ghost state = { state_of };
+
+    ghost sound = { sound };
+
+    fn attach(&mut self, slot: u32, path: &str) -> Result<u64, BayError> {
+        self.calls = self.calls.saturating_add(1);
+        attach_in(&mut self.slots, slot, &self.runtime, path)
+    }
+
+    fn make(&mut self, slot: u32, path: &str, size: u64) -> Result<(), BayError> {
+        self.calls = self.calls.saturating_add(1);
+        make_in(&mut self.slots, slot, &self.runtime, path, size)
+    }
+
+    fn read(&mut self, slot: u32, at: u64, buf: &mut [u8]) -> Result<(), Fault> {
+        self.calls = self.calls.saturating_add(1);
+        read_in(&mut self.slots, slot, at, buf)
+    }
+
+    fn write(&mut self, slot: u32, at: u64, bytes: &[u8]) -> Result<(), Fault> {
+        self.calls = self.calls.saturating_add(1);
+        write_in(&mut self.slots, slot, at, bytes)
+    }
+
+    fn sync(&mut self, slot: u32) -> Result<(), Fault> {
+        self.calls = self.calls.saturating_add(1);
+        sync_in(&mut self.slots, slot)
+    }
+
+    fn calls(&self) -> u64 {
+        self.calls
+    }
+
+    fn written(&self, slot: u32) -> u64 {
+        match self.slots.get(&slot) {
+            Some(kept) => kept.written,
+            None => 0,
+        }
+    }
+}

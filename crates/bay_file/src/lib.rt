@@ -1,0 +1,21 @@
+//! The outside in real files: images of disks, a folder, standard input and output, and the system's clock. Nothing is
+//! told of contents, since no proof can say what a file holds; what is proved is that each fault is counted, that an
+//! answer of the system is passed on, and that bytes are read and written whole.
+#![tactic(auto)]
+
+mod clock;
+mod file_bay;
+mod file_host;
+mod image;
+mod path_faults;
+mod slot;
+mod slots;
+mod streams;
+#[cfg(test)]
+mod tests;
+mod whole;
+
+pub use clock::SystemClock;
+pub use file_bay::FileBay;
+pub use file_host::FileHost;
+pub use streams::{StdSink, StdSource};

@@ -1,0 +1,145 @@
+// The slots of a bay. A slot is kept from the first call that attaches or makes its image.
+ghost use Rattle.std.specs.Prelude.{◌≡◌, ◌≤◌, Some, None, length, IfOk, OnOk, OnErr, IsErrOf, IsSome};
+ghost use Rattle.std.specs.Ordering.{nat_cmp};
+ghost use Rattle.std.specs.BTreeMap.{get};
+ghost use Rattle.std.specs.Option.{ForSome};
+ghost use Rattle.bay.specs.declared.fault.BayError.TheVariants.{Fault};
+ghost use Rattle.bay.specs.Counts.{counted, Rose};
+ghost use Rattle.bay_file.specs.Slots.{attached_in, faults_in, written_in, OthersStay, AllStay};
+
+use crate::slot::Slot;
+use bay::{BayError, Fault};
+use std::alloc::AllocError;
+use std::collections::BTreeMap;
+
+pub type SlotMap = BTreeMap<u32, Slot>;
+
+// Makes sure that a slot is kept, so that its faults can be counted.
+fn keep_slot(slots: &mut SlotMap, slot: u32) -> Result<(), AllocError>
+    ensures same { AllStay slots.old slots.new }
+    ensures kept { OnOk result (IsSome (get nat_cmp slots.new slot)) }
+    ensures unkept { OnErr result (attached_in slots.new slot ≡ None) }
+{
+    if slots.contains_key(&slot) {
+        return Ok(());
+    }
+    slots.insert(slot, Slot::new())?;
+    Ok(())
+}
+
+fn attach_kept(
+    slots: &mut SlotMap,
+    slot: u32,
+    runtime: &HostRuntime,
+    path: &str,
+) -> Result<u64, Fault>
+    requires { IsSome (get nat_cmp slots.old slot) }
+    ensures attached { IfOk result (λ size. attached_in slots.new slot ≡ Some size) }
+    ensures has { ForSome (attached_in slots.old slot) (λ size. attached_in slots.new slot ≡ Some size) }
+    ensures refused { OnErr result (attached_in slots.new slot ≡ attached_in slots.old slot) }
+    ensures others { OthersStay slot slots.old slots.new }
+    ensures written { written_in slots.new slot ≡ written_in slots.old slot }
+    ensures later { faults_in slots.old slot ≤ faults_in slots.new slot }
+    ensures cause { OnErr result (Rose (faults_in slots.old slot) (faults_in slots.new slot)) }
+{
+    slots.get_mut(&slot).unwrap().attach(runtime, path)
+}
+
+fn make_kept(
+    slots: &mut SlotMap,
+    slot: u32,
+    runtime: &HostRuntime,
+    path: &str,
+    size: u64,
+) -> Result<(), Fault>
+    requires { IsSome (get nat_cmp slots.old slot) }
+    ensures attached { OnOk result (attached_in slots.new slot ≡ Some size) }
+    ensures refused { OnErr result (attached_in slots.new slot ≡ None) }
+    ensures others { OthersStay slot slots.old slots.new }
+    ensures written { written_in slots.new slot ≡ written_in slots.old slot }
+    ensures later { faults_in slots.old slot ≤ faults_in slots.new slot }
+    ensures cause { OnErr result (Rose (faults_in slots.old slot) (faults_in slots.new slot)) }
+{
+    slots.get_mut(&slot).unwrap().make(runtime, path, size)
+}
+
+// Attaches the image at a path, where none is attached. A slot whose faults can't be counted isn't attached.
+pub fn attach_in(
+    slots: &mut SlotMap,
+    slot: u32,
+    runtime: &HostRuntime,
+    path: &str,
+) -> Result<u64, BayError>
+    ensures attached { IfOk result (λ size. attached_in slots.new slot ≡ Some size) }
+    ensures has { ForSome (attached_in slots.old slot) (λ size. attached_in slots.new slot ≡ Some size) }
+    ensures refused { OnErr result (attached_in slots.new slot ≡ attached_in slots.old slot) }
+    ensures others { OthersStay slot slots.old slots.new }
+    ensures written { written_in slots.new slot ≡ written_in slots.old slot }
+    ensures later { faults_in slots.old slot ≤ faults_in slots.new slot }
+    ensures cause { IsErrOf result BayError.Fault → Rose (faults_in slots.old slot) (faults_in slots.new slot) }
+{
+    if keep_slot(slots, slot).is_err() {
+        return Err(BayError::NoMemory);
+    }
+    match attach_kept(slots, slot, runtime, path) {
+        Ok(size) => Ok(size),
+        Err(Fault) => Err(BayError::Fault),
+    }
+}
+
+// Makes an image of zeros at a path, and attaches it. A slot whose faults can't be counted isn't attached.
+pub fn make_in(
+    slots: &mut SlotMap,
+    slot: u32,
+    runtime: &HostRuntime,
+    path: &str,
+    size: u64,
+) -> Result<(), BayError>
+    ensures attached { OnOk result (attached_in slots.new slot ≡ Some size) }
+    ensures refused { OnErr result (attached_in slots.new slot ≡ None) }
+    ensures others { OthersStay slot slots.old slots.new }
+    ensures written { written_in slots.new slot ≡ written_in slots.old slot }
+    ensures later { faults_in slots.old slot ≤ faults_in slots.new slot }
+    ensures cause { IsErrOf result BayError.Fault → Rose (faults_in slots.old slot) (faults_in slots.new slot) }
+{
+    if keep_slot(slots, slot).is_err() {
+        return Err(BayError::NoMemory);
+    }
+    match make_kept(slots, slot, runtime, path, size) {
+        Ok(()) => Ok(()),
+        Err(Fault) => Err(BayError::Fault),
+    }
+}
+
+pub fn read_in(slots: &mut SlotMap, slot: u32, at: u64, buf: &mut [u8]) -> Result<(), Fault>
+    requires { IsSome (attached_in slots.old slot) }
+    ensures attached { attached_in slots.new slot ≡ attached_in slots.old slot }
+    ensures others { OthersStay slot slots.old slots.new }
+    ensures written { written_in slots.new slot ≡ written_in slots.old slot }
+    ensures later { faults_in slots.old slot ≤ faults_in slots.new slot }
+    ensures cause { OnErr result (Rose (faults_in slots.old slot) (faults_in slots.new slot)) }
+{
+    slots.get_mut(&slot).unwrap().read(at, buf)
+}
+
+pub fn write_in(slots: &mut SlotMap, slot: u32, at: u64, bytes: &[u8]) -> Result<(), Fault>
+    requires { IsSome (attached_in slots.old slot) }
+    ensures attached { attached_in slots.new slot ≡ attached_in slots.old slot }
+    ensures others { OthersStay slot slots.old slots.new }
+    ensures written { written_in slots.new slot ≡ counted (written_in slots.old slot) (length bytes.now) }
+    ensures later { faults_in slots.old slot ≤ faults_in slots.new slot }
+    ensures cause { OnErr result (Rose (faults_in slots.old slot) (faults_in slots.new slot)) }
+{
+    slots.get_mut(&slot).unwrap().write(at, bytes)
+}
+
+pub fn sync_in(slots: &mut SlotMap, slot: u32) -> Result<(), Fault>
+    requires { IsSome (attached_in slots.old slot) }
+    ensures attached { attached_in slots.new slot ≡ attached_in slots.old slot }
+    ensures others { OthersStay slot slots.old slots.new }
+    ensures written { written_in slots.new slot ≡ written_in slots.old slot }
+    ensures later { faults_in slots.old slot ≤ faults_in slots.new slot }
+    ensures cause { OnErr result (Rose (faults_in slots.old slot) (faults_in slots.new slot)) }
+{
+    slots.get_mut(&slot).unwrap().sync()
+}

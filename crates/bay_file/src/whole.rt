@@ -1,0 +1,50 @@
+// Whole reads and writes at a place, and answers of the system with their faults counted.
+ghost use Rattle.std.specs.Prelude.{◌≡◌, ◌≤◌, Ok, IfOk, OnOk, OnErr, IsErr};
+ghost use Rattle.std.specs.Io.KnownBytes.{Appends, Consumes};
+ghost use Rattle.bay.specs.Counts.{counted};
+ghost use Rattle.bay_file.specs.Places.{IsPlacedAt};
+
+use bay::Fault;
+use std::io;
+use std::io::{Read, Seek, SeekFrom, Write};
+
+// Passes on what the system answered, and counts an error.
+pub fn passed<T: Drop>(answer: io::Result<T>, faults: &mut u64) -> Result<T, Fault>
+    ensures ok { IfOk answer (λ value. (result ≡ Ok value) × (faults.new ≡ faults.old)) }
+    ensures err { OnErr answer (IsErr result × (faults.new ≡ counted faults.old 1)) }
+    ensures later { faults.old ≤ faults.new }
+{
+    match answer {
+        Ok(value) => Ok(value),
+        Err(_) => {
+            *faults = faults.saturating_add(1);
+            Err(Fault)
+        }
+    }
+}
+
+// Goes to a place.
+fn go_to<F: Seek>(file: &mut F, at: u64) -> io::Result<()>
+    ensures { OnOk result (IsPlacedAt F.stream_position at file.old file.new) }
+{
+    file.seek(SeekFrom::Start(at))?;
+    Ok(())
+}
+
+// Fills the whole buffer with the bytes that begin at a place.
+pub fn read_whole<F: Read + Seek>(file: &mut F, at: u64, buf: &mut [u8]) -> io::Result<()>
+    ensures { OnOk result ((placed : F) × IsPlacedAt F.stream_position at file.old placed
+        × Consumes (F.remaining placed) (F.remaining file.new) buf.new) }
+{
+    go_to(file, at)?;
+    file.read_exact(buf)
+}
+
+// Writes all bytes from a place on.
+pub fn write_whole<F: Write + Seek>(file: &mut F, at: u64, bytes: &[u8]) -> io::Result<()>
+    ensures { OnOk result ((placed : F) × IsPlacedAt F.stream_position at file.old placed
+        × Appends (F.contents placed) (F.contents file.new) bytes.now) }
+{
+    go_to(file, at)?;
+    file.write_all(bytes)
+}
