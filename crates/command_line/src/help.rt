@@ -1,0 +1,84 @@
+// What the program says of itself.
+ghost use Rattle.std.specs.Prelude.{◌≡◌, map};
+ghost use Rattle.std.specs.String.{string_bytes};
+ghost use Rattle.command_line.specs.Notices.{notice_of, notice_for};
+
+/// What `--help` and `--version` ask for.
+#[derive(Clone, Copy, Debug, PartialEq, Eq)]
+pub enum Notice {
+    Help,
+    Version,
+}
+
+const HELP: &str = "\
+asm keeps disk groups in images of disks, as the disk group layer of Oracle ASM does.
+
+usage: asm [--generate N] IMAGE...
+       asm --help | -h
+       asm --version | -V
+
+  IMAGE...       the images of disks, each a file or a device that is named once, at most 512.
+                 An image need not be there: CREATE DISK makes it. Statements name it by this path.
+  --generate N   reads no script and runs one made from the number N, over four images.
+  --             what follows is an image, also where it begins with a hyphen.
+
+The script is read on standard input. A statement ends with ; and any other command with its line.
+Each command is answered by ok or by an error line on standard output. For example
+
+  asm disk0 disk1 disk2 <<'END'
+  CREATE DISK 'disk0' SIZE 64M;
+  CREATE DISK 'disk1' SIZE 64M;
+  CREATE DISK 'disk2' SIZE 64M;
+  CREATE DISKGROUP data NORMAL REDUNDANCY DISK 'disk0', 'disk1', 'disk2';
+  dbcreate +data/orcl/DATAFILE/users 8M
+  lsdg
+  lsdsk data
+  END
+
+and in a later run
+
+  asm disk0 disk1 disk2 <<'END'
+  ALTER DISKGROUP data MOUNT;
+  ls +data/orcl/DATAFILE
+  END
+
+status: 0 every command was answered ok
+        1 some command was refused
+        2 the words are not of the form above
+        3 the script could not be read
+        4 a reply could not be written
+        5 there was no memory
+        6 the script is longer than 67108864 bytes
+";
+
+const VERSION: &str = "asm 1.0\n";
+
+impl Notice {
+    /// The notice that the words ask for: each comes as the only word.
+    pub fn asked(words: &[String]) -> Option<Notice>
+        ensures { result ≡ notice_for (map string_bytes words.now) }
+    {
+        match words {
+            [word] => Notice::asked_by(word.as_str()),
+            _ => None,
+        }
+    }
+
+    fn asked_by(word: &str) -> Option<Notice>
+        ensures { result ≡ notice_of word.now }
+    {
+        match word {
+            "--help" | "-h" => Some(Notice::Help),
+            "--version" | "-V" => Some(Notice::Version),
+            _ => None,
+        }
+    }
+
+    /// Its text, for standard output.
+    pub fn text(self) -> &'static str {
+        match self {
+            Notice::Help => HELP,
+            Notice::Version => VERSION,
+        }
+    }
+}

@@ -1,0 +1,14 @@
+//! The words of the program, `asm [--generate N] IMAGE...`, and what it says of itself.
+#![tactic(auto)]
+
+mod checks;
+mod help;
+mod parse;
+mod rows;
+#[cfg(test)]
+mod tests;
+mod words;
+
+pub use help::Notice;
+pub use rows::word_rows;
+pub use words::{MOST_IMAGES, Words, WordsError, read_words};
