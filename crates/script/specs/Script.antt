@@ -1,0 +1,84 @@
+-- How a script is cut into commands.
+use Rattle.std.specs.Prelude.{◌==◌, ◌||◌, ℕ, Bool, true, false, not, if◌then◌else◌, List, [], ◌∷◌, map, take_while, codes, ◌&&◌}
+use Rattle.std.specs.Char.{to_ascii_lowercase}
+use Rattle.std.specs.Str.{bytes_eq}
+
+-- space, tab, carriage return or line feed
+abbrev pub is_blank : ℕ → Bool
+is_blank b = (b == 32) || (b == 9) || (b == 13) || (b == 10)
+
+-- a word ends before a blank and before any of ' ( ) , ; and =
+abbrev pub is_word_byte : ℕ → Bool
+is_word_byte b = not (is_blank b || (b == 39) || (b == 40) || (b == 41) || (b == 44) || (b == 59) || (b == 61))
+
+abbrev pub is_keyword : List ℕ → List ℕ → Bool
+is_keyword word keyword = bytes_eq (map to_ascii_lowercase word) (map to_ascii_lowercase keyword)
+
+-- the first word is CREATE, ALTER or DROP, in any case
+unfoldable pub opens_statement : List ℕ → Bool
+opens_statement bytes = let word = take_while is_word_byte bytes in
+    is_keyword word (codes "CREATE") || is_keyword word (codes "ALTER") || is_keyword word (codes "DROP")
+
+-- the bytes begin with --
+abbrev pub begins_comment : List ℕ → Bool
+begins_comment [] = false
+begins_comment (b ∷ []) = false
+begins_comment (b ∷ c ∷ bs) = (b == 45) && (c == 45)
+
+-- where a byte of a script stands: between commands, in a comment line, in a command that its line ends,
+-- in a statement outside single quotes, or inside them
+pub data Place : Type 0 where
+  between : Place
+  comment : Place
+  line : Place
+  statement : Place
+  quoted : Place
+
+-- the place of the first byte, where no command stands open
+abbrev pub place_at : List ℕ → Place
+place_at [] = between
+place_at (b ∷ bs) = if is_blank b then between
+    else (if begins_comment (b ∷ bs) then comment
+    else (if opens_statement (b ∷ bs) then statement else line))
+
+-- b goes onto the front of the first command
+abbrev pub onto : ℕ → List (List ℕ) → List (List ℕ)
+onto b [] = []
+onto b (command ∷ commands) = (b ∷ command) ∷ commands
+
+-- b goes onto the first command, where its place is in a command
+abbrev pub onto_at : Place → ℕ → List (List ℕ) → List (List ℕ)
+onto_at between b commands = commands
+onto_at comment b commands = commands
+onto_at line b commands = onto b commands
+onto_at statement b commands = onto b commands
+onto_at quoted b commands = onto b commands
+
+-- what an open command becomes where the bytes end: it ends too, or it is left out
+abbrev pub unended : Bool → List (List ℕ)
+unended true = [] ∷ []
+unended false = []
+
+-- The commands in the bytes from a place on. Where a command stands open there, the first is its rest.
+-- `closed` says that the script ends with the bytes.
+unfoldable pub cut : Bool → Place → List ℕ → List (List ℕ)
+cut closed between [] = []
+cut closed comment [] = []
+cut closed line [] = unended closed
+cut closed statement [] = unended closed
+cut closed quoted [] = unended closed
+cut closed between (b ∷ bs) = let place = place_at (b ∷ bs) in onto_at place b (cut closed place bs)
+cut closed comment (b ∷ bs) = cut closed (if b == 10 then between else comment) bs
+cut closed line (b ∷ bs) = let rest = cut closed (if b == 10 then between else line) bs in
+    if b == 10 then [] ∷ rest else onto b rest
+cut closed statement (b ∷ bs) = let rest = cut closed (if b == 59 then between else (if b == 39 then quoted else statement)) bs in
+    if b == 59 then (b ∷ []) ∷ rest else onto b rest
+cut closed quoted (b ∷ bs) = onto b (cut closed (if b == 39 then statement else quoted) bs)
+
+-- the commands of a whole script
+abbrev pub commands_of : List ℕ → List (List ℕ)
+commands_of script = cut true between script
+
+-- the commands of a script that begins so whose ends are among these bytes
+abbrev pub ended_commands : List ℕ → List (List ℕ)
+ended_commands bytes = cut false between bytes
