@@ -1,0 +1,9 @@
+use Rattle.std.proofs.Common.{sym, ◌∙◌}
+use Rattle.asm_grammar.proofs.Sizes.{given_size, refused_size}
+use Rattle.asm_grammar.proofs.words.size.Goals as goal
+
+pub returns-in-Some : goal.returns-in-Some
+returns-in-Some c = given_size c.args.place.rest.now _ _ _ _ _ c.split_run.ensures.rest c.split_run-2.ensures.front c.split_run-2.ensures.rest (sym c.judge_size-size.ensures.says ∙ c.in-Some.is)
+
+pub returns-in-None : goal.returns-in-None
+returns-in-None c = refused_size c.args.place.rest.now _ _ _ _ _ c.split_run.ensures.rest c.split_run-2.ensures.front c.judge_size-size.ensures.near c.missed.ensures.left (sym c.judge_size-size.ensures.says ∙ c.in-None.is)

@@ -1,0 +1,11 @@
+pub mod Bytes
+pub mod Argument
+pub mod Word
+pub mod Syntax
+pub mod Reading
+pub mod Laws
+pub mod Runs
+pub mod Stages
+pub mod Reads
+pub mod Writing
+pub mod Kinds
