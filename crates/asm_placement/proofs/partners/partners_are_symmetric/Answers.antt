@@ -1,0 +1,5 @@
+use Rattle.asm_placement.proofs.PartnerTables.{partners_are_symmetric}
+use Rattle.asm_placement.proofs.partners.partners_are_symmetric.Goals as goal
+
+pub returns : goal.returns
+returns c = partners_are_symmetric
