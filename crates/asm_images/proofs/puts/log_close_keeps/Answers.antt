@@ -1,0 +1,5 @@
+use Rattle.asm_images.proofs.PutKeeps.{log_close_keeps}
+use Rattle.asm_images.proofs.puts.log_close_keeps.Goals as goal
+
+pub returns : goal.returns
+returns c = λ id old groups completed begun sound h slot bytes k other inside header may close. log_close_keeps id old groups completed begun sound h slot bytes inside header k other may close

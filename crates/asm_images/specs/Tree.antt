@@ -1,0 +1,102 @@
+-- The tree of names in a directory content, and its rules.
+use Rattle.std.specs.Prelude.{◌≡◌, ℕ, zero, suc, Bool, true, false, ◌&&◌, ◌||◌, List, [], ◌∷◌, length, ◌==◌, Option, Some, None, IsTrue}
+use Rattle.std.specs.Str.{bytes_eq}
+use Rattle.asm_group.specs.declared.NodeKind.{NodeKind}
+use Rattle.asm_group.specs.declared.NodeKind.TheVariants.{Directory, System, Alias}
+use Rattle.asm_group.specs.Names.{Bytes, Path, folded}
+use Rattle.asm_group.specs.Group.{TreeNode, Dir, TreeEntry}
+use Rattle.asm_group.specs.Group as group
+use Rattle.asm_formats.specs.Items.{Item, node_item, FileHead, Node}
+use Rattle.asm_placement.specs.Tables.{first_said, if_is, head_of}
+use Rattle.asm_images.specs.Tables.{node_of}
+
+-- a node of this parent and folded name
+abbrev pub is_child : ℕ → Bytes → Item → Bool
+is_child parent name (node_item n node) = (node.parent == parent) && bytes_eq (folded node.name) name
+is_child parent name _ = false
+
+abbrev pub is_directory : Node → Bool
+is_directory node = kind_is node.kind
+  where
+    kind_is : NodeKind → Bool
+    kind_is Directory = true
+    kind_is _ = false
+
+abbrev pub child : List Item → ℕ → Bytes → Option (ℕ × Node)
+child items parent name = first_said says items
+  where
+    says : Item → Option (ℕ × Node)
+    says (node_item n node) = if_is (is_child parent name (node_item n node)) (n, node)
+    says _ = None
+
+-- the node at the end of a path of folded names, from node n on, which is at
+abbrev pub walk : List Item → ℕ → Option Node → Path → Option Node
+walk items n at [] = at
+walk items n at (name ∷ names) = next (λ m node. walk items m (Some node) names) (child items n name)
+  where
+    next : (ℕ → Node → Option Node) → Option (ℕ × Node) → Option Node
+    next go None = None
+    next go (Some c) = go c.0 c.1
+
+-- the node at a path from the root
+unfoldable pub node_at_path : List Item → Path → Option Node
+node_at_path items path = walk items 0 None path
+
+-- at most so many steps up lead from a node to the root
+abbrev pub reaches_root : List Item → ℕ → ℕ → Bool
+reaches_root items zero n = n == 0
+reaches_root items (suc steps) n = (n == 0) || up (λ m. reaches_root items steps m) (node_of items n)
+  where
+    up : (ℕ → Bool) → Option Node → Bool
+    up go None = false
+    up go (Some node) = go node.parent
+
+-- what the group's users see of a node
+abbrev pub node_kind : NodeKind → ℕ → TreeNode
+node_kind Directory file = Dir
+node_kind System file = group.System file
+node_kind Alias file = group.Alias file
+
+abbrev pub entry_of_node : Node → TreeEntry
+entry_of_node node = record { name = node.name; node = node_kind node.kind node.file }
+
+-- ---- rules
+
+-- the node is the system node of the file, or its alias
+abbrev pub names_back : NodeKind → ℕ → FileHead → Bool
+names_back Directory n head = false
+names_back System n head = head.system == n
+names_back Alias n head = head.alias == n
+
+-- a system or alias node names a file that names it
+abbrev pub is_named_back : List Item → ℕ → Node → Bool
+is_named_back items n node = is_directory node || said (head_of items node.file)
+  where
+    said : Option FileHead → Bool
+    said None = false
+    said (Some head) = names_back node.kind n head
+
+abbrev pub kind_eq : NodeKind → NodeKind → Bool
+kind_eq Directory Directory = true
+kind_eq System System = true
+kind_eq Alias Alias = true
+kind_eq _ _ = false
+
+-- 0, or a node of this kind that names the file
+abbrev pub names_file : List Item → ℕ → NodeKind → ℕ → Bool
+names_file items f kind n = (n == 0) || said (node_of items n)
+  where
+    said : Option Node → Bool
+    said None = false
+    said (Some node) = kind_eq node.kind kind && (node.file == f)
+
+pub record KeepsTreeRules (items : List Item) : Type 0 where
+  -- each node's parent is the root or a directory, and its parents lead to the root
+  pub parents : (n : ℕ) (node parent : Node) → node_of items n ≡ Some node → node_of items node.parent ≡ Some parent → IsTrue (is_directory parent)
+  pub rooted : (n : ℕ) (node : Node) → node_of items n ≡ Some node → IsTrue (reaches_root items (length items) n)
+  -- no two nodes of one parent have names that are equal when folded
+  pub distinct : (m n : ℕ) (a b : Node) → node_of items m ≡ Some a → node_of items n ≡ Some b → a.parent ≡ b.parent → folded a.name ≡ folded b.name → m ≡ n
+  -- nodes and files name each other
+  pub nodes : (n : ℕ) (node : Node) → node_of items n ≡ Some node → IsTrue (is_named_back items n node)
+  pub system : (f : ℕ) (head : FileHead) → head_of items f ≡ Some head → IsTrue (names_file items f System head.system)
+  pub alias : (f : ℕ) (head : FileHead) → head_of items f ≡ Some head → IsTrue (names_file items f Alias head.alias)
