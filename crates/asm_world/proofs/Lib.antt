@@ -1,0 +1,8 @@
+pub mod Histories
+pub mod Statements
+pub mod Commands
+pub mod FirstWords
+pub mod Spelling
+pub mod Canon
+pub mod EditLemmas
+pub mod Wholes

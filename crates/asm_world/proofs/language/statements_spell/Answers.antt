@@ -1,0 +1,5 @@
+use Rattle.std.proofs.Common.{refl}
+use Rattle.asm_world.proofs.language.statements_spell.Goals as goal
+
+pub returns : goal.returns
+returns c = refl

@@ -1,0 +1,5 @@
+use Rattle.std.proofs.Common.{refl}
+use Rattle.asm_world.proofs.language.verbs_are_decided.Goals as goal
+
+pub returns : goal.returns
+returns c = refl

@@ -1,0 +1,75 @@
+-- What holds of all runs.
+use Rattle.std.specs.Prelude.{◌⊎◌, ◌≡◌, ◌↔◌, ⊤, ℕ, ◌<◌, ◌≤◌, Bool, true, false, List, [], ◌∷◌, ◌++◌}
+use Rattle.asm_group.specs.Names.{Bytes}
+use Rattle.asm_group.specs.Group.{Group}
+use Rattle.asm_world.specs.Below.{Found}
+use Rattle.asm_world.specs.Between.{groups_between}
+use Rattle.asm_world.specs.Reply.{Reply}
+use Rattle.asm_world.specs.World.{groups_of}
+use Rattle.asm_world.specs.Run.{Outside, State, Entry, Move, Answers, Starts, Expires, Slices, Rests, IsMove, IsRun, HeldBy, end_of, marks_of}
+
+-- A run of some moves and then of others is a run of them all, and each run of them all is that.
+abbrev pub RunsJoin : {Counts Image : Type 0} → Outside Counts Image → Type 0
+RunsJoin {Counts = Counts} out = (s : State Counts) (first rest : List (Entry Counts))
+    → (IsRun out s first × IsRun out (end_of s first) rest) ↔ IsRun out s (first ++ rest)
+
+-- From the end of any front of the moves on, as from a reply's mark, an image that a stop may leave stands for groups between
+-- the worlds before and after one of the moves that come later, in which its moment ends.
+abbrev pub MomentsAreHeld : {Counts Image : Type 0} → Outside Counts Image → Type 0
+MomentsAreHeld {Counts = Counts} {Image = Image} out = (s : State Counts) (first rest : List (Entry Counts)) (m : ℕ) (image : Image)
+    → IsRun out s (first ++ rest) → (end_of s first).calls ≤ m → m < (end_of s (first ++ rest)).calls → out.leaves m image → HeldBy out (end_of s first) rest m image
+
+abbrev pub is_answer : Move → Bool
+is_answer (Answers found text reply) = true
+is_answer (Starts time) = false
+is_answer (Expires event) = false
+is_answer (Slices event) = false
+is_answer Rests = false
+
+-- no command is answered
+abbrev pub IsQuiet : {Counts : Type 0} → List (Entry Counts) → Type 0
+IsQuiet [] = ⊤
+IsQuiet (e ∷ es) = (is_answer e.move ≡ false) × IsQuiet es
+
+-- Moves that answer no command leave all groups.
+abbrev pub QuietMovesLeaveGroups : {Counts Image : Type 0} → Outside Counts Image → Type 0
+QuietMovesLeaveGroups {Counts = Counts} out = (s : State Counts) (quiet : List (Entry Counts))
+    → IsRun out s quiet → IsQuiet quiet → (end_of s quiet).world.groups ≡ s.world.groups
+
+-- An image of a moment in which no command is answered stands for the groups that the world has.
+abbrev pub QuietMomentsAreHeld : {Counts Image : Type 0} → Outside Counts Image → Type 0
+QuietMomentsAreHeld {Counts = Counts} {Image = Image} out = (s : State Counts) (quiet : List (Entry Counts)) (m : ℕ) (image : Image) (id : ℕ)
+    → IsRun out s quiet → IsQuiet quiet → s.calls ≤ m → m < (end_of s quiet).calls → out.leaves m image → out.allows id (groups_of s.world id) image
+
+-- the moves up to an answer, and those behind it
+pub record AtAnswer {Counts : Type 0} (history : List (Entry Counts)) : Type 0 where
+  pub quiet : List (Entry Counts)
+  pub answer : Entry Counts
+  pub others : List (Entry Counts)
+  pub split : history ≡ quiet ++ answer ∷ others
+  pub is_quiet : IsQuiet quiet
+  pub is_answer : is_answer answer.move ≡ true
+
+-- In a row of moves no command is answered, or there is a first answer.
+abbrev pub HistoriesSplit : Type 0 → Type 0
+HistoriesSplit Counts = (history : List (Entry Counts)) → IsQuiet history ⊎ AtAnswer history
+
+-- an image that may stand for some groups may stand for more
+abbrev pub Grows : {Counts Image : Type 0} → Outside Counts Image → Type 0
+Grows {Image = Image} out = (id : ℕ) (groups more : List Group) (image : Image) → out.allows id groups image → out.allows id (groups ++ more) image
+
+-- From one reply to the end of the next command: an image of a moment in between stands for groups between the worlds before and after that command.
+abbrev pub BetweenReplies : {Counts Image : Type 0} → Outside Counts Image → Type 0
+BetweenReplies {Counts = Counts} {Image = Image} out = (s t : State Counts) (quiet : List (Entry Counts)) (found : Found) (text : Bytes) (reply : Reply)
+    → Grows out → IsRun out s quiet → IsQuiet quiet → IsMove out (end_of s quiet) (Answers found text reply) t
+    → (m : ℕ) (image : Image) (id : ℕ) → s.calls ≤ m → m < t.calls → out.leaves m image
+    → out.allows id (groups_between (end_of s quiet).world (out.means text) t.world id) image
+
+-- each number is at least the one before it, and the first at least `low`
+abbrev pub RisesFrom : ℕ → List ℕ → Type 0
+RisesFrom low [] = ⊤
+RisesFrom low (n ∷ ns) = (low ≤ n) × RisesFrom n ns
+
+-- Marks never fall.
+abbrev pub MarksRise : {Counts Image : Type 0} → Outside Counts Image → Type 0
+MarksRise {Counts = Counts} out = (s : State Counts) (history : List (Entry Counts)) → IsRun out s history → RisesFrom s.calls (marks_of history)

@@ -1,0 +1,170 @@
+-- Templates and attributes of a group.
+use Rattle.std.specs.Prelude.{ℕ, zero, suc, ◌+◌, ◌-◌, ◌*◌, Bool, true, false, ◌&&◌, ◌||◌, ◌==◌, not, nat_le, List, [], ◌∷◌, length, take, drop, Option, Some, None, is_some, is_none, unwrap_or, Result, Ok, Err, codes, if◌then◌else◌}
+use Rattle.std.specs.Option.{option_map}
+use Rattle.std.specs.Str.{bytes_eq}
+use Rattle.std.specs.FinMap as maps
+use Rattle.asm_grammar.specs.Bytes.{is_digit, upper, run_of, after_run}
+use Rattle.asm_grammar.specs.Word.{digits_of, number_of, size_of}
+use Rattle.asm_group.specs.declared.GroupKind.{GroupKind}
+use Rattle.asm_group.specs.declared.GroupKind.TheVariants.{External, Normal, High}
+use Rattle.asm_group.specs.declared.Stripe.TheVariants.{Coarse}
+use Rattle.asm_group.specs.Names.{Bytes, folded, is_same_name}
+use Rattle.asm_group.specs.Shape.{Shape, is_unit_size, is_step, is_sector, is_dir_blocks}
+use Rattle.asm_group.specs.Group.{Template, Attributes, Group}
+use Rattle.asm_group.specs.NewGroup.{usual_copies, usual_attributes}
+use Rattle.asm_group.specs.Refusal as r
+use Rattle.asm_world.specs.Statement as s
+use Rattle.asm_world.specs.Edits.{Causes, first_cause, unless_refused}
+
+-- ---- templates
+
+abbrev pub copies_of : s.Redundancy → ℕ
+copies_of s.Unprotected = 1
+copies_of s.Mirror = 2
+copies_of s.High = 3
+
+-- EXTERNAL allows one copy alone, HIGH three alone and NORMAL each number.
+abbrev pub allows_copies : GroupKind → ℕ → Bool
+allows_copies External copies = copies == 1
+allows_copies Normal copies = true
+allows_copies High copies = copies == 3
+
+abbrev pub said_copies : Group → s.TemplateWords → ℕ
+said_copies g words = unwrap_or (option_map copies_of words.redundancy) (usual_copies g.shape.kind)
+
+abbrev pub is_system_template : Option Template → Bool
+is_system_template None = false
+is_system_template (Some t) = t.system
+
+abbrev pub template_at : Group → Bytes → Option Template
+template_at g name = maps.get g.templates (folded name)
+
+abbrev pub with_template : Group → Bytes → Bool → s.TemplateWords → Group
+with_template g name system words = record g {
+  templates = maps.insert g.templates (folded name) (record {
+    name = name;
+    copies = said_copies g words;
+    stripe = unwrap_or words.stripe Coarse;
+    system = system;
+  });
+}
+
+pub data TemplateEdit : Type 0 where
+  AddTemplate : (name : Bytes) (words : s.TemplateWords) → TemplateEdit
+  ModifyTemplate : (name : Bytes) (words : s.TemplateWords) → TemplateEdit
+  DropTemplate : (name : Bytes) → TemplateEdit
+
+abbrev pub template_causes : Group → TemplateEdit → Causes
+template_causes g (AddTemplate name words) =
+    (is_some (template_at g name), r.NameTaken) ∷ (not (allows_copies g.shape.kind (said_copies g words)), r.BadRedundancy)
+    ∷ (nat_le 64 (maps.len g.templates), r.TooMany r.Templates 64) ∷ []
+template_causes g (ModifyTemplate name words) =
+    (is_none (template_at g name), r.NoTemplate) ∷ (not (allows_copies g.shape.kind (said_copies g words)), r.BadRedundancy) ∷ []
+template_causes g (DropTemplate name) =
+    (is_none (template_at g name), r.NoTemplate) ∷ (is_system_template (template_at g name), r.SystemTemplate) ∷ []
+
+abbrev pub spelt_template : Option Template → Bytes → Bytes
+spelt_template None name = name
+spelt_template (Some t) name = t.name
+
+abbrev pub with_template_edit : Group → TemplateEdit → Group
+with_template_edit g (AddTemplate name words) = with_template g name false words
+with_template_edit g (ModifyTemplate name words) =
+    with_template g (spelt_template (template_at g name) name) (is_system_template (template_at g name)) words
+with_template_edit g (DropTemplate name) = record g { templates = maps.remove g.templates (folded name) }
+
+-- The group after the edit, or why it is refused.
+abbrev pub templates_edited : Group → TemplateEdit → Result Group r.Refusal
+templates_edited g edit = unless_refused (first_cause (template_causes g edit)) (with_template_edit g edit)
+
+-- ---- values of attributes
+
+-- how many seconds a tenth of the unit has: hours where there is no letter
+abbrev pub tenth_of : Bytes → Option ℕ
+tenth_of [] = Some 360
+tenth_of (b ∷ []) = if upper b == 77 then Some 6 else (if upper b == 72 then Some 360 else None)
+tenth_of (b ∷ c ∷ bytes) = None
+
+-- at most 100,000 of the unit
+abbrev pub at_most : ℕ → Option ℕ → Option ℕ
+at_most tenths None = None
+at_most tenths (Some seconds) = if nat_le tenths 1000000 then Some (tenths * seconds) else None
+
+-- what stands behind the whole number: a point and one digit, or neither, and a letter or none
+abbrev pub tenths_of : Option ℕ → Bytes → Option ℕ
+tenths_of None bytes = None
+tenths_of (Some n) [] = at_most (n * 10) (tenth_of [])
+tenths_of (Some n) (b ∷ []) = at_most (n * 10) (tenth_of (b ∷ []))
+tenths_of (Some n) (b ∷ d ∷ unit) = if b == 46 && is_digit d then at_most (n * 10 + (d - 48)) (tenth_of unit) else None
+
+-- the seconds of a repair time
+abbrev pub repair_seconds : Bytes → Option ℕ
+repair_seconds bytes = tenths_of (digits_of (run_of is_digit bytes)) (after_run is_digit bytes)
+
+-- so many further parts of a point and digits, at most
+abbrev pub is_version_rest : ℕ → Bytes → Bool
+is_version_rest zero bytes = length bytes == 0
+is_version_rest (suc n) [] = true
+is_version_rest (suc n) (b ∷ bytes) = (b == 46) && not (length (run_of is_digit bytes) == 0) && is_version_rest n (after_run is_digit bytes)
+
+-- 11.2 and perhaps further parts, at most 30 bytes
+abbrev pub is_version : Bytes → Bool
+is_version bytes = bytes_eq (take 4 bytes) (codes "11.2") && is_version_rest 30 (drop 4 bytes) && nat_le (length bytes) 30
+
+abbrev pub when : {A : Type 0} → Bool → A → Option A
+when true value = Some value
+when false value = None
+
+-- An attribute that may be set at any time. None where there is no such name or value.
+abbrev pub with_attribute : Attributes → s.Attribute → Option Attributes
+with_attribute old a =
+    if is_same_name a.name (codes "disk_repair_time") then option_map (λ n. record old { repair = n }) (repair_seconds a.value)
+    else (if is_same_name a.name (codes "compatible.asm") then when (is_version a.value) (record old { asm = a.value })
+    else (if is_same_name a.name (codes "compatible.rdbms") then when (is_version a.value) (record old { rdbms = a.value })
+    else (if is_same_name a.name (codes "compatible.advm") then when (is_version a.value) (record old { advm = a.value })
+    else None)))
+
+abbrev pub with_attributes : Group → Bytes → Option Attributes → Result Group r.Refusal
+with_attributes g name None = Err (r.BadAttribute name)
+with_attributes g name (Some attributes) = Ok (record g { attributes = attributes })
+
+-- SET ATTRIBUTE
+abbrev pub attribute_set : Group → s.Attribute → Result Group r.Refusal
+attribute_set g a = with_attributes g a.name (with_attribute g.attributes a)
+
+-- ---- attributes of a creation
+
+pub record Creation : Type 0 where
+  pub shape : Shape
+  pub attributes : Attributes
+
+-- units of 1 MB, sectors of 512 bytes, 20,000 extents of a size and 1,024 record blocks
+abbrev pub usual_creation : GroupKind → Creation
+usual_creation kind = record {
+  shape = record { kind = kind; au = 1048576; sector = 512; step = 20000; dir_blocks = 1024 };
+  attributes = usual_attributes;
+}
+
+abbrev pub with_shape : Creation → (ℕ → Bool) → (ℕ → Shape) → Option ℕ → Option Creation
+with_shape c test make None = None
+with_shape c test make (Some n) = when (test n) (record c { shape = make n })
+
+-- An attribute that a creation gives: one of the shape's, or one that may be set at any time.
+abbrev pub with_creation_attribute : Creation → s.Attribute → Option Creation
+with_creation_attribute c a =
+    if is_same_name a.name (codes "au_size") then with_shape c is_unit_size (λ n. record c.shape { au = n }) (size_of a.value)
+    else (if is_same_name a.name (codes "sector_size") then with_shape c (λ n. n == 512 || n == 4096) (λ n. record c.shape { sector = n }) (size_of a.value)
+    else (if is_same_name a.name (codes "extent_step") then with_shape c is_step (λ n. record c.shape { step = n }) (number_of a.value)
+    else (if is_same_name a.name (codes "dir_blocks") then with_shape c is_dir_blocks (λ n. record c.shape { dir_blocks = n }) (number_of a.value)
+    else option_map (λ attributes. record c { attributes = attributes }) (with_attribute c.attributes a))))
+
+-- Each is tried as it comes, and the last value of a name holds. That a unit has eight sectors is tried at the end.
+abbrev pub created_with : Creation → List s.Attribute → Result Creation r.Refusal
+created_with c [] = if is_sector c.shape.sector c.shape.au then Ok c else Err (r.BadAttribute (codes "au_size"))
+created_with c (a ∷ attributes) = elim (with_creation_attribute c a) [
+  | None ↦ Err (r.BadAttribute a.name)
+  | Some next ↦ created_with next attributes
+]
+
+abbrev pub creation : Option GroupKind → List s.Attribute → Result Creation r.Refusal
+creation kind attributes = created_with (usual_creation (unwrap_or kind Normal)) attributes

@@ -1,0 +1,24 @@
+//! The world that a user sees: groups with their files, the commands and what each may do, runs, and the two
+//! languages with their texts. All of it is definitions, and laws over them.
+#![tactic(auto)]
+
+mod edits;
+mod language;
+mod runs;
+mod texts;
+
+pub use edits::{done_keeps_whole, files_are_written, known_bytes_are_read, names_are_edited};
+pub use language::{
+    commands_are_found, one_command, one_statement, refused_at_longest_front, refused_rows,
+    said_is_written, statements_are_decided, statements_are_read_alone, statements_spell,
+    unreadable_at_longest_front, verb_rows, verbs_are_decided, verbs_are_read_alone, verbs_spell,
+    writing_rows, written_is_said,
+};
+pub use runs::{
+    Measure, between_replies, histories_split, marks_rise, moments_are_held,
+    quiet_moments_are_held, quiet_moves_leave_groups, runs_join,
+};
+pub use texts::{
+    attribute_rows, cause_rows, generator_rows, name_rows, path_rows, refusal_rows, report_rows,
+    text_rows,
+};
