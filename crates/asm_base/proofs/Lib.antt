@@ -1,0 +1,11 @@
+pub mod Exact
+pub mod Numbers
+pub mod Sets
+pub mod FieldLaws
+pub mod Loops
+pub mod Tables
+pub mod NameLaws
+pub mod Decoding
+pub mod FrameLaws
+pub mod Lists
+pub mod RefusalTexts

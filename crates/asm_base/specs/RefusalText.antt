@@ -1,0 +1,12 @@
+-- The arguments of a refusal as they are printed.
+use Rattle.std.specs.Prelude.{List, [], ◌∷◌}
+use Rattle.std.specs.Fmt.{decimal}
+use Rattle.asm_group.specs.Names.{Bytes}
+use Rattle.asm_base.specs.declared.refusal_text.Argument.{Argument}
+use Rattle.asm_base.specs.declared.refusal_text.Argument.TheVariants as argument
+
+-- the words of an argument: one or none
+abbrev pub printed : Argument → List Bytes
+printed argument.Nothing = []
+printed (argument.Text text) = text.now ∷ []
+printed (argument.Number n) = decimal n ∷ []

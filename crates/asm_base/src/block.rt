@@ -1,0 +1,20 @@
+//! A block of a disk.
+
+ghost use Rattle.std.specs.Prelude.{◌≡◌, replicate};
+
+/// The bytes in a block.
+pub const BLOCK_SIZE: usize = 4096;
+
+/// The bytes of a block.
+#[derive(Drop)]
+pub struct Block {
+    pub bytes: [u8; 4096],
+}
+
+impl Block {
+    pub fn zeros() -> Block
+        ensures { result.bytes ≡ replicate 4096 0 }
+    {
+        Block { bytes: [0; 4096] }
+    }
+}

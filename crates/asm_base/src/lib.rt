@@ -1,0 +1,36 @@
+//! The small types that the crates of a disk group share, and the fields of its bodies and records.
+#![tactic(auto)]
+
+mod block;
+mod cursor;
+mod disk_set;
+mod frame;
+mod kinds;
+mod list;
+mod name;
+mod path;
+mod records;
+mod refusal;
+mod refusal_text;
+
+pub use block::{BLOCK_SIZE, Block};
+pub use cursor::{
+    Reader, Writer, finish, has_only_zeros, is_at_end, put_bytes, put_flag, put_set, put_u8,
+    put_u16, put_u32, put_u64, put_zeros, take_fixed, take_flag, take_set, take_u8, take_u16,
+    take_u32, take_u64,
+};
+pub use disk_set::DiskSet;
+pub use frame::{decode_record, encode_record};
+pub use kinds::{
+    ExtentId, FileNo, GroupKind, Home, Homes, Mode, NoMemory, NodeKind, PendingKind, Redundancy,
+    Shape, Span, Stripe,
+};
+pub use list::{List, Text};
+pub use name::{Name, put_name, put_text, take_name, take_text};
+pub use path::Path;
+pub use records::{Change, Key, Records, Value};
+pub use refusal::{DiskRef, Limited, Refusal};
+pub use refusal_text::no_memory_line;
+
+#[cfg(test)]
+mod tests;
