@@ -1,0 +1,13 @@
+//! The header of a disk, which makes it a member of a group, and its one spelling in a block.
+#![tactic(auto)]
+
+mod header;
+mod reading;
+mod writing;
+
+pub use header::Header;
+pub use reading::{decode, is_header};
+pub use writing::encode;
+
+#[cfg(test)]
+mod tests;
