@@ -1,0 +1,154 @@
+-- A record of the format stays one where one thing of it changes.
+use Rattle.std.proofs.Common.{◌≡◌, ℕ, zero, suc, ◌+◌, ◌^◌, ◌<◌, Bool, true, false, cond, eqb, List, [], ◌∷◌, ◌++◌, length, map, take, set, get_or, refl, sym, ap, subst, ◌∙◌, arith, inl, inr, ◌⊎◌}
+use Rattle.std.specs.Prelude.{◌&&◌}
+use Rattle.std.specs.List.{list_all}
+use Rattle.std.specs.Option.{is_some}
+use Rattle.std.proofs.lemmas.Bool.{and_parts, and_from}
+use Rattle.std.proofs.lemmas.List.{take_more_set}
+use Rattle.asm_group.specs.declared.Mode.{Mode}
+use Rattle.asm_formats.specs.Sets.{elements, has_bit}
+use Rattle.asm_formats.specs.Status.{Entry, Status, is_entry, is_status, entry_of, has_entry, have_entries, ascends_from}
+use Rattle.asm_formats.specs.Following.{sets_of, disks_of, sets, Holder, Follows, FollowsSets}
+use Rattle.status_table.specs.Rules.{number_of}
+use Rattle.status_table.specs.Changes.{entry_with_mode, entries_with_partners, status_with_mode, status_with_partners}
+use Rattle.status_table.proofs.Allowed.{Parts, parts_of, parts_are, FitsEntry, entry_fits, entry_is}
+
+-- ---- entries of the same numbers
+
+heads : (a : ℕ) (xs : List ℕ) (b : ℕ) (ys : List ℕ) → a ∷ xs ≡ b ∷ ys → (a ≡ b) × (xs ≡ ys)
+heads a xs b ys e = (cc, cc)
+
+found_same : (x y : Entry) (es fs : List Entry) (d : ℕ) → x.number ≡ y.number → has_entry es d ≡ has_entry fs d → has_entry (x ∷ es) d ≡ has_entry (y ∷ fs) d
+unfolding entry_of
+found_same x y es fs d same rest = by (eqb y.number d) refl where
+  by : (b : Bool) → eqb y.number d ≡ b → has_entry (x ∷ es) d ≡ has_entry (y ∷ fs) d
+  by true here = rw (same, here) refl
+  by false other = rw (same, other) rest
+
+same_has : (es fs : List Entry) (d : ℕ) → map number_of es ≡ map number_of fs → has_entry es d ≡ has_entry fs d
+unfolding entry_of
+same_has [] [] d e = refl
+same_has [] (f ∷ fs) d e = absurd cc
+same_has (x ∷ es) [] d e = absurd cc
+same_has (x ∷ es) (f ∷ fs) d e =
+    let both = heads x.number (map number_of es) f.number (map number_of fs) e in
+    found_same x f es fs d both.0 (same_has es fs d both.1)
+
+same_have : (es fs : List Entry) (ds : List ℕ) → map number_of es ≡ map number_of fs → list_all (has_entry es) ds ≡ list_all (has_entry fs) ds
+same_have es fs [] e = refl
+same_have es fs (d ∷ ds) e = rw (same_has es fs d e, same_have es fs ds e) refl
+
+-- a record with other entries of the same numbers
+with_entries_kept : (r : Status) (es : List Entry) → map number_of es ≡ map number_of r.entries → list_all is_entry es ≡ true → is_status r ≡ true → is_status (record r { entries = es }) ≡ true
+with_entries_kept r es same all ok =
+    let p = parts_of r ok in
+    parts_are (record r { entries = es }) (record {
+      id = p.id;
+      epoch = p.epoch;
+      turn = p.turn;
+      births = p.births;
+      holders = p.holders;
+      next_holders = p.next_holders;
+      directories = p.directories;
+      all = all;
+      up = ap (ascends_from 0) same ∙ p.up;
+      of_holders = same_have es r.entries (elements r.holders) same ∙ p.of_holders;
+      of_next = same_have es r.entries (elements r.next_holders) same ∙ p.of_next;
+      of_directories = same_have es r.entries (elements r.directories) same ∙ p.of_directories;
+    })
+
+-- ---- another mode
+
+mode_number : (disk : ℕ) (mode : Mode) (since : ℕ) (e : Entry) → (entry_with_mode disk mode since e).number ≡ e.number
+mode_number disk mode since e = by (eqb e.number disk) refl where
+  by : (b : Bool) → eqb e.number disk ≡ b → (entry_with_mode disk mode since e).number ≡ e.number
+  by true same = rw same refl
+  by false other = rw other refl
+
+mode_numbers : (disk : ℕ) (mode : Mode) (since : ℕ) (es : List Entry) → map number_of (map (entry_with_mode disk mode since) es) ≡ map number_of es
+mode_numbers disk mode since [] = refl
+mode_numbers disk mode since (e ∷ es) = rw (mode_number disk mode since e, mode_numbers disk mode since es) refl
+
+mode_entry : (disk : ℕ) (mode : Mode) (since : ℕ) (e : Entry) → since < 2 ^ 64 → is_entry e ≡ true → is_entry (entry_with_mode disk mode since e) ≡ true
+mode_entry disk mode since e small ok = by (eqb e.number disk) refl where
+  changed : is_entry (record e { mode = mode; since = since }) ≡ true
+  changed =
+      let f = entry_fits e ok in
+      entry_is (record e { mode = mode; since = since }) (record { number = f.number; birth = f.birth; failgroup = f.failgroup; units = f.units; since = small; repair = f.repair; partners = f.partners })
+
+  by : (b : Bool) → eqb e.number disk ≡ b → is_entry (entry_with_mode disk mode since e) ≡ true
+  by true same = rw same changed
+  by false other = rw other ok
+
+mode_entries : (disk : ℕ) (mode : Mode) (since : ℕ) (es : List Entry) → since < 2 ^ 64 → list_all is_entry es ≡ true → list_all is_entry (map (entry_with_mode disk mode since) es) ≡ true
+mode_entries disk mode since [] small all = refl
+mode_entries disk mode since (e ∷ es) small all =
+    let a = and_parts (is_entry e) (list_all is_entry es) all in
+    and_from (is_entry (entry_with_mode disk mode since e)) (list_all is_entry (map (entry_with_mode disk mode since) es)) (mode_entry disk mode since e small a.0) (mode_entries disk mode since es small a.1)
+
+pub mode_keeps : (r : Status) (disk : ℕ) (mode : Mode) (since : ℕ) → since < 2 ^ 64 → is_status r ≡ true → is_status (status_with_mode r disk mode since) ≡ true
+mode_keeps r disk mode since small ok =
+    with_entries_kept r (map (entry_with_mode disk mode since) r.entries) (mode_numbers disk mode since r.entries) (mode_entries disk mode since r.entries small (parts_of r ok).all) ok
+
+-- ---- other partners
+
+partner_numbers : (es : List Entry) (sets : List ℕ) → length sets ≡ length es → map number_of (entries_with_partners es sets) ≡ map number_of es
+partner_numbers [] [] e = refl
+partner_numbers [] (s ∷ sets) e = absurd (omega arith)
+partner_numbers (x ∷ es) [] e = absurd (omega arith)
+partner_numbers (x ∷ es) (s ∷ sets) e = ap (λ (ns : List ℕ). x.number ∷ ns) (partner_numbers es sets (omega arith))
+
+pub partners_keep : (r : Status) (sets : List ℕ) → length sets ≡ length r.entries → (list_all is_entry r.entries ≡ true → list_all is_entry (entries_with_partners r.entries sets) ≡ true) → is_status r ≡ true → is_status (status_with_partners r sets) ≡ true
+partners_keep r sets len fit ok =
+    with_entries_kept r (entries_with_partners r.entries sets) (partner_numbers r.entries sets len) (fit (parts_of r ok).all) ok
+
+pub partner_entry : (e : Entry) (s : ℕ) → s < 2 ^ 64 → is_entry e ≡ true → is_entry (record e { partners = s }) ≡ true
+partner_entry e s small ok =
+    let f = entry_fits e ok in
+    entry_is (record e { partners = s }) (record { number = f.number; birth = f.birth; failgroup = f.failgroup; units = f.units; since = f.since; repair = f.repair; partners = small })
+
+pub kept_more : (xs ys : List Entry) (i : ℕ) (x y : Entry) → i < length xs → i < length ys → x ≡ get_or xs i x → (is_entry x ≡ true → is_entry y ≡ true) → (list_all is_entry xs ≡ true → list_all is_entry (take i ys) ≡ true) → list_all is_entry xs ≡ true → list_all is_entry (take (i + 1) (set ys i y)) ≡ true
+kept_more xs ys i x y within room read step so_far all =
+    rw (take_more_set ys i y room) (all_pushed (take i ys) y (so_far all) (step (rw read (all_at xs i x within all)))) where
+      all_at : (xs : List Entry) (i : ℕ) (d : Entry) → i < length xs → list_all is_entry xs ≡ true → is_entry (get_or xs i d) ≡ true
+      all_at [] i d lt all = absurd (omega arith)
+      all_at (x ∷ xs) zero d lt all = (and_parts (is_entry x) (list_all is_entry xs) all).0
+      all_at (x ∷ xs) (suc i) d lt all = all_at xs i d (omega arith) (and_parts (is_entry x) (list_all is_entry xs) all).1
+
+      all_pushed : (xs : List Entry) (y : Entry) → list_all is_entry xs ≡ true → is_entry y ≡ true → list_all is_entry (xs ++ y ∷ []) ≡ true
+      all_pushed [] y all ok = rw ok refl
+      all_pushed (x ∷ xs) y all ok =
+          let a = and_parts (is_entry x) (list_all is_entry xs) all in
+          and_from (is_entry x) (list_all is_entry (xs ++ y ∷ [])) a.0 (all_pushed xs y a.1 ok)
+
+-- ---- other sets
+
+pub dirs_keep : (r : Status) (dirs : ℕ) → dirs < 2 ^ 64 → is_status r ≡ true → have_entries r.entries dirs ≡ true → is_status (record r { directories = dirs }) ≡ true
+dirs_keep r dirs small ok have =
+    let p = parts_of r ok in
+    parts_are (record r { directories = dirs }) (record { id = p.id; epoch = p.epoch; turn = p.turn; births = p.births; holders = p.holders; next_holders = p.next_holders; directories = small; all = p.all; up = p.up; of_holders = p.of_holders; of_next = p.of_next; of_directories = have })
+
+pub next_keeps : (r : Status) (next : ℕ) → next < 2 ^ 64 → is_status r ≡ true → have_entries r.entries next ≡ true → is_status (record r { next_holders = next }) ≡ true
+next_keeps r next small ok have =
+    let p = parts_of r ok in
+    parts_are (record r { next_holders = next }) (record { id = p.id; epoch = p.epoch; turn = p.turn; births = p.births; holders = p.holders; next_holders = small; directories = p.directories; all = p.all; up = p.up; of_holders = p.of_holders; of_next = have; of_directories = p.of_directories })
+
+none_have : (es : List Entry) → have_entries es 0 ≡ true
+unfolding elements has_bit
+none_have es = refl
+
+pub holders_keep : (r : Status) (holders : ℕ) → holders < 2 ^ 64 → is_status r ≡ true → have_entries r.entries holders ≡ true → is_status (record r { holders = holders; next_holders = 0 }) ≡ true
+holders_keep r holders small ok have =
+    let p = parts_of r ok in
+    parts_are (record r { holders = holders; next_holders = 0 }) (record { id = p.id; epoch = p.epoch; turn = p.turn; births = p.births; holders = small; next_holders = omega arith; directories = p.directories; all = p.all; up = p.up; of_holders = have; of_next = none_have r.entries; of_directories = p.of_directories })
+
+-- ---- the sets of a record
+
+follow : (h n : List Holder) (b : Bool) (later : List (List Holder)) → later ≡ h ∷ cond b [] (n ∷ []) → FollowsSets (h ∷ cond b [] (n ∷ [])) later
+follow h n true [] e = absurd cc
+follow h n true (l ∷ ls) e = cc
+follow h n false later e = inl e
+
+pub same_sets : (v r : Status) → sets r ≡ sets v → Follows v r
+unfolding sets_of
+same_sets v r e = follow (disks_of v.entries v.holders) (disks_of v.entries v.next_holders) (eqb v.next_holders 0) (sets r) e

@@ -1,0 +1,5 @@
+pub mod ClaimLaws
+pub mod Allowed
+pub mod Laws
+pub mod Kept
+pub mod Steps

@@ -1,0 +1,24 @@
+//! The status record of a group, which says what each of its disks is for, the claim of an epoch, and
+//! their spellings in a block. No call takes memory.
+#![tactic(auto)]
+
+mod changes;
+mod claim;
+mod follows;
+mod reading;
+mod record;
+mod rules;
+mod writing;
+
+pub use changes::{
+    majority, next_majority, with_dirs, with_holders, with_mode, with_next_holders, with_partners,
+};
+pub use claim::{Claim, decode_claim, encode_claim};
+pub use follows::same_sets_follow;
+pub use reading::decode;
+pub use record::{PstEntry, PstRecord};
+pub use rules::is_status;
+pub use writing::encode;
+
+#[cfg(test)]
+mod tests;
