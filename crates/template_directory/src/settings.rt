@@ -1,0 +1,46 @@
+//! The settings of a group.
+
+use asm_base::Text;
+use std::marker::Model;
+
+/// The next incarnation of a file, and the attributes that may be set at any time. Contracts see it as the settings of the
+/// formats.
+#[derive(Debug, Drop)]
+pub struct Settings {
+    /// The incarnation that the next new file gets.
+    pub incarnation: u64,
+    /// After how many seconds an offline disk is dropped.
+    pub repair: u64,
+    /// The text of compatible.asm, empty where it wasn't given.
+    pub asm: Text,
+    /// The text of compatible.rdbms, empty where it wasn't given.
+    pub rdbms: Text,
+    /// The text of compatible.advm, empty where it wasn't given.
+    pub advm: Text,
+}
+
+impl Model for Settings {
+    ghost use Rattle.asm_formats.specs.Items.{Settings as FormatSettings};
+
+    ghost Value = { FormatSettings };
+
+    ghost view = { λ s. record { incarnation = s.incarnation; attributes = record { repair = s.repair; asm = s.asm; rdbms = s.rdbms; advm = s.advm } } };
+}
+
+impl Settings {
+    ghost use Rattle.std.specs.Prelude.{◌≡◌};
+    ghost use Rattle.asm_group.specs.NewGroup.{usual_attributes};
+
+    /// The settings of a new group: the first incarnation, 3.6 hours, and no compatibility.
+    pub fn usual(alloc: std::alloc::Global) -> Settings
+        ensures { result ≡ record { incarnation = 1; attributes = usual_attributes } }
+    {
+        Settings {
+            incarnation: 1,
+            repair: 12_960,
+            asm: Text::new(alloc),
+            rdbms: Text::new(alloc),
+            advm: Text::new(alloc),
+        }
+    }
+}
