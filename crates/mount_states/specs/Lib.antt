@@ -1,0 +1,5 @@
+pub mod Places
+pub mod Gates
+pub mod Forming
+pub mod NewParts
+pub mod Pages

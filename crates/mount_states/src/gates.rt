@@ -1,0 +1,54 @@
+// Closing the gates of a disk.
+ghost use Rattle.std.specs.Prelude.{◌≡◌, ◌≤◌, ◌+◌, ◌*◌, ◌∷◌, [], OnOk, OnErr};
+ghost use Rattle.bay.specs.State.{KeepsAttached, IsSlot};
+ghost use Rattle.bay.specs.Counts.{Rose};
+ghost use Rattle.bay.specs.Moments.{Runs, Ends};
+ghost use Rattle.bay.specs.Image.{ChangesOnly};
+ghost use Rattle.mount_states.specs.Places.{other_gates};
+ghost use Rattle.mount_states.specs.Gates.{HasRegion, GatesOf, ShutsGates, MayCloseAll, ClosesAll};
+
+use crate::places::{block_slot, header_slot};
+use bay::{Bay, Fault};
+use gate_slot::close_gate;
+
+/// Closes every gate of a disk of a group, that of the header first.
+pub fn close_all_gates<B: Bay>(
+    bay: &mut B,
+    slot: u32,
+    sector: u32,
+    dir_blocks: u16,
+) -> Result<(), Fault>
+    requires { HasRegion (B.state bay.old) slot sector dir_blocks }
+    ensures attached { KeepsAttached (B.state bay.old) (B.state bay.new) }
+    ensures calls { (B.state bay.new).calls ≤ (B.state bay.old).calls + 28 }
+    ensures written { (B.state bay.new).written slot ≤ (B.state bay.old).written slot + 7 * sector }
+    ensures runs { Runs (IsSlot slot) (MayCloseAll slot sector dir_blocks) (B.state bay.old) (B.state bay.new) }
+    ensures done { OnOk result (Ends (ClosesAll slot sector dir_blocks) (B.state bay.old) (B.state bay.new)) }
+    ensures cause { OnErr result (Rose ((B.state bay.old).faults slot) ((B.state bay.new).faults slot)) }
+{
+    close_gate(bay, slot, header_slot(sector))?;
+    close_other_gates(bay, slot, sector, dir_blocks)
+}
+
+/// Closes the gates behind the header's: those of the claim, status and log slots.
+fn close_other_gates<B: Bay>(
+    bay: &mut B,
+    slot: u32,
+    sector: u32,
+    dir_blocks: u16,
+) -> Result<(), Fault>
+    requires { HasRegion (B.state bay.old) slot sector dir_blocks }
+    ensures attached { KeepsAttached (B.state bay.old) (B.state bay.new) }
+    ensures calls { (B.state bay.new).calls ≤ (B.state bay.old).calls + 24 }
+    ensures written { (B.state bay.new).written slot ≤ (B.state bay.old).written slot + 6 * sector }
+    ensures runs { Runs (IsSlot slot) (ChangesOnly (GatesOf slot sector (other_gates dir_blocks))) (B.state bay.old) (B.state bay.new) }
+    ensures done { OnOk result (Ends (ShutsGates slot sector 6 (other_gates dir_blocks)) (B.state bay.old) (B.state bay.new)) }
+    ensures cause { OnErr result (Rose ((B.state bay.old).faults slot) ((B.state bay.new).faults slot)) }
+{
+    let dir_blocks = dir_blocks as u32;
+    let gates: [u32; 6] = [2, 4, 6, 8, 10 + dir_blocks, 76 + dir_blocks];
+    for gate in &gates {
+        close_gate(bay, slot, block_slot(*gate, 1, sector))?;
+    }
+    Ok(())
+}
