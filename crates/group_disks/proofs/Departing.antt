@@ -1,0 +1,166 @@
+-- What a disk that changes leaves of the ids that its header doesn't name afterwards.
+use Rattle.std.proofs.Common.{◌≡◌, ◌≢◌, ⊎_elim, ℕ, zero, suc, ◌<◌, ◌≤◌, false, List, [], ◌∷◌, length, set, get_or, refl, sym, ap, subst, ◌∙◌, None, Some, arith}
+use Rattle.std.specs.Prelude.{nat_le, ◌&&◌}
+use Rattle.std.proofs.lemmas.Bool.{cases_lt, cond-false, and_right}
+use Rattle.std.proofs.lemmas.Option.{none-some}
+use Rattle.std.proofs.lemmas.List.{get_or-set_same, get_or-set_other, length-set, get_or-map, length-map}
+use Rattle.std.proofs.Math.Seq.{map-set_same}
+use Rattle.bay.specs.Image as bay
+use Rattle.asm_group.specs.Group.{Group}
+use Rattle.asm_formats.specs.Bytes.{is_open, block}
+use Rattle.asm_formats.specs.Regions.{least_size, header_gate}
+use Rattle.asm_formats.specs.Header.{Header, decoded_header}
+use Rattle.asm_formats.specs.Metadata.{Metadata, metadata, header_of}
+use Rattle.asm_formats.specs.Places.{SameElsewhere}
+use Rattle.asm_placement.specs.Among.{IsAmong}
+use Rattle.asm_images.specs.Members.{Image, Member, members, metadata_of, all_members, written, IsOutside}
+use Rattle.asm_images.specs.Bridge.{disk_bytes, disks_in, ChangesSlot}
+use Rattle.asm_images.specs.Sound.{SoundBy, Sound}
+use Rattle.asm_images.proofs.Members.{member_is, among_members}
+use Rattle.asm_images.proofs.Joining.{leave_keeps, outside_keeps}
+use Rattle.asm_images.proofs.Describing.{spare_keeps}
+use Rattle.asm_images.proofs.Outsiders.{other_header_is_elsewhere}
+use Rattle.asm_images.proofs.UserBytes.{metadata_write_keeps_copies}
+use Rattle.asm_images.proofs.Bridges.{disks_are_listed, slot_change, beyond_is_unseen}
+use Rattle.group_disks.specs.Creating.{Allows, HasMember}
+
+-- a shut gate shows no header
+pub shut_header : (bytes : List ℕ) → is_open bytes header_gate ≡ false → header_of bytes ≡ None
+shut_header bytes shut =
+    cond-false (nat_le least_size (length bytes) && is_open bytes header_gate) (decoded_header (block bytes 1)) None (and_right (nat_le least_size (length bytes)) (is_open bytes header_gate) shut)
+
+set_twice : {A : Type 0} (xs : List A) (i : ℕ) (y z : A) → set (set xs i y) i z ≡ set xs i z
+set_twice [] i y z = refl
+set_twice (x ∷ xs) zero y z = refl
+set_twice {A} (x ∷ xs) (suc i) y z = ap (λ (l : List A). x ∷ l) (set_twice xs i y z)
+
+-- the header names another id, or there is none
+abbrev pub NamesOther : ℕ → List ℕ → Type 0
+NamesOther id bytes = (h : Header) → header_of bytes ≡ Some h → h.id ≢ id
+
+-- ---- the disk leaves first, and changes then
+
+module _ (id : ℕ) (old : Image) (groups : List Group) (slot : ℕ) (inside : slot < length old) where
+  abbrev before : List ℕ
+  before = get_or old slot []
+
+  -- with the gate of its header shut
+  abbrev shut : List ℕ
+  shut = set before 0 0
+
+  is_shut : (l : List ℕ) → is_open (set l 0 0) header_gate ≡ false
+  is_shut [] = refl
+  is_shut (b ∷ bs) = refl
+
+  only_gate : SameElsewhere before shut 0 1
+  only_gate = record {
+    size = length-set before 0 0;
+    before = λ k lt. absurd (omega arith);
+    behind = λ k le. get_or-set_other before 0 k 0 0 (λ e. omega (arith, e, le));
+  }
+
+  without_header : (metadata shut).header ≡ None
+  unfolding metadata
+  without_header = shut_header shut (is_shut before)
+
+  outside_then : IsOutside (all_members id (written old slot shut)) slot
+  outside_then m h at =
+      let is = member_is id (written old slot shut) m h in
+      let here : get_or (written old slot shut) m.slot [] ≡ shut = ap (λ (k : ℕ). get_or (written old slot shut) k []) at ∙ get_or-set_same old slot shut [] inside in
+      none-some m.header (sym (shut_header shut (is_shut before)) ∙ ap header_of (sym here) ∙ is.header)
+
+  pub departs : (bytes : List ℕ) → NamesOther id bytes → Sound id old groups → Sound id (written old slot bytes) groups
+  unfolding metadata
+  departs bytes other sound =
+      let left : SoundBy id (written old slot shut) groups sound.completed sound.begun = leave_keeps id old groups sound.completed sound.begun sound.holds slot shut (record {
+        inside = inside;
+        closed = without_header;
+        copies = metadata_write_keeps_copies id old groups sound.completed sound.begun sound.holds slot shut 0 1 inside only_gate (λ m h at. omega arith);
+      }) in
+      let after : SoundBy id (written (written old slot shut) slot bytes) groups sound.completed sound.begun =
+      outside_keeps id (written old slot shut) groups sound.completed sound.begun left slot bytes (other_header_is_elsewhere id (written old slot shut) slot bytes outside_then other) in
+      record {
+        completed = sound.completed;
+        begun = sound.begun;
+        holds = subst (λ (image : Image). SoundBy id image groups sound.completed sound.begun) (set_twice old slot shut bytes) after;
+      }
+
+  -- a member elsewhere was one before
+  pub stays_member : (bytes : List ℕ) (m : Member) → m.slot ≢ slot → IsAmong (all_members id (written old slot bytes)) m → (n : Member) × IsAmong (all_members id old) n
+  unfolding metadata members
+  stays_member bytes m apart h =
+      let is = member_is id (written old slot bytes) m h in
+      let below : m.slot < length old = omega (arith, is.slot, length-set old slot bytes) in
+      let same : get_or (written old slot bytes) m.slot [] ≡ get_or old m.slot [] = get_or-set_other old slot m.slot bytes [] apart in
+      let header : (get_or (metadata_of old) m.slot (metadata [])).header ≡ Some m.header =
+      ap (λ (d : Metadata). d.header) (get_or-map metadata old m.slot [] (metadata []) below) ∙ ap header_of (sym same) ∙ is.header in (
+        record { slot = m.slot; header = m.header; disk = get_or (metadata_of old) m.slot (metadata []) },
+        among_members id 0 m.slot m.slot (metadata_of old) (metadata []) m.header (omega arith) (omega (arith, below, length-map old metadata)) header is.group,
+      )
+
+  pub was_member : (bytes : List ℕ) → NamesOther id bytes → (m : Member) → IsAmong (all_members id (written old slot bytes)) m → (n : Member) × IsAmong (all_members id old) n
+  was_member bytes other m h =
+      let is = member_is id (written old slot bytes) m h in
+      stays_member bytes m (λ at.
+      let here : get_or (written old slot bytes) m.slot [] ≡ bytes = ap (λ (k : ℕ). get_or (written old slot bytes) k []) at ∙ get_or-set_same old slot bytes [] inside in
+      other m.header (ap header_of (sym here) ∙ is.header) is.group) h
+
+  -- ---- a change in front of the region that the metadata doesn't rest on
+
+  pub same_metadata : (bytes : List ℕ) → metadata bytes ≡ metadata before → metadata_of (written old slot bytes) ≡ metadata_of old
+  same_metadata bytes same = map-set_same metadata old slot bytes [] same
+
+  pub spares : (bytes : List ℕ) → metadata bytes ≡ metadata before → SameElsewhere before bytes 0 512 → Sound id old groups → Sound id (written old slot bytes) groups
+  spares bytes same change sound = record {
+    completed = sound.completed;
+    begun = sound.begun;
+    holds = spare_keeps id old (written old slot bytes) groups sound.completed sound.begun sound.holds (record {
+      metadata = same_metadata bytes same;
+      bytes = metadata_write_keeps_copies id old groups sound.completed sound.begun sound.holds slot bytes 0 512 inside change (λ m h at. omega arith);
+    });
+  }
+
+-- ---- the same of images of all disks
+
+module _ (id slot : ℕ) (old new : bay.Image) (changes : ChangesSlot slot old new) where
+  abbrev now : List ℕ
+  now = disk_bytes new slot
+
+  in_list : (slots : ℕ) → slot < slots → slot < length (disks_in slots old)
+  in_list slots lt = omega (arith, lt, (disks_are_listed slots slot old lt).0)
+
+  -- by the slots that are looked at
+  module _ (P : Image → Type 0) (slots : ℕ) (seen : slot < slots → P (written (disks_in slots old) slot now)) (unseen : P (disks_in slots old)) where
+    pub looked_at : P (disks_in slots new)
+    looked_at = ⊎_elim
+        (λ (lt : slot < slots). subst P (sym (slot_change slots slot old new changes)) (seen lt))
+        (λ (le : slots ≤ slot). subst P (sym (beyond_is_unseen slots slot old new le changes)) unseen)
+        (cases_lt slot slots)
+
+  pub other_allows : (groups : List Group) → NamesOther id now → Allows id groups old → Allows id groups new
+  other_allows groups other allows = λ slots. looked_at (λ image. Sound id image groups) slots
+      (λ lt. departs id (disks_in slots old) groups slot (in_list slots lt) now other (allows slots)) (allows slots)
+
+  pub other_member : NamesOther id now → HasMember id new → HasMember id old
+  other_member other has = looked_at (λ image. IsAmong (all_members id image) has.member → HasMember id old) has.slots
+      (λ lt h. let was = was_member id (disks_in has.slots old) [] slot (in_list has.slots lt) now other has.member h in record { slots = has.slots; member = was.0; is = was.1 })
+      (λ h. record { slots = has.slots; member = has.member; is = h }) has.is
+
+  pub elsewhere_member : (has : HasMember id new) → has.member.slot ≢ slot → HasMember id old
+  elsewhere_member has apart = looked_at (λ image. IsAmong (all_members id image) has.member → HasMember id old) has.slots
+      (λ lt h. let was = stays_member id (disks_in has.slots old) [] slot (in_list has.slots lt) now has.member apart h in record { slots = has.slots; member = was.0; is = was.1 })
+      (λ h. record { slots = has.slots; member = has.member; is = h }) has.is
+
+  module _ (same : metadata now ≡ metadata (disk_bytes old slot)) where
+    same_there : (slots : ℕ) → slot < slots → metadata now ≡ metadata (get_or (disks_in slots old) slot [])
+    same_there slots lt = same ∙ ap metadata (sym (disks_are_listed slots slot old lt).1)
+
+    pub same_allows : (groups : List Group) → SameElsewhere (disk_bytes old slot) now 0 512 → Allows id groups old → Allows id groups new
+    same_allows groups change allows = λ slots. looked_at (λ image. Sound id image groups) slots
+        (λ lt. spares id (disks_in slots old) groups slot (in_list slots lt) now (same_there slots lt)
+        (subst (λ (l : List ℕ). SameElsewhere l now 0 512) (sym (disks_are_listed slots slot old lt).1) change) (allows slots)) (allows slots)
+
+    pub same_member : HasMember id new → HasMember id old
+    same_member has = looked_at (λ image. IsAmong (all_members id image) has.member → HasMember id old) has.slots
+        (λ lt h. record { slots = has.slots; member = has.member; is = subst (λ (l : List Metadata). IsAmong (members id l) has.member) (same_metadata id (disks_in has.slots old) [] slot (in_list has.slots lt) now (same_there has.slots lt)) h })
+        (λ h. record { slots = has.slots; member = has.member; is = h }) has.is

@@ -1,0 +1,16 @@
+pub mod Outsiders
+pub mod Departing
+pub mod FirstBodies
+pub mod FirstGroup
+pub mod FirstContent
+pub mod Shown
+pub mod FirstMember
+pub mod FirstDisk
+pub mod Forming
+pub mod Told
+pub mod Headers
+pub mod Looking
+pub mod Choosing
+pub mod Moments
+pub mod Causes
+pub mod FirstRecords

@@ -1,0 +1,96 @@
+-- A creation at every moment.
+use Rattle.std.proofs.Common.{◌≡◌, ◌≢◌, ℕ, ◌*◌, ◌<◌, ◌≤◌, List, [], ◌∷◌, length, Contains, All, Some, sym, subst, ap, arith}
+use Rattle.std.specs.Option.{ForSome}
+use Rattle.std.proofs.lemmas.List.Elements.{All-contains}
+use Rattle.bay.specs.Image.{Image, Same}
+use Rattle.bay.specs.State.{BayState, IsSound, IsSlot, KeepsAttached}
+use Rattle.bay.specs.Counts.{last_count}
+use Rattle.bay.specs.Moments.{Runs, Ends}
+use Rattle.bay.proofs.Calls.{widened, goes_on, both_done, stops, on_more}
+use Rattle.asm_group.specs.Names.{Bytes}
+use Rattle.asm_group.specs.Group.{Group}
+use Rattle.asm_images.specs.Sound.{Sound}
+use Rattle.asm_images.specs.Bridge.{disks_in}
+use Rattle.asm_images.specs.Members as lists
+use Rattle.asm_images.specs.Members.{all_members}
+use Rattle.asm_placement.specs.Among.{IsAmong}
+use Rattle.asm_images.proofs.Bridges.{same_is_same}
+use Rattle.mount_states.specs.Forming.{MayForm, HasFormed}
+use Rattle.group_disks.specs.Creating.{Allows, HasMember, Creates, Founds, made_group}
+use Rattle.group_disks.specs.Found.{counts_of, header_in, AreAllRead, IsAboveAll}
+use Rattle.group_disks.specs.Planned.{Plan, IsPlan, parts_of_plan}
+use Rattle.group_disks.proofs.Forming.{forming_creates, formed_stands}
+use Rattle.group_disks.proofs.Outsiders.{creates_none}
+
+-- a run with a larger step from such images as there may be
+widened_from : {slots : ℕ → Type 0} {step whole : Image → Image → Type 0} {a b : BayState} (P : Image → Type 0) → IsSound a → ((image : Image) → a.leaves a.calls image → P image)
+    → ((x y : Image) → P x → step x y → whole x y) → Runs slots step a b → Runs slots whole a b
+widened_from {slots} {step} {whole} {a} {b} P sound all within run = record {
+  later = run.later;
+  faults = run.faults;
+  other_faults = run.other_faults;
+  other_written = run.other_written;
+  held = λ image holds. let from = run.held image holds in (from.0, from.1, within from.0 image (all from.0 (sound.held from.0 from.1)) from.2);
+  ended = run.ended;
+  moments = λ m image low high left. let from = run.moments m image low high left in (from.0, from.1, within from.0 image (all from.0 from.1) from.2);
+}
+
+pub forms_creates : {m t : BayState} (slot size : ℕ) (plan : Plan) → IsSound m → m.attached slot ≡ Some size → IsPlan plan → plan.units * 1048576 ≤ size
+    → Runs (IsSlot slot) (MayForm slot 512 1024 (parts_of_plan plan)) m t → Runs (IsSlot slot) (Creates plan.id (made_group plan.name)) m t
+forms_creates {m} {t} slot size plan sound attached is room run =
+    widened_from (λ image. image.size slot ≡ size) sound (λ image left. sound.sized slot size image attached left)
+    (λ x y sized step. forming_creates slot plan x y is (omega (arith, room, sized)) step) run
+
+has_before : (id : ℕ) (x y : Image) → Same x y → HasMember id y → HasMember id x
+has_before id x y same has = record { slots = has.slots; member = has.member; is = subst (λ (i : lists.Image). IsAmong (all_members id i) has.member) (same_is_same has.slots x y same) has.is }
+
+-- a creation from disks that are as they were
+same_creates : (id : ℕ) (g : Group) (x y z : Image) → Same x y → Creates id g y z → Creates id g x z
+same_creates id g x y z same creates = record {
+  others = λ other groups apart allows. creates.others other groups apart (λ slots. subst (λ (i : lists.Image). Sound other i groups) (sym (same_is_same slots x y same)) (allows slots));
+  members = λ other apart has. has_before other x y same (creates.members other apart has);
+  own = λ none. creates.own (λ has. none (has_before id x y same has));
+}
+
+-- what comes before the first write, and the writing
+pub all_creates : {s m t : BayState} {slots : ℕ → Type 0} (slot id : ℕ) (g : Group) → slots slot → Runs slots Same s m → Runs (IsSlot slot) (Creates id g) m t → Runs slots (Creates id g) s t
+all_creates {s} {m} {t} {slots} slot id g inside first next =
+    goes_on (same_creates id g) (widened (λ x y same. same_creates id g x y y same (creates_none id g y)) first) (stops first)
+    (on_more (λ (k : ℕ) is. subst slots (sym is) inside) next)
+
+-- an id above all that were read is above all that are told
+pub above_all : (s t : BayState) (paths : List Bytes) (n id : ℕ) (ids : List ℕ) → length paths ≡ n → AreAllRead n ids (counts_of s) (counts_of t) → All (λ (other : ℕ). other < id) ids
+    → IsAboveAll paths id (counts_of s) (counts_of t)
+above_all s t paths n id ids len are all = record {
+  each = λ slot size below attached still now holds image was h is.
+      All-contains (λ (other : ℕ). other < id) ids h.id all (are.each slot size (omega (arith, len, below)) attached still now holds image was h is);
+}
+
+-- the same of a plan that is seen as another
+pub plan_creates : {s m t : BayState} {slots : ℕ → Type 0} (slot : ℕ) (p q : Plan) (name : Bytes) → p ≡ q → q.name ≡ name → slots slot → Runs slots Same s m
+    → Runs (IsSlot slot) (Creates q.id (made_group q.name)) m t → Runs slots (Creates p.id (made_group name)) s t
+plan_creates {s} {m} {t} {slots} slot p q name same named inside first next =
+    subst (λ (n : Bytes). Runs slots (Creates p.id (made_group n)) s t) named
+    (subst (λ (k : ℕ). Runs slots (Creates k (made_group q.name)) s t) (sym (ap (λ (r : Plan). r.id) same)) (all_creates slot q.id (made_group q.name) inside first next))
+
+pub plan_above : (s t : BayState) (paths : List Bytes) (n : ℕ) (ids : List ℕ) (p q : Plan) → p ≡ q → length paths ≡ n → AreAllRead n ids (counts_of s) (counts_of t)
+    → (q.id < last_count → All (λ (other : ℕ). other < q.id) ids) → p.id < last_count → IsAboveAll paths p.id (counts_of s) (counts_of t)
+plan_above s t paths n ids p q same len are all below =
+    let is : p.id ≡ q.id = ap (λ (r : Plan). r.id) same in
+    subst (λ (k : ℕ). IsAboveAll paths k (counts_of s) (counts_of t)) (sym is) (above_all s t paths n q.id ids len are (all (omega (arith, is, below))))
+
+-- what is done to such disks as there may be
+pub forms_founds : {m t : BayState} (slot slots size : ℕ) (plan : Plan) → IsSound m → m.attached slot ≡ Some size → IsPlan plan → plan.units * 1048576 ≤ size → slot < slots
+    → Ends (HasFormed slot 512 1024 (parts_of_plan plan)) m t → Ends (Founds slots plan.id) m t
+forms_founds {m} {t} slot slots size plan sound attached is room inside ends = record {
+  held = λ image holds. let from = ends.held image holds in (from.0, from.1, founds from.0 image (sound.sized slot size from.0 attached (sound.held from.0 from.1)) from.2);
+  now = λ image left. let from = ends.now image left in (from.0, from.1, founds from.0 image (sound.sized slot size from.0 attached from.1) from.2);
+}
+  where
+    founds : (x y : Image) → x.size slot ≡ size → HasFormed slot 512 1024 (parts_of_plan plan) x y → Founds slots plan.id x y
+    founds x y sized formed = record { stands = λ none. formed_stands slot slots plan x y is (omega (arith, room, sized)) none formed inside }
+
+pub plan_founds : {s m t : BayState} {slots : ℕ → Type 0} (n : ℕ) (p q : Plan) → p ≡ q → Runs slots Same s m → Ends (Founds n q.id) m t → Ends (Founds n p.id) s t
+plan_founds {s} {m} {t} {slots} n p q same first ends =
+    subst (λ (k : ℕ). Ends (Founds n k) s t) (sym (ap (λ (r : Plan). r.id) same))
+    (both_done {first = Same} (λ x y z is founds. record { stands = λ none. founds.stands (λ has. none (has_before q.id x y is has)) }) (stops first) ends)

@@ -1,0 +1,11 @@
+use Rattle.std.proofs.Common.{refl}
+use Rattle.asm_base.specs.Refusals.{said}
+use Rattle.group_disks.proofs.create.make_ready.Goals as goal
+
+pub returns-in_default-clause-err : goal.returns-in_default-clause-err
+unfolding said
+returns-in_default-clause-err c = refl
+
+pub returns-in_default-first_bodies-clause-err : goal.returns-in_default-first_bodies-clause-err
+unfolding said
+returns-in_default-first_bodies-clause-err c = refl

@@ -1,0 +1,6 @@
+pub mod Found
+pub mod Creating
+pub mod Planned
+pub mod CreateLaws
+pub mod Probes
+pub mod Ready

@@ -1,0 +1,89 @@
+-- What a creation writes on its one disk.
+use Rattle.std.specs.Prelude.{◌≡◌, ℕ, ◌^◌, ◌<◌, ◌≤◌, true, false, List, [], ◌∷◌, flat_map}
+use Rattle.asm_group.specs.declared.GroupKind.TheVariants.{External}
+use Rattle.asm_group.specs.declared.Mode.TheVariants.{Online}
+use Rattle.asm_group.specs.Names.{Bytes, is_name}
+use Rattle.asm_group.specs.NewGroup.{system_templates, usual_attributes}
+use Rattle.asm_formats.specs.Header.{Header, header_spelling}
+use Rattle.asm_formats.specs.Claim.{Claim, claim_spelling}
+use Rattle.asm_formats.specs.Status.{Status, Entry, status_spelling}
+use Rattle.asm_formats.specs.Items.{Item, disk_item, templates_item, settings_item}
+use Rattle.asm_formats.specs.Records.{record_spelling}
+use Rattle.asm_formats.specs.Logs.{LogHead, log_head_spelling}
+use Rattle.asm_formats.specs.Regions.{most_units}
+use Rattle.mount_states.specs.Forming.{Parts}
+use Rattle.group_disks.specs.Creating.{usual_shape}
+
+-- the group's id and name, and the name and the units of its one disk
+pub record Plan : Type 0 where
+  pub id : ℕ
+  pub name : Bytes
+  pub disk : Bytes
+  pub units : ℕ
+
+pub record IsPlan (plan : Plan) : Type 0 where
+  pub name : is_name plan.name ≡ true
+  pub disk : is_name plan.disk ≡ true
+  pub id : plan.id < 2 ^ 64
+  pub least : 25 ≤ plan.units
+  pub most : plan.units ≤ most_units
+
+-- the disk is number 0, with birth 1, in a failure group of its own
+abbrev pub header_of_plan : Plan → Header
+header_of_plan plan = record {
+  group = plan.name;
+  id = plan.id;
+  number = 0;
+  birth = 1;
+  disk = plan.disk;
+  failgroup = plan.disk;
+  quorum = false;
+  shape = usual_shape;
+}
+
+-- the first epoch is claimed
+abbrev pub claim_of_plan : Plan → Claim
+claim_of_plan plan = record { id = plan.id; epoch = 1 }
+
+abbrev pub entry_of_plan : Plan → Entry
+entry_of_plan plan = record { number = 0; birth = 1; mode = Online; failgroup = 0; quorum = false; units = plan.units; since = 0; repair = 0; partners = 0 }
+
+-- the set of disk 0 alone holds the status record and the directory
+abbrev pub record_of_plan : Plan → Status
+record_of_plan plan = record {
+  id = plan.id;
+  epoch = 1;
+  turn = 1;
+  gone = false;
+  births = 1;
+  holders = 1;
+  next_holders = 0;
+  directories = 1;
+  entries = entry_of_plan plan ∷ [];
+}
+
+-- the directory has the disk, the system templates and the settings
+abbrev pub disk_of_plan : Plan → Item
+disk_of_plan plan = disk_item 0 (record { birth = 1; name = plan.disk; failgroup = plan.disk })
+
+abbrev pub first_templates : Item
+first_templates = templates_item (system_templates External)
+
+abbrev pub first_settings : Item
+first_settings = settings_item (record { incarnation = 1; attributes = usual_attributes })
+
+abbrev pub items_of_plan : Plan → List Item
+items_of_plan plan = disk_of_plan plan ∷ first_templates ∷ first_settings ∷ []
+
+-- commit 1, which has no page images
+abbrev pub first_head : LogHead
+first_head = record { commit = 1; pages = [] }
+
+abbrev pub parts_of_plan : Plan → Parts
+parts_of_plan plan = record {
+  header = header_spelling (header_of_plan plan);
+  head = log_head_spelling first_head;
+  claim = claim_spelling (claim_of_plan plan);
+  status = status_spelling (record_of_plan plan);
+  pages = flat_map record_spelling (items_of_plan plan);
+}

@@ -1,0 +1,179 @@
+// A group is created on one disk.
+ghost use Rattle.std.specs.Prelude.{◌≡◌, ◌≤◌, ◌<◌, ◌+◌, ◌*◌, [], All, None, Some, IsTrue, IsSome, map, length, IfErr, IfOk, IfSome, OnOk, MatchOption};
+ghost use Rattle.asm_group.specs.Names.{is_name};
+ghost use Rattle.std.specs.String.{string_bytes};
+ghost use Rattle.bay.specs.Image.{Same};
+ghost use Rattle.bay.specs.State.{IsSlot, KeepsAttached};
+ghost use Rattle.bay.specs.Moments.{Runs, Ends};
+ghost use Rattle.bay.specs.Counts.{last_count};
+ghost use Rattle.asm_base.specs.Refusals.{said};
+ghost use Rattle.asm_group.specs.Refusal.{NoMemory};
+ghost use Rattle.asm_formats.specs.Regions.{most_units};
+ghost use Rattle.group_disks.specs.Found.{counts_of, AreIdsRead, AreAllRead, IsAboveAll, RefusalCause, IsEarly};
+ghost use Rattle.group_disks.specs.Creating.{Creates, Founds, made_group};
+ghost use Rattle.group_disks.specs.Planned.{IsPlan, parts_of_plan};
+ghost use Rattle.group_disks.specs.Ready.{HasRoom, IsFormFault};
+
+use crate::choose::{first_disk_name, next_id, no_disk, usable_units, write_fault};
+use crate::find::{look_at_all, slot_of};
+use crate::new_group::{Bodies, NewGroup, first_bodies};
+use asm_base::{Name, Refusal};
+use bay::{Bay, Fault};
+use mount_states::form_disk;
+use std::alloc::Global;
+
+/// Creates an EXTERNAL group on the image at a path, which is one of the program's images. The ids in the headers that were
+/// read are put into `ids`. The first part of the answer is the group's id where the creation came to write: at least `floor`,
+/// and above each of these ids. Refusals in their order: NoDisk, DiskTaken, TooSmall, WriteFault; NoMemory at any point.
+pub fn create_group<B: Bay>(
+    alloc: Global,
+    bay: &mut B,
+    paths: &[String],
+    name: &Name,
+    path: &[u8],
+    floor: u64,
+    ids: &mut Vec<u64>,
+) -> (Option<u64>, Result<(), Refusal>)
+    requires few { length paths.now ≤ 512 }
+    requires name { IsTrue (is_name name.now) }
+    requires none { ids.old.items ≡ [] }
+    ensures ids { AreIdsRead ids.new.items (counts_of (B.state bay.old)) (counts_of (B.state bay.new)) }
+    ensures cause { IfErr result.1 (λ refusal. RefusalCause (map string_bytes paths.now) path.now (said (λ _. []) refusal) (counts_of (B.state bay.old)) (counts_of (B.state bay.new))) }
+    ensures given { OnOk result.1 (IsSome result.0) }
+    ensures done { OnOk result.1 (IfSome result.0 (λ id. Ends (Founds (length paths.now) id) (B.state bay.old) (B.state bay.new))) }
+    ensures early { IfErr result.1 (λ refusal. IsEarly (said (λ _. []) refusal) → result.0 ≡ None) }
+    ensures above { IfSome result.0 (λ id. id < last_count → IsAboveAll (map string_bytes paths.now) id (counts_of (B.state bay.old)) (counts_of (B.state bay.new))) }
+    ensures floor { IfSome result.0 (λ id. floor ≤ id) }
+    ensures above_read { IfSome result.0 (λ id. id < last_count → All (λ other. other < id) ids.new.items) }
+    ensures moments { MatchOption result.0
+        (Runs (λ slot. slot < length paths.now) Same (B.state bay.old) (B.state bay.new))
+        (λ id. Runs (λ slot. slot < length paths.now) (Creates id (made_group name.now)) (B.state bay.old) (B.state bay.new)) }
+{
+    match prepare(alloc, bay, paths, name, path, floor, ids) {
+        Ok(
+            Ready {
+                slot,
+                group,
+                bodies,
+            },
+        ) => {
+            let written = form(alloc, bay, slot, paths.len(), &group, &bodies);
+            (Some(group.id), written)
+        }
+        Err(refusal) => (None, Err(refusal)),
+    }
+}
+
+/// A new group, the slot of its disk, and what the disk is given.
+#[derive(Drop)]
+struct Ready {
+    slot: u32,
+    group: NewGroup,
+    bodies: Bodies,
+}
+
+/// Does all that comes before the first write: looks at the images, and takes an id.
+fn prepare<B: Bay>(
+    alloc: Global,
+    bay: &mut B,
+    paths: &[String],
+    name: &Name,
+    path: &[u8],
+    floor: u64,
+    ids: &mut Vec<u64>,
+) -> Result<Ready, Refusal>
+    requires few { length paths.now ≤ 512 }
+    requires name { IsTrue (is_name name.now) }
+    requires none { ids.old.items ≡ [] }
+    ensures calls { (B.state bay.new).calls ≤ (B.state bay.old).calls + 3 * length paths.now }
+    ensures runs { Runs (λ slot. slot < length paths.now) Same (B.state bay.old) (B.state bay.new) }
+    ensures ids { AreIdsRead ids.new.items (counts_of (B.state bay.old)) (counts_of (B.state bay.new)) }
+    ensures cause { IfErr result (λ refusal. RefusalCause (map string_bytes paths.now) path.now (said (λ _. []) refusal) (counts_of (B.state bay.old)) (counts_of (B.state bay.new))) }
+    ensures all { IfOk result (λ _. AreAllRead (length paths.now) ids.new.items (counts_of (B.state bay.old)) (counts_of (B.state bay.new))) }
+    ensures floor { IfOk result (λ ready. floor ≤ ready.group.id) }
+    ensures above { IfOk result (λ ready. ready.group.id < last_count → All (λ other. other < ready.group.id) ids.new.items) }
+    ensures name { IfOk result (λ ready. ready.group.name ≡ name.now) }
+    ensures slot { IfOk result (λ ready. ready.slot < length paths.now) }
+    ensures plan { IfOk result (λ ready. IsPlan ready.group) }
+    ensures bodies { IfOk result (λ ready. ready.bodies ≡ parts_of_plan ready.group) }
+    ensures room { IfOk result (λ ready. HasRoom ready.slot ready.group.units (B.state bay.new)) }
+{
+    let Some(slot) = slot_of(paths, path) else {
+        return Err(no_disk(alloc, path));
+    };
+    let Ok(disk) = first_disk_name(alloc, name) else {
+        return Err(Refusal::NoMemory);
+    };
+    let Ok(probe) = look_at_all(alloc, bay, paths, slot, ids) else {
+        return Err(Refusal::NoMemory);
+    };
+    match usable_units(alloc, path, &disk, probe) {
+        Ok(units) => make_ready(alloc, slot, name, disk, units, next_id(floor, ids)),
+        Err(refusal) => Err(refusal),
+    }
+}
+
+/// The bodies of the new group's disk, beside what they are made of.
+fn make_ready(
+    alloc: Global,
+    slot: u32,
+    name: &Name,
+    disk: Name,
+    units: u32,
+    id: u64,
+) -> Result<Ready, Refusal>
+    requires name { IsTrue (is_name name.now) }
+    requires disk { IsTrue (is_name disk) }
+    requires least { 25 ≤ units }
+    requires most { units ≤ most_units }
+    ensures slot { IfOk result (λ ready. ready.slot ≡ slot) }
+    ensures id { IfOk result (λ ready. ready.group.id ≡ id) }
+    ensures name { IfOk result (λ ready. ready.group.name ≡ name.now) }
+    ensures units { IfOk result (λ ready. ready.group.units ≡ units) }
+    ensures plan { IfOk result (λ ready. IsPlan ready.group) }
+    ensures bodies { IfOk result (λ ready. ready.bodies ≡ parts_of_plan ready.group) }
+    ensures err { IfErr result (λ refusal. said (λ _. []) refusal ≡ NoMemory) }
+{
+    let Ok(name) = name.copy() else {
+        return Err(Refusal::NoMemory);
+    };
+    let group = NewGroup {
+        id,
+        name,
+        disk,
+        units,
+    };
+    let Ok(bodies) = first_bodies(alloc, &group) else {
+        return Err(Refusal::NoMemory);
+    };
+    Ok(Ready {
+        slot,
+        group,
+        bodies,
+    })
+}
+
+/// Gives the disk of a new group, which is one of so many slots, all its parts.
+fn form<B: Bay>(
+    alloc: Global,
+    bay: &mut B,
+    slot: u32,
+    slots: usize,
+    group: &NewGroup,
+    bodies: &Bodies,
+) -> Result<(), Refusal>
+    requires plan { IsPlan group.now }
+    requires bodies { bodies.now ≡ parts_of_plan group.now }
+    requires room { HasRoom slot group.now.units (B.state bay.old) }
+    requires among { slot < slots }
+    ensures attached { KeepsAttached (B.state bay.old) (B.state bay.new) }
+    ensures calls { (B.state bay.new).calls ≤ (B.state bay.old).calls + 79 }
+    ensures runs { Runs (IsSlot slot) (Creates group.now.id (made_group group.now.name)) (B.state bay.old) (B.state bay.new) }
+    ensures done { OnOk result (Ends (Founds slots group.now.id) (B.state bay.old) (B.state bay.new)) }
+    ensures cause { IfErr result (λ refusal. IsFormFault slot group.now.disk (said (λ _. []) refusal) (counts_of (B.state bay.old)) (counts_of (B.state bay.new))) }
+{
+    match form_disk(bay, slot, 1024, &bodies.parts()) {
+        Ok(()) => Ok(()),
+        Err(Fault) => Err(write_fault(alloc, &group.disk)),
+    }
+}

@@ -1,0 +1,167 @@
+// What the images hold: the headers of all that can be had.
+ghost use Rattle.std.specs.Prelude.{◌≡◌, ◌≤◌, ◌<◌, ◌+◌, ◌*◌, ◌++◌, [], ℕ, Some, None, length, map, IfOk, IfSome, OnOk, OnErr, IsSome, IsErrOf, MatchOption};
+ghost use Rattle.std.specs.Option.{ForSome};
+ghost use Rattle.std.specs.String.{string_bytes};
+ghost use Rattle.bay.specs.Image.{Same, window};
+ghost use Rattle.bay.specs.State.{IsSlot, KeepsAttached, AttachesOnly, size_of};
+ghost use Rattle.bay.specs.Counts.{Rose};
+ghost use Rattle.bay.specs.Moments.{Runs};
+ghost use Rattle.bay.specs.declared.fault.BayError.TheVariants.{Fault};
+ghost use Rattle.asm_formats.specs.Header.{decoded_header};
+ghost use Rattle.group_disks.specs.Found.{counts_of, Told, header_in, AreIdsRead, AreAllRead, IsSlotOf};
+ghost use Rattle.group_disks.specs.Probes.{IsShown, ids_of};
+
+use asm_base::{Block, NoMemory};
+use bay::{Bay, BayError, Fault};
+use disk_header::{Header, decode};
+use gate_slot::is_open;
+use mount_states::header_slot;
+use std::alloc::Global;
+
+/// The bytes of a block.
+const BLOCK: u64 = 4096;
+
+/// The bytes that a member has at least: up to its directory region.
+const LEAST_SIZE: u64 = 40_960;
+
+/// What a look at an image has shown. Sizes are in bytes.
+#[derive(Clone, Copy, Debug)]
+pub enum Probe {
+    /// The image couldn't be attached.
+    Absent,
+    /// It was attached, and its header couldn't be read.
+    Unread { size: u64 },
+    /// It was attached, and has this group's id in its open header, or no such header.
+    Read { size: u64, id: Option<u64> },
+}
+
+/// The slot of the image at a path.
+pub fn slot_of(paths: &[String], path: &[u8]) -> Option<u32>
+    requires few { length paths.now ≤ 512 }
+    ensures { MatchOption result
+        ((slot : ℕ) → IsSlotOf (map string_bytes paths.now) path.now slot → ⊥)
+        (λ slot. IsSlotOf (map string_bytes paths.now) path.now slot) }
+{
+    for (slot, other) in paths.iter().enumerate() {
+        if other.as_bytes() == path {
+            return Some(slot as u32);
+        }
+    }
+    None
+}
+
+/// Looks at every image, puts the ids in the headers that were read into `ids`, and gives what the look at one slot showed.
+pub fn look_at_all<B: Bay>(
+    alloc: Global,
+    bay: &mut B,
+    paths: &[String],
+    wanted: u32,
+    ids: &mut Vec<u64>,
+) -> Result<Probe, NoMemory>
+    requires few { length paths.now ≤ 512 }
+    requires wanted { wanted < length paths.now }
+    requires none { ids.old.items ≡ [] }
+    ensures calls { (B.state bay.new).calls ≤ (B.state bay.old).calls + 3 * length paths.now }
+    ensures runs { Runs (λ slot. slot < length paths.now) Same (B.state bay.old) (B.state bay.new) }
+    ensures ids { AreIdsRead ids.new.items (counts_of (B.state bay.old)) (counts_of (B.state bay.new)) }
+    ensures all { IfOk result (λ _. AreAllRead (length paths.now) ids.new.items (counts_of (B.state bay.old)) (counts_of (B.state bay.new))) }
+    ensures shown { IfOk result (λ probe. IsShown wanted probe (counts_of (B.state bay.old)) (counts_of (B.state bay.new))) }
+{
+    let mut found = Probe::Absent;
+    for (slot, path) in paths.iter().enumerate() {
+        let probe = look_and_note(alloc, bay, slot as u32, path.as_str(), ids)?;
+        if slot == wanted as usize {
+            found = probe;
+        }
+    }
+    Ok(found)
+}
+
+/// Looks at an image, and puts the id in its header behind the others.
+fn look_and_note<B: Bay>(
+    alloc: Global,
+    bay: &mut B,
+    slot: u32,
+    path: &str,
+    ids: &mut Vec<u64>,
+) -> Result<Probe, NoMemory>
+    ensures others { AttachesOnly slot (B.state bay.old) (B.state bay.new) }
+    ensures calls { (B.state bay.new).calls ≤ (B.state bay.old).calls + 3 }
+    ensures runs { Runs (IsSlot slot) Same (B.state bay.old) (B.state bay.new) }
+    ensures shown { IfOk result (λ probe. IsShown slot probe (counts_of (B.state bay.old)) (counts_of (B.state bay.new))) }
+    ensures ids { IfOk result (λ probe. ids.new.items ≡ ids.old.items ++ ids_of probe) }
+    ensures err { OnErr result (ids.new.items ≡ ids.old.items) }
+{
+    let probe = look(alloc, bay, slot, path)?;
+    if let Probe::Read { id: Some(id), .. } = probe {
+        ids.push(id).map_err(|_| NoMemory)?;
+    }
+    Ok(probe)
+}
+
+/// Attaches an image, and reads its header.
+fn look<B: Bay>(alloc: Global, bay: &mut B, slot: u32, path: &str) -> Result<Probe, NoMemory>
+    ensures others { AttachesOnly slot (B.state bay.old) (B.state bay.new) }
+    ensures calls { (B.state bay.new).calls ≤ (B.state bay.old).calls + 3 }
+    ensures runs { Runs (IsSlot slot) Same (B.state bay.old) (B.state bay.new) }
+    ensures shown { IfOk result (λ probe. IsShown slot probe (counts_of (B.state bay.old)) (counts_of (B.state bay.new))) }
+{
+    let size = match bay.attach(slot, path) {
+        Ok(size) => size,
+        Err(BayError::Fault) => return Ok(Probe::Absent),
+        Err(BayError::NoMemory) => return Err(NoMemory),
+    };
+    match read_header(alloc, bay, slot, size) {
+        Ok(Some(header)) => Ok(Probe::Read {
+            size,
+            id: Some(header.id),
+        }),
+        Ok(None) => Ok(Probe::Read { size, id: None }),
+        Err(BayError::Fault) => Ok(Probe::Unread { size }),
+        Err(BayError::NoMemory) => Err(NoMemory),
+    }
+}
+
+/// The open header of the disk of a slot, which has so many bytes.
+pub fn read_header<B: Bay>(
+    alloc: Global,
+    bay: &mut B,
+    slot: u32,
+    size: u64,
+) -> Result<Option<Header>, BayError>
+    requires attached { (B.state bay.old).attached slot ≡ Some size }
+    ensures attached { KeepsAttached (B.state bay.old) (B.state bay.new) }
+    ensures calls { (B.state bay.new).calls ≤ (B.state bay.old).calls + 2 }
+    ensures runs { Runs (IsSlot slot) Same (B.state bay.old) (B.state bay.new) }
+    ensures header { IfOk result (λ header. Told (counts_of (B.state bay.old)) (counts_of (B.state bay.new)) (λ image. header_in image slot ≡ header)) }
+    ensures cause { IsErrOf result BayError.Fault → Rose ((B.state bay.old).faults slot) ((B.state bay.new).faults slot) }
+{
+    if size < LEAST_SIZE {
+        return Ok(None);
+    }
+    match is_open(bay, slot, header_slot(4096)) {
+        Ok(true) => read_body(alloc, bay, slot),
+        Ok(false) => Ok(None),
+        Err(Fault) => Err(BayError::Fault),
+    }
+}
+
+/// The header behind an open gate.
+fn read_body<B: Bay>(alloc: Global, bay: &mut B, slot: u32) -> Result<Option<Header>, BayError>
+    requires attached { IsSome ((B.state bay.old).attached slot) }
+    requires long { 8192 ≤ size_of (B.state bay.old) slot }
+    ensures attached { KeepsAttached (B.state bay.old) (B.state bay.new) }
+    ensures calls { (B.state bay.new).calls ≤ (B.state bay.old).calls + 1 }
+    ensures runs { Runs (IsSlot slot) Same (B.state bay.old) (B.state bay.new) }
+    ensures header { IfOk result (λ header. ForSome (B.state bay.old).holds (λ image. header ≡ decoded_header (window (image.byte slot) 4096 4096))) }
+    ensures cause { IsErrOf result BayError.Fault → Rose ((B.state bay.old).faults slot) ((B.state bay.new).faults slot) }
+{
+    let mut block = Block::zeros();
+    if bay.read(slot, BLOCK, &mut block.bytes[..]).is_err() {
+        return Err(BayError::Fault);
+    }
+    match decode(alloc, &block) {
+        Ok(header) => Ok(header),
+        Err(NoMemory) => Err(BayError::NoMemory),
+    }
+}

@@ -1,0 +1,15 @@
+//! The disks of a group: how a group comes to be on them.
+#![tactic(auto)]
+
+mod choose;
+mod create;
+mod find;
+mod first_pages;
+mod laws;
+mod new_group;
+
+pub use create::create_group;
+pub use laws::{formed_stands, forming_creates};
+
+#[cfg(test)]
+mod tests;
