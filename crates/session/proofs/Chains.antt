@@ -1,0 +1,199 @@
+-- What parts of the program do, one after another.
+use Rattle.std.proofs.Common.{◌≡◌, ◌⊎◌, ◌||◌, ℕ, ◌+◌, ◌<◌, ◌≤◌, Bool, true, false, if◌then◌else◌, MatchBool, List, [], ◌∷◌, ◌++◌, Option, Some, None, inl, inr, refl, sym, ◌∙◌, ap, subst, append_assoc, length, Result, Ok, Err, is_ok, IsOk, arith}
+use Rattle.std.proofs.lemmas.Bool.{false≢true}
+use Rattle.std.proofs.lemmas.List.{append-nil}
+use Rattle.std.proofs.lemmas.List.Concat.{flat_map-append}
+use Rattle.std.specs.List.{flat_map, list_any}
+use Rattle.std.specs.Str.{bytes_eq}
+use Rattle.std.specs.Io.KnownBytes.{Appends}
+use Rattle.bay.specs.Image.{Image}
+use Rattle.bay.specs.State.{BayState}
+use Rattle.bay.specs.Readings.{Readings}
+use Rattle.bay.proofs.Known.{Appends-none, Appends-more}
+use Rattle.asm_group.specs.Names.{Bytes}
+use Rattle.asm_world.specs.Run.{Outside, State, Entry, Move, Starts, Expires, Answers, Slices, Rests, Full, Does, IsMove, IsRun, end_of, entry_text, IsFull, IsPrinted, IsPrintedToCut, output_of, commands_at, answered, times_at, times_of, marks_at, marks_of, refuses, has_refusal}
+use Rattle.asm_world.proofs.Histories.{joined, end_append}
+use Rattle.group_disks.specs.Found.{Counts}
+use Rattle.session.specs.Claims.{outside, held_outside, StandsFor, CreatesApart, Premises}
+use Rattle.session.specs.Effects.{Past}
+use Rattle.session.specs.Acts.{Scene, state_of, Holding, Acts, unread}
+
+pub run-calls : {I : Type 0} (out : Outside Counts I) (s : State Counts) (h : List (Entry Counts)) → IsRun out s h → s.calls ≤ (end_of s h).calls
+run-calls out s [] p = omega arith
+run-calls out s (e ∷ h) p =
+    let first : s.calls ≤ e.after.calls = p.0.calls in
+    let rest : e.after.calls ≤ (end_of e.after h).calls = run-calls out e.after h p.1 in
+    omega arith
+
+-- what is told later of ended moments changes nothing
+pub run-past : (paths : List Bytes) (old new : ℕ → Image → Type 0) (s : State Counts) (h : List (Entry Counts))
+    → ((m : ℕ) (image : Image) → m < (end_of s h).calls → new m image → old m image) → IsRun (outside paths old) s h → IsRun (outside paths new) s h
+run-past paths old new s [] past p = tt
+run-past paths old new s (e ∷ h) past p =
+    let rest : e.after.calls ≤ (end_of e.after h).calls = run-calls (outside paths old) e.after h p.1 in (
+      record {
+        does = p.0.does;
+        caused = p.0.caused;
+        calls = p.0.calls;
+        images = λ m image from to left. p.0.images m image from to (past m image (omega arith) left);
+      },
+      run-past paths old new e.after h past p.1,
+    )
+
+pub held-past : (paths : List Bytes) (old new : ℕ → Image → Type 0) (s : State Counts) (h : List (Entry Counts))
+    → ((m : ℕ) (image : Image) → m < (end_of s h).calls → new m image → old m image) → IsRun (held_outside paths old) s h → IsRun (held_outside paths new) s h
+held-past paths old new s [] past p = tt
+held-past paths old new s (e ∷ h) past p =
+    let rest : e.after.calls ≤ (end_of e.after h).calls = run-calls (held_outside paths old) e.after h p.1 in (
+      record {
+        does = p.0.does;
+        caused = p.0.caused;
+        calls = p.0.calls;
+        images = λ m image from to left. p.0.images m image from to (past m image (omega arith) left);
+      },
+      held-past paths old new e.after h past p.1,
+    )
+
+premises-split : (known : ℕ → Bool) (h k : List (Entry Counts)) → Premises known (h ++ k) → Premises known h × Premises known k
+premises-split known [] k p = (tt, p)
+premises-split known (e ∷ h) k p = let q = premises-split known h k p.1 in ((p.0, q.0), q.1)
+
+full-append : (h k : List (Entry Counts)) → IsFull h → IsFull k → IsFull (h ++ k)
+full-append [] k p q = q
+full-append (e ∷ h) k p q = (p.0, full-append h k p.1 q)
+
+printed-append : (h k : List (Entry Counts)) → IsPrinted h → IsPrinted k → IsPrinted (h ++ k)
+printed-append [] k p q = q
+printed-append (e ∷ h) k p q = (p.0, printed-append h k p.1 q)
+
+printed-cut : (h k : List (Entry Counts)) → IsPrinted h → IsPrintedToCut k → IsPrintedToCut (h ++ k)
+printed-cut [] k p q = q
+printed-cut (e ∷ h) k p q = inl (p.0, printed-cut h k p.1 q)
+
+cut-from_printed : (h : List (Entry Counts)) → IsPrinted h → IsPrintedToCut h
+cut-from_printed [] p = tt
+cut-from_printed (e ∷ h) p = inl (p.0, cut-from_printed h p.1)
+
+either-append : (whole : Bool) (h k : List (Entry Counts)) → IsPrinted h → MatchBool whole (IsPrinted k) (IsPrintedToCut k) →
+    MatchBool whole (IsPrinted (h ++ k)) (IsPrintedToCut (h ++ k))
+either-append true h k p q = printed-append h k p q
+either-append false h k p q = printed-cut h k p q
+
+readings-append : {C : Type 0} (gives : C → ℕ → C → Type 0) (a b c : C) (ts us : List ℕ) →
+    Readings gives a ts b → Readings gives b us c → Readings gives a (ts ++ us) c
+readings-append gives a b c [] us p q = let P : _ → Type 0 = λ x. Readings gives x us c in subst P p q
+readings-append gives a b c (t ∷ ts) us p q = (p.0, p.1, readings-append gives p.0 b c ts us p.2 q)
+
+or-assoc : (a b c : Bool) → ((a || b) || c) ≡ (a || (b || c))
+or-assoc true b c = refl
+or-assoc false b c = refl
+
+pub or-false : (b : Bool) → (b || false) ≡ b
+or-false true = refl
+or-false false = refl
+
+refusal-append : (h k : List (Entry Counts)) → has_refusal (h ++ k) ≡ (has_refusal h || has_refusal k)
+refusal-append [] k = refl
+refusal-append (e ∷ h) k = ap (λ b. refuses e.move || b) (refusal-append h k) ∙ sym (or-assoc (refuses e.move) (has_refusal h) (has_refusal k))
+
+-- nothing is done
+pub acts-none : {C : Type 0} (gives : C → ℕ → C → Type 0) (paths : List Bytes) (a : Scene C) → Acts gives paths true [] a a
+acts-none gives paths a = record {
+  history = [];
+  run = tt;
+  ends = refl;
+  commands_are = refl;
+  past = λ m image before left. left;
+  holds = λ known stands premises. record { held = tt; now = stands };
+  full = tt;
+  printed = tt;
+  written = Appends-none a.taken;
+  readings = refl;
+  marks_grow = sym (append-nil a.marks);
+  refusal = sym (or-false a.refused);
+}
+
+pub acts-then : {C : Type 0} (gives : C → ℕ → C → Type 0) (paths : List Bytes) (whole : Bool) (xs ys : List Bytes) (a b c : Scene C) →
+    Acts gives paths true xs a b → Acts gives paths whole ys b c → Acts gives paths whole (xs ++ ys) a c
+acts-then gives paths whole xs ys a b c p q =
+    let until : (end_of (state_of a) p.history).calls ≡ b.bay.calls = ap (λ (s : State Counts). s.calls) p.ends in
+    let past : (m : ℕ) (image : Image) → m < (end_of (state_of a) p.history).calls → c.bay.leaves m image → b.bay.leaves m image = λ m image before. q.past m image (omega arith) in
+    let reaches : a.bay.calls ≤ b.bay.calls = omega (arith, run-calls (outside paths b.bay.leaves) (state_of a) p.history p.run) in
+    record {
+      history = p.history ++ q.history;
+      run = joined (outside paths c.bay.leaves) (state_of a) p.history q.history (run-past paths b.bay.leaves c.bay.leaves (state_of a) p.history past p.run, rw p.ends q.run);
+      ends = end_append (state_of a) p.history q.history ∙ ap (λ s. end_of s q.history) p.ends ∙ q.ends;
+      commands_are = flat_map-append (λ e. commands_at e.move) p.history q.history ∙ ap (λ zs. zs ++ answered q.history) p.commands_are ∙ ap (λ zs. xs ++ zs) q.commands_are;
+      past = λ m image before left. p.past m image before (q.past m image (omega arith) left);
+      holds = λ known stands premises.
+          let split = premises-split known p.history q.history premises in
+          let first = p.holds known stands split.0 in
+          let second = q.holds known first.now split.1 in
+          record {
+            held = joined (held_outside paths c.bay.leaves) (state_of a) p.history q.history (held-past paths b.bay.leaves c.bay.leaves (state_of a) p.history past first.held, rw p.ends second.held);
+            now = second.now;
+          };
+      full = full-append p.history q.history p.full q.full;
+      printed = either-append whole p.history q.history p.printed q.printed;
+      written = rw flat_map-append (Appends-more a.taken b.taken c.taken (output_of p.history) (output_of q.history) p.written q.written);
+      readings = rw flat_map-append (readings-append gives a.clock b.clock c.clock (times_of p.history) (times_of q.history) p.readings q.readings);
+      marks_grow = q.marks_grow ∙ ap (λ zs. zs ++ marks_of q.history) p.marks_grow ∙ append_assoc a.marks (marks_of p.history) (marks_of q.history)
+          ∙ ap (λ zs. a.marks ++ zs) (sym (flat_map-append (λ e. marks_at e.move (bytes_eq e.printed (entry_text e)) e.after.calls) p.history q.history));
+      refusal = q.refusal ∙ ap (λ v. v || has_refusal q.history) p.refusal ∙ or-assoc a.refused (has_refusal p.history) (has_refusal q.history)
+          ∙ ap (λ v. a.refused || v) (sym (refusal-append p.history q.history));
+    }
+
+pub acts-cut : {C : Type 0} (gives : C → ℕ → C → Type 0) (paths : List Bytes) (xs : List Bytes) (a b : Scene C) → Acts gives paths true xs a b → Acts gives paths false xs a b
+acts-cut gives paths xs a b p = record {
+  history = p.history;
+  run = p.run;
+  ends = p.ends;
+  commands_are = p.commands_are;
+  past = p.past;
+  holds = p.holds;
+  full = p.full;
+  printed = cut-from_printed p.history p.printed;
+  written = p.written;
+  readings = p.readings;
+  marks_grow = p.marks_grow;
+  refusal = p.refusal;
+}
+
+one-printed : (whole : Bool) (move : Move) (printed : List ℕ) (after : State Counts) →
+    let e : Entry Counts = record { move = move; style = Full; printed = printed; after = after } in
+    MatchBool whole (printed ≡ entry_text e) ((rest : List ℕ) × (entry_text e ≡ printed ++ rest)) → MatchBool whole (IsPrinted (e ∷ [])) (IsPrintedToCut (e ∷ []))
+one-printed true move printed after e = (e, tt)
+one-printed false move printed after e = inr (e.0, e.1, refl)
+
+-- the entry of a move
+abbrev pub entry : Move → List ℕ → State Counts → Entry Counts
+entry move printed after = record { move = move; style = Full; printed = printed; after = after }
+
+-- what one move needs to be one of a part of the program
+pub record OneMove {C : Type 0} (gives : C → ℕ → C → Type 0) (paths : List Bytes) (whole : Bool) (move : Move) (text : List ℕ) (old new : Scene C) : Type 0 where
+  pub does : IsMove (outside paths new.bay.leaves) (state_of old) move (state_of new)
+  pub past : Past old.bay new.bay
+  pub holds : (known : ℕ → Bool) → StandsFor known old.given old.bay old.world → CreatesApart known move
+      → IsMove (held_outside paths new.bay.leaves) (state_of old) move (state_of new) × StandsFor known new.given new.bay new.world
+  pub texts : MatchBool whole (text ≡ entry_text (entry move text (state_of new))) ((rest : List ℕ) × (entry_text (entry move text (state_of new)) ≡ text ++ rest))
+  pub written : Appends old.taken new.taken text
+  pub readings : Readings gives old.clock (times_at move) new.clock
+  pub marks_grow : new.marks ≡ old.marks ++ marks_at move (bytes_eq text (entry_text (entry move text (state_of new)))) new.bay.calls
+  pub refusal : new.refused ≡ (old.refused || refuses move)
+
+pub acts-one : {C : Type 0} (gives : C → ℕ → C → Type 0) (paths : List Bytes) (whole : Bool) (move : Move) (text : List ℕ) (old new : Scene C) →
+    OneMove gives paths whole move text old new → Acts gives paths whole (commands_at move) old new
+acts-one gives paths whole move text old new one = record {
+  history = entry move text (state_of new) ∷ [];
+  run = (one.does, tt);
+  ends = refl;
+  commands_are = append-nil (commands_at move);
+  past = one.past;
+  holds = λ known stands premises. let both = one.holds known stands premises.0 in record { held = (both.0, tt); now = both.1 };
+  full = (refl, tt);
+  printed = one-printed whole move text (state_of new) one.texts;
+  written = rw append-nil one.written;
+  readings = rw append-nil one.readings;
+  marks_grow = one.marks_grow ∙ ap (λ ms. old.marks ++ ms) (sym (append-nil (marks_at move (bytes_eq text (entry_text (entry move text (state_of new)))) new.bay.calls)));
+  refusal = one.refusal ∙ ap (λ b. old.refused || b) (sym (or-false (refuses move)));
+}

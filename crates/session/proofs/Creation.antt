@@ -1,0 +1,140 @@
+-- What a creation does to the world and to what the disks hold.
+use Rattle.std.proofs.Common.{◌≡◌, ◌≢◌, ◌⊎◌, inl, inr, ⊎_elim, ℕ, ◌+◌, ◌-◌, ◌^◌, ◌<◌, ◌≤◌, Bool, true, false, cond, List, [], ◌∷◌, ◌++◌, length, map, Option, Some, None, refl, sym, ◌∙◌, ap, subst, arith, ◌==◌, is_some, if◌then◌else◌}
+use Rattle.std.specs.Prelude.{All, Contains, MatchOption, Result, Ok, Err, unwrap_or}
+use Rattle.std.specs.Option.{ForSome}
+use Rattle.std.specs.FinMap as maps
+use Rattle.std.specs.Ordering.{nat_cmp}
+use Rattle.std.specs.Cmp.{unsigned_tied}
+use Rattle.std.proofs.lemmas.List.{append-nil}
+use Rattle.std.proofs.lemmas.List.Elements.{All-contains}
+use Rattle.std.proofs.lemmas.Bool.{cases_eq, eq-eqb, ne_eqb}
+use Rattle.std.proofs.lemmas.Cmp.{nat_cmp_total}
+use Rattle.bay.specs.Image.{Image, Same}
+use Rattle.bay.specs.State.{BayState}
+use Rattle.bay.specs.Moments.{Runs}
+use Rattle.bay.specs.Counts.{last_count}
+use Rattle.asm_group.specs.Names.{Bytes, ByNumber}
+use Rattle.asm_group.specs.Group.{Group}
+use Rattle.asm_group.specs.Refusal as r
+use Rattle.asm_placement.specs.Among.{IsAmong}
+use Rattle.asm_images.specs.Members.{all_members}
+use Rattle.asm_images.specs.Bridge.{disks_in}
+use Rattle.asm_images.specs.Sound.{Sound}
+use Rattle.asm_images.proofs.Bridges.{same_is_same}
+use Rattle.asm_world.specs.Below.{Found}
+use Rattle.asm_world.specs.Between.{groups_between}
+use Rattle.asm_world.specs.Command.{Said}
+use Rattle.asm_world.specs.World.{World, groups_of, with_group}
+use Rattle.group_disks.specs.Creating.{Allows, HasMember, Creates, made_group}
+use Rattle.group_disks.proofs.Outsiders.{widened}
+use Rattle.session.specs.Claims.{StandsFor, IsApart}
+use Rattle.session.specs.Effects.{Past, Keeps}
+use Rattle.session.specs.Meaning.{meaning, command_from, creation_of}
+
+-- ---- images that stay, and images that a creation changes
+
+pub same_allows : (id : ℕ) (groups : List Group) (x y : Image) → Same x y → Allows id groups x → Allows id groups y
+same_allows id groups x y same allows = λ slots. let P : List (List ℕ) → Type 0 = λ disks. Sound id disks groups in subst P (sym (same_is_same slots x y same)) (allows slots)
+
+same_member : (id : ℕ) (x y : Image) → Same x y → HasMember id y → HasMember id x
+same_member id x y same has = record {
+  slots = has.slots;
+  member = has.member;
+  is = let P : List (List ℕ) → Type 0 = λ disks. IsAmong (all_members id disks) has.member in subst P (same_is_same has.slots x y same) has.is;
+}
+
+pub more_allows : (id : ℕ) (groups more : List Group) (x : Image) → ((g : Group) → IsAmong groups g → IsAmong more g) → Allows id groups x → Allows id more x
+more_allows id groups more x wider allows = λ slots. widened id (disks_in slots x) groups more (allows slots) wider
+
+among-front : (groups more : List Group) (g : Group) → IsAmong groups g → IsAmong (groups ++ more) g
+among-front [] more g is = absurd is
+among-front (h ∷ groups) more g (inl e) = inl e
+among-front (h ∷ groups) more g (inr is) = inr (among-front groups more g is)
+
+among-behind : (groups more : List Group) (g : Group) → IsAmong more g → IsAmong (groups ++ more) g
+among-behind [] more g is = is
+among-behind (h ∷ groups) more g is = inr (among-behind groups more g is)
+
+-- ---- a command that wrote nothing
+
+-- where no byte changes, what the disks hold stays
+pub same_stands : (known : ℕ → Bool) (given given' : ℕ) (slots : ℕ → Type 0) (old new : BayState) (w w' : World) → given ≤ given' → w'.groups ≡ w.groups → Runs slots Same old new
+    → StandsFor known given old w → StandsFor known given' new w'
+same_stands known given given' slots old new w w' more same runs stands = record {
+  allows = λ image id left.
+      let from = runs.moments new.calls image runs.later (omega arith) left in
+      let P : List Group → Type 0 = λ groups. Allows id groups image in
+      subst P (ap (λ (m : ByNumber (List Group)). unwrap_or (maps.get m id) []) (sym same)) (same_allows id (groups_of w id) from.0 image from.2 (stands.allows from.0 id from.1));
+  origin = λ image id left has.
+      let from = runs.moments new.calls image runs.later (omega arith) left in
+      ⊎_elim (λ (below : id < given). inl (omega arith)) (λ found. inr found) (stands.origin from.0 id from.1 (same_member id from.0 image from.2 has));
+}
+
+pub same_keeps : (known : ℕ → Bool) (text : Bytes) (given given' : ℕ) (slots : ℕ → Type 0) (old new : BayState) (w w' : World) → given ≤ given' → w'.groups ≡ w.groups → Runs slots Same old new
+    → StandsFor known given old w → Keeps known text given' old new w w'
+same_keeps known text given given' slots old new w w' more same runs stands = record {
+  held = λ m image id from to left.
+      let x = runs.moments m image from (omega arith) left in
+      more_allows id (groups_of w id) (groups_between w (meaning text) w' id) image (λ g is. among-front (groups_of w id) _ g is)
+      (same_allows id (groups_of w id) x.0 image x.2 (stands.allows x.0 id x.1));
+  now = same_stands known given given' slots old new w w' more same runs stands;
+}
+
+-- ---- a command that created a group
+
+same_number : (a b : ℕ) → a ≡ b → (a == b) ≡ true
+same_number a b e = eq-eqb a b e
+
+-- what an id has after the creation
+groups_after : (w : World) (made : ℕ) (g : Group) (id : ℕ) → groups_of (with_group w made g) id ≡ (if id == made then g ∷ [] else groups_of w id)
+groups_after w made g id =
+    ap (λ (o : Option (List Group)). unwrap_or o []) (maps.get-insert nat_cmp_total w.groups made (g ∷ []) id ∙ ap (λ (b : Bool). cond b (Some (g ∷ [])) (maps.get w.groups id)) (unsigned_tied id made))
+    ∙ either (id == made)
+  where
+    either : (b : Bool) → unwrap_or (cond b (Some (g ∷ [])) (maps.get w.groups id)) [] ≡ (if b then g ∷ [] else unwrap_or (maps.get w.groups id) [])
+    either true = refl
+    either false = refl
+
+module _ (known : ℕ → Bool) (given made : ℕ) (g : Group) (found : Found) (w w' : World) (is : w'.groups ≡ (with_group w made g).groups)
+    (gave : found.made ≡ Some made) (apart : IsApart known found) (fresh : given ≤ made) (above : made < last_count → All (λ other. other < made) found.ids) where
+  short : made < last_count
+  short = apart.made_below made gave
+
+  after_is : (id : ℕ) → groups_of w' id ≡ (if id == made then g ∷ [] else groups_of w id)
+  after_is id = ap (λ (m : ByNumber (List Group)). unwrap_or (maps.get m id) []) is ∙ groups_after w made g id
+
+  -- no disk is a member of the new id before
+  none-before : (x : Image) → ((id : ℕ) → HasMember id x → (id < given) ⊎ (known id ≡ true)) → HasMember made x → ⊥
+  none-before x origin has = ⊎_elim (λ (below : made < given). absurd (omega arith))
+      (λ at. let among : Contains found.ids made = apart.others made gave at in absurd (omega (arith, All-contains (λ other. other < made) found.ids made (above short) among)))
+      (origin made has)
+
+  module _ (x y : Image) (step : Creates made g x y) (allows : (id : ℕ) → Allows id (groups_of w id) x) (origin : (id : ℕ) → HasMember id x → (id < given) ⊎ (known id ≡ true)) where
+    -- every id has its groups, and the new one the new group
+    now-allows : (id : ℕ) → Allows id (groups_of w' id) y
+    now-allows id = let P : List Group → Type 0 = λ groups. Allows id groups y in subst P (sym (after_is id))
+        (⊎_elim (λ (here : id ≡ made). let Q : Bool → Type 0 = λ b. Allows id (if b then g ∷ [] else groups_of w id) y in subst Q (sym (same_number id made here))
+        (let R : ℕ → Type 0 = λ i. Allows i (g ∷ []) y in subst R (sym here) (step.own (none-before x origin))))
+        (λ (other : id ≢ made). let Q : Bool → Type 0 = λ b. Allows id (if b then g ∷ [] else groups_of w id) y in subst Q (sym (ne_eqb id made other)) (step.others id (groups_of w id) other (allows id)))
+        (cases_eq id made))
+
+    now-origin : (id : ℕ) → HasMember id y → (id < made + 1) ⊎ (known id ≡ true)
+    now-origin id has = ⊎_elim (λ (here : id ≡ made). inl (omega arith))
+        (λ (other : id ≢ made). ⊎_elim (λ (below : id < given). inl (omega arith)) (λ at. inr at) (origin id (step.members id other has)))
+        (cases_eq id made)
+
+  pub creation_keeps : (text : Bytes) (given' : ℕ) (slots : ℕ → Type 0) (old new : BayState) → made + 1 ≤ given' → Runs slots (Creates made g) old new → StandsFor known given old w → Keeps known text given' old new w w'
+  creation_keeps text given' slots old new more runs stands = record {
+    held = λ m image id from to left.
+        let x = runs.moments m image from (omega arith) left in
+        more_allows id (groups_of w' id) (groups_between w (meaning text) w' id) image (λ h is. among-behind (groups_of w id) _ h (among-front (groups_of w' id) _ h is))
+        (now-allows x.0 image x.2 (λ i. stands.allows x.0 i x.1) (λ i. stands.origin x.0 i x.1) id);
+    now = record {
+      allows = λ image id left.
+          let x = runs.moments new.calls image runs.later (omega arith) left in
+          now-allows x.0 image x.2 (λ i. stands.allows x.0 i x.1) (λ i. stands.origin x.0 i x.1) id;
+      origin = λ image id left has.
+          let x = runs.moments new.calls image runs.later (omega arith) left in
+          ⊎_elim (λ (below : id < made + 1). inl (omega arith)) (λ at. inr at) (now-origin x.0 image x.2 (λ i. stands.allows x.0 i x.1) (λ i. stands.origin x.0 i x.1) id has);
+    };
+  }

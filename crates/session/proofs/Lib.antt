@@ -1,0 +1,13 @@
+pub mod Reading
+pub mod Chains
+pub mod Creation
+pub mod Causes
+pub mod Naming
+pub mod Outcomes
+pub mod Counting
+pub mod Named
+pub mod Giving
+pub mod Moves
+pub mod Ending
+pub mod Pieces
+pub mod Serving

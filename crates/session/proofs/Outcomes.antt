@@ -1,0 +1,192 @@
+-- What a command did, by how it was answered.
+use Rattle.std.proofs.Common.{◌≡◌, ◌⊎◌, inl, inr, ℕ, ◌+◌, ◌-◌, ◌^◌, ◌<◌, ◌≤◌, Bool, true, false, cond, List, [], ◌∷◌, ◌++◌, length, map, Option, Some, None, refl, sym, ◌∙◌, ap, subst, arith, is_some}
+use Rattle.std.specs.Prelude.{All, nat_le, min}
+use Rattle.std.specs.Option.{ForSome}
+use Rattle.std.specs.FinMap as maps
+use Rattle.std.specs.Cmp.{unsigned_tied}
+use Rattle.std.proofs.lemmas.Cmp.{nat_cmp_total}
+use Rattle.std.proofs.lemmas.Bool.{eq-eqb}
+use Rattle.std.proofs.lemmas.Option.{same_Some}
+use Rattle.asm_group.specs.declared.GroupKind.TheVariants.{External}
+use Rattle.bay.specs.Image.{Same}
+use Rattle.bay.specs.State.{BayState}
+use Rattle.bay.specs.Moments.{Runs}
+use Rattle.bay.specs.Counts.{last_count}
+use Rattle.asm_group.specs.Names.{Bytes}
+use Rattle.asm_group.specs.Group.{Group}
+use Rattle.asm_group.specs.NewGroup.{new_group}
+use Rattle.asm_group.specs.Refusal as r
+use Rattle.asm_world.specs.Below.{Found}
+use Rattle.asm_world.specs.Causes.{HasCause, mounted_count}
+use Rattle.asm_world.specs.Command.{Command, Said, Unreadable}
+use Rattle.asm_world.specs.Reply.{Reply, Done, Refused}
+use Rattle.asm_world.specs.Settings as t
+use Rattle.asm_world.specs.Step.{Step, IsNewId, LeavesCreated, MadeGroup}
+use Rattle.asm_world.specs.Waits.{HasLines}
+use Rattle.asm_world.specs.World.{World, SessionEntry, entry_in, with_group, mounted_entry}
+use Rattle.group_disks.specs.Found.{Counts, counts_of, AreIdsRead, RefusalCause, IsEarly}
+use Rattle.group_disks.specs.Creating as made_by
+use Rattle.group_disks.specs.Creating.{made_group}
+use Rattle.std.specs.Option.{option_map}
+use Rattle.session.specs.declared.reader.Creation.{Creation}
+use Rattle.session.specs.Views.{creation_view}
+use Rattle.session.specs.Claims.{StandsFor, IsApart}
+use Rattle.session.specs.Counts.{IsRefused, ReplyCause, IsMade}
+use Rattle.session.specs.Effects.{Past, Keeps, HasEffect, below_with}
+use Rattle.session.specs.Meaning.{meaning, said, command_from, creation_of}
+use Rattle.session.specs.Sessions.{AreGiven}
+use Rattle.session.proofs.Causes.{no_disk_cause, disk_taken_cause, too_small_cause, write_fault_cause, done_cause}
+use Rattle.session.proofs.Creation.{same_keeps, creation_keeps}
+
+abbrev pub unread : Found
+unread = record { ids = []; made = None }
+
+-- no ids were read
+pub none_read : (s t : Counts) → AreIdsRead [] s t
+none_read s t = record { each = λ i below. absurd (omega arith) }
+
+-- want of memory leaves the world as it was
+stays_by : (found : Found) (text : Bytes) (w : World) (v : Option (Bytes × Bytes)) → said text ≡ v → Step (below_with found) w (meaning text) (Refused [] r.NoMemory) w
+stays_by found text w None e = rw e (inl refl)
+stays_by found text w (Some v) e = rw e (inl refl)
+
+-- A command that wrote nothing was refused: what is asked of the refusal, and the rest follows.
+pub plain : (paths : List Bytes) (found : Found) (text : Bytes) (cause : r.Refusal) (given given' : ℕ) (slots : ℕ → Type 0) (old new : BayState) (w : World)
+    → Step (below_with found) w (meaning text) (Refused [] cause) w → HasCause (below_with found) w (meaning text) (Refused [] cause) → HasLines (below_with found) w (meaning text) (Refused [] cause)
+    → AreIdsRead found.ids (counts_of old) (counts_of new) → IsMade (said text) found.made w → ReplyCause paths text (Refused [] cause) (counts_of old) (counts_of new)
+    → given ≤ given' → Runs slots Same old new → HasEffect paths found text (Refused [] cause) given given' old new w w
+plain paths found text cause given given' slots old new w step has lines read made counted more runs = record {
+  step = step;
+  no_memory = λ is. stays_by found text w (said text) refl;
+  cause = has;
+  lines = lines;
+  ids_read = read;
+  made = made;
+  counted = counted;
+  calls = runs.later;
+  past = λ m image before left. (runs.ended m image before).0 left;
+  keeps = λ known stands apart. same_keeps known text given given' slots old new w w more refl runs stands;
+}
+
+-- what was read says nothing
+pub said_none : (read : Option Creation) (text : Bytes) → option_map creation_view read ≡ said text → read ≡ None → said text ≡ None
+said_none None text e is = sym e
+said_none (Some v) text e is = absurd cc
+
+-- a text that says nothing
+pub unreadable : (paths : List Bytes) (text : Bytes) (given given' : ℕ) (slots : ℕ → Type 0) (old new : BayState) (w : World) → said text ≡ None → given ≤ given' → Runs slots Same old new
+    → HasEffect paths unread text (Refused [] (r.Syntax 0)) given given' old new w w
+unreadable paths text given given' slots old new w none more runs =
+    plain paths unread text (r.Syntax 0) given given' slots old new w (rw none refl) (rw none refl) (rw none refl) (none_read (counts_of old) (counts_of new)) (rw none refl) (rw none tt) more runs
+
+-- want of memory before the disks were asked
+pub no_memory : (paths : List Bytes) (text : Bytes) (given given' : ℕ) (slots : ℕ → Type 0) (old new : BayState) (w : World) → given ≤ given' → Runs slots Same old new
+    → HasEffect paths unread text (Refused [] r.NoMemory) given given' old new w w
+no_memory paths text given given' slots old new w more runs = by (said text) refl
+  where
+    by : (v : Option (Bytes × Bytes)) → said text ≡ v → HasEffect paths unread text (Refused [] r.NoMemory) given given' old new w w
+    by None e = plain paths unread text r.NoMemory given given' slots old new w (rw e (inl refl)) tt (rw e refl) (none_read (counts_of old) (counts_of new)) (rw e refl) (rw e tt) more runs
+    by (Some v) e = plain paths unread text r.NoMemory given given' slots old new w (rw e (inl refl)) tt (rw e refl) (none_read (counts_of old) (counts_of new)) (rw e (λ id none. absurd cc)) (rw e tt) more runs
+
+-- ---- a creation
+
+module _ (paths : List Bytes) (text name path : Bytes) (says : said text ≡ Some (name, path)) (w : World) (few : nat_le 8 (mounted_count w) ≡ false) (absent : is_some (entry_in w name) ≡ false)
+    (ids : List ℕ) (slots : ℕ → Type 0) (given given' : ℕ) (old new : BayState) (read : AreIdsRead ids (counts_of old) (counts_of new)) where
+  -- it was refused before anything was written
+  pub refused_early : (cause : r.Refusal) → IsEarly cause → RefusalCause paths path cause (counts_of old) (counts_of new) → given ≤ given' → Runs slots Same old new
+      → HasEffect paths (record { ids = ids; made = None }) text (Refused [] cause) given given' old new w w
+  refused_early (r.NoDisk t) early counted more runs =
+      plain paths (record { ids = ids; made = None }) text (r.NoDisk t) given given' slots old new w (rw says refl) (rw says (no_disk_cause (record { ids = ids; made = None }) w name path few absent t)) (rw says refl) read
+      (rw says (λ id none. absurd cc)) (rw says counted) more runs
+  refused_early (r.DiskTaken t) early counted more runs =
+      plain paths (record { ids = ids; made = None }) text (r.DiskTaken t) given given' slots old new w (rw says refl) (rw says (disk_taken_cause (record { ids = ids; made = None }) w name path few absent t)) (rw says refl) read
+      (rw says (λ id none. absurd cc)) (rw says counted) more runs
+  refused_early (r.TooSmall d n) early counted more runs =
+      plain paths (record { ids = ids; made = None }) text (r.TooSmall d n) given given' slots old new w (rw says refl) (rw says (too_small_cause (record { ids = ids; made = None }) w name path few absent d n)) (rw says refl) read
+      (rw says (λ id none. absurd cc)) (rw says counted) more runs
+  refused_early other early counted more runs = absurd early
+
+  -- it was refused without an id
+  pub refused_unmade : (cause : r.Refusal) → RefusalCause paths path cause (counts_of old) (counts_of new) → given ≤ given' → Runs slots Same old new
+      → HasEffect paths (record { ids = ids; made = None }) text (Refused [] cause) given given' old new w w
+  refused_unmade (r.NoDisk t) counted more runs = refused_early (r.NoDisk t) tt counted more runs
+  refused_unmade (r.DiskTaken t) counted more runs = refused_early (r.DiskTaken t) tt counted more runs
+  refused_unmade (r.TooSmall d n) counted more runs = refused_early (r.TooSmall d n) tt counted more runs
+  refused_unmade (r.WriteFault d) counted more runs =
+      plain paths (record { ids = ids; made = None }) text (r.WriteFault d) given given' slots old new w (rw says (inl refl)) (rw says (write_fault_cause (record { ids = ids; made = None }) w name path few absent d)) (rw says refl) read
+      (rw says (λ id none. absurd cc)) (rw says counted) more runs
+  refused_unmade r.NoMemory counted more runs =
+      plain paths (record { ids = ids; made = None }) text r.NoMemory given given' slots old new w (rw says (inl refl)) tt (rw says refl) read
+      (rw says (λ id none. absurd cc)) (rw says counted) more runs
+  refused_unmade other counted more runs = absurd counted
+
+  -- it came to write, under this id
+  module _ (id : ℕ) (fresh : given ≤ id) (next : given' ≡ min (id + 1) last_count) (above : id < last_count → All (λ other. other < id) ids) (entries : AreGiven w.session given)
+      (runs : Runs slots (made_by.Creates id (made_group name)) old new) where
+    abbrev pub found : Found
+    found = record { ids = ids; made = Some id }
+
+    abbrev pub after : List SessionEntry → World
+    after session = record (with_group w id (made_group name)) { session = session }
+
+    new_id : IsNewId (below_with found) w id
+    new_id = record {
+      given = refl;
+      not_in_session = λ short k d below same. absurd (omega (arith, entries k d below (omega arith)));
+      above = above;
+    }
+
+    has_group : (session : List SessionEntry) → IsMade (said text) found.made (after session)
+    has_group session = rw says (λ i is.
+        let here : id ≡ i = same_Some id i is in
+        let P : ℕ → Type 0 = λ j. maps.get (maps.insert w.groups id (made_group name ∷ [])) j ≡ Some (made_group name ∷ []) in
+        subst P here (maps.get-insert nat_cmp_total w.groups id (made_group name ∷ []) id ∙ ap (λ (b : Bool). cond b (Some (made_group name ∷ [])) (maps.get w.groups id)) (unsigned_tied id id ∙ eq-eqb id id refl)))
+
+    keeps_all : (session : List SessionEntry) (known : ℕ → Bool) → StandsFor known given old w → IsApart known found → Keeps known text given' old new w (after session)
+    keeps_all session known stands apart =
+        let short : id < last_count = apart.made_below id refl in
+        creation_keeps known given id (made_group name) found w (after session) refl refl apart fresh above text given' slots old new (omega (arith, next)) runs stands
+
+    -- the group was created
+    pub created : (session : List SessionEntry) → session ≡ w.session ++ mounted_entry name id ∷ [] → HasEffect paths found text (Done []) given given' old new w (after session)
+    unfolding new_group
+    created session is = record {
+      step = rw (says, is) (record { id = id; g = made_group name; made_is = refl; is_new = new_id; is = refl }, refl);
+      no_memory = λ is. absurd cc;
+      cause = rw says (done_cause found w name path few absent);
+      lines = rw says tt;
+      ids_read = read;
+      made = has_group session;
+      counted = tt;
+      calls = runs.later;
+      past = λ m image before left. (runs.ended m image before).0 left;
+      keeps = keeps_all session;
+    }
+
+    -- it was refused after something was written
+    written : (cause : r.Refusal) → LeavesCreated (below_with found) w (MadeGroup name (t.creation (Some External) [])) (after w.session) → HasCause (below_with found) w (meaning text) (Refused [] cause)
+        → Step (below_with found) w (meaning text) (Refused [] cause) (after w.session) → HasLines (below_with found) w (meaning text) (Refused [] cause) → ReplyCause paths text (Refused [] cause) (counts_of old) (counts_of new)
+        → HasEffect paths found text (Refused [] cause) given given' old new w (after w.session)
+    written cause leaves has step lines counted = record {
+      step = step;
+      no_memory = λ is. rw says (inr leaves);
+      cause = has;
+      lines = lines;
+      ids_read = read;
+      made = has_group w.session;
+      counted = counted;
+      calls = runs.later;
+      past = λ m image before left. (runs.ended m image before).0 left;
+      keeps = keeps_all w.session;
+    }
+
+    pub leaves_created : LeavesCreated (below_with found) w (MadeGroup name (t.creation (Some External) [])) (after w.session)
+    leaves_created = record { id = id; g = made_group name; made_is = refl; is_new = new_id; is = refl }
+
+    pub refused_late : (cause : r.Refusal) → (IsEarly cause → ⊥) → RefusalCause paths path cause (counts_of old) (counts_of new) → HasEffect paths found text (Refused [] cause) given given' old new w (after w.session)
+    refused_late (r.NoDisk t) late counted = absurd (late tt)
+    refused_late (r.DiskTaken t) late counted = absurd (late tt)
+    refused_late (r.TooSmall d n) late counted = absurd (late tt)
+    refused_late (r.WriteFault d) late counted = written (r.WriteFault d) leaves_created (rw says (write_fault_cause found w name path few absent d)) (rw says (inr leaves_created)) (rw says refl) (rw says counted)
+    refused_late r.NoMemory late counted = written r.NoMemory leaves_created tt (rw says (inr leaves_created)) (rw says refl) (rw says tt)
+    refused_late other late counted = absurd counted

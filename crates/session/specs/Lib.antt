@@ -1,0 +1,11 @@
+pub mod Entries
+pub mod Meaning
+pub mod Views
+pub mod Counts
+pub mod Claims
+pub mod Acts
+pub mod Sessions
+pub mod Stops
+pub mod Serves
+pub mod Quiet
+pub mod Effects
