@@ -1,0 +1,97 @@
+-- From what a run holds to what a stop in it may leave.
+use Rattle.std.proofs.Common.{◌≡◌, ◌⊎◌, ℕ, ◌<◌, ◌≤◌, Bool, true, List, [], ◌∷◌, ◌++◌, inl, inr, refl, sym, ◌∙◌, ap, subst, append_assoc, arith}
+use Rattle.std.proofs.lemmas.Bool.{cases_lt}
+use Rattle.bay.specs.Image.{Image}
+use Rattle.bay.specs.State.{BayState}
+use Rattle.asm_group.specs.Group.{Group}
+use Rattle.asm_group.specs.Names.{Bytes}
+use Rattle.asm_images.proofs.Spans.{widen_keeps}
+use Rattle.asm_images.specs.Bridge.{disks_in}
+use Rattle.asm_placement.proofs.Membership.{among_left}
+use Rattle.asm_world.proofs.Histories.{split, end_append, moments, quiet_leaves, quiet_held, between}
+use Rattle.asm_world.specs.Below.{Found}
+use Rattle.asm_world.specs.Between.{groups_between}
+use Rattle.asm_world.specs.Reply.{Reply}
+use Rattle.asm_world.specs.Run.{State, Entry, Move, Answers, IsMove, IsRun, IsHeldNow, end_of}
+use Rattle.asm_world.specs.RunLaws.{Grows, IsQuiet}
+use Rattle.asm_world.specs.World.{World, groups_of}
+use Rattle.group_disks.specs.Creating.{Allows}
+use Rattle.group_disks.specs.Found.{Counts, counts_of}
+use Rattle.session.specs.Acts.{Holding}
+use Rattle.session.specs.Claims.{held_outside, StandsFor}
+use Rattle.session.specs.Meaning.{meaning}
+use Rattle.asm.specs.Crash.{StartsAs, IsCrashSafe}
+
+-- an image that stands for some groups stands for more
+allows-more : (paths : List Bytes) (leaves : ℕ → Image → Type 0) → Grows (held_outside paths leaves)
+allows-more paths leaves id groups more image allowed slots =
+    let s = allowed slots in
+    record {
+      completed = s.completed;
+      begun = s.begun;
+      holds = widen_keeps id (disks_in slots image) groups (groups ++ more) s.completed s.begun s.holds (λ g among. among_left groups more g among);
+    }
+
+-- what is known of the disks before a run
+pub starts-stands : (known : ℕ → Bool) (bay : BayState) (w : World) → StartsAs known bay w → StandsFor known 0 bay w
+starts-stands known bay w s = record {
+  allows = λ image id left. s.stands image id left;
+  origin = λ image id left member. inr (s.is_known image id left member);
+}
+
+-- the moves from a reply on, up to the next command, and its answer
+to_next : (paths : List Bytes) (leaves : ℕ → Image → Type 0) (first : State Counts) (before quiet others : List (Entry Counts)) (answer : Entry Counts) (found : Found) (text : Bytes) (reply : Reply)
+    → IsRun (held_outside paths leaves) first (before ++ (quiet ++ answer ∷ others)) → IsQuiet quiet → answer.move ≡ Answers found text reply
+    → (m : ℕ) (image : Image) (id : ℕ) → (end_of first before).calls ≤ m → m < answer.after.calls → leaves m image
+    → Allows id (groups_between (end_of (end_of first before) quiet).world (meaning text) answer.after.world id) image
+to_next paths leaves first before quiet others answer found text reply run q is m image id from to left =
+    let later = (split (held_outside paths leaves) first before (quiet ++ answer ∷ others) run).1 in
+    let parts = split (held_outside paths leaves) (end_of first before) quiet (answer ∷ others) later in
+    let P : Move → Type 0 = λ move. IsMove (held_outside paths leaves) (end_of (end_of first before) quiet) move answer.after in
+    between (held_outside paths leaves) (end_of first before) answer.after quiet found text reply (allows-more paths leaves) parts.0 q (subst P is parts.1.0) m image id from to left
+
+same-groups : (v w : World) (id : ℕ) → v.groups ≡ w.groups → groups_of v id ≡ groups_of w id
+same-groups v w id e = rw e refl
+
+-- the moves behind the last command, to the moment that lasts
+to_end : (paths : List Bytes) (leaves : ℕ → Image → Type 0) (first : State Counts) (before quiet : List (Entry Counts))
+    → IsRun (held_outside paths leaves) first (before ++ quiet) → IsQuiet quiet → IsHeldNow (held_outside paths leaves) (end_of first (before ++ quiet))
+    → (m : ℕ) (image : Image) (id : ℕ) → (end_of first before).calls ≤ m → m ≤ (end_of first (before ++ quiet)).calls → leaves m image
+    → Allows id (groups_of (end_of first before).world id) image
+to_end paths leaves first before quiet run q now m image id from to left =
+    let later = (split (held_outside paths leaves) first before quiet run).1 in
+    let reaches : end_of first (before ++ quiet) ≡ end_of (end_of first before) quiet = end_append first before quiet in
+    let P : List Group → Type 0 = λ groups. Allows id groups image in
+    let Q : State Counts → Type 0 = λ s. m ≤ s.calls in
+    let R : State Counts → Type 0 = λ s. IsHeldNow (held_outside paths leaves) s in
+    let last : m ≤ (end_of (end_of first before) quiet).calls = subst Q reaches to in
+    elim (cases_lt m (end_of (end_of first before) quiet).calls) [
+      | inl short ↦ quiet_held (held_outside paths leaves) (end_of first before) quiet m image id later q from short left
+      | inr over ↦
+          let same : m ≡ (end_of (end_of first before) quiet).calls = omega arith in
+          let L : ℕ → Type 0 = λ n. leaves n image in
+          subst P (same-groups (end_of (end_of first before) quiet).world (end_of first before).world id (quiet_leaves (held_outside paths leaves) (end_of first before) quiet later q))
+          (subst R reaches now image id (subst L same left))
+    ]
+
+pub crash-safe : (paths : List Bytes) (new : BayState) (first end : State Counts) (history : List (Entry Counts)) (known : ℕ → Bool) (given : ℕ)
+    → end_of first history ≡ end → end.calls ≡ new.calls → Holding known paths first history given new end.world → IsCrashSafe paths new.leaves first history
+crash-safe paths new first end history known given ends calls h =
+    let now : IsHeldNow (held_outside paths new.leaves) (end_of first history) = λ image id left.
+    let N : State Counts → Type 0 = λ s. new.leaves s.calls image in
+    let L : ℕ → Type 0 = λ n. new.leaves n image in
+    let G : State Counts → Type 0 = λ s. Allows id (groups_of s.world id) image in
+    subst G (sym ends) (h.now.allows image id (subst L calls (subst N ends left))) in
+    let R : List (Entry Counts) → Type 0 = λ es. IsRun (held_outside paths new.leaves) first es in
+    let H : List (Entry Counts) → Type 0 = λ es. IsHeldNow (held_outside paths new.leaves) (end_of first es) in
+    record {
+      to_next = λ before quiet others answer found text reply cut q is m image id from to left.
+          to_next paths new.leaves first before quiet others answer found text reply (subst R cut h.held) q is m image id from to left;
+      to_end = λ before quiet cut q m image id from to left.
+          let T : List (Entry Counts) → Type 0 = λ es. m ≤ (end_of first es).calls in
+          to_end paths new.leaves first before quiet (subst R cut h.held) q (subst H cut now) m image id from (subst T cut to) left;
+      moments = λ before rest cut m image from to left.
+          let T : List (Entry Counts) → Type 0 = λ es. m < (end_of first es).calls in
+          moments (held_outside paths new.leaves) first before rest m image (subst R cut h.held) from (subst T cut to) left;
+      now = now;
+    }

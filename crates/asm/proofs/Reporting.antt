@@ -1,0 +1,217 @@
+-- From what was served to the transcript of the whole run.
+use Rattle.std.proofs.Common.{◌≡◌, ◌≢◌, ◌⊎◌, ◌||◌, ℕ, ◌+◌, ◌<◌, ◌≤◌, Bool, true, false, if◌then◌else◌, MatchBool, List, [], ◌∷◌, ◌++◌, length, take, Option, Some, None, Result, Ok, Err, inl, inr, refl, sym, ◌∙◌, ap, subst, arith}
+use Rattle.std.proofs.lemmas.List.{append-nil, take_all}
+use Rattle.std.specs.Io.KnownBytes.{Consumes, IsAtEnd}
+use Rattle.bay.proofs.Known.{Appends-none}
+use Rattle.bay.specs.State.{BayState}
+use Rattle.asm_group.specs.Names.{Bytes}
+use Rattle.asm_world.proofs.Histories.{marks_rise}
+use Rattle.asm_world.specs.Run.{State, Phase, Resting, Entry, IsRun, IsPrinted, IsPrintedToCut, end_of, answered, marks_of, has_refusal}
+use Rattle.asm_world.specs.RunLaws.{RisesFrom}
+use Rattle.asm_world.specs.World.{World}
+use Rattle.group_disks.specs.Found.{Counts, counts_of}
+use Rattle.script.specs.Script.{cut, commands_of, ended_commands}
+use Rattle.session.specs.declared.stop.Stop.{Stop}
+use Rattle.session.specs.declared.stop.Stop.TheVariants.{ReadFault, WriteFault, NoMemory, TooLong}
+use Rattle.session.specs.Acts.{Scene, scene, Acts}
+use Rattle.session.specs.Claims.{outside, held_outside, Premises}
+use Rattle.session.specs.Quiet.{quiet}
+use Rattle.session.specs.Serves.{limit, IsFront, IsAnswered, Serves, is_whole}
+use Rattle.asm.specs.Crash.{StartsAs}
+use Rattle.asm.specs.Headline.{first_state, status_number, Outcome, Transcript}
+use Rattle.asm.proofs.Crashes.{starts-stands, crash-safe}
+
+cut-from_printed : (h : List (Entry Counts)) → IsPrinted h → IsPrintedToCut h
+cut-from_printed [] p = tt
+cut-from_printed (e ∷ h) p = inl (p.0, cut-from_printed h p.1)
+
+either-cut : (whole : Bool) (h : List (Entry Counts)) → MatchBool whole (IsPrinted h) (IsPrintedToCut h) → IsPrintedToCut h
+either-cut true h p = cut-from_printed h p
+either-cut false h p = p
+
+consumes-none : (left : Option Bytes) → Consumes left left []
+consumes-none None = tt
+consumes-none (Some bytes) = refl
+
+-- ---- statuses
+
+front-at : (script script' : List ℕ) (commands commands' : List Bytes) (left : Option Bytes) → script ≡ script' → commands ≡ commands' →
+    IsFront script commands left → IsFront script' commands' left
+front-at script script' commands commands' left e f front =
+    let P : List ℕ → Type 0 = λ xs. IsFront xs commands left in
+    let Q : List (List ℕ) → Type 0 = λ cs. IsFront script' cs left in
+    subst Q f (subst P e front)
+
+outcome-ok : (status : ℕ) (script : List ℕ) (history : List (Entry Counts)) (left : Option Bytes) (end : State Counts) → status ≤ 1 →
+    length script ≤ limit → IsAtEnd left → answered history ≡ commands_of script → IsPrinted history → end.phase ≡ Resting →
+    (status ≡ 0 → has_refusal history ≡ false) → (status ≡ 1 → has_refusal history ≡ true) → Outcome status script history left end
+outcome-ok status script history left end low short at_end all printed rest none some =
+    let same : script ≡ take limit script = sym (take_all limit script short) in
+    record {
+      usage = λ e. absurd (omega (arith, e));
+      short = omega arith;
+      too_long = λ e. absurd (omega (arith, e));
+      past_limit = λ e. absurd (omega (arith, e));
+      to_end = λ _. at_end;
+      all_answered = λ _. all;
+      no_refusal = none;
+      some_refusal = some;
+      at_fault = λ e. absurd (omega (arith, e));
+      at_limit = λ e. absurd (omega (arith, e));
+      front = inr (at_end, ([], ap commands_of (sym same) ∙ sym all ∙ sym (append-nil (answered history))));
+      whole = λ _ _. printed;
+      rests = λ _ _. rest;
+    }
+
+outcome-fault : (script : List ℕ) (history : List (Entry Counts)) (left : Option Bytes) (end : State Counts) →
+    length script ≤ limit → answered history ≡ ended_commands script → IsPrinted history → end.phase ≡ Resting → Outcome 3 script history left end
+outcome-fault script history left end short all printed rest = record {
+  usage = λ e. absurd (omega (arith, e));
+  short = omega arith;
+  too_long = λ e. absurd (omega (arith, e));
+  past_limit = λ e. absurd (omega (arith, e));
+  to_end = λ e. absurd (omega (arith, e));
+  all_answered = λ e. absurd (omega (arith, e));
+  no_refusal = λ e. absurd (omega (arith, e));
+  some_refusal = λ e. absurd (omega (arith, e));
+  at_fault = λ _. all;
+  at_limit = λ e. absurd (omega (arith, e));
+  front = inl ([], ap ended_commands (take_all limit script short) ∙ sym all ∙ sym (append-nil (answered history)));
+  whole = λ _ _. printed;
+  rests = λ _ _. rest;
+}
+
+outcome-long : (script : List ℕ) (history : List (Entry Counts)) (left : Option Bytes) (end : State Counts) →
+    length script ≡ limit + 1 → answered history ≡ ended_commands (take limit script) → IsPrinted history → end.phase ≡ Resting → Outcome 6 script history left end
+outcome-long script history left end long all printed rest = record {
+  usage = λ e. absurd (omega (arith, e));
+  short = omega arith;
+  too_long = λ _. long;
+  past_limit = λ _. refl;
+  to_end = λ e. absurd (omega (arith, e));
+  all_answered = λ e. absurd (omega (arith, e));
+  no_refusal = λ e. absurd (omega (arith, e));
+  some_refusal = λ e. absurd (omega (arith, e));
+  at_fault = λ e. absurd (omega (arith, e));
+  at_limit = λ _. all;
+  front = inl ([], sym all ∙ sym (append-nil (answered history)));
+  whole = λ _ _. printed;
+  rests = λ _ _. rest;
+}
+
+pub outcome-cut : (status : ℕ) (script : List ℕ) (history : List (Entry Counts)) (left : Option Bytes) (end : State Counts) → (status ≡ 4) ⊎ (status ≡ 5) →
+    length script ≤ limit → IsFront script (answered history) left → Outcome status script history left end
+outcome-cut status script history left end is short front =
+    let big : 4 ≤ status = elim is [ inl e ↦ omega (arith, e) | inr e ↦ omega (arith, e) ] in
+    let small : status ≤ 5 = elim is [ inl e ↦ omega (arith, e) | inr e ↦ omega (arith, e) ] in
+    record {
+      usage = λ e. absurd (omega (arith, e));
+      short = omega arith;
+      too_long = λ e. absurd (omega (arith, e));
+      past_limit = λ e. absurd (omega (arith, e));
+      to_end = λ e. absurd (omega (arith, e));
+      all_answered = λ e. absurd (omega (arith, e));
+      no_refusal = λ e. absurd (omega (arith, e));
+      some_refusal = λ e. absurd (omega (arith, e));
+      at_fault = λ e. absurd (omega (arith, e));
+      at_limit = λ e. absurd (omega (arith, e));
+      front = front-at script (take limit script) (answered history) (answered history) left (sym (take_all limit script short)) refl front;
+      whole = λ f g. absurd (elim is [ inl e ↦ f e | inr e ↦ g e ]);
+      rests = λ f g. absurd (elim is [ inl e ↦ f e | inr e ↦ g e ]);
+    }
+
+pub outcome-of : (served : Result (Unit {0}) Stop) (refused : Bool) (script : List ℕ) (commands : List Bytes) (history : List (Entry Counts)) (left : Option Bytes) (end : State Counts) →
+    IsAnswered served script commands left → answered history ≡ commands → MatchBool (is_whole served) (IsPrinted history) (IsPrintedToCut history) →
+    (is_whole served ≡ true → end.phase ≡ Resting) → refused ≡ has_refusal history → Outcome (status_number served refused) script history left end
+outcome-of (Ok u) false script commands history left end a e printed rest refusal =
+    outcome-ok 0 script history left end (omega arith) a.0 a.1 (e ∙ a.2) printed (rest refl) (λ _. sym refusal) (λ f. absurd (omega (arith, f)))
+outcome-of (Ok u) true script commands history left end a e printed rest refusal =
+    outcome-ok 1 script history left end (omega arith) a.0 a.1 (e ∙ a.2) printed (rest refl) (λ f. absurd (omega (arith, f))) (λ _. sym refusal)
+outcome-of (Err ReadFault) refused script commands history left end a e printed rest refusal =
+    outcome-fault script history left end a.0 (e ∙ a.1) printed (rest refl)
+outcome-of (Err TooLong) refused script commands history left end a e printed rest refusal =
+    outcome-long script history left end a.0 (e ∙ a.1) printed (rest refl)
+outcome-of (Err WriteFault) refused script commands history left end a e printed rest refusal =
+    outcome-cut 4 script history left end (inl refl) a.0 (front-at script script commands (answered history) left refl (sym e) a.1)
+outcome-of (Err NoMemory) refused script commands history left end a e printed rest refusal =
+    outcome-cut 5 script history left end (inr refl) a.0 (front-at script script commands (answered history) left refl (sym e) a.1)
+
+-- ---- the transcript
+
+pub transcript-of : {C : Type 0} (gives : C → ℕ → C → Type 0) (paths : List Bytes) (served : Result (Unit {0}) Stop) (status : ℕ) (marks : List ℕ) (left left' taken taken' : Option Bytes)
+    (clock clock' : C) (old new : BayState) (given' time' : ℕ) (phase : Phase) (w w' : World) (marks' : List ℕ) (refused : Bool) →
+    status ≡ status_number served refused → marks ≡ marks' → (is_whole served ≡ true → phase ≡ Resting) →
+    Serves gives paths served left left' (scene w Resting 0 0 old taken clock [] false) (scene w' phase time' given' new taken' clock' marks' refused) →
+    Transcript gives paths status marks left left' taken taken' clock clock' old new w
+transcript-of gives paths served status marks left left' taken taken' clock clock' old new given' time' phase w w' marks' refused is_status is_marks rest s =
+    let p = s.acts in
+    let end : State Counts = record { world = w'; below = quiet; phase = phase; time = time'; calls = new.calls; counts = counts_of new } in
+    let all : marks ≡ marks_of p.history = is_marks ∙ p.marks_grow in
+    let P : List ℕ → Type 0 = λ ms. RisesFrom old.calls ms in
+    let Q : ℕ → Type 0 = λ n. Outcome n s.taken p.history left' end in
+    record {
+      script = s.taken;
+      history = p.history;
+      end = end;
+      consumed = s.consumed;
+      written = p.written;
+      full = p.full;
+      printed = either-cut (is_whole served) p.history p.printed;
+      run = p.run;
+      ends = p.ends;
+      times = p.readings;
+      calls_are = refl;
+      counts_are = refl;
+      past = p.past;
+      marks_are = all;
+      marks_rise = subst P (sym all) (marks_rise (outside paths new.leaves) (first_state w old) p.history p.run);
+      crash = λ known starts premises.
+          crash-safe paths new (first_state w old) end p.history known given' p.ends refl (p.holds known (starts-stands known old w starts) premises);
+      outcome = subst Q (sym is_status) (outcome-of served refused s.taken s.commands p.history left' end s.are_answered p.commands_are p.printed rest p.refusal);
+    }
+
+-- nothing was read and nothing done, for the words or for want of memory
+pub transcript-none : {C : Type 0} (gives : C → ℕ → C → Type 0) (paths : List Bytes) (status : ℕ) (marks : List ℕ) (left taken : Option Bytes) (clock : C) (bay : BayState) (w : World) →
+    (status ≡ 2) ⊎ (status ≡ 5) → marks ≡ [] → Transcript gives paths status marks left left taken taken clock clock bay bay w
+unfolding cut
+transcript-none gives paths status marks left taken clock bay w is none =
+    let P : List ℕ → Type 0 = λ ms. RisesFrom bay.calls ms in
+    let big : 2 ≤ status = elim is [ inl e ↦ omega (arith, e) | inr e ↦ omega (arith, e) ] in
+    let other : (status ≡ 3) ⊎ (status ≡ 6) → ⊥ = λ e. elim is [
+      | inl f ↦ elim e [ inl h ↦ omega (arith, f, h) | inr h ↦ omega (arith, f, h) ]
+      | inr f ↦ elim e [ inl h ↦ omega (arith, f, h) | inr h ↦ omega (arith, f, h) ]
+    ] in
+    record {
+      script = [];
+      history = [];
+      end = first_state w bay;
+      consumed = consumes-none left;
+      written = Appends-none taken;
+      full = tt;
+      printed = tt;
+      run = tt;
+      ends = refl;
+      times = refl;
+      calls_are = refl;
+      counts_are = refl;
+      past = λ m image before is. is;
+      marks_are = none;
+      marks_rise = subst P (sym none) tt;
+      crash = λ known starts premises.
+          crash-safe paths bay (first_state w bay) (first_state w bay) [] known 0 refl refl (record { held = tt; now = starts-stands known bay w starts });
+      outcome = record {
+        usage = λ _. (refl, refl);
+        short = omega arith;
+        too_long = λ e. absurd (other (inr e));
+        past_limit = λ e. absurd (omega (arith, e));
+        to_end = λ e. absurd (omega (arith, e));
+        all_answered = λ e. absurd (omega (arith, e));
+        no_refusal = λ e. absurd (omega (arith, e));
+        some_refusal = λ e. absurd (omega (arith, e));
+        at_fault = λ e. absurd (other (inl e));
+        at_limit = λ e. absurd (other (inr e));
+        front = inl ([], refl);
+        whole = λ _ _. tt;
+        rests = λ _ _. refl;
+      };
+    }

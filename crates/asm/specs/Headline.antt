@@ -1,0 +1,83 @@
+-- What a whole run of the program did.
+use Rattle.std.specs.Prelude.{◌≡◌, ◌≢◌, ℕ, ◌+◌, ◌≤◌, Bool, true, false, List, [], length, take, Option, Result, Ok, Err}
+use Rattle.std.specs.Io.KnownBytes.{Appends, Consumes, IsAtEnd}
+use Rattle.bay.specs.Readings.{Readings}
+use Rattle.bay.specs.State.{BayState}
+use Rattle.asm_group.specs.Names.{Bytes}
+use Rattle.asm_world.specs.Run.{State, Resting, Entry, IsRun, IsFull, IsPrinted, IsPrintedToCut, end_of, output_of, answered, times_of, marks_of, has_refusal}
+use Rattle.asm_world.specs.RunLaws.{RisesFrom}
+use Rattle.asm_world.specs.World.{World}
+use Rattle.group_disks.specs.Found.{Counts, counts_of}
+use Rattle.script.specs.Script.{commands_of, ended_commands}
+use Rattle.session.specs.declared.stop.Stop.{Stop}
+use Rattle.session.specs.declared.stop.Stop.TheVariants.{ReadFault, WriteFault, NoMemory, TooLong}
+use Rattle.session.specs.Claims.{outside, Premises}
+use Rattle.session.specs.Effects.{Past}
+use Rattle.session.specs.Quiet.{quiet}
+use Rattle.session.specs.Serves.{limit, IsFront}
+use Rattle.asm.specs.Crash.{StartsAs, IsCrashSafe}
+
+-- the status of a script that was read
+abbrev pub status_number : Result (Unit {0}) Stop → Bool → ℕ
+status_number (Ok done) false = 0
+status_number (Ok done) true = 1
+status_number (Err ReadFault) refused = 3
+status_number (Err WriteFault) refused = 4
+status_number (Err NoMemory) refused = 5
+status_number (Err TooLong) refused = 6
+
+-- no group is in the session, and its place is `+`
+pub record IsFirst (w : World) : Type 0 where
+  pub no_entries : w.session ≡ []
+  pub at_top : w.place ≡ []
+
+-- the state in which a run begins
+abbrev pub first_state : World → BayState → State Counts
+first_state w bay = record { world = w; below = quiet; phase = Resting; time = 0; calls = bay.calls; counts = counts_of bay }
+
+-- what a status says of the script's bytes, of the commands that were answered, and of the state at the end
+pub record Outcome (status : ℕ) (script : Bytes) (history : List (Entry Counts)) (left' : Option Bytes) (end : State Counts) : Type 0 where
+  -- 2: nothing was read, and nothing done
+  pub usage : status ≡ 2 → (script ≡ []) × (history ≡ [])
+  -- 6: one byte past the limit was taken, and only then
+  pub short : length script ≤ limit + 1
+  pub too_long : status ≡ 6 → length script ≡ limit + 1
+  pub past_limit : length script ≡ limit + 1 → status ≡ 6
+  -- 0 and 1: the script was read to its end, and all its commands were answered
+  pub to_end : status ≤ 1 → IsAtEnd left'
+  pub all_answered : status ≤ 1 → answered history ≡ commands_of script
+  pub no_refusal : status ≡ 0 → has_refusal history ≡ false
+  pub some_refusal : status ≡ 1 → has_refusal history ≡ true
+  -- 3 and 6: each command whose end was taken, or is among the bytes that are allowed, was answered
+  pub at_fault : status ≡ 3 → answered history ≡ ended_commands script
+  pub at_limit : status ≡ 6 → answered history ≡ ended_commands (take limit script)
+  -- always: no command was answered before its end was taken, but at the source's end
+  pub front : IsFront (take limit script) (answered history) left'
+  -- but where the sink failed or memory was short, all was printed, and nothing more is due
+  pub whole : status ≢ 4 → status ≢ 5 → IsPrinted history
+  pub rests : status ≢ 4 → status ≢ 5 → end.phase ≡ Resting
+
+-- The bytes that were taken from the source, and the moves of the session with what was printed of each. The fields tie them to the
+-- source, the sink, the clock, the disks and the report, each as it was before the run and after it.
+pub record Transcript {C : Type 0} (gives : C → ℕ → C → Type 0) (paths : List Bytes) (status : ℕ) (marks : List ℕ) (left left' taken taken' : Option Bytes)
+    (clock clock' : C) (old new : BayState) (w : World) : Type 0 where
+  pub script : Bytes
+  pub history : List (Entry Counts)
+  pub end : State Counts
+  pub consumed : Consumes left left' script
+  -- each text is in full, up to a cut
+  pub written : Appends taken taken' (output_of history)
+  pub full : IsFull history
+  pub printed : IsPrintedToCut history
+  -- each move is one that the world may make, and each reply has its cause
+  pub run : IsRun (outside paths new.leaves) (first_state w old) history
+  pub ends : end_of (first_state w old) history ≡ end
+  pub times : Readings gives clock (times_of history) clock'
+  pub calls_are : end.calls ≡ new.calls
+  pub counts_are : end.counts ≡ counts_of new
+  pub past : Past old new
+  pub marks_are : marks ≡ marks_of history
+  pub marks_rise : RisesFrom old.calls marks
+  -- Where the images at the start stand for the world, and each creation keeps the premises, each stop in the run leaves groups between.
+  pub crash : (known : ℕ → Bool) → StartsAs known old w → Premises known history → IsCrashSafe paths new.leaves (first_state w old) history
+  pub outcome : Outcome status script history left' end

@@ -1,0 +1,72 @@
+//! `asm IMAGE...` reads a script on standard input, runs its commands on images of disks, and answers each on standard output.
+#![tactic(auto)]
+
+mod program;
+#[cfg(test)]
+mod tests;
+
+use bay_file::{FileBay, StdSink, StdSource, SystemClock};
+use command_line::{Notice, read_words};
+use program::run;
+use std::alloc::{AllocError, Global};
+use std::process::ExitCode;
+use std::{env, io};
+
+/// What the kind of call that isn't built yet is answered.
+const NOT_BUILT: &str = "asm: --generate is not built yet";
+
+fn main(rt: HostRuntime) -> ExitCode {
+    let alloc = rt.alloc();
+    match answer(alloc, &rt) {
+        Ok(status) => ExitCode::from(status),
+        Err(_) => ExitCode::from(5),
+    }
+}
+
+/// Answers a call by its words. The status comes of `run`, but for help and version.
+fn answer(alloc: Global, rt: &HostRuntime) -> io::Result<u8> {
+    let words = words_of(alloc, rt)?;
+    if let Some(notice) = Notice::asked(&words) {
+        return Ok(tell(rt, notice));
+    }
+    let status = run_words(alloc, rt, &words)?;
+    if status == 2 && is_generator(alloc, &words) {
+        let _ = rt.eprintln(NOT_BUILT);
+    }
+    Ok(status)
+}
+
+/// Runs standard input on the images of files, and answers on standard output.
+fn run_words(alloc: Global, rt: &HostRuntime, words: &[String]) -> io::Result<u8> {
+    let mut bay = FileBay::new(rt.clone()?);
+    let mut source = StdSource::new(rt.clone()?);
+    let mut sink = StdSink::new(rt.clone()?);
+    let mut clock = SystemClock::new(rt.clone()?);
+    let report = run(alloc, words, &mut bay, &mut source, &mut sink, &mut clock);
+    Ok(report.status)
+}
+
+/// Prints help or the version. Where that fails the status is that of a reply that can't be written.
+fn tell(rt: &HostRuntime, notice: Notice) -> u8 {
+    match rt.print(notice.text()) {
+        Ok(()) => 0,
+        Err(_) => 4,
+    }
+}
+
+/// Whether the words ask for the generator in its form.
+fn is_generator(alloc: Global, words: &[String]) -> bool {
+    match read_words(alloc, words) {
+        Ok(read) => read.generate.is_some(),
+        Err(_) => false,
+    }
+}
+
+/// The words after the program's own name.
+fn words_of(alloc: Global, rt: &HostRuntime) -> io::Result<Vec<String>> {
+    let mut words = Vec::new(alloc);
+    for word in env::args(rt)?.skip(1) {
+        words.push(word).map_err(AllocError::from)?;
+    }
+    Ok(words)
+}

@@ -1,0 +1,244 @@
+// What no clause says: worked scripts with their texts, and that calls succeed where memory is had.
+use crate::program::{Report, run};
+use bay::Bay;
+use bay_mem::{MemBay, MemClock, MemSink, MemSource};
+use std::alloc::{AllocError, Global};
+use std::test::Fail;
+
+const CREATE: &[u8] = b"CREATE DISKGROUP DATA EXTERNAL REDUNDANCY DISK '/d0';";
+
+const OTHER: &[u8] = b"CREATE DISKGROUP OTHER EXTERNAL REDUNDANCY DISK '/d0';";
+
+const MB: u64 = 1_048_576;
+
+// Every so many calls one is tried: each writes 4 MB in memory.
+const STRIDE: usize = 5;
+
+// Reads of the source and writes of the sink that are to fail, by their numbers.
+#[derive(Clone, Copy)]
+struct Faults {
+    reads: &'static [u64],
+    writes: &'static [u64],
+}
+
+const NONE: Faults = Faults {
+    reads: &[],
+    writes: &[],
+};
+
+// The words of a line, cut at blanks.
+fn words_of(alloc: Global, line: &str) -> Result<Vec<String>, AllocError> {
+    let mut words = Vec::new(alloc);
+    for word in line.split_whitespace() {
+        words.push(String::from_str(alloc, word)?)?;
+    }
+    Ok(words)
+}
+
+// Runs a script on the disks of a bay at noon.
+fn ran(
+    alloc: Global,
+    line: &str,
+    script: &[u8],
+    bay: &mut MemBay,
+    faults: &Faults,
+) -> Result<(Report, MemSink), Fail> {
+    let words = words_of(alloc, line)?;
+    let mut source = MemSource::new(alloc, script, faults.reads).map_err(|_| "memory")?;
+    let mut sink = MemSink::new(alloc, faults.writes).map_err(|_| "memory")?;
+    let mut clock = MemClock::new(alloc, &[43_200]).map_err(|_| "memory")?;
+    let report = run(alloc, &words, bay, &mut source, &mut sink, &mut clock);
+    Ok((report, sink))
+}
+
+fn bay_of(alloc: Global, size: u64) -> Result<MemBay, Fail> {
+    Ok(MemBay::new(alloc, &[Some(size)]).map_err(|_| "memory")?)
+}
+
+#[test]
+fn words_that_name_no_images_are_refused(rt: HostRuntime) -> Result<(), Fail> {
+    let alloc = rt.alloc();
+    for line in [
+        "",
+        "--images /d0",
+        "/d0 /d0",
+        "--generate 7 a b c d",
+        "--help",
+    ] {
+        let mut bay = bay_of(alloc, 25 * MB)?;
+        let (report, sink) = ran(alloc, line, CREATE, &mut bay, &NONE)?;
+        assert_eq!(rt; report.status, 2, "at {line}");
+        assert!(rt; report.replies == 0 && sink.bytes().is_empty() && bay.calls() == 0);
+    }
+    Ok(())
+}
+
+// A script on one image of so many MB: its status, and what is printed.
+#[derive(Clone, Copy)]
+struct Row {
+    megabytes: u64,
+    script: &'static [u8],
+    status: u8,
+    output: &'static [u8],
+    replies: u64,
+}
+
+#[test]
+fn scripts_are_answered(rt: HostRuntime) -> Result<(), Fail> {
+    let rows = [
+        Row {
+            megabytes: 25,
+            script: b"",
+            status: 0,
+            output: b"",
+            replies: 0,
+        },
+        Row {
+            megabytes: 25,
+            script: CREATE,
+            status: 0,
+            output: b"ok\n",
+            replies: 1,
+        },
+        Row {
+            megabytes: 25,
+            script: b"-- a group\n create diskgroup DATA external redundancy disk '/d0';\n",
+            status: 0,
+            output: b"ok\n",
+            replies: 1,
+        },
+        Row {
+            megabytes: 25,
+            script: b"CREATE DISKGROUP DATA EXTERNAL REDUNDANCY DISK '/d0'; CREATE DISKGROUP data EXTERNAL REDUNDANCY DISK '/d0';",
+            status: 1,
+            output: b"ok\nerror 3 GroupExists\n",
+            replies: 2,
+        },
+        Row {
+            megabytes: 25,
+            script: b"CREATE DISKGROUP DATA EXTERNAL REDUNDANCY DISK '/d0';\nCREATE DISKGROUP OTHER EXTERNAL REDUNDANCY DISK '/d0';\n",
+            status: 1,
+            output: b"ok\nerror 6 DiskTaken /d0\n",
+            replies: 2,
+        },
+        Row {
+            megabytes: 25,
+            script: b"pwd\nDROP DISKGROUP 'x;';",
+            status: 1,
+            output: b"error 1 Syntax 0\nerror 1 Syntax 0\n",
+            replies: 2,
+        },
+        Row {
+            megabytes: 25,
+            script: b"CREATE DISKGROUP DATA EXTERNAL REDUNDANCY DISK '/d9';",
+            status: 1,
+            output: b"error 5 NoDisk /d9\n",
+            replies: 1,
+        },
+        Row {
+            megabytes: 24,
+            script: CREATE,
+            status: 1,
+            output: b"error 8 TooSmall DATA_0000 25\n",
+            replies: 1,
+        },
+        Row {
+            megabytes: 24,
+            script: b"CREATE DISKGROUP G23456789012345678901234567890 EXTERNAL REDUNDANCY DISK '/d0';",
+            status: 1,
+            output: b"error 8 TooSmall G234567890123456789012345_0000 25\n",
+            replies: 1,
+        },
+    ];
+    let alloc = rt.alloc();
+    for row in rows {
+        let mut bay = bay_of(alloc, row.megabytes * MB)?;
+        let (report, sink) = ran(alloc, "/d0", row.script, &mut bay, &NONE)?;
+        assert_eq!(rt; sink.bytes(), row.output);
+        assert_eq!(rt; report.status, row.status);
+        assert_eq!(rt; report.replies, row.replies);
+        if let Some(last) = report.marks.last() {
+            assert_eq!(rt; *last, bay.calls());
+        }
+    }
+    Ok(())
+}
+
+#[test]
+fn groups_stay_over_runs(rt: HostRuntime) -> Result<(), Fail> {
+    let alloc = rt.alloc();
+    let mut bay = bay_of(alloc, 25 * MB)?;
+    let (_first, _ok) = ran(alloc, "/d0", CREATE, &mut bay, &NONE)?;
+    bay.restart();
+    let (report, sink) = ran(alloc, "/d0", CREATE, &mut bay, &NONE)?;
+    assert_eq!(rt; sink.bytes(), b"error 6 DiskTaken /d0\n".as_slice());
+    assert_eq!(rt; report.status, 1);
+    Ok(())
+}
+
+#[test]
+fn failing_streams_end_the_run(rt: HostRuntime) -> Result<(), Fail> {
+    let alloc = rt.alloc();
+    let mut bay = bay_of(alloc, 25 * MB)?;
+    let reads = Faults {
+        reads: &[2],
+        ..NONE
+    };
+    let (report, sink) = ran(alloc, "/d0", b"pwd\nls", &mut bay, &reads)?;
+    assert!(rt; report.status == 3 && report.replies == 1);
+    assert_eq!(rt; sink.bytes(), b"error 1 Syntax 0\n".as_slice());
+    let writes = Faults {
+        writes: &[2],
+        ..NONE
+    };
+    let (report, sink) = ran(alloc, "/d0", b"pwd\nls\nls\n", &mut bay, &writes)?;
+    assert!(rt; report.status == 4 && report.replies == 1);
+    assert_eq!(rt; sink.bytes(), b"error 1 Syntax 0\n".as_slice());
+    Ok(())
+}
+
+// How many calls a creation makes on a disk of zeros.
+fn calls_of_creation(alloc: Global) -> Result<u64, Fail> {
+    let mut bay = bay_of(alloc, 25 * MB)?;
+    let (_report, _sink) = ran(alloc, "/d0", CREATE, &mut bay, &NONE)?;
+    Ok(bay.calls())
+}
+
+#[test]
+fn failing_calls_are_answered(rt: HostRuntime) -> Result<(), Fail> {
+    let alloc = rt.alloc();
+    let calls = calls_of_creation(alloc)?;
+    assert!(rt; calls > 10);
+    for call in (1..=calls).step_by(STRIDE) {
+        let mut bay = bay_of(alloc, 25 * MB)?;
+        bay.fail_at(call).map_err(|_| "memory")?;
+        let (report, sink) = ran(alloc, "/d0", CREATE, &mut bay, &NONE)?;
+        let no_disk = sink.bytes() == b"error 5 NoDisk /d0\n".as_slice();
+        let fault = sink.bytes() == b"error 31 WriteFault DATA_0000\n".as_slice();
+        assert!(rt; if call == 1 { no_disk } else { fault }, "at call {call}");
+        assert_eq!(rt; report.status, 1, "at call {call}");
+    }
+    Ok(())
+}
+
+// After a stop the disk is free, or it has the group, and this from some call on; after the reply it has it. From the last call back.
+#[test]
+fn stops_leave_the_group_or_none(rt: HostRuntime) -> Result<(), Fail> {
+    let alloc = rt.alloc();
+    let calls = calls_of_creation(alloc)?;
+    let mut was_taken = true;
+    for stop in (0..=calls).rev().step_by(STRIDE) {
+        let mut bay = bay_of(alloc, 25 * MB)?;
+        bay.stop_after(stop);
+        let (report, _sink) = ran(alloc, "/d0", CREATE, &mut bay, &NONE)?;
+        bay.restart();
+        let (_again, sink) = ran(alloc, "/d0", OTHER, &mut bay, &NONE)?;
+        let free = sink.bytes() == b"ok\n".as_slice();
+        let taken = sink.bytes() == b"error 6 DiskTaken /d0\n".as_slice();
+        assert!(rt; free || taken, "at call {stop}");
+        assert!(rt; free || was_taken, "at call {stop}");
+        assert!(rt; taken || report.status == 1, "at call {stop}");
+        was_taken = taken;
+    }
+    Ok(())
+}
