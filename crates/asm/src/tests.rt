@@ -11,9 +11,6 @@ const OTHER: &[u8] = b"CREATE DISKGROUP OTHER EXTERNAL REDUNDANCY DISK '/d0';";
 
 const MB: u64 = 1_048_576;
 
-// Every so many calls one is tried: each writes 4 MB in memory.
-const STRIDE: usize = 5;
-
 // Reads of the source and writes of the sink that are to fail, by their numbers.
 #[derive(Clone, Copy)]
 struct Faults {
@@ -209,7 +206,7 @@ fn failing_calls_are_answered(rt: HostRuntime) -> Result<(), Fail> {
     let alloc = rt.alloc();
     let calls = calls_of_creation(alloc)?;
     assert!(rt; calls > 10);
-    for call in (1..=calls).step_by(STRIDE) {
+    for call in 1..=calls {
         let mut bay = bay_of(alloc, 25 * MB)?;
         bay.fail_at(call).map_err(|_| "memory")?;
         let (report, sink) = ran(alloc, "/d0", CREATE, &mut bay, &NONE)?;
@@ -227,7 +224,7 @@ fn stops_leave_the_group_or_none(rt: HostRuntime) -> Result<(), Fail> {
     let alloc = rt.alloc();
     let calls = calls_of_creation(alloc)?;
     let mut was_taken = true;
-    for stop in (0..=calls).rev().step_by(STRIDE) {
+    for stop in (0..=calls).rev() {
         let mut bay = bay_of(alloc, 25 * MB)?;
         bay.stop_after(stop);
         let (report, _sink) = ran(alloc, "/d0", CREATE, &mut bay, &NONE)?;
