@@ -6,14 +6,11 @@ mod program;
 mod tests;
 
 use bay_file::{FileBay, StdSink, StdSource, SystemClock};
-use command_line::{Notice, read_words};
+use command_line::Notice;
 use program::run;
 use std::alloc::{AllocError, Global};
 use std::process::ExitCode;
 use std::{env, io};
-
-/// What the kind of call that isn't built yet is answered.
-const NOT_BUILT: &str = "asm: --generate is not built yet";
 
 fn main(rt: HostRuntime) -> ExitCode {
     let alloc = rt.alloc();
@@ -29,11 +26,7 @@ fn answer(alloc: Global, rt: &HostRuntime) -> io::Result<u8> {
     if let Some(notice) = Notice::asked(&words) {
         return Ok(tell(rt, notice));
     }
-    let status = run_words(alloc, rt, &words)?;
-    if status == 2 && is_generator(alloc, &words) {
-        let _ = rt.eprintln(NOT_BUILT);
-    }
-    Ok(status)
+    run_words(alloc, rt, &words)
 }
 
 /// Runs standard input on the images of files, and answers on standard output.
@@ -51,14 +44,6 @@ fn tell(rt: &HostRuntime, notice: Notice) -> u8 {
     match rt.print(notice.text()) {
         Ok(()) => 0,
         Err(_) => 4,
-    }
-}
-
-/// Whether the words ask for the generator in its form.
-fn is_generator(alloc: Global, words: &[String]) -> bool {
-    match read_words(alloc, words) {
-        Ok(read) => read.generate.is_some(),
-        Err(_) => false,
     }
 }
 

@@ -201,6 +201,17 @@ fn calls_of_creation(alloc: Global) -> Result<u64, Fail> {
     Ok(bay.calls())
 }
 
+// The directory region, of 1,024 record blocks, is zeroed in large writes; of the rest of the disk little is written.
+#[test]
+fn creation_writes_little(rt: HostRuntime) -> Result<(), Fail> {
+    let mut bay = bay_of(rt.alloc(), 64 * MB)?;
+    let (report, _sink) = ran(rt.alloc(), "/d0", CREATE, &mut bay, &NONE)?;
+    assert_eq!(rt; report.status, 0);
+    assert!(rt; bay.calls() <= 80);
+    assert!(rt; bay.written(0) <= 4 * MB + 128 * 1_024);
+    Ok(())
+}
+
 #[test]
 fn failing_calls_are_answered(rt: HostRuntime) -> Result<(), Fail> {
     let alloc = rt.alloc();

@@ -127,7 +127,7 @@ fn short_refusal_lines(rt: HostRuntime) -> Result<(), Fail> {
     Ok(())
 }
 
-/// The lines of causes with two arguments.
+/// The lines of causes with two numbers, and of one with a disk and a number.
 #[test]
 fn long_refusal_lines(rt: HostRuntime) -> Result<(), Fail> {
     let alloc = rt.alloc();
@@ -149,6 +149,13 @@ fn long_refusal_lines(rt: HostRuntime) -> Result<(), Fail> {
         small.as_slice(),
         b"error 8 TooSmall DATA_0003 65".as_slice()
     );
+    Ok(())
+}
+
+/// The lines of causes with a text and a number, or with two texts.
+#[test]
+fn mixed_refusal_lines(rt: HostRuntime) -> Result<(), Fail> {
+    let alloc = rt.alloc();
     let path = List::from_slice(alloc, b"d0").map_err(|_| Fail::from("memory"))?;
     let damaged = line(alloc, &Refusal::Damaged { path, block: 1033 })?;
     assert_eq!(rt; damaged.as_slice(), b"error 13 Damaged d0 1033".as_slice());

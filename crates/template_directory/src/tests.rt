@@ -12,8 +12,10 @@ fn system_templates_are_made(rt: HostRuntime) -> Result<(), Fail> {
     if all.len() != 13 {
         return Err(Fail::from("thirteen"));
     }
-    assert_eq!(rt; all[4].name.as_bytes(), b"CONTROLFILE".as_slice());
-    assert_eq!(rt; all[4].copies, 3);
-    assert_eq!(rt; all[5].copies, 2);
+    let control = &all[4];
+    assert_eq!(rt; control.name.as_bytes(), b"CONTROLFILE".as_slice());
+    assert_eq!(rt; control.copies, 3);
+    let next = &all[5];
+    assert_eq!(rt; next.copies, 2);
     Ok(())
 }
