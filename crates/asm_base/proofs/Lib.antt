@@ -8,4 +8,6 @@ pub mod NameLaws
 pub mod Decoding
 pub mod FrameLaws
 pub mod Lists
+pub mod ItemTables
 pub mod RefusalTexts
+pub mod PathLaws

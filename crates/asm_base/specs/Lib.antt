@@ -1,8 +1,10 @@
 pub mod Readings
 pub mod Cursors
 pub mod Records
+pub mod Tables
 pub mod Names
 pub mod Homes
 pub mod Frames
 pub mod Refusals
 pub mod RefusalText
+pub mod Paths

@@ -91,3 +91,10 @@ impl List<u8> {
         Ok(List { items })
     }
 }
+
+impl<T> List<T> {
+    /// What gives the list its memory.
+    pub(crate) fn allocator(&self) -> Global {
+        *self.items.allocator()
+    }
+}

@@ -176,3 +176,37 @@ fn mixed_refusal_lines(rt: HostRuntime) -> Result<(), Fail> {
     assert_eq!(rt; many.as_slice(), b"error 36 TooMany groups 8".as_slice());
     Ok(())
 }
+
+fn path(alloc: Global, bytes: &[u8]) -> Result<Path, Fail> {
+    let Ok(Some(path)) = Path::read(alloc, bytes) else {
+        return Err(Fail::from("a path of a group"));
+    };
+    Ok(path)
+}
+
+#[test]
+fn paths(rt: HostRuntime) -> Result<(), Fail> {
+    let alloc = rt.alloc();
+    let file = path(alloc, b"+DATA/db/DATAFILE/u.256.1")?;
+    let file = file.copy().map_err(|_| Fail::from("memory"))?;
+    assert_eq!(rt; file.group.as_bytes(), b"DATA".as_slice());
+    assert_eq!(rt; file.parts.len(), 3);
+    let [_, _, name] = file.parts.as_slice() else {
+        return Err(Fail::from("three parts"));
+    };
+    assert_eq!(rt; name.as_bytes(), b"u.256.1".as_slice());
+    assert_eq!(rt; path(alloc, b"+DATA")?.parts.len(), 0);
+    Ok(())
+}
+
+#[test]
+fn no_paths(rt: HostRuntime) -> Result<(), Fail> {
+    let alloc = rt.alloc();
+    assert!(rt; matches!(Path::read(alloc, b"DATA/a"), Ok(None)));
+    assert!(rt; matches!(Path::read(alloc, b"+"), Ok(None)));
+    assert!(rt; matches!(Path::read(alloc, b"+1/a"), Ok(None)));
+    assert!(rt; matches!(Path::read(alloc, b"+DATA/"), Ok(None)));
+    assert!(rt; matches!(Path::read(alloc, b"+DATA/a//b"), Ok(None)));
+    assert!(rt; matches!(Path::read(alloc, b"+DATA/a/."), Ok(None)));
+    Ok(())
+}
