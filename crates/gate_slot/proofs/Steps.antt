@@ -3,11 +3,12 @@ use Rattle.std.proofs.Common.{◌≡◌, ◌⊎◌, inl, inr, ⊎_elim, ℕ, ◌
 use Rattle.std.specs.Prelude.{if◌then◌else◌, ◌==◌}
 use Rattle.bay.specs.Image.{Image, window, Range, Same, ChangesOnly, Puts}
 use Rattle.bay.proofs.Images.{get_or-window, window-same, changes-window, same-trans, changes-same, changes-within, changes-trans}
+use Rattle.std.proofs.lemmas.Option.{same_Some}
 use Rattle.bay.proofs.Calls.{stops, as_held}
 use Rattle.bay.specs.State.{BayState, IsSound, IsSlot}
 use Rattle.bay.specs.Moments.{Runs, Ends, Durable}
 use Rattle.gate_slot.specs.declared.place.Place.{Place}
-use Rattle.gate_slot.specs.Slot.{IsUsable, GateOf, PlaceOf, is_open_in, body_in, shown, SetsGate, FoundGate, Closes, MayClose, Opens, MayOpen, HasPut, MayPut}
+use Rattle.gate_slot.specs.Slot.{IsUsable, GateOf, PlaceOf, is_open_in, body_in, shown, SetsGate, FoundGate, Closes, MayClose, Opens, MayOpen, HasPut, MayPut, FromHeld, WaitsFor}
 
 -- where the gate is and what the body is says what is shown
 shown-open : (place : Place) (slot : ℕ) (image : Image) → is_open_in place slot image ≡ true → shown place slot image ≡ Some (body_in place slot image)
@@ -181,3 +182,58 @@ found_gate place slot answer a b c sound synced durable read answered = record {
   where
     gate_as : (x y : Image) → x.byte slot place.gate ≡ y.byte slot place.gate → is_open_in place slot x ≡ is_open_in place slot y
     gate_as x y is = ap (λ (n : ℕ). n == 165) is
+
+-- and each image has on the slot's disk what the disks held before
+pub found_settled : (place : Place) (slot : ℕ) (answer : Bool) (a b c : BayState) → IsSound b → Runs (IsSlot slot) Same a b → Durable slot b → Runs (IsSlot slot) Same b c
+    → ((image : Image) → b.holds ≡ Some image → answer ≡ is_open_in place slot image)
+    → (held : Image) → a.holds ≡ Some held → Ends (FromHeld slot held (FoundGate place slot answer)) a c
+found_settled place slot answer a b c sound synced durable read answered held holds = record {
+  held = λ image now.
+      let mid = read.held image now in
+      let start = synced.held mid.0 mid.1 in
+      (start.0, start.1, record { disk = λ k. ap (λ (i : Image). i.byte slot k) (held_once start.0 start.1); steps = finds start.0 mid.0 image start.2 mid.2 (mid.0) mid.1 (λ k. refl) });
+  now = λ image left.
+      let mid = (stops read).now image left in
+      let start = (stops synced).now mid.0 mid.1 in
+      let there = as_held {image = mid.0} sound durable mid.1 in
+      let before = synced.held there.0 there.1 in (
+        start.0,
+        start.1,
+        record {
+          disk = λ k. sym (start.2.byte slot k) ∙ there.2 k ∙ before.2.byte slot k ∙ ap (λ (i : Image). i.byte slot k) (held_once before.0 before.1);
+          steps = finds start.0 mid.0 image start.2 mid.2 there.0 there.1 there.2;
+        },
+      );
+}
+  where
+    held_once : (other : Image) → a.holds ≡ Some other → other ≡ held
+    held_once other is = same_Some other held (sym is ∙ holds)
+
+    finds : (start mid image : Image) → Same start mid → Same mid image → (there : Image) → b.holds ≡ Some there → ((k : ℕ) → mid.byte slot k ≡ there.byte slot k)
+        → FoundGate place slot answer start image
+    finds start mid image first second there is same = record {
+      gate = ap (λ (n : ℕ). n == 165) (second.byte slot place.gate ∙ same place.gate) ∙ sym (answered there is);
+      same = same-trans start mid image first second;
+    }
+
+-- ---- steps from what is held
+
+module _ (slot : ℕ) (held : Image) where
+  -- nothing has changed
+  pub waits_still : {whole : Image → Image → Type 0} (x y : Image) → Same x y → WaitsFor slot held whole x y
+  waits_still {whole} x y same = inl same
+
+  -- a step that follows what was done
+  pub waits_on : {first step whole : Image → Image → Type 0} → ((x y z : Image) → first x y → step y z → whole x z)
+      → (x y z : Image) → FromHeld slot held first x y → step y z → WaitsFor slot held whole x z
+  waits_on {first} {step} {whole} joins x y z done next = inr (record { disk = done.disk; steps = joins x y z done.steps next })
+
+  pub settled_on : {first step whole : Image → Image → Type 0} → ((x y z : Image) → first x y → step y z → whole x z)
+      → (x y z : Image) → FromHeld slot held first x y → step y z → FromHeld slot held whole x z
+  settled_on {first} {step} {whole} joins x y z done next = record { disk = done.disk; steps = joins x y z done.steps next }
+
+  pub waits_more : {step whole : Image → Image → Type 0} → ((x y : Image) → step x y → whole x y) → (x y : Image) → WaitsFor slot held step x y → WaitsFor slot held whole x y
+  waits_more {step} {whole} within x y waits = ⊎_elim inl (λ (from : FromHeld slot held step x y). inr (record { disk = from.disk; steps = within x y from.steps })) waits
+
+  pub settled_less : {step whole : Image → Image → Type 0} → ((x y : Image) → step x y → whole x y) → (x y : Image) → FromHeld slot held step x y → FromHeld slot held whole x y
+  settled_less {step} {whole} within x y from = record { disk = from.disk; steps = within x y from.steps }

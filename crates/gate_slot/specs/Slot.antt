@@ -78,3 +78,12 @@ pub record HasPut (place : Place) (slot : ℕ) (body : List ℕ) (old new : Imag
 pub record MayPut (place : Place) (slot : ℕ) (body : List ℕ) (old new : Image) : Type 0 where
   pub shows : (shown place slot new ≡ shown place slot old) ⊎ ((shown place slot new ≡ None) ⊎ (shown place slot new ≡ Some body))
   pub elsewhere : ChangesOnly (PlaceOf place slot) old new
+
+-- the step comes from an image that has on the slot's disk what the held one has
+pub record FromHeld (slot : ℕ) (held : Image) (step : Image → Image → Type 0) (old new : Image) : Type 0 where
+  pub disk : (k : ℕ) → old.byte slot k ≡ held.byte slot k
+  pub steps : step old new
+
+-- Nothing changes until the slot's disk is settled: the disks are the same, or the step comes from what is held.
+abbrev pub WaitsFor : ℕ → Image → (Image → Image → Type 0) → Image → Image → Type 0
+WaitsFor slot held step old new = Same old new ⊎ FromHeld slot held step old new

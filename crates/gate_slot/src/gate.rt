@@ -5,7 +5,7 @@ ghost use Rattle.bay.specs.Image.{window, Same, ChangesOnly, Range, Puts};
 ghost use Rattle.bay.specs.State.{IsSlot, KeepsAttached, IsOnSectors, size_of};
 ghost use Rattle.bay.specs.Counts.{Rose};
 ghost use Rattle.bay.specs.Moments.{Runs, Ends};
-ghost use Rattle.gate_slot.specs.Slot.{IsUsable, is_open_in, GateOf, SetsGate, FoundGate, MayClose, Closes, MayOpen, Opens, MayPut, HasPut, shown};
+ghost use Rattle.gate_slot.specs.Slot.{IsUsable, is_open_in, GateOf, SetsGate, FoundGate, MayClose, Closes, MayOpen, Opens, MayPut, HasPut, shown, FromHeld, WaitsFor};
 
 use crate::Place;
 use bay::{Bay, Fault};
@@ -98,6 +98,7 @@ fn is_open_synced<B: Bay>(bay: &mut B, slot: u32, place: Place) -> Result<bool, 
     ensures written { (B.state bay.new).written slot ≡ (B.state bay.old).written slot }
     ensures runs { Runs (IsSlot slot) Same (B.state bay.old) (B.state bay.new) }
     ensures done { IfOk result (λ answer. Ends (FoundGate place slot answer) (B.state bay.old) (B.state bay.new)) }
+    ensures settled { IfOk result (λ answer. ForSome (B.state bay.old).holds (λ held. Ends (FromHeld slot held (FoundGate place slot answer)) (B.state bay.old) (B.state bay.new))) }
     ensures cause { OnErr result (Rose ((B.state bay.old).faults slot) ((B.state bay.new).faults slot)) }
 {
     bay.sync(slot)?;
@@ -113,6 +114,9 @@ pub fn close_gate<B: Bay>(bay: &mut B, slot: u32, place: Place) -> Result<(), Fa
     ensures runs { Runs (IsSlot slot) (MayClose place slot) (B.state bay.old) (B.state bay.new) }
     ensures shut { ForSome (B.state bay.old).holds (λ image. is_open_in place slot image ≡ false) → Runs (IsSlot slot) Same (B.state bay.old) (B.state bay.new) }
     ensures done { OnOk result (Ends (Closes place slot) (B.state bay.old) (B.state bay.new)) }
+    // The gate is written only once each image has on this disk what it holds.
+    ensures waits { ForSome (B.state bay.old).holds (λ held. Runs (IsSlot slot) (WaitsFor slot held (MayClose place slot)) (B.state bay.old) (B.state bay.new)) }
+    ensures settled { OnOk result (ForSome (B.state bay.old).holds (λ held. Ends (FromHeld slot held (Closes place slot)) (B.state bay.old) (B.state bay.new))) }
     ensures cause { OnErr result (Rose ((B.state bay.old).faults slot) ((B.state bay.new).faults slot)) }
 {
     if !is_open_synced(bay, slot, place)? {
@@ -165,6 +169,9 @@ pub fn put<B: Bay>(bay: &mut B, slot: u32, place: Place, body: &[u8]) -> Result<
     ensures written { (B.state bay.new).written slot ≤ (B.state bay.old).written slot + 2 * place.sector + place.len }
     ensures runs { Runs (IsSlot slot) (MayPut place slot body.now) (B.state bay.old) (B.state bay.new) }
     ensures done { OnOk result (Ends (HasPut place slot body.now) (B.state bay.old) (B.state bay.new)) }
+    // Nothing is written before each image has on this disk what it holds.
+    ensures waits { ForSome (B.state bay.old).holds (λ held. Runs (IsSlot slot) (WaitsFor slot held (MayPut place slot body.now)) (B.state bay.old) (B.state bay.new)) }
+    ensures settled { OnOk result (ForSome (B.state bay.old).holds (λ held. Ends (FromHeld slot held (HasPut place slot body.now)) (B.state bay.old) (B.state bay.new))) }
     ensures cause { OnErr result (Rose ((B.state bay.old).faults slot) ((B.state bay.new).faults slot)) }
 {
     close_gate(bay, slot, place)?;
