@@ -14,7 +14,7 @@ use Rattle.asm_formats.specs.Places.{SameElsewhere}
 use Rattle.asm_images.specs.Members.{written}
 use Rattle.asm_images.specs.Bridge.{shown, disk_bytes, disks_in, ChangesSlot}
 
-listed : (slots : ℕ) (image : bay.Image) → length (disks_in slots image) ≡ slots
+pub listed : (slots : ℕ) (image : bay.Image) → length (disks_in slots image) ≡ slots
 unfolding disks_in
 listed slots image = length-map-range_with_len (disk_bytes image) 0 slots
 
@@ -56,7 +56,7 @@ bytes_are_listed image slot = (
 
 -- ---- changes
 
-same_disk : (old new : bay.Image) (slot : ℕ) → new.size slot ≡ old.size slot → ((k : ℕ) → new.byte slot k ≡ old.byte slot k) → disk_bytes new slot ≡ disk_bytes old slot
+pub same_disk : (old new : bay.Image) (slot : ℕ) → new.size slot ≡ old.size slot → ((k : ℕ) → new.byte slot k ≡ old.byte slot k) → disk_bytes new slot ≡ disk_bytes old slot
 same_disk old new slot size byte = ap (λ (n : ℕ). window (new.byte slot) 0 n) size ∙ window-same (old.byte slot) (new.byte slot) 0 (old.size slot) (λ k low high. byte k)
 
 pub slot_change : (slots slot : ℕ) (old new : bay.Image) → ChangesSlot slot old new → disks_in slots new ≡ written (disks_in slots old) slot (disk_bytes new slot)

@@ -436,14 +436,17 @@ module _ (id : ℕ) (old : Image) (groups : List Group) (completed : Option Stat
 
 -- ---- a disk that is no member
 
+pub outside_members : (id : ℕ) (old : Image) (slot : ℕ) (bytes : List ℕ) → IsElsewhere id old slot bytes → all_members id (written old slot bytes) ≡ all_members id old
+outside_members id old slot bytes step =
+    sym (filter_all (elsewhere slot) (all_members id (written old slot bytes)) (λ m h. ap not (ne_eqb m.slot slot (step.after m h)))) ∙ others_same id old slot bytes
+    ∙ filter_all (elsewhere slot) (all_members id old) (λ m h. ap not (ne_eqb m.slot slot (step.before m h)))
+
 pub outside_keeps : (id : ℕ) (old : Image) (groups : List Group) (completed : Option Status) (begun : List Status) → SoundBy id old groups completed begun
     → (slot : ℕ) (bytes : List ℕ) → IsElsewhere id old slot bytes → SoundBy id (written old slot bytes) groups completed begun
 outside_keeps id old groups completed begun sound slot bytes step =
     let new = written old slot bytes in
     let ms = all_members id old in
-    let members_same : all_members id new ≡ ms =
-    sym (filter_all (elsewhere slot) (all_members id new) (λ m h. ap not (ne_eqb m.slot slot (step.after m h)))) ∙ others_same id old slot bytes
-    ∙ filter_all (elsewhere slot) ms (λ m h. ap not (ne_eqb m.slot slot (step.before m h))) in
+    let members_same : all_members id new ≡ ms = outside_members id old slot bytes step in
     let cover : (r : Status) → IsAmong (current_records completed begun) r → r.gone ≡ false → IsCovered id new ms groups r = λ r counts not_gone.
     let was = sound.covered r counts not_gone in
     record {

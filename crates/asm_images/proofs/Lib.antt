@@ -27,4 +27,5 @@ pub mod RowProofs
 pub mod OneContent
 pub mod UserWrites
 pub mod Outsiders
+pub mod Keeping
 pub mod SpanCells

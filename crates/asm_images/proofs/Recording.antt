@@ -96,19 +96,22 @@ pub smaller_epoch : (id : ℕ) (ms : List Member) (small great : ℕ) → small 
 smaller_epoch id ms small great le (inl c) = inl (c.0, c.1, omega (arith, c.2, le))
 smaller_epoch id ms small great le (inr s) = inr (s.0, s.1, omega (arith, s.2, le))
 
-begin_fits : (id : ℕ) (image : Image) (groups : List Group) (completed : Option Status) (begun : List Status) (sound : SoundBy id image groups completed begun) (r : Status) → IsBegun id image groups completed begun r → Fits id (all_members id image) completed (begun ++ (r ∷ []))
-begin_fits id image groups completed begun sound r b =
-    let fits = sound.fits in
+-- on the history alone
+pub begin_history : (id : ℕ) (image : Image) (completed : Option Status) (begun : List Status) → Fits id (all_members id image) completed begun → (r : Status) → IsTrue (is_status r)
+    → ((s : Status) → IsAmong (current_records completed begun) s → rank s < rank r) → ((v : Status) → base completed begun ≡ Some v → Follows v r)
+    → ((P : ℕ → Bool) (s : Status) → IsAmong (r ∷ current_records completed begun) s → IsTrue (is_enough s (within P (all_members id image))) → HasEpoch id (within P (all_members id image)) r.epoch)
+    → Fits id (all_members id image) completed (begun ++ (r ∷ []))
+begin_history id image completed begun fits r allowed above follows seen =
     let ms = all_members id image in
     record {
       distinct = fits.distinct;
       greater = λ v s is h. ⊎_elim (λ before. fits.greater v s is before)
           (λ (new : s ≡ r). let v_counts : IsAmong (current_records completed begun) v = subst (λ (o : Option Status). IsAmong (current_records o begun) v) (sym is) (inl refl) in
-          omega (arith, ap rank new, b.above v v_counts)) (begun_split begun r s h);
+          omega (arith, ap rank new, above v v_counts)) (begun_split begun r s h);
       slots = λ s h. ⊎_elim (λ c. inl (current_left completed begun r s c)) (λ o. inr o) (fits.slots s h);
       numbers = fits.numbers;
       follow = λ v s is h. ⊎_elim
-          (λ same. ⊎_elim (λ before. fits.follow v s same before) (λ (new : s ≡ r). subst (λ (t : Status). Follows v t) (sym new) (b.follows v same)) (begun_split begun r s h))
+          (λ same. ⊎_elim (λ before. fits.follow v s same before) (λ (new : s ≡ r). subst (λ (t : Status). Follows v t) (sym new) (follows v same)) (begun_split begun r s h))
           (λ first. ⊎_elim (λ before. absurd (subst (λ (l : List Status). IsAmong l s) first.0 before)) (λ (new : s ≡ r). subst (λ (t : Status). Follows v t) (first.2 ∙ sym new) (follows_itself v)) (begun_split begun r s h))
           (later_base completed begun r v is);
       surveyed = λ P g is enough. let one = fits.surveyed P g is enough in (one.0, one.1, current_left completed begun r one.0 one.2);
@@ -116,14 +119,17 @@ begin_fits id image groups completed begun sound r b =
       claimed = λ P x s h k enough. ⊎_elim
           (λ before. ⊎_elim (λ counts. fits.claimed P x s before counts enough)
           (λ (new : s ≡ r).
-          let below : rank x < rank r = b.above x (begun_counts completed begun x before) in
-          let epoch : x.epoch ≤ r.epoch = epoch_le x r (omega (arith, below)) (turn_below r b.allowed) in
-          smaller_epoch id (within P ms) x.epoch r.epoch epoch (b.claimed P r (inl refl) (subst (λ (y : Status). IsTrue (is_enough y (within P ms))) new enough)))
+          let below : rank x < rank r = above x (begun_counts completed begun x before) in
+          let epoch : x.epoch ≤ r.epoch = epoch_le x r (omega (arith, below)) (turn_below r allowed) in
+          smaller_epoch id (within P ms) x.epoch r.epoch epoch (seen P r (inl refl) (subst (λ (y : Status). IsTrue (is_enough y (within P ms))) new enough)))
           (current_split completed begun r s k))
-          (λ (new : x ≡ r). subst (λ (y : Status). HasEpoch id (within P ms) y.epoch) (sym new) (b.claimed P s (⊎_elim
+          (λ (new : x ≡ r). subst (λ (y : Status). HasEpoch id (within P ms) y.epoch) (sym new) (seen P s (⊎_elim
           (λ counts. inr counts) (λ (also : s ≡ r). inl also) (current_split completed begun r s k)) enough))
           (begun_split begun r x h);
     }
+
+begin_fits : (id : ℕ) (image : Image) (groups : List Group) (completed : Option Status) (begun : List Status) (sound : SoundBy id image groups completed begun) (r : Status) → IsBegun id image groups completed begun r → Fits id (all_members id image) completed (begun ++ (r ∷ []))
+begin_fits id image groups completed begun sound r b = begin_history id image completed begun sound.fits r b.allowed b.above b.follows b.claimed
 
 pub begin_keeps : (id : ℕ) (image : Image) (groups : List Group) (completed : Option Status) (begun : List Status) (sound : SoundBy id image groups completed begun) (r : Status) → IsBegun id image groups completed begun r → SoundBy id image groups completed (begun ++ (r ∷ []))
 begin_keeps id image groups completed begun sound r b = record {
@@ -237,7 +243,7 @@ module _ (id : ℕ) (f : Member → Member) (keeps : Keeps f) (ms : List Member)
       let same_list : current_records completed begun ≡ v ∷ begun = ap (λ (o : Option Status). current_records o begun) is in
       subst (λ (l : List Status). HoldsOne id l (within P (map f ms))) same_list (holds_then P (subst (λ (l : List Status). HoldsOne id l (within P ms)) (sym same_list) one))
 
-  fits_then : Fits id (map f ms) completed begun
+  pub fits_then : Fits id (map f ms) completed begun
   fits_then = record {
     distinct = distinct_map f keeps ms fits.distinct;
     greater = fits.greater;

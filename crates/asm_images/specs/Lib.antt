@@ -12,6 +12,7 @@ pub mod Spans
 pub mod Laws
 pub mod MountLaws
 pub mod Bridge
+pub mod Kept
 pub mod Created
 pub mod PutLaws
 pub mod Moves

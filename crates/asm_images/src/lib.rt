@@ -9,6 +9,7 @@ pub mod covering;
 pub mod created;
 pub mod images;
 pub mod meaning;
+pub mod mounted;
 pub mod mounting;
 pub mod others;
 pub mod puts;
