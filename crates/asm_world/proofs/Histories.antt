@@ -8,7 +8,7 @@ use Rattle.asm_world.specs.Below.{Found}
 use Rattle.asm_world.specs.Between.{groups_between}
 use Rattle.asm_world.specs.Command.{Command}
 use Rattle.asm_world.specs.Reply.{Reply, Rebalanced, Resynced, Event, Expired, ExpiryEnds, Moved, Synced, SyncEnds, MoveEnds}
-use Rattle.asm_world.specs.Run.{Outside, State, Entry, Move, Answers, Starts, Expires, Slices, Rests, Phase, Expiry, IsExpiry, Due, DueSlice, DueResync, DueRebalance, IsResynced, IsRebalanced, IsSlice, IsDueSlice, Does, IsMove, IsRun, IsHeld, HeldBy, end_of, entry_text, marks_at, marks_of}
+use Rattle.asm_world.specs.Run.{Outside, State, Entry, Move, Answers, Starts, Expires, Slices, Rests, Phase, Expiry, IsExpiry, Due, DueSlice, DueResync, DueRebalance, IsResynced, IsRebalanced, IsSlice, IsDueSlice, Does, IsMove, IsRun, IsHeld, IsThere, HeldBy, end_of, entry_text, marks_at, marks_of}
 use Rattle.asm_world.specs.RunLaws.{AtAnswer, IsQuiet, is_answer, Grows, RisesFrom}
 use Rattle.asm_world.specs.World.{World, groups_of}
 
@@ -41,6 +41,10 @@ pub moments : {C I : Type 0} (out : Outside C I) (s : State C) (first rest : Lis
 moments {C = C} out s first rest m image run from to left =
     let Q : State C → Type 0 = λ t. m < t.calls in
     held_by out (end_of s first) rest m image (split out s first rest run).1 from (subst Q (end_append s first rest) to) left
+
+pub mounted_are_there : {C I : Type 0} (out : Outside C I) (s : State C) (before rest : List (Entry C)) (e : Entry C) (m : ℕ) (image : I)
+    → IsRun out s (before ++ e ∷ rest) → (end_of s before).calls ≤ m → m < e.after.calls → out.leaves m image → IsThere out (end_of s before) e.after image
+mounted_are_there out s before rest e m image run from to left = (split out s before (e ∷ rest) run).1.0.there m image from to left
 
 -- QUIET MOVES
 

@@ -13,7 +13,7 @@ use Rattle.asm_world.specs.Reply.{Reply, Done, Refused, Rebalanced, MoveEnds, Re
 use Rattle.asm_world.specs.Step.{Step}
 use Rattle.asm_world.specs.Text.{reply_text, short_text, event_text}
 use Rattle.asm_world.specs.Waits.{HasLines}
-use Rattle.asm_world.specs.World.{SessionEntry, World, is_mounted, entry_in, groups_of, with_dismounted}
+use Rattle.asm_world.specs.World.{SessionEntry, World, is_mounted, entry_in, groups_of, has_mounted, with_dismounted}
 
 -- ---- states and moves
 
@@ -212,6 +212,8 @@ pub record Outside (Counts Image : Type 0) : Type 1 where
   pub leaves : ℕ → Image → Type 0
   -- whether an image may stand for the groups of an id, and for no others
   pub allows : ℕ → List Group → Image → Type 0
+  -- whether with all disks of an image a group of an id is there
+  pub stands : ℕ → Image → Type 0
 
 -- the groups that the images of an id may stand for in the moments of a move
 abbrev pub groups_in : (Bytes → Command) → World → Move → World → ℕ → List Group
@@ -225,12 +227,17 @@ groups_in means w Rests new id = groups_of w id
 abbrev pub IsHeld : {Counts Image : Type 0} → Outside Counts Image → State Counts → Move → State Counts → Image → Type 0
 IsHeld out s move t image = (id : ℕ) → out.allows id (groups_in out.means s.world move t.world id) image
 
--- One move. An image that a stop may leave in a moment that ends in it stands for groups between.
+-- each group that is mounted before the move and after it is there
+abbrev pub IsThere : {Counts Image : Type 0} → Outside Counts Image → State Counts → State Counts → Image → Type 0
+IsThere out s t image = (id : ℕ) → has_mounted s.world id ≡ true → has_mounted t.world id ≡ true → out.stands id image
+
+-- One move. An image that a stop may leave in a moment that ends in it stands for groups between, and each group that stays mounted is there.
 pub record IsMove {Counts Image : Type 0} (out : Outside Counts Image) (s : State Counts) (move : Move) (t : State Counts) : Type 0 where
   pub does : Does out.means s move t
   pub caused : out.causes s move t
   pub calls : s.calls ≤ t.calls
   pub images : (m : ℕ) (image : Image) → s.calls ≤ m → m < t.calls → out.leaves m image → IsHeld out s move t image
+  pub there : (m : ℕ) (image : Image) → s.calls ≤ m → m < t.calls → out.leaves m image → IsThere out s t image
 
 -- how texts are printed: in full, in one byte under --generate, or there the last
 pub data Style : Type 0 where
@@ -262,6 +269,10 @@ HeldBy out s (e ∷ es) m image = ((s.calls ≤ m) × (m < e.after.calls) × IsH
 -- in the moment that lasts, an image stands for the groups of the world
 abbrev pub IsHeldNow : {Counts Image : Type 0} → Outside Counts Image → State Counts → Type 0
 IsHeldNow {Image = Image} out s = (image : Image) (id : ℕ) → out.leaves s.calls image → out.allows id (groups_of s.world id) image
+
+-- and each group that is mounted is there
+abbrev pub IsThereNow : {Counts Image : Type 0} → Outside Counts Image → State Counts → Type 0
+IsThereNow {Image = Image} out s = (image : Image) (id : ℕ) → out.leaves s.calls image → has_mounted s.world id ≡ true → out.stands id image
 
 -- ---- what is printed
 

@@ -6,7 +6,7 @@ use Rattle.asm_world.specs.Below.{Found}
 use Rattle.asm_world.specs.Between.{groups_between}
 use Rattle.asm_world.specs.Reply.{Reply}
 use Rattle.asm_world.specs.World.{groups_of}
-use Rattle.asm_world.specs.Run.{Outside, State, Entry, Move, Answers, Starts, Expires, Slices, Rests, IsMove, IsRun, HeldBy, end_of, marks_of}
+use Rattle.asm_world.specs.Run.{Outside, State, Entry, Move, Answers, Starts, Expires, Slices, Rests, IsMove, IsRun, IsThere, HeldBy, end_of, marks_of}
 
 -- A run of some moves and then of others is a run of them all, and each run of them all is that.
 abbrev pub RunsJoin : {Counts Image : Type 0} → Outside Counts Image → Type 0
@@ -18,6 +18,11 @@ RunsJoin {Counts = Counts} out = (s : State Counts) (first rest : List (Entry Co
 abbrev pub MomentsAreHeld : {Counts Image : Type 0} → Outside Counts Image → Type 0
 MomentsAreHeld {Counts = Counts} {Image = Image} out = (s : State Counts) (first rest : List (Entry Counts)) (m : ℕ) (image : Image)
     → IsRun out s (first ++ rest) → (end_of s first).calls ≤ m → m < (end_of s (first ++ rest)).calls → out.leaves m image → HeldBy out (end_of s first) rest m image
+
+-- In a moment that ends in a move, each group that is mounted before that move and after it is there.
+abbrev pub MountedAreThere : {Counts Image : Type 0} → Outside Counts Image → Type 0
+MountedAreThere {Counts = Counts} {Image = Image} out = (s : State Counts) (before rest : List (Entry Counts)) (e : Entry Counts) (m : ℕ) (image : Image)
+    → IsRun out s (before ++ e ∷ rest) → (end_of s before).calls ≤ m → m < e.after.calls → out.leaves m image → IsThere out (end_of s before) e.after image
 
 abbrev pub is_answer : Move → Bool
 is_answer (Answers found text reply) = true

@@ -1,5 +1,6 @@
 -- The world that a user sees: groups with their names, files and settings, the session, and the files outside.
-use Rattle.std.specs.Prelude.{ℕ, Bool, true, false, List, [], ◌∷◌, map, Option, Some, None, unwrap_or, if◌then◌else◌}
+use Rattle.std.specs.Prelude.{ℕ, Bool, true, false, ◌&&◌, ◌==◌, List, [], ◌∷◌, map, Option, Some, None, unwrap_or, if◌then◌else◌}
+use Rattle.std.specs.List.{list_any}
 use Rattle.std.specs.FinMap as maps
 use Rattle.asm_group.specs.Names.{Bytes, ByNumber, is_same_name}
 use Rattle.asm_group.specs.Group.{Group}
@@ -77,6 +78,10 @@ only_group (g ∷ h ∷ groups) = None
 
 abbrev pub is_mounted : SessionEntry → Bool
 is_mounted entry = elim entry.state [ Mounted ↦ true | DismountedBy disk ↦ false ]
+
+-- a group of this id is in the session, mounted
+abbrev pub has_mounted : World → ℕ → Bool
+has_mounted w id = list_any (λ (entry : SessionEntry). is_mounted entry && (entry.id == id)) w.session
 
 abbrev pub group_of_entry : World → Option SessionEntry → Option Group
 group_of_entry w None = None

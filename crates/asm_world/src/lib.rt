@@ -15,7 +15,7 @@ pub use language::{
     writing_rows, written_is_said,
 };
 pub use runs::{
-    Measure, between_replies, histories_split, marks_rise, moments_are_held,
+    Measure, between_replies, histories_split, marks_rise, moments_are_held, mounted_are_there,
     quiet_moments_are_held, quiet_moves_leave_groups, runs_join,
 };
 pub use texts::{

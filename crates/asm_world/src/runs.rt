@@ -1,6 +1,6 @@
 // Laws of all runs. Each function has an empty body: its contract is the law.
 ghost use Rattle.asm_world.specs.Run.{Outside};
-ghost use Rattle.asm_world.specs.RunLaws.{RunsJoin, MomentsAreHeld, QuietMovesLeaveGroups, QuietMomentsAreHeld, HistoriesSplit, BetweenReplies, MarksRise};
+ghost use Rattle.asm_world.specs.RunLaws.{RunsJoin, MomentsAreHeld, MountedAreThere, QuietMovesLeaveGroups, QuietMomentsAreHeld, HistoriesSplit, BetweenReplies, MarksRise};
 
 /// What runs are measured against, where C is counted of the outside, and I is an image of all disks.
 pub trait Measure<C, I> {
@@ -16,6 +16,11 @@ pub fn runs_join<C, I, M: Measure<C, I>>()
 /// before and after one of the later moves.
 pub fn moments_are_held<C, I, M: Measure<C, I>>()
     ensures { MomentsAreHeld M.outside }
+{}
+
+/// In a moment that ends in a move, each group that is mounted before that move and after it is there.
+pub fn mounted_are_there<C, I, M: Measure<C, I>>()
+    ensures { MountedAreThere M.outside }
 {}
 
 /// Moves that answer no command leave all groups.
