@@ -12,7 +12,8 @@ use Rattle.asm_formats.specs.Header.{Header}
 use Rattle.asm_formats.specs.Records.{record_spelling}
 use Rattle.mount_states.specs.Forming.{Parts}
 use Rattle.mount_states.specs.NewParts.{AreParts}
-use Rattle.group_disks.specs.Found.{Counts, counts_of, header_in, IsSlotOf, RefusalCause}
+use Rattle.asm_images.specs.Kept.{header_in}
+use Rattle.group_disks.specs.Found.{Counts, counts_of, IsSlotOf, RefusalCause}
 use Rattle.group_disks.specs.Probes.{IsShown, IsUnusable, IsUsable}
 use Rattle.group_disks.specs.Planned.{Plan, IsPlan, disk_of_plan, first_templates, first_settings, items_of_plan, parts_of_plan}
 use Rattle.group_disks.specs.Ready.{HasRoom, IsFormFault}

@@ -1,4 +1,4 @@
--- A disk that has all its parts stands for the new group.
+-- A disk that has all its parts stands for the new group, and where it isn't looked at nothing stands.
 use Rattle.std.proofs.Common.{◌≡◌, ◌⊎◌, inl, inr, ⊎_elim, ℕ, suc, ◌*◌, ◌/◌, ◌%◌, ◌^◌, ◌≤◌, Bool, true, false, List, [], ◌∷◌, ◌++◌, refl, sym, ap, subst, ◌∙◌, Option, Some, None, arith, ◌==◌}
 use Rattle.std.specs.Prelude.{min}
 use Rattle.std.proofs.lemmas.Bool.{cases_Bool, cond-true, cond-false, eq-eqb, ne_eqb, false≢true}
@@ -103,6 +103,20 @@ module _ (slot size : ℕ) (plan : Plan) where
         let has = enough_has P (ap (λ (r : Status). is_enough r (within P (only ∷ []))) same ∙ enough) in
         subst (λ (r : Status). HoldsOne plan.id (r ∷ []) (within P (only ∷ []))) same (subst (λ (l : List Member). HoldsOne plan.id (first ∷ []) l) (sym has) holds);
     claimed = λ P r s h k enough. absurd h;
+  }
+
+  -- where the disk isn't looked at
+  none_fits : Fits plan.id [] (Some first) []
+  unfolding within
+  none_fits = record {
+    distinct = λ m n hm. absurd hm;
+    greater = λ v r is h. absurd h;
+    slots = λ r h. absurd (subst (λ (l : List Status). IsAmong l r) no_status h);
+    numbers = λ r s h. absurd (subst (λ (l : List Status). IsAmong l r) no_status h);
+    follow = λ v r is h. absurd h;
+    surveyed = λ P g is enough. absurd (none-some g (ap greatest (sym no_status) ∙ is));
+    completed_found = λ P v is enough. absurd (false≢true (sym none_is_not_enough ∙ ap (λ (r : Status). is_enough r []) (same_Some first v is) ∙ enough));
+    claimed = λ P r s h. absurd h;
   }
 
   -- ---- the empty group
@@ -222,6 +236,25 @@ module _ (slot size : ℕ) (plan : Plan) where
       covered = λ r counts not_gone. ⊎_elim
           (λ (e : r ≡ first). subst (λ (x : Status). IsCovered plan.id image (all_members plan.id image) (group ∷ []) x) (sym e)
           (subst (λ (l : List Member). IsCovered plan.id image l (group ∷ []) first) (sym same) (cover image)))
+          (λ none. absurd none) counts;
+    }
+
+    none_cover : (image : Image) → IsCovered plan.id image [] (group ∷ []) first
+    unfolding within
+    none_cover image = record {
+      one_content = λ m n c d hm. absurd hm;
+      member_births = λ m h. absurd h;
+      entry_births = λ s e h. absurd (subst (λ (l : List Status). IsAmong l s) no_status h);
+      described = λ P c found. absurd (none-some c (ap newest (sym nothing_readable) ∙ found));
+    }
+
+    -- the disk is not among those that are looked at
+    pub none_is_sound : (image : Image) → all_members plan.id image ≡ [] → SoundBy plan.id image (group ∷ []) (Some first) []
+    none_is_sound image same = record {
+      fits = subst (λ (l : List Member). Fits plan.id l (Some first) []) (sym same) none_fits;
+      covered = λ r counts not_gone. ⊎_elim
+          (λ (e : r ≡ first). subst (λ (x : Status). IsCovered plan.id image (all_members plan.id image) (group ∷ []) x) (sym e)
+          (subst (λ (l : List Member). IsCovered plan.id image l (group ∷ []) first) (sym same) (none_cover image)))
           (λ none. absurd none) counts;
     }
 

@@ -1,6 +1,6 @@
 -- A disk that is the only member of its id, before and after its record stands.
 use Rattle.std.proofs.Common.{◌≡◌, ◌≢◌, ⊎_elim, ℕ, zero, suc, ◌+◌, ◌*◌, ◌<◌, ◌≤◌, true, List, [], ◌∷◌, length, get_or, refl, sym, ap, subst, ◌∙◌, Option, Some, None, arith, ◌==◌}
-use Rattle.std.proofs.lemmas.Bool.{cond-true, cond-false, eq-eqb, ne_eqb, cases_eq, cases_lt}
+use Rattle.std.proofs.lemmas.Bool.{cond-true, cond-false, eq-eqb, eqb-true, ne_eqb, cases_eq, cases_lt}
 use Rattle.std.proofs.lemmas.Option.{none-some}
 use Rattle.std.proofs.lemmas.List.{get_or-map, length-map}
 use Rattle.std.proofs.lemmas.List.FromFn.{length-map-range_with_len}
@@ -14,15 +14,16 @@ use Rattle.asm_images.specs.Members.{Image, Member, with_member, members_from, m
 use Rattle.asm_images.specs.Bridge.{disk_bytes, disks_in, ChangesSlot}
 use Rattle.asm_images.specs.Sound.{Sound}
 use Rattle.asm_images.specs.Stands.{Standing}
+use Rattle.asm_images.specs.Kept.{header_in, IsMemberIn, IsKept}
 use Rattle.asm_images.proofs.Membership.{among_flat_map}
 use Rattle.asm_images.proofs.History.{greatest_is, among_statuses}
 use Rattle.asm_images.proofs.Members.{member_is, among_members}
 use Rattle.asm_images.proofs.Bridges.{disks_are_listed, beyond_is_unseen}
 use Rattle.group_disks.specs.Creating.{Allows, HasMember, made_group}
-use Rattle.group_disks.specs.Planned.{Plan, IsPlan, header_of_plan, record_of_plan}
-use Rattle.group_disks.proofs.Outsiders.{no_member_allows}
+use Rattle.group_disks.specs.Planned.{Plan, IsPlan, header_of_plan, record_of_plan, kept_of_plan}
+use Rattle.group_disks.proofs.Outsiders.{nothing_among, no_member_allows}
 use Rattle.group_disks.proofs.Departing.{elsewhere_member}
-use Rattle.group_disks.proofs.FirstGroup.{metadata_of_plan, only, only_is_sound, only_is_standing}
+use Rattle.group_disks.proofs.FirstGroup.{metadata_of_plan, only, only_is_sound, none_is_sound, only_is_standing}
 
 -- ---- the list of members
 
@@ -118,6 +119,35 @@ module _ (slot : ℕ) (plan : Plan) (old new : bay.Image) (changes : ChangesSlot
       one_from plan.id 0 slot slot (metadata_of image) (metadata []) (header_of_plan plan) (omega arith) (omega (arith, lt, count slots new, length-map image metadata)) (ap (λ (d : Metadata). d.header) here) refl other
       ∙ ap (λ (d : Metadata). record { slot = slot; header = header_of_plan plan; disk = d } ∷ []) here
 
+  -- the disk isn't among the first slots
+  no_member : (slots : ℕ) → slots ≤ slot → all_members plan.id (disks_in slots new) ≡ []
+  no_member slots le = nothing_among (all_members plan.id (disks_in slots new)) (λ m h.
+      let below : m.slot < slots = omega (arith, (member_is plan.id (disks_in slots new) m h).slot, count slots new) in
+      none (elsewhere_member plan.id slot old new changes (record { slots = slots; member = m; is = h }) (λ (at : m.slot ≡ slot). omega (arith, at, below, le))))
+
+  -- an open header makes a member of a disk
+  has_member : (s : ℕ) → IsMemberIn plan.id new s → (m : Member) × (m.slot ≡ s) × IsAmong (all_members plan.id (disks_in (suc s) new)) m
+  unfolding members metadata
+  has_member s (h, found, named) =
+      let image : Image = disks_in (suc s) new in
+      let lt : s < suc s = omega arith in
+      let here : (get_or (metadata_of image) s (metadata [])).header ≡ Some h =
+      ap (λ (d : Metadata). d.header) (get_or-map metadata image s [] (metadata []) (omega (arith, lt, count (suc s) new)) ∙ ap metadata (disks_are_listed (suc s) s new lt).1) ∙ found in (
+        record { slot = s; header = h; disk = get_or (metadata_of image) s (metadata []) },
+        refl,
+        among_members plan.id 0 s s (metadata_of image) (metadata []) h (omega arith) (omega (arith, lt, count (suc s) new, length-map image metadata)) here named,
+      )
+
+  only_here : (s : ℕ) → IsMemberIn plan.id new s → (s == slot) ≡ true
+  only_here s has = ⊎_elim (λ (at : s ≡ slot). eq-eqb s slot at)
+      (λ (apart : s ≢ slot). let m = has_member s has in
+      absurd (none (elsewhere_member plan.id slot old new changes (record { slots = suc s; member = m.0; is = m.2 }) (λ (at : m.0.slot ≡ slot). apart (sym m.1 ∙ at)))))
+      (cases_eq s slot)
+
+  member_there : (s : ℕ) → (s == slot) ≡ true → IsMemberIn plan.id new s
+  unfolding metadata
+  member_there s at = (header_of_plan plan, ap (λ (k : ℕ). header_in new k) (eqb-true s slot at) ∙ ap (λ (d : Metadata). d.header) all, refl)
+
   module _ (is : IsPlan plan) (long : plan.units * 1048576 ≤ new.size slot) where
     pub recorded_allows : Allows plan.id (made_group plan.name ∷ []) new
     recorded_allows = λ slots. ⊎_elim
@@ -135,5 +165,16 @@ module _ (slot : ℕ) (plan : Plan) (old new : bay.Image) (changes : ChangesSlot
         before : (slots : ℕ) → Sound plan.id (disks_in slots old) (made_group plan.name ∷ [])
         before slots = no_member_allows plan.id (made_group plan.name ∷ []) old none slots
 
-    pub recorded_stands : (slots : ℕ) → slot < slots → Standing plan.id (disks_in slots new) (λ any. true)
+    recorded_stands : (slots : ℕ) → slot < slots → Standing plan.id (disks_in slots new) (λ any. true)
     recorded_stands slots lt = only_is_standing slot (new.size slot) plan is long (disks_in slots new) (λ any. true) (only_member slots lt) refl
+
+    pub recorded_is_kept : (n : ℕ) → slot < n → IsKept n plan.id (made_group plan.name ∷ []) (kept_of_plan slot plan) new
+    recorded_is_kept n lt = record {
+      sound = λ slots. ⊎_elim
+          (λ (seen : slot < slots). only_is_sound slot (new.size slot) plan is long (disks_in slots new) (only_member slots seen))
+          (λ (le : slots ≤ slot). none_is_sound slot (new.size slot) plan is long (disks_in slots new) (no_member slots le))
+          (cases_lt slot slots);
+      standing = recorded_stands n lt;
+      here = only_here;
+      there = member_there;
+    }

@@ -14,20 +14,20 @@ use Rattle.asm_formats.specs.Bytes.{block_size, is_open, block}
 use Rattle.asm_formats.specs.Regions.{least_size, header_gate}
 use Rattle.asm_formats.specs.Header.{Header, decoded_header}
 use Rattle.asm_formats.specs.Pages.{decodes_in}
-use Rattle.asm_formats.specs.Metadata.{metadata, header_of, content_of}
+use Rattle.asm_formats.specs.Metadata.{Metadata, metadata, header_of, content_of}
 use Rattle.asm_formats.specs.Places.{SameElsewhere, SameButBlocks}
 use Rattle.asm_formats.proofs.Framing.{header_write, content_behind}
 use Rattle.asm_formats.proofs.Writings.{write_widens}
-use Rattle.asm_images.specs.Bridge.{disk_bytes, disks_in, ChangesSlot}
-use Rattle.asm_images.specs.Stands.{Standing}
+use Rattle.asm_images.specs.Bridge.{disk_bytes, ChangesSlot}
+use Rattle.asm_images.specs.Kept.{IsKept}
 use Rattle.asm_images.proofs.Bridges.{range_change}
 use Rattle.group_disks.specs.Creating.{Allows, HasMember, Creates, made_group}
-use Rattle.group_disks.specs.Planned.{Plan, IsPlan, header_of_plan, parts_of_plan}
-use Rattle.group_disks.specs.CreateLaws.{FormingCreates, FormedStands}
+use Rattle.group_disks.specs.Planned.{Plan, IsPlan, header_of_plan, parts_of_plan, kept_of_plan}
+use Rattle.group_disks.specs.CreateLaws.{FormingCreates, FormedIsKept}
 use Rattle.group_disks.proofs.Outsiders.{no_member_allows}
 use Rattle.group_disks.proofs.Departing.{shut_header, NamesOther, other_allows, other_member, same_allows, same_member}
 use Rattle.group_disks.proofs.Shown.{same_gate, same_block, is_shut}
-use Rattle.group_disks.proofs.FirstMember.{unrecorded_allows, recorded_allows, recorded_stands}
+use Rattle.group_disks.proofs.FirstMember.{unrecorded_allows, recorded_allows, recorded_is_kept}
 use Rattle.group_disks.proofs.FirstDisk.{header_there, no_statuses, all_there}
 
 -- a change in front of the header that keeps gate and header keeps what the disk says
@@ -55,22 +55,26 @@ module _ (slot : ℕ) (plan : Plan) (old new : Image) (is : IsPlan plan) (long :
   -- ---- a disk without a header
 
   module _ (changes : ChangesSlot slot old new) where
-    headless_creates : header_of now ≡ None → Creates plan.id (made_group plan.name) old new
+    headless_creates : header_of now ≡ None → Creates slot plan.id (made_group plan.name) old new
     headless_creates none = record {
       others = λ other groups apart allows. other_allows other slot old new changes groups (names_none other) allows;
       members = λ other apart has. other_member other slot old new changes (names_none other) has;
       own = λ no. no_member_allows plan.id (made_group plan.name ∷ []) new (λ has. no (other_member plan.id slot old new changes (names_none plan.id) has));
+      elsewhere = changes;
+      joins = λ other apart has. absurd (none-some has.0 (sym none ∙ has.1));
     }
       where
         names_none : (other : ℕ) → NamesOther other now
         names_none other h found = absurd (none-some h (sym none ∙ found))
 
     -- with the header of the new group
-    headed_creates : header_of now ≡ Some (header_of_plan plan) → ((HasMember plan.id old → ⊥) → Allows plan.id (made_group plan.name ∷ []) new) → Creates plan.id (made_group plan.name) old new
+    headed_creates : header_of now ≡ Some (header_of_plan plan) → ((HasMember plan.id old → ⊥) → Allows plan.id (made_group plan.name ∷ []) new) → Creates slot plan.id (made_group plan.name) old new
     headed_creates there own = record {
       others = λ other groups apart allows. other_allows other slot old new changes groups (names_new other apart) allows;
       members = λ other apart has. other_member other slot old new changes (names_new other apart) has;
       own = own;
+      elsewhere = changes;
+      joins = λ other apart has. absurd (names_new other apart has.0 has.1 has.2);
     }
       where
         names_new : (other : ℕ) → other ≢ plan.id → NamesOther other now
@@ -85,7 +89,7 @@ module _ (slot : ℕ) (plan : Plan) (old new : Image) (is : IsPlan plan) (long :
     room : 26214400 ≤ new.size slot
     room = omega (arith, long, is.least, step.elsewhere.size slot)
 
-    shut_creates : is_open_in (slot_at 0 1 512) slot new ≡ false → Creates plan.id (made_group plan.name) old new
+    shut_creates : is_open_in (slot_at 0 1 512) slot new ≡ false → Creates slot plan.id (made_group plan.name) old new
     shut_creates closed = headless_creates gates_change (shut_header now (same_gate slot new 0 (omega (arith, room)) ∙ closed))
 
     -- the header's gate sector was written, and shows what it did
@@ -103,14 +107,20 @@ module _ (slot : ℕ) (plan : Plan) (old new : Image) (is : IsPlan plan) (long :
           (same_block slot new 1 (omega (arith, room)) ∙ window-same (old.byte slot) (new.byte slot) 4096 4096 (λ k low high. may.elsewhere.byte slot k (λ inside. absurd (omega (arith, inside.2, low))))
           ∙ sym (same_block slot old 1 (omega (arith, here))))
 
-      kept_creates : Creates plan.id (made_group plan.name) old new
+      header_stays : header_of now ≡ header_of (disk_bytes old slot)
+      unfolding metadata
+      header_stays = ap (λ (d : Metadata). d.header) says_the_same
+
+      kept_creates : Creates slot plan.id (made_group plan.name) old new
       kept_creates = record {
         others = λ other groups apart allows. same_allows other slot old new gates_change says_the_same groups (range_change 0 slot 0 512 old new may.elsewhere).1 allows;
         members = λ other apart has. same_member other slot old new gates_change says_the_same has;
         own = λ no. no_member_allows plan.id (made_group plan.name ∷ []) new (λ has. no (same_member plan.id slot old new gates_change says_the_same has));
+        elsewhere = gates_change;
+        joins = λ other apart has. (has.0, sym header_stays ∙ has.1, has.2);
       }
 
-    closing_creates : Creates plan.id (made_group plan.name) old new
+    closing_creates : Creates slot plan.id (made_group plan.name) old new
     closing_creates = ⊎_elim
         (λ may. ⊎_elim
         (λ same. ⊎_elim (λ yes. kept_creates may same yes) (λ no. shut_creates no) (cases_Bool (is_open_in (slot_at 0 1 512) slot new)))
@@ -133,11 +143,11 @@ module _ (slot : ℕ) (plan : Plan) (old new : Image) (is : IsPlan plan) (long :
 
     -- with a header and no record
     unrecorded_creates : shown (slot_at 0 1 512) slot new ≡ Some (parts_of_plan plan).header → shown (slot_at 6 1 512) slot new ≡ None → shown (slot_at 8 1 512) slot new ≡ None
-        → Creates plan.id (made_group plan.name) old new
+        → Creates slot plan.id (made_group plan.name) old new
     unrecorded_creates header first second = headed_creates parts_change (header_there slot plan is new space header)
         (λ no. unrecorded_allows plan.id slot old new parts_change no (made_group plan.name ∷ []) (no_statuses slot plan is new space first second))
 
-    stage_creates : IsForming slot 512 1024 (parts_of_plan plan) new → Creates plan.id (made_group plan.name) old new
+    stage_creates : IsForming slot 512 1024 (parts_of_plan plan) new → Creates slot plan.id (made_group plan.name) old new
     stage_creates (shut shows) = headless_creates parts_change (shut_header now (is_shut slot new 0 (omega (arith, space)) shows.header_slot))
     stage_creates (headed shows) = unrecorded_creates shows.header_slot shows.status_slot shows.second_status
     stage_creates (filled shows) = unrecorded_creates shows.header_slot shows.status_slot shows.second_status
@@ -146,8 +156,9 @@ module _ (slot : ℕ) (plan : Plan) (old new : Image) (is : IsPlan plan) (long :
     stage_creates (whole shows) = headed_creates parts_change (header_there slot plan is new space shows.header_slot)
         (λ no. recorded_allows slot plan old new parts_change no (all_there slot plan is new space shows) is units_there)
 
-    whole_stands : ShowsAll slot 512 1024 (parts_of_plan plan) new → (HasMember plan.id old → ⊥) → (slots : ℕ) → slot < slots → Standing plan.id (disks_in slots new) (λ any. true)
-    whole_stands shows lacks slots lt = recorded_stands slot plan old new parts_change lacks (all_there slot plan is new space shows) is units_there slots lt
+    whole_is_kept : ShowsAll slot 512 1024 (parts_of_plan plan) new → (HasMember plan.id old → ⊥) → (slots : ℕ) → slot < slots
+        → IsKept slots plan.id (made_group plan.name ∷ []) (kept_of_plan slot plan) new
+    whole_is_kept shows lacks slots lt = recorded_is_kept slot plan old new parts_change lacks (all_there slot plan is new space shows) is units_there slots lt
 
 pub forming_creates : FormingCreates
 forming_creates = λ slot plan old new is long step. ⊎_elim
@@ -155,5 +166,5 @@ forming_creates = λ slot plan old new is long step. ⊎_elim
     (λ forming. stage_creates slot plan old new is long forming.elsewhere forming.is_forming)
     step
 
-pub formed_stands : FormedStands
-formed_stands = λ slot slots plan old new is long lacks formed lt. whole_stands slot plan old new is long formed.elsewhere formed.shows lacks slots lt
+pub formed_is_kept : FormedIsKept
+formed_is_kept = λ slot slots plan old new is long lacks formed lt. whole_is_kept slot plan old new is long formed.elsewhere formed.shows lacks slots lt

@@ -15,7 +15,8 @@ use Rattle.asm_formats.specs.Header.{Header, decoded_header}
 use Rattle.asm_formats.specs.Regions.{least_size}
 use Rattle.asm_images.specs.Bridge.{disk_bytes}
 use Rattle.asm_images.proofs.Bridges.{bytes_are_listed}
-use Rattle.group_disks.specs.Found.{counts_of, Told, header_in}
+use Rattle.asm_images.specs.Kept.{header_in}
+use Rattle.group_disks.specs.Found.{counts_of, Told}
 use Rattle.group_disks.proofs.Shown.{same_gate, same_block}
 
 module _ (slot : ℕ) (image : Image) where

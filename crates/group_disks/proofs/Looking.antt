@@ -10,8 +10,9 @@ use Rattle.bay.specs.State.{BayState, IsSlot, AttachesOnly}
 use Rattle.bay.specs.Counts.{Rose}
 use Rattle.bay.specs.Moments.{Runs}
 use Rattle.asm_formats.specs.Header.{Header}
-use Rattle.group_disks.specs.Found.{counts_of, Told, header_in, AreIdsRead, AreAllRead}
-use Rattle.group_disks.specs.Probes.{id_in, IsShown, ids_of}
+use Rattle.asm_images.specs.Kept.{header_in}
+use Rattle.group_disks.specs.Found.{counts_of, Told, AreIdsRead, AreAllRead}
+use Rattle.group_disks.specs.Probes.{id_in, IsShown, IsUsable, ids_of}
 use Rattle.group_disks.specs.declared.find.Probe.{Probe}
 use Rattle.group_disks.specs.declared.find.Probe.TheVariants as probe
 use Rattle.group_disks.proofs.Told.{told_later, told_before, same_header, same_id, rose_before, rose_later}
@@ -107,3 +108,13 @@ module _ (s m t : BayState) {early : ℕ → Type 0} (n : ℕ) (ids : List ℕ) 
 -- nothing was read yet
 pub none_read : (s : BayState) → AreIdsRead [] (counts_of s) (counts_of s)
 none_read s = record { each = λ i below. absurd (omega arith) }
+
+no_header : (o : Option Header) → option_map (λ (h : Header). h.id) o ≡ None → o ≡ None
+no_header None is = refl
+no_header (Some h) is = absurd (none-some h.id (sym is))
+
+-- a disk that can be given to a new group had no open header
+pub usable_free : (s t : BayState) (slot units : ℕ) (p : Probe) → IsUsable p units → IsShown slot p (counts_of s) (counts_of t) → Told (counts_of s) (counts_of t) (λ image. header_in image slot ≡ None)
+usable_free s t slot units p usable shown =
+    let there = subst (λ (q : Probe). IsShown slot q (counts_of s) (counts_of t)) usable.free shown in
+    λ now holds image was. no_header (header_in image slot) (there.1 now holds image was)

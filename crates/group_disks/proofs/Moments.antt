@@ -1,5 +1,6 @@
 -- A creation at every moment.
-use Rattle.std.proofs.Common.{◌≡◌, ◌≢◌, ℕ, ◌*◌, ◌<◌, ◌≤◌, List, [], ◌∷◌, length, Contains, All, Some, sym, subst, ap, arith}
+use Rattle.std.proofs.Common.{◌≡◌, ◌≢◌, inl, inr, ℕ, ◌*◌, ◌<◌, ◌≤◌, true, List, [], ◌∷◌, ◌∙◌, length, Contains, All, None, Some, Result, Ok, Err, is_ok, sym, subst, ap, arith}
+use Rattle.std.specs.Prelude.{OnOk}
 use Rattle.std.specs.Option.{ForSome}
 use Rattle.std.proofs.lemmas.List.Elements.{All-contains}
 use Rattle.bay.specs.Image.{Image, Same}
@@ -11,15 +12,17 @@ use Rattle.asm_group.specs.Names.{Bytes}
 use Rattle.asm_group.specs.Group.{Group}
 use Rattle.asm_images.specs.Sound.{Sound}
 use Rattle.asm_images.specs.Bridge.{disks_in}
+use Rattle.asm_formats.specs.Metadata.{header_of}
 use Rattle.asm_images.specs.Members as lists
 use Rattle.asm_images.specs.Members.{all_members}
 use Rattle.asm_placement.specs.Among.{IsAmong}
-use Rattle.asm_images.proofs.Bridges.{same_is_same}
+use Rattle.asm_images.proofs.Bridges.{same_is_same, same_disk}
 use Rattle.mount_states.specs.Forming.{MayForm, HasFormed}
-use Rattle.group_disks.specs.Creating.{Allows, HasMember, Creates, Founds, made_group}
-use Rattle.group_disks.specs.Found.{counts_of, header_in, AreAllRead, IsAboveAll}
-use Rattle.group_disks.specs.Planned.{Plan, IsPlan, parts_of_plan}
-use Rattle.group_disks.proofs.Forming.{forming_creates, formed_stands}
+use Rattle.group_disks.specs.Creating.{Allows, HasMember, Creates, IsFree, MayCreate, Founds, HasCreated, made_group}
+use Rattle.asm_images.specs.Kept.{header_in}
+use Rattle.group_disks.specs.Found.{counts_of, Told, AreAllRead, IsAboveAll}
+use Rattle.group_disks.specs.Planned.{Plan, IsPlan, parts_of_plan, kept_of_plan}
+use Rattle.group_disks.proofs.Forming.{forming_creates, formed_is_kept}
 use Rattle.group_disks.proofs.Outsiders.{creates_none}
 
 -- a run with a larger step from such images as there may be
@@ -36,7 +39,7 @@ widened_from {slots} {step} {whole} {a} {b} P sound all within run = record {
 }
 
 pub forms_creates : {m t : BayState} (slot size : ℕ) (plan : Plan) → IsSound m → m.attached slot ≡ Some size → IsPlan plan → plan.units * 1048576 ≤ size
-    → Runs (IsSlot slot) (MayForm slot 512 1024 (parts_of_plan plan)) m t → Runs (IsSlot slot) (Creates plan.id (made_group plan.name)) m t
+    → Runs (IsSlot slot) (MayForm slot 512 1024 (parts_of_plan plan)) m t → Runs (IsSlot slot) (Creates slot plan.id (made_group plan.name)) m t
 forms_creates {m} {t} slot size plan sound attached is room run =
     widened_from (λ image. image.size slot ≡ size) sound (λ image left. sound.sized slot size image attached left)
     (λ x y sized step. forming_creates slot plan x y is (omega (arith, room, sized)) step) run
@@ -45,18 +48,26 @@ has_before : (id : ℕ) (x y : Image) → Same x y → HasMember id y → HasMem
 has_before id x y same has = record { slots = has.slots; member = has.member; is = subst (λ (i : lists.Image). IsAmong (all_members id i) has.member) (same_is_same has.slots x y same) has.is }
 
 -- a creation from disks that are as they were
-same_creates : (id : ℕ) (g : Group) (x y z : Image) → Same x y → Creates id g y z → Creates id g x z
-same_creates id g x y z same creates = record {
+same_creates : (slot id : ℕ) (g : Group) (x y z : Image) → Same x y → Creates slot id g y z → Creates slot id g x z
+same_creates slot id g x y z same creates = record {
   others = λ other groups apart allows. creates.others other groups apart (λ slots. subst (λ (i : lists.Image). Sound other i groups) (sym (same_is_same slots x y same)) (allows slots));
   members = λ other apart has. has_before other x y same (creates.members other apart has);
   own = λ none. creates.own (λ has. none (has_before id x y same has));
+  elsewhere = record { size = λ s differ. creates.elsewhere.size s differ ∙ same.size s; byte = λ s k differ. creates.elsewhere.byte s k differ ∙ same.byte s k };
+  joins = λ other apart has.
+      let was = creates.joins other apart has in
+      (was.0, ap header_of (sym (same_disk x y slot (same.size slot) (λ k. same.byte slot k))) ∙ was.1, was.2);
 }
 
--- what comes before the first write, and the writing
-pub all_creates : {s m t : BayState} {slots : ℕ → Type 0} (slot id : ℕ) (g : Group) → slots slot → Runs slots Same s m → Runs (IsSlot slot) (Creates id g) m t → Runs slots (Creates id g) s t
-all_creates {s} {m} {t} {slots} slot id g inside first next =
-    goes_on (same_creates id g) (widened (λ x y same. same_creates id g x y y same (creates_none id g y)) first) (stops first)
-    (on_more (λ (k : ℕ) is. subst slots (sym is) inside) next)
+-- what comes before the first write, and the writing on a disk that had no open header
+all_creates : {s m t : BayState} {slots : ℕ → Type 0} (slot id : ℕ) (g : Group) → slots slot → IsSound m → Told (counts_of s) (counts_of m) (λ image. header_in image slot ≡ None)
+    → Runs slots Same s m → Runs (IsSlot slot) (Creates slot id g) m t → Runs slots (MayCreate s.holds slot id g) s t
+all_creates {s} {m} {t} {slots} slot id g inside sound free first next =
+    let writes : Runs (IsSlot slot) (λ x y. Creates slot id g x y × IsFree s.holds slot) m t =
+    widened_from (λ image. IsFree s.holds slot) sound (λ image left. let held = sound.told image left in free held.0 held.1) (λ x y was step. (step, was)) next in
+    goes_on {done = Same} {step = λ x y. Creates slot id g x y × IsFree s.holds slot} {whole = MayCreate s.holds slot id g} (λ x y z same step. record { creates = same_creates slot id g x y z same step.0; free = inr step.1 })
+    (widened (λ x y same. record { creates = same_creates slot id g x y y same (creates_none slot id g y); free = inl same }) first) (stops first)
+    (on_more (λ (k : ℕ) is. subst slots (sym is) inside) writes)
 
 -- an id above all that were read is above all that are told
 pub above_all : (s t : BayState) (paths : List Bytes) (n id : ℕ) (ids : List ℕ) → length paths ≡ n → AreAllRead n ids (counts_of s) (counts_of t) → All (λ (other : ℕ). other < id) ids
@@ -66,13 +77,6 @@ above_all s t paths n id ids len are all = record {
       All-contains (λ (other : ℕ). other < id) ids h.id all (are.each slot size (omega (arith, len, below)) attached still now holds image was h is);
 }
 
--- the same of a plan that is seen as another
-pub plan_creates : {s m t : BayState} {slots : ℕ → Type 0} (slot : ℕ) (p q : Plan) (name : Bytes) → p ≡ q → q.name ≡ name → slots slot → Runs slots Same s m
-    → Runs (IsSlot slot) (Creates q.id (made_group q.name)) m t → Runs slots (Creates p.id (made_group name)) s t
-plan_creates {s} {m} {t} {slots} slot p q name same named inside first next =
-    subst (λ (n : Bytes). Runs slots (Creates p.id (made_group n)) s t) named
-    (subst (λ (k : ℕ). Runs slots (Creates k (made_group q.name)) s t) (sym (ap (λ (r : Plan). r.id) same)) (all_creates slot q.id (made_group q.name) inside first next))
-
 pub plan_above : (s t : BayState) (paths : List Bytes) (n : ℕ) (ids : List ℕ) (p q : Plan) → p ≡ q → length paths ≡ n → AreAllRead n ids (counts_of s) (counts_of t)
     → (q.id < last_count → All (λ (other : ℕ). other < q.id) ids) → p.id < last_count → IsAboveAll paths p.id (counts_of s) (counts_of t)
 plan_above s t paths n ids p q same len are all below =
@@ -81,16 +85,27 @@ plan_above s t paths n ids p q same len are all below =
 
 -- what is done to such disks as there may be
 pub forms_founds : {m t : BayState} (slot slots size : ℕ) (plan : Plan) → IsSound m → m.attached slot ≡ Some size → IsPlan plan → plan.units * 1048576 ≤ size → slot < slots
-    → Ends (HasFormed slot 512 1024 (parts_of_plan plan)) m t → Ends (Founds slots plan.id) m t
+    → Ends (HasFormed slot 512 1024 (parts_of_plan plan)) m t → Ends (Founds slots plan.id (made_group plan.name) (kept_of_plan slot plan)) m t
 forms_founds {m} {t} slot slots size plan sound attached is room inside ends = record {
   held = λ image holds. let from = ends.held image holds in (from.0, from.1, founds from.0 image (sound.sized slot size from.0 attached (sound.held from.0 from.1)) from.2);
   now = λ image left. let from = ends.now image left in (from.0, from.1, founds from.0 image (sound.sized slot size from.0 attached from.1) from.2);
 }
   where
-    founds : (x y : Image) → x.size slot ≡ size → HasFormed slot 512 1024 (parts_of_plan plan) x y → Founds slots plan.id x y
-    founds x y sized formed = record { stands = λ none. formed_stands slot slots plan x y is (omega (arith, room, sized)) none formed inside }
+    founds : (x y : Image) → x.size slot ≡ size → HasFormed slot 512 1024 (parts_of_plan plan) x y → Founds slots plan.id (made_group plan.name) (kept_of_plan slot plan) x y
+    founds x y sized formed = record { is_kept = λ none. formed_is_kept slot slots plan x y is (omega (arith, room, sized)) none formed inside }
 
-pub plan_founds : {s m t : BayState} {slots : ℕ → Type 0} (n : ℕ) (p q : Plan) → p ≡ q → Runs slots Same s m → Ends (Founds n q.id) m t → Ends (Founds n p.id) s t
-plan_founds {s} {m} {t} {slots} n p q same first ends =
-    subst (λ (k : ℕ). Ends (Founds n k) s t) (sym (ap (λ (r : Plan). r.id) same))
-    (both_done {first = Same} (λ x y z is founds. record { stands = λ none. founds.stands (λ has. none (has_before q.id x y is has)) }) (stops first) ends)
+when_ok : {A E : Type 0} {P : Type 0} (r : Result A E) → OnOk r P → is_ok r ≡ true → P
+when_ok (Ok x) p is = p
+when_ok (Err e) p is = absurd cc
+
+-- the whole creation, by a plan that is seen as another
+pub has_created : {s m t : BayState} {E : Type 0} (n slot : ℕ) (p q : Plan) (name : Bytes) (result : Result (Unit {0}) E) → p ≡ q → q.name ≡ name → slot < n → IsSound m
+    → Told (counts_of s) (counts_of m) (λ image. header_in image slot ≡ None) → Runs (λ k. k < n) Same s m → Runs (IsSlot slot) (Creates slot q.id (made_group q.name)) m t
+    → OnOk result (Ends (Founds n q.id (made_group q.name) (kept_of_plan slot q)) m t) → HasCreated n p.id (made_group name) (is_ok result) s t
+has_created {s} {m} {t} n slot p q name result same named inside sound free first next done =
+    subst (λ (r : Plan). HasCreated n r.id (made_group name) (is_ok result) s t) (sym same)
+    (subst (λ (l : Bytes). HasCreated n q.id (made_group l) (is_ok result) s t) named (record {
+      slot = slot;
+      moments = all_creates slot q.id (made_group q.name) inside sound free first next;
+      done = λ ok. (kept_of_plan slot q, both_done {first = Same} (λ x y z is founds. record { is_kept = λ none. founds.is_kept (λ has. none (has_before q.id x y is has)) }) (stops first) (when_ok result done ok));
+    }))

@@ -30,5 +30,11 @@ no_member_allows id groups image none = λ slots.
     widened id (disks_in slots image) [] groups (memberless id (disks_in slots image) (nothing_among (all_members id (disks_in slots image)) (λ m is. none (record { slots = slots; member = m; is = is })))) (λ g among. absurd among)
 
 -- nothing is done
-pub creates_none : (id : ℕ) (g : Group) (image : Image) → Creates id g image image
-creates_none id g image = record { others = λ other groups apart allows. allows; members = λ other apart has. has; own = no_member_allows id (g ∷ []) image }
+pub creates_none : (slot id : ℕ) (g : Group) (image : Image) → Creates slot id g image image
+creates_none slot id g image = record {
+  others = λ other groups apart allows. allows;
+  members = λ other apart has. has;
+  own = no_member_allows id (g ∷ []) image;
+  elsewhere = record { size = λ s differ. refl; byte = λ s k differ. refl };
+  joins = λ other apart has. has;
+}

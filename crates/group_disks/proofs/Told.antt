@@ -10,7 +10,8 @@ use Rattle.bay.proofs.Images.{window-same}
 use Rattle.asm_formats.specs.Header.{Header}
 use Rattle.asm_formats.specs.Metadata.{header_of}
 use Rattle.asm_images.specs.Bridge.{disk_bytes}
-use Rattle.group_disks.specs.Found.{counts_of, Told, header_in}
+use Rattle.asm_images.specs.Kept.{header_in}
+use Rattle.group_disks.specs.Found.{counts_of, Told}
 use Rattle.group_disks.specs.Probes.{id_in}
 
 module _ (s m t : BayState) {slots : ℕ → Type 0} {step : Image → Image → Type 0} {P : Image → Type 0} where

@@ -1,6 +1,9 @@
 -- What the creation of a group does to an image of all disks.
-use Rattle.std.specs.Prelude.{◌≢◌, ℕ, true, List, [], ◌∷◌}
-use Rattle.bay.specs.Image.{Image}
+use Rattle.std.specs.Prelude.{◌≡◌, ◌≢◌, ◌⊎◌, ℕ, ◌<◌, Bool, true, List, [], ◌∷◌, Option, None}
+use Rattle.std.specs.Option.{ForSome}
+use Rattle.bay.specs.Image.{Image, Same}
+use Rattle.bay.specs.Moments.{Runs, Ends}
+use Rattle.bay.specs.State.{BayState}
 use Rattle.asm_group.specs.declared.GroupKind.TheVariants.{External}
 use Rattle.asm_group.specs.Names.{Bytes}
 use Rattle.asm_group.specs.Shape.{Shape}
@@ -8,9 +11,9 @@ use Rattle.asm_group.specs.Group.{Group}
 use Rattle.asm_group.specs.NewGroup.{new_group, usual_attributes}
 use Rattle.asm_placement.specs.Among.{IsAmong}
 use Rattle.asm_images.specs.Members.{Member, all_members}
-use Rattle.asm_images.specs.Bridge.{disks_in}
+use Rattle.asm_images.specs.Bridge.{disks_in, ChangesSlot}
+use Rattle.asm_images.specs.Kept.{Kept, header_in, IsMemberIn, IsKept}
 use Rattle.asm_images.specs.Sound.{Sound}
-use Rattle.asm_images.specs.Stands.{Standing}
 
 -- the image may stand for these groups under the id, and for no others, however many of its slots are looked at
 abbrev pub Allows : ℕ → List Group → Image → Type 0
@@ -22,15 +25,35 @@ pub record HasMember (id : ℕ) (image : Image) : Type 0 where
   pub member : Member
   pub is : IsAmong (all_members id (disks_in slots image)) member
 
--- Every other id keeps what its images stand for, and gets no member; an id without a member has the new group or none.
-pub record Creates (id : ℕ) (g : Group) (old new : Image) : Type 0 where
+-- On the disk of a slot a group is created: every other id keeps what its images stand for, and gets no member; an id without a
+-- member has the new group or none.
+pub record Creates (slot id : ℕ) (g : Group) (old new : Image) : Type 0 where
   pub others : (other : ℕ) (groups : List Group) → other ≢ id → Allows other groups old → Allows other groups new
   pub members : (other : ℕ) → other ≢ id → HasMember other new → HasMember other old
   pub own : (HasMember id old → ⊥) → Allows id (g ∷ []) new
+  -- no other disk changes, and this one becomes a member of no other id
+  pub elsewhere : ChangesSlot slot old new
+  pub joins : (other : ℕ) → other ≢ id → IsMemberIn other new slot → IsMemberIn other old slot
 
--- The group is there: where the id had no member, its Status and directories stand for all who look at the first n slots.
-pub record Founds (n id : ℕ) (old new : Image) : Type 0 where
-  pub stands : (HasMember id old → ⊥) → Standing id (disks_in n new) (λ any. true)
+-- the disk in a slot had no open header
+abbrev pub IsFree : Option Image → ℕ → Type 0
+IsFree held slot = ForSome held (λ image. header_in image slot ≡ None)
+
+-- Nothing has changed, or the group is being created on a disk that had no open header.
+pub record MayCreate (held : Option Image) (slot id : ℕ) (g : Group) (old new : Image) : Type 0 where
+  pub creates : Creates slot id g old new
+  pub free : Same old new ⊎ IsFree held slot
+
+-- The group is there, and this is kept of it, where the id had no member and the program has n slots.
+pub record Founds (n id : ℕ) (g : Group) (kept : Kept) (old new : Image) : Type 0 where
+  pub is_kept : (HasMember id old → ⊥) → IsKept n id (g ∷ []) kept new
+
+-- What a creation under an id did to the disks of n slots: at every moment, and once it is done.
+pub record HasCreated (n id : ℕ) (g : Group) (is_done : Bool) (old new : BayState) : Type 0 where
+  -- the slot of the group's disk
+  pub slot : ℕ
+  pub moments : Runs (λ s. s < n) (MayCreate old.holds slot id g) old new
+  pub done : is_done ≡ true → (kept : Kept) × Ends (Founds n id g kept) old new
 
 -- units of 1 MB, sectors of 512 bytes, 20,000 extents of a size and 1,024 record blocks
 abbrev pub usual_shape : Shape

@@ -7,8 +7,7 @@ use Rattle.bay.specs.Counts.{Rose}
 use Rattle.asm_group.specs.Names.{Bytes}
 use Rattle.asm_group.specs.Refusal as r
 use Rattle.asm_formats.specs.Header.{Header}
-use Rattle.asm_formats.specs.Metadata.{header_of}
-use Rattle.asm_images.specs.Bridge.{disk_bytes}
+use Rattle.asm_images.specs.Kept.{header_in}
 
 -- of the disks: what is attached, what they hold where it is told, and how often each slot failed
 pub record Counts : Type 0 where
@@ -23,10 +22,6 @@ counts_of bay = record { attached = bay.attached; holds = bay.holds; faults = ba
 pub record IsSlotOf (paths : List Bytes) (path : Bytes) (slot : ℕ) : Type 0 where
   pub below : slot < length paths
   pub is : get_or paths slot [] ≡ path
-
--- the open header of the disk in a slot
-abbrev pub header_in : Image → ℕ → Option Header
-header_in image slot = header_of (disk_bytes image slot)
 
 -- what the disks held at first, where the bay tells at first and at last what they hold
 abbrev pub Told : Counts → Counts → (Image → Type 0) → Type 0

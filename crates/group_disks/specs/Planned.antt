@@ -1,5 +1,5 @@
 -- What a creation writes on its one disk.
-use Rattle.std.specs.Prelude.{◌≡◌, ℕ, ◌^◌, ◌<◌, ◌≤◌, true, false, List, [], ◌∷◌, flat_map}
+use Rattle.std.specs.Prelude.{◌≡◌, ◌==◌, ℕ, ◌^◌, ◌<◌, ◌≤◌, true, false, List, [], ◌∷◌, flat_map}
 use Rattle.asm_group.specs.declared.GroupKind.TheVariants.{External}
 use Rattle.asm_group.specs.declared.Mode.TheVariants.{Online}
 use Rattle.asm_group.specs.Names.{Bytes, is_name}
@@ -12,6 +12,7 @@ use Rattle.asm_formats.specs.Records.{record_spelling}
 use Rattle.asm_formats.specs.Logs.{LogHead, log_head_spelling}
 use Rattle.asm_formats.specs.Regions.{most_units}
 use Rattle.mount_states.specs.Forming.{Parts}
+use Rattle.asm_images.specs.Kept.{Kept}
 use Rattle.group_disks.specs.Creating.{usual_shape}
 
 -- the group's id and name, and the name and the units of its one disk
@@ -87,3 +88,7 @@ parts_of_plan plan = record {
   status = status_spelling (record_of_plan plan);
   pages = flat_map record_spelling (items_of_plan plan);
 }
+
+-- What is kept of the new group: its record is complete, none was begun after it, and its one disk is in this slot.
+abbrev pub kept_of_plan : ℕ → Plan → Kept
+kept_of_plan slot plan = record { completed = record_of_plan plan; begun = []; slots = λ s. s == slot }

@@ -9,7 +9,8 @@ use Rattle.asm_base.specs.declared.refusal.Refusal.{Refusal}
 use Rattle.asm_base.specs.Refusals.{said}
 use Rattle.asm_formats.specs.Header.{Header}
 use Rattle.asm_formats.specs.Regions.{most_units}
-use Rattle.group_disks.specs.Found.{Counts, Told, header_in}
+use Rattle.asm_images.specs.Kept.{header_in}
+use Rattle.group_disks.specs.Found.{Counts, Told}
 use Rattle.group_disks.specs.declared.find.Probe.{Probe}
 use Rattle.group_disks.specs.declared.find.Probe.TheVariants as probe
 

@@ -1,5 +1,5 @@
 // A group is created on one disk.
-ghost use Rattle.std.specs.Prelude.{◌≡◌, ◌≤◌, ◌<◌, ◌+◌, ◌*◌, [], All, None, Some, IsTrue, IsSome, map, length, IfErr, IfOk, IfSome, OnOk, MatchOption};
+ghost use Rattle.std.specs.Prelude.{◌≡◌, ◌≤◌, ◌<◌, ◌+◌, ◌*◌, [], All, None, Some, IsTrue, IsSome, is_ok, map, length, IfErr, IfOk, IfSome, OnOk, MatchOption};
 ghost use Rattle.asm_group.specs.Names.{is_name};
 ghost use Rattle.std.specs.String.{string_bytes};
 ghost use Rattle.bay.specs.Image.{Same};
@@ -9,9 +9,10 @@ ghost use Rattle.bay.specs.Counts.{last_count};
 ghost use Rattle.asm_base.specs.Refusals.{said};
 ghost use Rattle.asm_group.specs.Refusal.{NoMemory};
 ghost use Rattle.asm_formats.specs.Regions.{most_units};
-ghost use Rattle.group_disks.specs.Found.{counts_of, AreIdsRead, AreAllRead, IsAboveAll, RefusalCause, IsEarly};
-ghost use Rattle.group_disks.specs.Creating.{Creates, Founds, made_group};
-ghost use Rattle.group_disks.specs.Planned.{IsPlan, parts_of_plan};
+ghost use Rattle.group_disks.specs.Found.{counts_of, Told, AreIdsRead, AreAllRead, IsAboveAll, RefusalCause, IsEarly};
+ghost use Rattle.asm_images.specs.Kept.{header_in};
+ghost use Rattle.group_disks.specs.Creating.{Creates, Founds, HasCreated, made_group};
+ghost use Rattle.group_disks.specs.Planned.{IsPlan, parts_of_plan, kept_of_plan};
 ghost use Rattle.group_disks.specs.Ready.{HasRoom, IsFormFault};
 
 use crate::choose::{first_disk_name, next_id, no_disk, usable_units, write_fault};
@@ -40,14 +41,13 @@ pub fn create_group<B: Bay>(
     ensures ids { AreIdsRead ids.new.items (counts_of (B.state bay.old)) (counts_of (B.state bay.new)) }
     ensures cause { IfErr result.1 (λ refusal. RefusalCause (map string_bytes paths.now) path.now (said (λ _. []) refusal) (counts_of (B.state bay.old)) (counts_of (B.state bay.new))) }
     ensures given { OnOk result.1 (IsSome result.0) }
-    ensures done { OnOk result.1 (IfSome result.0 (λ id. Ends (Founds (length paths.now) id) (B.state bay.old) (B.state bay.new))) }
     ensures early { IfErr result.1 (λ refusal. IsEarly (said (λ _. []) refusal) → result.0 ≡ None) }
     ensures above { IfSome result.0 (λ id. id < last_count → IsAboveAll (map string_bytes paths.now) id (counts_of (B.state bay.old)) (counts_of (B.state bay.new))) }
     ensures floor { IfSome result.0 (λ id. floor ≤ id) }
     ensures above_read { IfSome result.0 (λ id. id < last_count → All (λ other. other < id) ids.new.items) }
     ensures moments { MatchOption result.0
         (Runs (λ slot. slot < length paths.now) Same (B.state bay.old) (B.state bay.new))
-        (λ id. Runs (λ slot. slot < length paths.now) (Creates id (made_group name.now)) (B.state bay.old) (B.state bay.new)) }
+        (λ id. HasCreated (length paths.now) id (made_group name.now) (is_ok result.1) (B.state bay.old) (B.state bay.new)) }
 {
     match prepare(alloc, bay, paths, name, path, floor, ids) {
         Ok(
@@ -97,6 +97,7 @@ fn prepare<B: Bay>(
     ensures plan { IfOk result (λ ready. IsPlan ready.group) }
     ensures bodies { IfOk result (λ ready. ready.bodies ≡ parts_of_plan ready.group) }
     ensures room { IfOk result (λ ready. HasRoom ready.slot ready.group.units (B.state bay.new)) }
+    ensures free { IfOk result (λ ready. Told (counts_of (B.state bay.old)) (counts_of (B.state bay.new)) (λ image. header_in image ready.slot ≡ None)) }
 {
     let Some(slot) = slot_of(paths, path) else {
         return Err(no_disk(alloc, path));
@@ -168,8 +169,8 @@ fn form<B: Bay>(
     requires among { slot < slots }
     ensures attached { KeepsAttached (B.state bay.old) (B.state bay.new) }
     ensures calls { (B.state bay.new).calls ≤ (B.state bay.old).calls + 79 }
-    ensures runs { Runs (IsSlot slot) (Creates group.now.id (made_group group.now.name)) (B.state bay.old) (B.state bay.new) }
-    ensures done { OnOk result (Ends (Founds slots group.now.id) (B.state bay.old) (B.state bay.new)) }
+    ensures runs { Runs (IsSlot slot) (Creates slot group.now.id (made_group group.now.name)) (B.state bay.old) (B.state bay.new) }
+    ensures done { OnOk result (Ends (Founds slots group.now.id (made_group group.now.name) (kept_of_plan slot group.now)) (B.state bay.old) (B.state bay.new)) }
     ensures cause { IfErr result (λ refusal. IsFormFault slot group.now.disk (said (λ _. []) refusal) (counts_of (B.state bay.old)) (counts_of (B.state bay.new))) }
 {
     match form_disk(bay, slot, 1024, &bodies.parts()) {

@@ -8,7 +8,8 @@ ghost use Rattle.bay.specs.Counts.{Rose};
 ghost use Rattle.bay.specs.Moments.{Runs};
 ghost use Rattle.bay.specs.declared.fault.BayError.TheVariants.{Fault};
 ghost use Rattle.asm_formats.specs.Header.{decoded_header};
-ghost use Rattle.group_disks.specs.Found.{counts_of, Told, header_in, AreIdsRead, AreAllRead, IsSlotOf};
+ghost use Rattle.asm_images.specs.Kept.{header_in};
+ghost use Rattle.group_disks.specs.Found.{counts_of, Told, AreIdsRead, AreAllRead, IsSlotOf};
 ghost use Rattle.group_disks.specs.Probes.{IsShown, ids_of};
 
 use asm_base::{Block, NoMemory};

@@ -1,5 +1,5 @@
 //! That a creation is a step of the world at every moment. Each function does nothing; its contract is the law.
-ghost use Rattle.group_disks.specs.CreateLaws.{FormingCreates, FormedStands};
+ghost use Rattle.group_disks.specs.CreateLaws.{FormingCreates, FormedIsKept};
 
 /// While a disk is given the parts of a new group, every other id keeps what its images stand for and gets no member,
 /// and the new id stands for the empty group or for none.
@@ -7,7 +7,7 @@ pub fn forming_creates()
     ensures { FormingCreates }
 {}
 
-/// Once the disk has all parts, the Status and the directories of the new group are there.
-pub fn formed_stands()
-    ensures { FormedStands }
+/// Once the disk has all parts, the new group is there, and all that is kept of a mounted group is known of it.
+pub fn formed_is_kept()
+    ensures { FormedIsKept }
 {}

@@ -9,7 +9,7 @@ mod laws;
 mod new_group;
 
 pub use create::create_group;
-pub use laws::{formed_stands, forming_creates};
+pub use laws::{formed_is_kept, forming_creates};
 
 #[cfg(test)]
 mod tests;

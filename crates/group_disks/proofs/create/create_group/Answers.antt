@@ -1,9 +1,8 @@
 use Rattle.std.proofs.Common.{map, length}
 use Rattle.std.specs.String.{string_bytes}
 use Rattle.std.proofs.lemmas.List.{length-map}
-use Rattle.std.proofs.lemmas.Result.{on_ok_weaker}
 use Rattle.group_disks.proofs.Looking.{ids_later, all_later}
-use Rattle.group_disks.proofs.Moments.{plan_creates, plan_above, plan_founds}
+use Rattle.group_disks.proofs.Moments.{has_created, plan_above}
 use Rattle.group_disks.proofs.create.create_group.Goals as goal
 
 pub returns-in-Ok-clause-ids : goal.returns-in-Ok-clause-ids
@@ -20,8 +19,5 @@ returns-in-Ok-clause-above g c =
 
 pub returns-in-Ok-clause-moments : goal.returns-in-Ok-clause-moments
 returns-in-Ok-clause-moments g c =
-    plan_creates c.in-Ok.field-0.slot _ c.in-Ok.field-0.group c.args.name.now c.group.view_is c.in-Ok.ensures.name c.in-Ok.ensures.slot c.prepare.ensures.runs c.form-written.ensures.runs
-
-pub returns-in-Ok-clause-done : goal.returns-in-Ok-clause-done
-returns-in-Ok-clause-done g c =
-    on_ok_weaker c.form-written.result (plan_founds (length c.args.paths.now) _ c.in-Ok.field-0.group c.group.view_is c.prepare.ensures.runs) c.form-written.ensures.done
+    has_created (length c.args.paths.now) c.in-Ok.field-0.slot _ c.in-Ok.field-0.group c.args.name.now c.form-written.result c.group.view_is c.in-Ok.ensures.name c.in-Ok.ensures.slot
+    (g.met.B.Bay.sound c.prepare.new.bay) c.in-Ok.ensures.free c.prepare.ensures.runs c.form-written.ensures.runs c.form-written.ensures.done

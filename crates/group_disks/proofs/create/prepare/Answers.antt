@@ -1,8 +1,12 @@
-use Rattle.std.proofs.Common.{map, []}
+use Rattle.std.proofs.Common.{◌≡◌, ℕ, map, [], ap, ◌∙◌}
+use Rattle.std.proofs.lemmas.Result.{IfOk-weaker}
 use Rattle.std.specs.String.{string_bytes}
 use Rattle.asm_base.specs.Refusals.{said}
 use Rattle.group_disks.specs.Found.{counts_of}
+use Rattle.asm_images.specs.Kept.{header_in}
+use Rattle.group_disks.specs.declared.create.Ready.{Ready}
 use Rattle.group_disks.proofs.Causes.{unusable_cause}
+use Rattle.group_disks.proofs.Looking.{usable_free}
 use Rattle.group_disks.proofs.create.prepare.Goals as goal
 
 pub returns-in_default-first_disk_name-clause-cause : goal.returns-in_default-first_disk_name-clause-cause
@@ -17,3 +21,9 @@ pub returns-in-Err-clause-cause : goal.returns-in-Err-clause-cause
 returns-in-Err-clause-cause g c =
     unusable_cause (map string_bytes c.args.paths.now) c.args.path.now c.in-Ok.disk c.in-Some.slot c.in-Some.ensures (counts_of (g.B.Bay.state c.args.bay.now)) (counts_of (g.B.Bay.state c.look_at_all.new.bay))
     c.in-Ok-look_at_all.probe c.in-Ok-look_at_all.ensures.shown (said (λ any. []) c.in-Err.refusal) c.in-Err.ensures.cause
+
+pub returns-in-Ok-usable_units-clause-free : goal.returns-in-Ok-usable_units-clause-free
+returns-in-Ok-usable_units-clause-free g c =
+    let free = usable_free (g.B.Bay.state c.args.bay.now) (g.B.Bay.state c.look_at_all.new.bay) c.in-Some.slot c.in-Ok-usable_units.units c.in-Ok-look_at_all.probe c.in-Ok-usable_units.ensures.ok c.in-Ok-look_at_all.ensures.shown in
+    IfOk-weaker c.make_ready.result (λ (ready : Ready). ready.slot ≡ c.in-Some.slot) _
+    (λ ready at now holds image was. ap (λ (slot : ℕ). header_in image slot) at ∙ free now holds image was) c.make_ready.ensures.slot
