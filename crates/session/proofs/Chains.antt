@@ -36,6 +36,7 @@ run-past paths old new s (e ∷ h) past p =
         caused = p.0.caused;
         calls = p.0.calls;
         images = λ m image from to left. p.0.images m image from to (past m image (omega arith) left);
+        there = λ m image from to left. p.0.there m image from to (past m image (omega arith) left);
       },
       run-past paths old new e.after h past p.1,
     )
@@ -50,6 +51,7 @@ held-past paths old new s (e ∷ h) past p =
         caused = p.0.caused;
         calls = p.0.calls;
         images = λ m image from to left. p.0.images m image from to (past m image (omega arith) left);
+        there = λ m image from to left. p.0.there m image from to (past m image (omega arith) left);
       },
       held-past paths old new e.after h past p.1,
     )
@@ -173,8 +175,8 @@ entry move printed after = record { move = move; style = Full; printed = printed
 pub record OneMove {C : Type 0} (gives : C → ℕ → C → Type 0) (paths : List Bytes) (whole : Bool) (move : Move) (text : List ℕ) (old new : Scene C) : Type 0 where
   pub does : IsMove (outside paths new.bay.leaves) (state_of old) move (state_of new)
   pub past : Past old.bay new.bay
-  pub holds : (known : ℕ → Bool) → StandsFor known old.given old.bay old.world → CreatesApart known move
-      → IsMove (held_outside paths new.bay.leaves) (state_of old) move (state_of new) × StandsFor known new.given new.bay new.world
+  pub holds : (known : ℕ → Bool) → StandsFor (length paths) known old.given old.bay old.world → CreatesApart known move
+      → IsMove (held_outside paths new.bay.leaves) (state_of old) move (state_of new) × StandsFor (length paths) known new.given new.bay new.world
   pub texts : MatchBool whole (text ≡ entry_text (entry move text (state_of new))) ((rest : List ℕ) × (entry_text (entry move text (state_of new)) ≡ text ++ rest))
   pub written : Appends old.taken new.taken text
   pub readings : Readings gives old.clock (times_at move) new.clock

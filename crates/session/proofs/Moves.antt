@@ -80,9 +80,9 @@ pub acts-starts : {C : Type 0} (gives : C → ℕ → C → Type 0) (paths : Lis
     → gives clock time' clock' → Acts gives paths true [] (scene w Resting time given bay taken clock marks refused) (scene w (Expiring (mounted_groups w.session)) time' given bay taken clock' marks refused)
 acts-starts gives paths w time time' given bay taken clock clock' marks refused g = acts-one gives paths true (Starts time') []
     (scene w Resting time given bay taken clock marks refused) (scene w (Expiring (mounted_groups w.session)) time' given bay taken clock' marks refused) (record {
-      does = record { does = record { before = refl; after = refl; world = refl; time_is = refl }; caused = tt; calls = omega arith; images = λ m image from before left id. tt };
+      does = record { does = record { before = refl; after = refl; world = refl; time_is = refl }; caused = tt; calls = omega arith; images = λ m image from before left id. tt; there = λ m image from before left id was is. tt };
       past = λ m image before left. left;
-      holds = λ known stands apart. (record { does = record { before = refl; after = refl; world = refl; time_is = refl }; caused = tt; calls = omega arith; images = λ m image from before left id. absurd (omega (arith, from, before)) }, stands);
+      holds = λ known stands apart. (record { does = record { before = refl; after = refl; world = refl; time_is = refl }; caused = tt; calls = omega arith; images = λ m image from before left id. absurd (omega (arith, from, before)); there = λ m image from before left id was is. absurd (omega (arith, from, before)) }, stands);
       texts = refl;
       written = Appends-none taken;
       readings = (clock', g, refl);
@@ -94,9 +94,9 @@ pub acts-rests : {C : Type 0} (gives : C → ℕ → C → Type 0) (paths : List
     → Acts gives paths true [] (scene w (Slicing (slices_of (mounted_groups w.session))) time given bay taken clock marks refused) (scene w Resting time given bay taken clock marks refused)
 acts-rests gives paths w time given bay taken clock marks refused = acts-one gives paths true Rests []
     (scene w (Slicing (slices_of (mounted_groups w.session))) time given bay taken clock marks refused) (scene w Resting time given bay taken clock marks refused) (record {
-      does = record { does = record { slices = slices_of (mounted_groups w.session); before = refl; none_due = none_due w (mounted_groups w.session); after = refl; world = refl; time = refl }; caused = tt; calls = omega arith; images = λ m image from before left id. tt };
+      does = record { does = record { slices = slices_of (mounted_groups w.session); before = refl; none_due = none_due w (mounted_groups w.session); after = refl; world = refl; time = refl }; caused = tt; calls = omega arith; images = λ m image from before left id. tt; there = λ m image from before left id was is. tt };
       past = λ m image before left. left;
-      holds = λ known stands apart. (record { does = record { slices = slices_of (mounted_groups w.session); before = refl; none_due = none_due w (mounted_groups w.session); after = refl; world = refl; time = refl }; caused = tt; calls = omega arith; images = λ m image from before left id. absurd (omega (arith, from, before)) }, stands);
+      holds = λ known stands apart. (record { does = record { slices = slices_of (mounted_groups w.session); before = refl; none_due = none_due w (mounted_groups w.session); after = refl; world = refl; time = refl }; caused = tt; calls = omega arith; images = λ m image from before left id. absurd (omega (arith, from, before)); there = λ m image from before left id was is. absurd (omega (arith, from, before)) }, stands);
       texts = refl;
       written = Appends-none taken;
       readings = refl;
@@ -113,10 +113,10 @@ acts-answers gives paths whole found text reply sent w w' time given given' old 
     let move = Answers found text reply in
     let answers : AnswersAt meaning found text reply (state_of (scene w (Expiring (mounted_groups w.session)) time given old taken clock marks refused)) (state_of (scene w' (phase_after reply w') time given' new taken' clock marks' refused')) = record { groups = mounted_groups w.session; before = refl; none_expires = none_expires w (mounted_groups w.session); step = effect.step; cause = effect.cause; lines = effect.lines; after = refl; time = refl } in
     acts-one gives paths whole move sent (scene w (Expiring (mounted_groups w.session)) time given old taken clock marks refused) (scene w' (phase_after reply w') time given' new taken' clock marks' refused') (record {
-      does = record { does = answers; caused = (effect.ids_read, effect.made, effect.counted); calls = effect.calls; images = λ m image from before left id. tt };
+      does = record { does = answers; caused = (effect.ids_read, effect.made, effect.counted); calls = effect.calls; images = λ m image from before left id. tt; there = λ m image from before left id was is. tt };
       past = effect.past;
       holds = λ known stands apart. let keeps = effect.keeps known stands apart in
-          (record { does = answers; caused = (effect.ids_read, effect.made, effect.counted); calls = effect.calls; images = λ m image from before left id. keeps.held m image id from before left }, keeps.now);
+          (record { does = answers; caused = (effect.ids_read, effect.made, effect.counted); calls = effect.calls; images = λ m image from before left id. keeps.held m image id from before left; there = λ m image from before left id was is. keeps.there m image id from before left was is }, keeps.now);
       texts = texts;
       written = written;
       readings = refl;

@@ -4,7 +4,7 @@ use Rattle.std.specs.Prelude.{All, Result, Ok, Err, OnOk, IfErr, nat_le, min, If
 use Rattle.std.proofs.lemmas.List.{append-nil}
 use Rattle.std.proofs.lemmas.Option.{none-some}
 use Rattle.bay.specs.Image.{Same}
-use Rattle.bay.specs.State.{BayState}
+use Rattle.bay.specs.State.{BayState, IsSound}
 use Rattle.bay.specs.Moments.{Runs}
 use Rattle.bay.specs.Counts.{last_count}
 use Rattle.asm_group.specs.Names.{Bytes}
@@ -13,8 +13,7 @@ use Rattle.asm_world.specs.Causes.{mounted_count}
 use Rattle.asm_world.specs.Reply.{Reply, Done, Refused}
 use Rattle.asm_world.specs.World.{World, entry_in, entry_among}
 use Rattle.group_disks.specs.Found.{counts_of, AreIdsRead, RefusalCause, IsEarly}
-use Rattle.group_disks.specs.Creating as made_by
-use Rattle.group_disks.specs.Creating.{made_group}
+use Rattle.group_disks.specs.Creating.{HasCreated, made_group}
 use Rattle.session.specs.Effects.{HasEffect}
 use Rattle.session.specs.Meaning.{said}
 use Rattle.session.specs.Sessions.{SessionView, Knows, AreGiven, given_after, entries_of}
@@ -37,7 +36,7 @@ Answered paths ids made text reply session session' old new w =
     (w' : World) × Knows session' w' × HasEffect paths (record { ids = ids; made = made }) text reply session.given session'.given old new w w'
 
 module _ (paths : List Bytes) (text name path : Bytes) (says : said text ≡ Some (name, path)) (ids : List ℕ) (slots : ℕ → Type 0) (session : SessionView) (w : World) (knows : Knows session w)
-    (room : nat_le 8 (mounted_count w) ≡ false) (absent : is_some (entry_among session.entries name) ≡ false) (entries : AreGiven session.entries session.given) (old new : BayState) (read : AreIdsRead ids (counts_of old) (counts_of new)) where
+    (room : nat_le 8 (mounted_count w) ≡ false) (absent : is_some (entry_among session.entries name) ≡ false) (entries : AreGiven session.entries session.given) (old new : BayState) (read : AreIdsRead ids (counts_of old) (counts_of new)) (ok : Bool) (sound : IsSound old) where
   none : is_some (entry_in w name) ≡ false
   none = rw knows.entries_are absent
 
@@ -45,16 +44,16 @@ module _ (paths : List Bytes) (text name path : Bytes) (says : said text ≡ Som
   given_ids = rw knows.entries_are entries
 
   abbrev pub Writes : Option ℕ → Type 0
-  Writes made = MatchOption made (Runs slots Same old new) (λ id. Runs slots (made_by.Creates id (made_group name)) old new)
+  Writes made = MatchOption made (Runs slots Same old new) (λ id. HasCreated (length paths) id (made_group name) ok old new)
 
-  pub was_created : (made : Option ℕ) (session' : SessionView) → IsSome made → IfSome made (λ id. session.given ≤ id) → IfSome made (λ id. id < last_count → All (λ other. other < id) ids) → Writes made
+  pub was_created : ok ≡ true → (made : Option ℕ) (session' : SessionView) → IsSome made → IfSome made (λ id. session.given ≤ id) → IfSome made (λ id. id < last_count → All (λ other. other < id) ids) → Writes made
       → session'.given ≡ given_after session.given made → session'.entries ≡ session.entries ++ entries_of name made → Answered paths ids made text (Done []) session session' old new w
-  was_created None session' some fresh above writes given_is entries_is = absurd cc
-  was_created (Some id) session' some fresh above writes given_is entries_is =
+  was_created done None session' some fresh above writes given_is entries_is = absurd cc
+  was_created done (Some id) session' some fresh above writes given_is entries_is =
       let is : session'.entries ≡ w.session ++ entries_of name (Some id) = rw knows.entries_are entries_is in (
-        after paths text name path says w room none ids slots session.given session'.given old new read id fresh given_is above given_ids writes session'.entries,
+        after paths text name path says w room none ids slots session.given session'.given old new read id fresh given_is above given_ids ok sound writes session'.entries,
         record { entries_are = refl; at_top = knows.at_top },
-        created paths text name path says w room none ids slots session.given session'.given old new read id fresh given_is above given_ids writes session'.entries is,
+        created paths text name path says w room none ids slots session.given session'.given old new read id fresh given_is above given_ids ok sound writes done session'.entries is,
       )
 
   pub was_refused : (made : Option ℕ) (session' : SessionView) (cause : r.Refusal) → (IsEarly cause → made ≡ None) → RefusalCause paths path cause (counts_of old) (counts_of new)
@@ -66,10 +65,16 @@ module _ (paths : List Bytes) (text name path : Bytes) (says : said text ≡ Som
     refused_unmade paths text name path says w room none ids slots session.given session'.given old new read cause counted (omega (arith, given_is)) writes,
   )
   was_refused (Some id) session' cause early counted fresh above writes given_is entries_is = (
-    after paths text name path says w room none ids slots session.given session'.given old new read id fresh given_is above given_ids writes w.session,
+    after paths text name path says w room none ids slots session.given session'.given old new read id fresh given_is above given_ids ok sound writes w.session,
     record { entries_are = rw entries_is knows.entries_are; at_top = knows.at_top },
-    refused_late paths text name path says w room none ids slots session.given session'.given old new read id fresh given_is above given_ids writes cause (λ is. absurd (none-some id (sym (early is)))) counted,
+    refused_late paths text name path says w room none ids slots session.given session'.given old new read id fresh given_is above given_ids ok sound writes cause (λ is. absurd (none-some id (sym (early is)))) counted,
   )
+
+-- what a creation wrote, by another number of slots that is the same
+pub as_many : (slots : ℕ → Type 0) (n k : ℕ) (name : Bytes) (ok : Bool) (old new : BayState) (made : Option ℕ) → n ≡ k → MatchOption made (Runs slots Same old new) (λ id. HasCreated n id (made_group name) ok old new)
+    → MatchOption made (Runs slots Same old new) (λ id. HasCreated k id (made_group name) ok old new)
+as_many slots n k name ok old new made same writes =
+    subst (λ (j : ℕ). MatchOption made (Runs slots Same old new) (λ id. HasCreated j id (made_group name) ok old new)) same writes
 
 -- a creation that no place is left for
 pub too_many : (paths : List Bytes) (text name path : Bytes) → said text ≡ Some (name, path) → (given : ℕ) (old : BayState) (w : World) → nat_le 8 (mounted_count w) ≡ true

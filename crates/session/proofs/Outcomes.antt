@@ -1,15 +1,16 @@
 -- What a command did, by how it was answered.
-use Rattle.std.proofs.Common.{◌≡◌, ◌⊎◌, inl, inr, ℕ, ◌+◌, ◌-◌, ◌^◌, ◌<◌, ◌≤◌, Bool, true, false, cond, List, [], ◌∷◌, ◌++◌, length, map, Option, Some, None, refl, sym, ◌∙◌, ap, subst, arith, is_some}
+use Rattle.std.proofs.Common.{◌≡◌, ◌≢◌, ◌⊎◌, ◌&&◌, ◌||◌, ◌==◌, inl, inr, ⊎_elim, suc, ℕ, ◌+◌, ◌-◌, ◌^◌, ◌<◌, ◌≤◌, Bool, true, false, cond, List, [], ◌∷◌, ◌++◌, length, map, Option, Some, None, refl, sym, ◌∙◌, ap, subst, arith, is_some}
 use Rattle.std.specs.Prelude.{All, nat_le, min}
 use Rattle.std.specs.Option.{ForSome}
 use Rattle.std.specs.FinMap as maps
 use Rattle.std.specs.Cmp.{unsigned_tied}
 use Rattle.std.proofs.lemmas.Cmp.{nat_cmp_total}
-use Rattle.std.proofs.lemmas.Bool.{eq-eqb}
+use Rattle.std.specs.List.{list_any}
+use Rattle.std.proofs.lemmas.Bool.{eq-eqb, eqb-true, false≢true, and_parts}
 use Rattle.std.proofs.lemmas.Option.{same_Some}
 use Rattle.asm_group.specs.declared.GroupKind.TheVariants.{External}
 use Rattle.bay.specs.Image.{Same}
-use Rattle.bay.specs.State.{BayState}
+use Rattle.bay.specs.State.{BayState, IsSound}
 use Rattle.bay.specs.Moments.{Runs}
 use Rattle.bay.specs.Counts.{last_count}
 use Rattle.asm_group.specs.Names.{Bytes}
@@ -23,10 +24,9 @@ use Rattle.asm_world.specs.Reply.{Reply, Done, Refused}
 use Rattle.asm_world.specs.Settings as t
 use Rattle.asm_world.specs.Step.{Step, IsNewId, LeavesCreated, MadeGroup}
 use Rattle.asm_world.specs.Waits.{HasLines}
-use Rattle.asm_world.specs.World.{World, SessionEntry, entry_in, with_group, mounted_entry}
+use Rattle.asm_world.specs.World.{World, SessionEntry, entry_in, has_mounted, is_mounted, with_group, mounted_entry}
 use Rattle.group_disks.specs.Found.{Counts, counts_of, AreIdsRead, RefusalCause, IsEarly}
-use Rattle.group_disks.specs.Creating as made_by
-use Rattle.group_disks.specs.Creating.{made_group}
+use Rattle.group_disks.specs.Creating.{HasCreated, made_group}
 use Rattle.std.specs.Option.{option_map}
 use Rattle.session.specs.declared.reader.Creation.{Creation}
 use Rattle.session.specs.Views.{creation_view}
@@ -65,7 +65,7 @@ plain paths found text cause given given' slots old new w step has lines read ma
   counted = counted;
   calls = runs.later;
   past = λ m image before left. (runs.ended m image before).0 left;
-  keeps = λ known stands apart. same_keeps known text given given' slots old new w w more refl runs stands;
+  keeps = λ known stands apart. same_keeps (length paths) known given given' slots old new w more runs stands text;
 }
 
 -- what was read says nothing
@@ -87,6 +87,23 @@ no_memory paths text given given' slots old new w more runs = by (said text) ref
     by : (v : Option (Bytes × Bytes)) → said text ≡ v → HasEffect paths unread text (Refused [] r.NoMemory) given given' old new w w
     by None e = plain paths unread text r.NoMemory given given' slots old new w (rw e (inl refl)) tt (rw e refl) (none_read (counts_of old) (counts_of new)) (rw e refl) (rw e tt) more runs
     by (Some v) e = plain paths unread text r.NoMemory given given' slots old new w (rw e (inl refl)) tt (rw e refl) (none_read (counts_of old) (counts_of new)) (rw e (λ id none. absurd cc)) (rw e tt) more runs
+
+or_parts : (a b : Bool) → (a || b) ≡ true → (a ≡ true) ⊎ (b ≡ true)
+or_parts true b is = inl refl
+or_parts false b is = inr is
+
+or_right : (a : Bool) {b : Bool} → b ≡ true → (a || b) ≡ true
+or_right true is = refl
+or_right false is = is
+
+-- a group that is mounted once another was entered was mounted before
+entered : (session : List SessionEntry) (name : Bytes) (id i : ℕ) → i ≢ id → list_any (λ (e : SessionEntry). is_mounted e && (e.id == i)) (session ++ mounted_entry name id ∷ []) ≡ true
+    → list_any (λ (e : SessionEntry). is_mounted e && (e.id == i)) session ≡ true
+entered [] name id i other is = ⊎_elim (λ here. absurd (other (sym (eqb-true id i here)))) (λ none. absurd (false≢true none)) (or_parts (id == i) false is)
+entered (e ∷ session) name id i other is = ⊎_elim
+    (λ here. rw here refl)
+    (λ later. or_right (is_mounted e && (e.id == i)) (entered session name id i other later))
+    (or_parts (is_mounted e && (e.id == i)) (list_any (λ (e : SessionEntry). is_mounted e && (e.id == i)) (session ++ mounted_entry name id ∷ [])) is)
 
 -- ---- a creation
 
@@ -122,7 +139,7 @@ module _ (paths : List Bytes) (text name path : Bytes) (says : said text ≡ Som
 
   -- it came to write, under this id
   module _ (id : ℕ) (fresh : given ≤ id) (next : given' ≡ min (id + 1) last_count) (above : id < last_count → All (λ other. other < id) ids) (entries : AreGiven w.session given)
-      (runs : Runs slots (made_by.Creates id (made_group name)) old new) where
+      (ok : Bool) (sound : IsSound old) (creation : HasCreated (length paths) id (made_group name) ok old new) where
     abbrev pub found : Found
     found = record { ids = ids; made = Some id }
 
@@ -142,15 +159,27 @@ module _ (paths : List Bytes) (text name path : Bytes) (says : said text ≡ Som
         let P : ℕ → Type 0 = λ j. maps.get (maps.insert w.groups id (made_group name ∷ [])) j ≡ Some (made_group name ∷ []) in
         subst P here (maps.get-insert nat_cmp_total w.groups id (made_group name ∷ []) id ∙ ap (λ (b : Bool). cond b (Some (made_group name ∷ [])) (maps.get w.groups id)) (unsigned_tied id id ∙ eq-eqb id id refl)))
 
-    keeps_all : (session : List SessionEntry) (known : ℕ → Bool) → StandsFor known given old w → IsApart known found → Keeps known text given' old new w (after session)
-    keeps_all session known stands apart =
+    -- the id is in no entry of the session before
+    was_absent : id < last_count → has_mounted w id ≡ true → ⊥
+    was_absent short = no_entry w.session entries
+      where
+        no_entry : (session : List SessionEntry) → AreGiven session given → list_any (λ (e : SessionEntry). is_mounted e && (e.id == id)) session ≡ true → ⊥
+        no_entry [] are is = false≢true is
+        no_entry (e ∷ session) are is = ⊎_elim
+            (λ here. let same : e.id ≡ id = eqb-true e.id id (and_parts (is_mounted e) (e.id == id) here).1 in omega (arith, same, are 0 e (omega arith) (omega (arith, short))))
+            (λ later. no_entry session (λ k d below. are (suc k) d (omega (arith, below))) later)
+            (or_parts (is_mounted e && (e.id == id)) (list_any (λ (e : SessionEntry). is_mounted e && (e.id == id)) session) is)
+
+    keeps_all : (session : List SessionEntry) → ((i : ℕ) → i ≢ id → has_mounted (after session) i ≡ true → has_mounted w i ≡ true) → (id < last_count → has_mounted (after session) id ≡ true → ok ≡ true)
+        → (known : ℕ → Bool) → StandsFor (length paths) known given old w → IsApart known found → Keeps (length paths) known text given' old new w (after session)
+    keeps_all session stays is_done known stands apart =
         let short : id < last_count = apart.made_below id refl in
-        creation_keeps known given id (made_group name) found w (after session) refl refl apart fresh above text given' slots old new (omega (arith, next)) runs stands
+        creation_keeps (length paths) known given id (made_group name) found w (after session) refl refl apart fresh above text given' old new ok sound (omega (arith, next)) creation stays (is_done short) (was_absent short) stands
 
     -- the group was created
-    pub created : (session : List SessionEntry) → session ≡ w.session ++ mounted_entry name id ∷ [] → HasEffect paths found text (Done []) given given' old new w (after session)
+    pub created : ok ≡ true → (session : List SessionEntry) → session ≡ w.session ++ mounted_entry name id ∷ [] → HasEffect paths found text (Done []) given given' old new w (after session)
     unfolding new_group
-    created session is = record {
+    created done session is = record {
       step = rw (says, is) (record { id = id; g = made_group name; made_is = refl; is_new = new_id; is = refl }, refl);
       no_memory = λ is. absurd cc;
       cause = rw says (done_cause found w name path few absent);
@@ -158,9 +187,9 @@ module _ (paths : List Bytes) (text name path : Bytes) (says : said text ≡ Som
       ids_read = read;
       made = has_group session;
       counted = tt;
-      calls = runs.later;
-      past = λ m image before left. (runs.ended m image before).0 left;
-      keeps = keeps_all session;
+      calls = creation.moments.later;
+      past = λ m image before left. (creation.moments.ended m image before).0 left;
+      keeps = keeps_all session (λ i other there. entered w.session name id i other (ap (λ (l : List SessionEntry). list_any (λ (e : SessionEntry). is_mounted e && (e.id == i)) l) (sym is) ∙ there)) (λ short there. done);
     }
 
     -- it was refused after something was written
@@ -175,9 +204,9 @@ module _ (paths : List Bytes) (text name path : Bytes) (says : said text ≡ Som
       ids_read = read;
       made = has_group w.session;
       counted = counted;
-      calls = runs.later;
-      past = λ m image before left. (runs.ended m image before).0 left;
-      keeps = keeps_all w.session;
+      calls = creation.moments.later;
+      past = λ m image before left. (creation.moments.ended m image before).0 left;
+      keeps = keeps_all w.session (λ i other there. there) (λ short there. absurd (was_absent short there));
     }
 
     pub leaves_created : LeavesCreated (below_with found) w (MadeGroup name (t.creation (Some External) [])) (after w.session)

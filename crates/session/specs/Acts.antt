@@ -1,5 +1,5 @@
 -- What a part of the program does: the moves that it makes, what it prints of them, and what the disks hold in their moments.
-use Rattle.std.specs.Prelude.{◌≡◌, ◌||◌, ℕ, Bool, MatchBool, List, ◌++◌, Option}
+use Rattle.std.specs.Prelude.{◌≡◌, ◌||◌, ℕ, Bool, MatchBool, List, ◌++◌, length, Option}
 use Rattle.std.specs.Io.KnownBytes.{Appends}
 use Rattle.bay.specs.State.{BayState}
 use Rattle.bay.specs.Readings.{Readings}
@@ -35,7 +35,7 @@ state_of s = record { world = s.world; below = quiet; phase = s.phase; time = s.
 -- The images of each moment that ends in these moves stand for groups between, and those of the moment that lasts for the world's.
 pub record Holding (known : ℕ → Bool) (paths : List Bytes) (s : State Counts) (history : List (Entry Counts)) (given : ℕ) (new : BayState) (world : World) : Type 0 where
   pub held : IsRun (held_outside paths new.leaves) s history
-  pub now : StandsFor known given new world
+  pub now : StandsFor (length paths) known given new world
 
 -- A run that answers these commands leads from old to new. Its texts were printed whole, or up to a cut.
 pub record Acts {C : Type 0} (gives : C → ℕ → C → Type 0) (paths : List Bytes) (whole : Bool) (commands : List Bytes) (old new : Scene C) : Type 0 where
@@ -44,7 +44,7 @@ pub record Acts {C : Type 0} (gives : C → ℕ → C → Type 0) (paths : List 
   pub ends : end_of (state_of old) history ≡ state_of new
   pub commands_are : answered history ≡ commands
   pub past : Past old.bay new.bay
-  pub holds : (known : ℕ → Bool) → StandsFor known old.given old.bay old.world → Premises known history → Holding known paths (state_of old) history new.given new.bay new.world
+  pub holds : (known : ℕ → Bool) → StandsFor (length paths) known old.given old.bay old.world → Premises known history → Holding known paths (state_of old) history new.given new.bay new.world
   pub full : IsFull history
   pub printed : MatchBool whole (IsPrinted history) (IsPrintedToCut history)
   pub written : Appends old.taken new.taken (output_of history)

@@ -1,5 +1,5 @@
 -- What one command did.
-use Rattle.std.specs.Prelude.{◌≡◌, ℕ, ◌<◌, ◌≤◌, Bool, true, List, []}
+use Rattle.std.specs.Prelude.{◌≡◌, ℕ, ◌<◌, ◌≤◌, Bool, true, List, [], length}
 use Rattle.bay.specs.Image.{Image}
 use Rattle.bay.specs.State.{BayState}
 use Rattle.asm_group.specs.Names.{Bytes}
@@ -11,11 +11,11 @@ use Rattle.asm_world.specs.Reply.{Reply, Refused}
 use Rattle.asm_world.specs.Run.{is_refusal}
 use Rattle.asm_world.specs.Step.{Step}
 use Rattle.asm_world.specs.Waits.{HasLines}
-use Rattle.asm_world.specs.World.{World}
+use Rattle.asm_world.specs.World.{World, has_mounted}
 use Rattle.group_disks.specs.Found.{counts_of, AreIdsRead}
 use Rattle.group_disks.specs.Creating.{Allows}
 use Rattle.session.specs.Counts.{ReplyCause, IsMade}
-use Rattle.session.specs.Claims.{StandsFor, IsApart}
+use Rattle.session.specs.Claims.{StandsFor, IsStanding, IsApart}
 use Rattle.session.specs.Meaning.{meaning, said}
 use Rattle.session.specs.Quiet.{quiet}
 
@@ -23,10 +23,12 @@ use Rattle.session.specs.Quiet.{quiet}
 abbrev pub Past : BayState → BayState → Type 0
 Past old new = (m : ℕ) (image : Image) → m < old.calls → new.leaves m image → old.leaves m image
 
--- In each moment that ends in the command the disks hold groups between, and in the one that lasts those of the world after it.
-pub record Keeps (known : ℕ → Bool) (text : Bytes) (given' : ℕ) (old new : BayState) (w w' : World) : Type 0 where
+-- In each moment that ends in the command the disks hold groups between, and each group that stays mounted is there; in the one
+-- that lasts they hold those of the world after it.
+pub record Keeps (n : ℕ) (known : ℕ → Bool) (text : Bytes) (given' : ℕ) (old new : BayState) (w w' : World) : Type 0 where
   pub held : (m : ℕ) (image : Image) (id : ℕ) → old.calls ≤ m → m < new.calls → new.leaves m image → Allows id (groups_between w (meaning text) w' id) image
-  pub now : StandsFor known given' new w'
+  pub there : (m : ℕ) (image : Image) (id : ℕ) → old.calls ≤ m → m < new.calls → new.leaves m image → has_mounted w id ≡ true → has_mounted w' id ≡ true → IsStanding n id image
+  pub now : StandsFor n known given' new w'
 
 -- what the command finds below the world
 abbrev pub below_with : Found → Below
@@ -44,4 +46,4 @@ pub record HasEffect (paths : List Bytes) (found : Found) (text : Bytes) (reply 
   pub counted : ReplyCause paths text reply (counts_of old) (counts_of new)
   pub calls : old.calls ≤ new.calls
   pub past : Past old new
-  pub keeps : (known : ℕ → Bool) → StandsFor known given old w → IsApart known found → Keeps known text given' old new w w'
+  pub keeps : (known : ℕ → Bool) → StandsFor (length paths) known given old w → IsApart known found → Keeps (length paths) known text given' old new w w'
