@@ -1,6 +1,7 @@
 -- From what a run holds to what a stop in it may leave.
-use Rattle.std.proofs.Common.{◌≡◌, ◌⊎◌, ℕ, ◌<◌, ◌≤◌, Bool, true, List, [], ◌∷◌, ◌++◌, inl, inr, refl, sym, ◌∙◌, ap, subst, append_assoc, arith}
-use Rattle.std.proofs.lemmas.Bool.{cases_lt}
+use Rattle.std.proofs.Common.{◌≡◌, ◌⊎◌, ◌&&◌, ◌==◌, ℕ, ◌<◌, ◌≤◌, Bool, true, List, [], ◌∷◌, ◌++◌, inl, inr, refl, sym, ◌∙◌, ap, subst, append_assoc, arith}
+use Rattle.std.proofs.lemmas.Bool.{cases_lt, false≢true}
+use Rattle.std.specs.List.{list_any}
 use Rattle.bay.specs.Image.{Image}
 use Rattle.bay.specs.State.{BayState}
 use Rattle.asm_group.specs.Group.{Group}
@@ -8,13 +9,13 @@ use Rattle.asm_group.specs.Names.{Bytes}
 use Rattle.asm_images.proofs.Spans.{widen_keeps}
 use Rattle.asm_images.specs.Bridge.{disks_in}
 use Rattle.asm_placement.proofs.Membership.{among_left}
-use Rattle.asm_world.proofs.Histories.{split, end_append, moments, quiet_leaves, quiet_held, between}
+use Rattle.asm_world.proofs.Histories.{split, end_append, moments, mounted_are_there, quiet_leaves, quiet_held, between}
 use Rattle.asm_world.specs.Below.{Found}
 use Rattle.asm_world.specs.Between.{groups_between}
 use Rattle.asm_world.specs.Reply.{Reply}
 use Rattle.asm_world.specs.Run.{State, Entry, Move, Answers, IsMove, IsRun, IsHeldNow, end_of}
 use Rattle.asm_world.specs.RunLaws.{Grows, IsQuiet}
-use Rattle.asm_world.specs.World.{World, groups_of}
+use Rattle.asm_world.specs.World.{World, SessionEntry, groups_of, has_mounted, is_mounted}
 use Rattle.group_disks.specs.Creating.{Allows}
 use Rattle.group_disks.specs.Found.{Counts, counts_of}
 use Rattle.session.specs.Acts.{Holding}
@@ -33,8 +34,9 @@ allows-more paths leaves id groups more image allowed slots =
     }
 
 -- what is known of the disks before a run
-pub starts-stands : (known : ℕ → Bool) (bay : BayState) (w : World) → StartsAs known bay w → StandsFor known 0 bay w
-starts-stands known bay w s = record {
+pub starts-stands : (n : ℕ) (known : ℕ → Bool) (bay : BayState) (w : World) → w.session ≡ [] → StartsAs known bay w → StandsFor n known 0 bay w
+starts-stands n known bay w none s = record {
+  mounted = λ id is. absurd (false≢true (ap (λ (l : List SessionEntry). list_any (λ (e : SessionEntry). is_mounted e && (e.id == id)) l) (sym none) ∙ is));
   allows = λ image id left. s.stands image id left;
   origin = λ image id left member. inr (s.is_known image id left member);
 }
@@ -93,5 +95,13 @@ crash-safe paths new first end history known given ends calls h =
       moments = λ before rest cut m image from to left.
           let T : List (Entry Counts) → Type 0 = λ es. m < (end_of first es).calls in
           moments (held_outside paths new.leaves) first before rest m image (subst R cut h.held) from (subst T cut to) left;
+      there = λ before rest e cut m image id from to left was is.
+          mounted_are_there (held_outside paths new.leaves) first before rest e m image (subst R cut h.held) from to left id was is;
+      there_now = λ image id left is.
+          let N : State Counts → Type 0 = λ s. new.leaves s.calls image in
+          let L : ℕ → Type 0 = λ n. new.leaves n image in
+          let M : State Counts → Type 0 = λ s. has_mounted s.world id ≡ true in
+          let k = h.now.mounted id (subst M ends is) in
+          (k.1 image (subst L calls (subst N ends left))).standing;
       now = now;
     }

@@ -140,10 +140,10 @@ outcome-of (Err NoMemory) refused script commands history left end a e printed r
 
 pub transcript-of : {C : Type 0} (gives : C → ℕ → C → Type 0) (paths : List Bytes) (served : Result (Unit {0}) Stop) (status : ℕ) (marks : List ℕ) (left left' taken taken' : Option Bytes)
     (clock clock' : C) (old new : BayState) (given' time' : ℕ) (phase : Phase) (w w' : World) (marks' : List ℕ) (refused : Bool) →
-    status ≡ status_number served refused → marks ≡ marks' → (is_whole served ≡ true → phase ≡ Resting) →
+    w.session ≡ [] → status ≡ status_number served refused → marks ≡ marks' → (is_whole served ≡ true → phase ≡ Resting) →
     Serves gives paths served left left' (scene w Resting 0 0 old taken clock [] false) (scene w' phase time' given' new taken' clock' marks' refused) →
     Transcript gives paths status marks left left' taken taken' clock clock' old new w
-transcript-of gives paths served status marks left left' taken taken' clock clock' old new given' time' phase w w' marks' refused is_status is_marks rest s =
+transcript-of gives paths served status marks left left' taken taken' clock clock' old new given' time' phase w w' marks' refused none is_status is_marks rest s =
     let p = s.acts in
     let end : State Counts = record { world = w'; below = quiet; phase = phase; time = time'; calls = new.calls; counts = counts_of new } in
     let all : marks ≡ marks_of p.history = is_marks ∙ p.marks_grow in
@@ -166,15 +166,15 @@ transcript-of gives paths served status marks left left' taken taken' clock cloc
       marks_are = all;
       marks_rise = subst P (sym all) (marks_rise (outside paths new.leaves) (first_state w old) p.history p.run);
       crash = λ known starts premises.
-          crash-safe paths new (first_state w old) end p.history known given' p.ends refl (p.holds known (starts-stands known old w starts) premises);
+          crash-safe paths new (first_state w old) end p.history known given' p.ends refl (p.holds known (starts-stands (length paths) known old w none starts) premises);
       outcome = subst Q (sym is_status) (outcome-of served refused s.taken s.commands p.history left' end s.are_answered p.commands_are p.printed rest p.refusal);
     }
 
 -- nothing was read and nothing done, for the words or for want of memory
 pub transcript-none : {C : Type 0} (gives : C → ℕ → C → Type 0) (paths : List Bytes) (status : ℕ) (marks : List ℕ) (left taken : Option Bytes) (clock : C) (bay : BayState) (w : World) →
-    (status ≡ 2) ⊎ (status ≡ 5) → marks ≡ [] → Transcript gives paths status marks left left taken taken clock clock bay bay w
+    w.session ≡ [] → (status ≡ 2) ⊎ (status ≡ 5) → marks ≡ [] → Transcript gives paths status marks left left taken taken clock clock bay bay w
 unfolding cut
-transcript-none gives paths status marks left taken clock bay w is none =
+transcript-none gives paths status marks left taken clock bay w first is none =
     let P : List ℕ → Type 0 = λ ms. RisesFrom bay.calls ms in
     let big : 2 ≤ status = elim is [ inl e ↦ omega (arith, e) | inr e ↦ omega (arith, e) ] in
     let other : (status ≡ 3) ⊎ (status ≡ 6) → ⊥ = λ e. elim is [
@@ -198,7 +198,7 @@ transcript-none gives paths status marks left taken clock bay w is none =
       marks_are = none;
       marks_rise = subst P (sym none) tt;
       crash = λ known starts premises.
-          crash-safe paths bay (first_state w bay) (first_state w bay) [] known 0 refl refl (record { held = tt; now = starts-stands known bay w starts });
+          crash-safe paths bay (first_state w bay) (first_state w bay) [] known 0 refl refl (record { held = tt; now = starts-stands (length paths) known bay w first starts });
       outcome = record {
         usage = λ _. (refl, refl);
         short = omega arith;

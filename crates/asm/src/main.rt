@@ -1,6 +1,8 @@
 //! `asm IMAGE...` reads a script on standard input, runs its commands on images of disks, and answers each on standard output.
 #![tactic(auto)]
 
+#[cfg(test)]
+mod formats_reader;
 mod program;
 #[cfg(test)]
 mod tests;

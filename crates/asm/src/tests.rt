@@ -1,4 +1,5 @@
 // What no clause says: worked scripts with their texts, and that calls succeed where memory is had.
+use crate::formats_reader::{Stands, what_stands};
 use crate::program::{Report, run};
 use bay::Bay;
 use bay_mem::{MemBay, MemClock, MemSink, MemSource};
@@ -229,24 +230,33 @@ fn failing_calls_are_answered(rt: HostRuntime) -> Result<(), Fail> {
     Ok(())
 }
 
-// After a stop the disk is free, or it has the group, and this from some call on; after the reply it has it. From the last call back.
+// After a stop the disk is free, or it has the group, and this from some call on; after the reply it has it. From the last call
+// back. What stands there by the formats is the empty group or nothing, and where it is the group a second run finds the disk taken.
 #[test]
 fn stops_leave_the_group_or_none(rt: HostRuntime) -> Result<(), Fail> {
     let alloc = rt.alloc();
     let calls = calls_of_creation(alloc)?;
     let mut was_taken = true;
+    let mut stood = true;
     for stop in (0..=calls).rev() {
         let mut bay = bay_of(alloc, 25 * MB)?;
         bay.stop_after(stop);
         let (report, _sink) = ran(alloc, "/d0", CREATE, &mut bay, &NONE)?;
+        let stands = what_stands(alloc, &bay).map_err(|_| "memory")?;
+        assert!(rt; stands != Stands::Otherwise, "at call {stop}");
+        let is_there = stands == Stands::EmptyGroup;
+        assert!(rt; !is_there || stood, "at call {stop}");
+        assert!(rt; is_there || report.status == 1, "at call {stop}");
+        stood = is_there;
         bay.restart();
         let (_again, sink) = ran(alloc, "/d0", OTHER, &mut bay, &NONE)?;
         let free = sink.bytes() == b"ok\n".as_slice();
         let taken = sink.bytes() == b"error 6 DiskTaken /d0\n".as_slice();
         assert!(rt; free || taken, "at call {stop}");
         assert!(rt; free || was_taken, "at call {stop}");
-        assert!(rt; taken || report.status == 1, "at call {stop}");
+        assert!(rt; taken || !is_there, "at call {stop}");
         was_taken = taken;
     }
+    assert!(rt; !stood && !was_taken);
     Ok(())
 }
