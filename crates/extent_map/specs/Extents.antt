@@ -1,0 +1,129 @@
+-- The table of extents, as the list of the chunks in the order of file and number.
+use Rattle.std.specs.Prelude.{ℕ, ◌+◌, ◌/◌, ◌%◌, ◌<◌, ◌^◌, Bool, true, false, ◌==◌, ◌&&◌, ◌||◌, not, List, [], ◌∷◌, get_or, nat_lt, replicate, slice_set, Option, Some, None, if◌then◌else◌, IsTrue}
+use Rattle.std.specs.Ordering.{nat_cmp, ordering_then, is_lt}
+use Rattle.std.specs.declared.cmp.Ordering.{Ordering}
+use Rattle.std.specs.BTreeMap.{is_at, insert_entry}
+use Rattle.std.specs.Map.{lookup, remove_entry, set_value}
+use Rattle.std.specs.List.{list_all}
+use Rattle.std.specs.Option.{is_some, option_and_then, unwrap_or}
+use Rattle.asm_formats.specs.Items.{Homes, Item, chunk_item, chunk_len, Key}
+use Rattle.asm_base.specs.Records.{Entry, add_item}
+use Rattle.asm_base.specs.Tables.{IsItemTable, entry_of_record, item_record}
+
+-- a file and a chunk of it
+abbrev pub Chunk : Type 0
+Chunk = ℕ × ℕ
+
+abbrev pub chunk_cmp : Chunk → Chunk → Ordering
+chunk_cmp x y = ordering_then (nat_cmp x.0 y.0) (nat_cmp x.1 y.1)
+
+abbrev pub is_before : Chunk → Chunk → Bool
+is_before x y = is_lt (chunk_cmp x y)
+
+-- a chunk's extents, each with the homes of three copies
+abbrev pub Chunked : Type 0
+Chunked = Chunk × List Homes
+
+abbrev pub chunk_at : List Chunked → Chunk → Option (List Homes)
+chunk_at table chunk = lookup (is_at (chunk_cmp chunk)) table
+
+abbrev pub with_chunk : List Chunked → Chunk → List Homes → List Chunked
+with_chunk table chunk homes = insert_entry chunk_cmp table chunk homes
+
+abbrev pub without_chunk : List Chunked → Chunk → List Chunked
+without_chunk table chunk = remove_entry (is_at (chunk_cmp chunk)) table
+
+-- ---- extents
+
+-- no extent
+abbrev pub absent : Homes
+absent = None ∷ None ∷ None ∷ []
+
+-- the extent is there: it has a home
+abbrev pub has_home : Homes → Bool
+has_home homes = is_some (get_or homes 0 None) || (is_some (get_or homes 1 None) || is_some (get_or homes 2 None))
+
+-- the homes of an extent that is there
+abbrev pub extent_at : List Chunked → ℕ → ℕ → Option Homes
+extent_at table f i = option_and_then (λ chunk. if has_home (get_or chunk (i % chunk_len) []) then Some (get_or chunk (i % chunk_len) []) else None) (chunk_at table (f, i / chunk_len))
+
+-- the file has the extent: it has a home in its chunk
+abbrev pub HasExtent : List Chunked → ℕ → ℕ → Type 0
+HasExtent table f i = IsTrue (has_home (get_or (unwrap_or (chunk_at table (f, i / chunk_len)) []) (i % chunk_len) []))
+
+-- the table with other homes at a place of a chunk that is there
+abbrev pub with_homes : List Chunked → Chunk → ℕ → Homes → List Chunked
+with_homes table chunk place homes = set_value (is_at (chunk_cmp chunk)) table (slice_set (unwrap_or (chunk_at table chunk) []) place homes)
+
+-- with an extent, in a new chunk where there is none; and without it
+abbrev pub with_extent : List Chunked → ℕ → ℕ → Homes → List Chunked
+with_extent table f i homes =
+    if is_some (chunk_at table (f, i / chunk_len)) then with_homes table (f, i / chunk_len) (i % chunk_len) homes
+    else with_chunk table (f, i / chunk_len) (slice_set (replicate chunk_len absent) (i % chunk_len) homes)
+
+abbrev pub without_extent : List Chunked → ℕ → ℕ → List Chunked
+without_extent table f i = with_homes table (f, i / chunk_len) (i % chunk_len) absent
+
+-- ---- records
+
+abbrev pub chunk_key : ℕ → ℕ → Key
+chunk_key f c = record { kind = 1; a = f; b = c + 1 }
+
+abbrev pub item_of : Chunked → Item
+item_of x = chunk_item x.0.0 x.0.1 x.1
+
+abbrev pub record_of : Chunked → Entry
+record_of x = item_record (item_of x)
+
+-- the head of a file has the second number 0
+abbrev pub is_chunk : Key → Bool
+is_chunk key = (key.kind == 1) && not (key.b == 0)
+
+-- the entry that an item is
+abbrev pub chunked : Item → Option Chunked
+chunked (chunk_item f c homes) = Some ((f, c), homes)
+chunked _ = None
+
+-- the number of a chunk has room in its key
+abbrev pub IsNumbered : Chunked → Type 0
+IsNumbered x = x.0.1 + 1 < 2 ^ 32
+
+-- ---- the rule: the extents of a file are numbered from 0 without a gap
+
+-- extents that are there stand first
+abbrev pub stand_first : Bool → List Homes → Bool
+stand_first ended [] = true
+stand_first ended (h ∷ homes) = if ended && has_home h then false else stand_first (not (has_home h)) homes
+
+abbrev pub is_full : List Homes → Bool
+is_full homes = list_all has_home homes
+
+abbrev pub is_blank : List Homes → Bool
+is_blank homes = list_all (λ h. not (has_home h)) homes
+
+abbrev pub is_behind : Option Chunk → Chunk → Bool
+is_behind None chunk = false
+is_behind (Some before) chunk = (before.0 == chunk.0) && (before.1 + 1 == chunk.1)
+
+-- a chunk with extents is the file's first, or stands behind a full one
+abbrev pub stands_at : Option Chunk → Chunked → Bool
+stands_at past x = stand_first false x.1 && (is_blank x.1 || (x.0.1 == 0 || is_behind past x.0))
+
+abbrev pub opened : Chunked → Option Chunk
+opened x = if is_full x.1 then Some x.0 else None
+
+-- where this chunk, if any, is the one before and full
+abbrev pub has_no_gap : Option Chunk → List Chunked → Bool
+has_no_gap past [] = true
+has_no_gap past (x ∷ table) = if stands_at past x then has_no_gap (opened x) table else false
+
+-- a table: chunks in order, each of the formats, without a gap
+abbrev pub IsTable : List Chunked → Type 0
+IsTable table = IsItemTable is_before item_of table × IsTrue (has_no_gap None table)
+
+abbrev pub add : List Chunked → Entry → Option (List Chunked)
+add table e = add_item is_before (entry_of_record chunked) table e
+
+-- only a table without a gap
+abbrev pub without_gap : Option (List Chunked) → Option (List Chunked)
+without_gap read = option_and_then (λ table. if has_no_gap None table then Some table else None) read
