@@ -1,0 +1,18 @@
+//! The names of a group: directories, and the system names and aliases of its files, as a tree of
+//! nodes. A name leads to the same node in any case of its letters.
+#![tactic(auto)]
+
+mod index;
+mod node;
+mod nodes;
+mod places;
+mod reading;
+mod tree;
+mod writing;
+
+pub use node::Node;
+pub use tree::AliasTree;
+pub use writing::node_record;
+
+#[cfg(test)]
+mod tests;

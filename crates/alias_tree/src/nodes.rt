@@ -1,0 +1,188 @@
+//! The nodes by number.
+
+ghost use Rattle.std.specs.Prelude.{◌≡◌, ◌++◌, [], length, map, IfOk, IfSome, OnErr, OnOk, Some, None, if◌then◌else◌, is_some, ◌==◌, IsTrue};
+ghost use Rattle.std.specs.Bool.{OnTrue};
+ghost use Rattle.std.specs.List.{list_all};
+ghost use Rattle.std.specs.Option.{option_copied, option_map};
+ghost use Rattle.std.specs.Ordering.{nat_cmp};
+ghost use Rattle.std.specs.BTreeMap.{is_at};
+ghost use Rattle.asm_base.specs.Records.{Ascend, add_item, ends_below, of_kinds, read_from};
+ghost use Rattle.asm_base.specs.Tables.{IsItemTable, entry_of_record};
+
+use crate::node::Node;
+use crate::reading::read_node;
+use crate::writing::node_record;
+use asm_base::{Change, Key, NoMemory, NodeKind, Records, Value};
+use std::alloc::Global;
+use std::collections::BTreeMap;
+use std::collections::btree_map::Iter;
+use std::marker::Model;
+
+/// The kind of the records of nodes.
+const KIND: u16 = 6;
+
+/// The nodes by number, of which nothing else is said.
+#[derive(Drop)]
+pub(crate) struct Nodes {
+    map: BTreeMap<u32, Node>,
+}
+
+impl Model for Nodes {
+    ghost use Rattle.std.specs.Prelude.{List as Items, ℕ};
+    ghost use Rattle.asm_formats.specs.Items.{Node as FormatNode};
+
+    ghost Value = { Items (ℕ × FormatNode) };
+
+    ghost view = { λ n. n.map.entries };
+}
+
+impl Nodes {
+    ghost use Rattle.std.specs.Prelude.{List as Items, ℕ};
+    ghost use Rattle.alias_tree.specs.Nodes.{Numbered, entry_of, is_before, is_mine, is_right, item_of, node_at, parent_is_right, reaches_root, record_of, with_node, without_node};
+
+    pub(crate) fn new(alloc: Global) -> Nodes
+        ensures { result ≡ [] }
+    {
+        Nodes {
+            map: BTreeMap::new(alloc),
+        }
+    }
+
+    pub(crate) fn get(&self, number: u32) -> Option<&Node>
+        ensures { option_copied result ≡ node_at self.now number }
+    {
+        self.map.get(&number)
+    }
+
+    /// The nodes in the order of their numbers.
+    pub(crate) fn iter(&self) -> Iter<'_, u32, Node>
+        ensures { result ≡ self.now }
+    {
+        self.map.iter()
+    }
+
+    pub(crate) fn put(&mut self, number: u32, node: Node) -> Result<(), NoMemory>
+        ensures ok { OnOk result (self.new ≡ with_node self.old number node) }
+        ensures at { OnOk result ((n : ℕ) → node_at self.new n ≡ (if is_at (nat_cmp number) n then Some node else node_at self.old n)) }
+        ensures err { OnErr result (self.new ≡ self.old) }
+    {
+        match self.map.insert(number, node) {
+            Ok(_) => Ok(()),
+            Err(_) => Err(NoMemory),
+        }
+    }
+
+    pub(crate) fn remove(&mut self, number: u32) -> bool
+        ensures there { result ≡ is_some (node_at self.old number) }
+        ensures after { self.new ≡ without_node self.old number }
+        ensures at { (n : ℕ) → node_at self.new n ≡ (if is_at (nat_cmp number) n then None else node_at self.old n) }
+    {
+        self.map.remove(&number).is_some()
+    }
+
+    /// Puts the records of the nodes into a change. After an `Err` some of them may stand there.
+    pub(crate) fn to_records(&self, alloc: Global, change: &mut Change) -> Result<(), NoMemory>
+        requires { IsItemTable is_before item_of self.now }
+        ensures put { OnOk result (change.new.put ≡ change.old.put ++ map record_of self.now) }
+        ensures gone { change.new.gone ≡ change.old.gone }
+    {
+        for (number, node) in self.map.iter() {
+            change.put.push(node_record(alloc, *number, node)?)?;
+        }
+        Ok(())
+    }
+
+    /// The nodes whose records these are.
+    pub(crate) fn from_records(alloc: Global, records: &Records) -> Result<Option<Nodes>, NoMemory>
+        ensures found { IfOk result (λ read. IfSome read (λ t. IsItemTable is_before item_of t × (of_kinds is_mine records.now ≡ map record_of t))) }
+        ensures only { IfOk result (λ read. (t : Items Numbered) → IsItemTable is_before item_of t → of_kinds is_mine records.now ≡ map record_of t → read ≡ Some t) }
+    {
+        Nodes::read(alloc, records)
+    }
+
+    #[tactic(auto, using(asm_base::proofs::Tables::read_taken, asm_base::proofs::Tables::read_refused), unfolding(asm_base::specs::Records::read_from))]
+    fn read(alloc: Global, records: &Records) -> Result<Option<Nodes>, NoMemory>
+        ensures { IfOk result (λ read. read ≡ read_from is_mine (add_item is_before (entry_of_record entry_of)) [] records.now) }
+    {
+        let mut nodes = Nodes::new(alloc);
+        for (key, value) in records.iter() {
+            if !nodes.take_up(alloc, *key, value)? {
+                return Ok(None);
+            }
+        }
+        Ok(Some(nodes))
+    }
+
+    /// Takes up one record more, or passes over one of another kind. `false` where it doesn't follow.
+    #[tactic(auto, using(crate::proofs::Rules::taken_step, crate::proofs::Rules::refused_value, crate::proofs::Rules::refused_order))]
+    fn take_up(&mut self, alloc: Global, key: Key, value: &Value) -> Result<bool, NoMemory>
+        requires { Ascend is_before self.old }
+        ensures step { IfOk result (λ taken. (if is_mine key then add_item is_before (entry_of_record entry_of) self.old (key, value.now) else Some self.old) ≡ (if taken then Some self.new else None)) }
+        ensures ascending { IfOk result (λ taken. OnTrue taken (Ascend is_before self.new)) }
+    {
+        if key.kind != KIND {
+            return Ok(true);
+        }
+        let Some(node) = read_node(alloc, key, value)? else {
+            return Ok(false);
+        };
+        if !self.ends_before(key.a) {
+            return Ok(false);
+        }
+        self.put(key.a, node)?;
+        Ok(true)
+    }
+
+    /// Whether a number comes behind the last one.
+    fn ends_before(&self, number: u32) -> bool
+        ensures { result ≡ ends_below is_before self.now number }
+    {
+        match self.map.last_key_value() {
+            None => true,
+            Some((last, _)) => last.cmp(&number).is_lt(),
+        }
+    }
+
+    /// Whether each node's parent is the root or a directory, and its parents lead to the root.
+    /// It takes as many steps as the paths have parts in all.
+    pub(crate) fn are_rooted(&self) -> bool
+        ensures { result ≡ list_all (is_right self.now) self.now }
+    {
+        for (number, node) in self.map.iter() {
+            if !self.is_right(*number, node) {
+                return false;
+            }
+        }
+        true
+    }
+
+    fn is_right(&self, number: u32, node: &Node) -> bool
+        ensures { result ≡ is_right self.now (number, node.now) }
+    {
+        let parent_is_right = match self.get(node.parent) {
+            None => true,
+            Some(parent) => matches!(parent.kind, NodeKind::Directory),
+        };
+        parent_is_right && self.reaches_root(self.map.len(), number)
+    }
+
+    /// Whether at most so many steps up lead to the root.
+    #[tactic(auto, using(crate::proofs::Rules::at_root, crate::proofs::Rules::no_steps, crate::proofs::Rules::step_up, crate::proofs::Rules::no_way))]
+    fn reaches_root(&self, steps: usize, number: u32) -> bool
+        ensures { result ≡ reaches_root self.now steps number }
+    {
+        let mut at = number;
+        let mut left = steps;
+        while left > 0 {
+            if at == 0 {
+                return true;
+            }
+            let Some(node) = self.get(at) else {
+                return false;
+            };
+            at = node.parent;
+            left -= 1;
+        }
+        at == 0
+    }
+}

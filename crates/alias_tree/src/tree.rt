@@ -1,0 +1,152 @@
+//! The tree of names.
+
+ghost use Rattle.std.specs.Prelude.{◌≡◌, ◌≤◌, ◌++◌, [], length, map, IfOk, IfSome, OnErr, OnOk, Some, None, is_some, true, ℕ, ◌==◌};
+ghost use Rattle.std.specs.List.{list_any};
+ghost use Rattle.std.specs.Option.{option_copied};
+ghost use Rattle.asm_group.specs.Names.{folded};
+ghost use Rattle.asm_base.specs.Records.{of_kinds};
+
+use crate::index::{places_of, put_node, remove_node};
+use crate::node::Node;
+use crate::nodes::Nodes;
+use crate::places::{Places, named_place};
+use asm_base::{Change, Name, NoMemory, Path, Records};
+use std::alloc::Global;
+use std::marker::Model;
+
+/// The names of a group by the numbers of their nodes. Contracts see it as the list of its nodes in
+/// the order of their numbers.
+#[derive(Drop)]
+pub struct AliasTree {
+    nodes: Nodes,
+    /// The number of each node by its parent and its name without case.
+    places: Places,
+}
+
+impl Model for AliasTree {
+    ghost use Rattle.std.specs.Prelude.{List as Items, ℕ};
+    ghost use Rattle.asm_formats.specs.Items.{Node as FormatNode};
+    ghost use Rattle.alias_tree.specs.Nodes.{IsTable};
+    ghost use Rattle.alias_tree.specs.Places.{IsIndex};
+
+    ghost Value = { Items (ℕ × FormatNode) };
+
+    ghost view = { λ t. t.nodes };
+
+    ghost invariant = { λ t. IsTable t.nodes × IsIndex t.nodes t.places };
+}
+
+impl AliasTree {
+    ghost use Rattle.std.specs.Prelude.{List as Items};
+    ghost use Rattle.alias_tree.specs.Nodes.{IsTable, Numbered, are_distinct, child, is_mine, is_under, node_at, number_from, number_of, record_of, with_node, without_node};
+
+    /// A tree without names.
+    #[tactic(auto, using(crate::proofs::IndexLaws::no_nodes, crate::proofs::IndexLaws::no_places))]
+    pub fn new(alloc: Global) -> AliasTree
+        ensures { result ≡ [] }
+    {
+        AliasTree {
+            nodes: Nodes::new(alloc),
+            places: Places::new(alloc),
+        }
+    }
+
+    pub fn get(&self, key: u32) -> Option<&Node>
+        ensures node { option_copied result ≡ node_at self.now key }
+        ensures table { IsTable self.now }
+    {
+        self.nodes.get(key)
+    }
+
+    /// Puts a node. Where there is no memory nothing changes.
+    pub fn put(&mut self, key: u32, item: Node) -> Result<(), NoMemory>
+        requires { IsTable (with_node self.old key item) }
+        ensures ok { OnOk result (self.new ≡ with_node self.old key item) }
+        ensures err { OnErr result (self.new ≡ self.old) }
+    {
+        put_node(&mut self.nodes, &mut self.places, key, item)
+    }
+
+    /// Takes a node away, and tells whether it was there.
+    pub fn remove(&mut self, key: u32) -> bool
+        requires { IsTable (without_node self.old key) }
+        ensures there { result ≡ is_some (node_at self.old key) }
+        ensures after { self.new ≡ without_node self.old key }
+    {
+        remove_node(&mut self.nodes, &mut self.places, key)
+    }
+
+    /// Puts the records of the nodes into a change. After an `Err` some of them may stand there.
+    pub fn to_records(&self, alloc: Global, change: &mut Change) -> Result<(), NoMemory>
+        ensures put { OnOk result (change.new.put ≡ change.old.put ++ map record_of self.now) }
+        ensures gone { change.new.gone ≡ change.old.gone }
+    {
+        self.nodes.to_records(alloc, change)
+    }
+
+    /// The tree whose records these are. None where a record isn't a node's, or the nodes break the
+    /// rule of the tree.
+    pub fn from_records(alloc: Global, records: &Records) -> Result<Option<AliasTree>, NoMemory>
+        // What is read is a tree with these records.
+        ensures found { IfOk result (λ read. IfSome read (λ t. IsTable t × (of_kinds is_mine records.now ≡ map record_of t))) }
+        // A tree that has these records is read.
+        ensures only { IfOk result (λ read. (t : Items Numbered) → IsTable t → of_kinds is_mine records.now ≡ map record_of t → read ≡ Some t) }
+    {
+        let Some(nodes) = Nodes::from_records(alloc, records)? else {
+            return Ok(None);
+        };
+        let Some(places) = places_of(alloc, &nodes)? else {
+            return Ok(None);
+        };
+        if !nodes.are_rooted() {
+            return Ok(None);
+        }
+        Ok(Some(AliasTree { nodes, places }))
+    }
+
+    /// The node at a path, whatever its group's name; the root is 0. It takes as many steps as the path
+    /// has parts, each in the logarithm of the number of names.
+    #[tactic(auto, unfolding(crate::specs::Nodes::number_of))]
+    pub fn find(&self, path: &Path) -> Option<u32>
+        ensures { result ≡ number_of self.now path.now.parts }
+    {
+        self.find_parts(path.parts.as_slice())
+    }
+
+    /// The nodes of a directory, or of the root by 0, in no certain order. The work goes by their
+    /// number, not by that of all names.
+    #[tactic(auto, using(crate::proofs::Under::under_is, crate::proofs::Under::under_once))]
+    pub fn children(&self, alloc: Global, node: u32) -> Result<Vec<u32>, NoMemory>
+        // They are just the nodes of this parent.
+        ensures each { IfOk result (λ v. (n : ℕ) → list_any (λ m. m == n) v.items ≡ is_under self.now node n) }
+        // None is given twice.
+        ensures once { IfOk result (λ v. are_distinct v.items ≡ true) }
+    {
+        let numbers = self.places.under(alloc, node)?;
+        Ok(numbers)
+    }
+
+    #[tactic(auto, using(crate::proofs::Children::part_found_at, crate::proofs::Children::part_missing_at))]
+    fn find_parts(&self, parts: &[Name]) -> Option<u32>
+        ensures { result ≡ number_from self.now 0 parts.now }
+    {
+        let mut at = 0;
+        for part in parts {
+            at = self.child(at, part)?;
+        }
+        Some(at)
+    }
+
+    /// The node of this parent and name.
+    #[tactic(auto, using(crate::proofs::Children::child_is, crate::proofs::Children::no_child))]
+    fn child(&self, parent: u32, name: &Name) -> Option<u32>
+        ensures { result ≡ child self.now parent (folded name.now) }
+    {
+        let places = &self.places;
+        let bytes = name.as_bytes();
+        if bytes.len() > 80 {
+            return None;
+        }
+        places.get(named_place(parent, bytes))
+    }
+}

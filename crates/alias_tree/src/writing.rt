@@ -1,0 +1,66 @@
+//! The record of a node.
+
+ghost use Rattle.std.specs.Prelude.{◌≡◌, ◌≤◌, ◌+◌, ◌∷◌, [], IfOk, IsTrue};
+ghost use Rattle.asm_formats.specs.Items.{is_item, node_item};
+ghost use Rattle.asm_formats.specs.Values.{node_value, value};
+ghost use Rattle.asm_formats.specs.Codes.{node_code};
+ghost use Rattle.asm_base.specs.Cursors.{Puts};
+ghost use Rattle.asm_base.specs.Tables.{item_record};
+
+use crate::node::Node;
+use asm_base::{Block, Key, NoMemory, NodeKind, Value, Writer, put_name, put_u8, put_u32};
+use std::alloc::Global;
+
+/// The record of a node of this number.
+#[tactic(auto, unfolding(asm_formats::specs::Values::value))]
+pub fn node_record(alloc: Global, number: u32, node: &Node) -> Result<(Key, Value), NoMemory>
+    requires { IsTrue (is_item (node_item number node.now)) }
+    ensures { IfOk result (λ r. r ≡ item_record (node_item number node.now)) }
+{
+    let key = Key {
+        kind: 6,
+        a: number,
+        b: 0,
+    };
+    Ok((key, value_of(alloc, number, node)?))
+}
+
+#[tactic(auto, unfolding(asm_formats::specs::Values::value))]
+fn value_of(alloc: Global, number: u32, node: &Node) -> Result<Value, NoMemory>
+    requires { IsTrue (is_item (node_item number node.now)) }
+    ensures { IfOk result (λ v. v ≡ value (node_item number node.now)) }
+{
+    let mut block = Block::zeros();
+    let mut to = Writer {
+        block: &mut block,
+        at: 0,
+    };
+    put_node(&mut to, number, node);
+    Value::from_writer(alloc, &to)
+}
+
+#[tactic(auto, using(crate::proofs::Readings::name_is_short))]
+fn put_node(to: &mut Writer, number: u32, node: &Node)
+    requires start { to.old.at ≡ 0 }
+    requires right { IsTrue (is_item (node_item number node.now)) }
+    ensures puts { Puts to.old to.new (node_value node.now) }
+    ensures at { to.new.at ≡ 90 }
+{
+    put_u32(to, node.parent);
+    put_kind(to, node.kind);
+    put_u32(to, node.file);
+    put_name(to, &node.name, 80);
+}
+
+fn put_kind(to: &mut Writer, kind: NodeKind)
+    requires { to.old.at + 1 ≤ 4096 }
+    ensures puts { Puts to.old to.new (node_code kind ∷ []) }
+    ensures at { to.new.at ≡ to.old.at + 1 }
+{
+    let code = match kind {
+        NodeKind::Directory => 1,
+        NodeKind::System => 2,
+        NodeKind::Alias => 3,
+    };
+    put_u8(to, code);
+}
