@@ -1,13 +1,19 @@
 //! The templates of a group and its settings, as the group's directory holds them.
 #![tactic(auto)]
 
+mod editing;
+mod reading;
 mod settings;
 mod system_templates;
+mod table;
 mod template;
 mod writing;
 
+pub use editing::TemplateEdit;
+pub use reading::are_allowed;
 pub use settings::Settings;
 pub use system_templates::system;
+pub use table::TemplateTable;
 pub use template::Template;
 pub use writing::{settings_value, templates_value};
 

@@ -1,5 +1,8 @@
 //! The settings of a group.
 
+ghost use Rattle.std.specs.Prelude.{◌≡◌, ◌&&◌};
+ghost use Rattle.asm_formats.specs.Items.{is_item, is_text, settings_item};
+
 use asm_base::Text;
 use std::marker::Model;
 
@@ -29,6 +32,7 @@ impl Model for Settings {
 
 impl Settings {
     ghost use Rattle.std.specs.Prelude.{◌≡◌};
+    ghost use Rattle.asm_formats.specs.Items.{is_item, settings_item};
     ghost use Rattle.asm_group.specs.NewGroup.{usual_attributes};
 
     /// The settings of a new group: the first incarnation, 3.6 hours, and no compatibility.
@@ -43,4 +47,29 @@ impl Settings {
             advm: Text::new(alloc),
         }
     }
+
+    /// Whether a directory may hold them: each text has at most 30 bytes.
+    pub fn is_allowed(&self) -> bool
+        ensures { result ≡ is_item (settings_item self.now) }
+    {
+        // Reading a number shows that it is one of its type.
+        let _incarnation = self.incarnation;
+        let _repair = self.repair;
+        have_texts(self)
+    }
+}
+
+fn have_texts(settings: &Settings) -> bool
+    ensures { result ≡ (is_text settings.now.attributes.asm && (is_text settings.now.attributes.rdbms && is_text settings.now.attributes.advm)) }
+{
+    is_text(settings.asm.as_slice())
+        && is_text(settings.rdbms.as_slice())
+        && is_text(settings.advm.as_slice())
+}
+
+#[tactic(auto, using(asm_base::proofs::Tables::bytes_are))]
+fn is_text(text: &[u8]) -> bool
+    ensures { result ≡ is_text text.now }
+{
+    text.len() <= 30
 }

@@ -59,7 +59,7 @@ fn add(
 }
 
 /// The copies of a template that says none: UNPROTECTED, MIRROR and HIGH.
-fn usual_copies(kind: GroupKind) -> u8
+pub(crate) fn usual_copies(kind: GroupKind) -> u8
     ensures { result ≡ usual_copies kind }
 {
     match kind {

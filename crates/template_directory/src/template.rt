@@ -22,3 +22,27 @@ impl Model for Template {
 
     ghost view = { λ t. record { name = t.name; copies = t.copies; stripe = t.stripe; system = t.system } };
 }
+
+impl Template {
+    ghost use Rattle.std.specs.Prelude.{◌≡◌};
+    ghost use Rattle.asm_formats.specs.Items.{is_template};
+
+    pub fn name(&self) -> &Name
+        ensures { result.now ≡ self.now.name }
+    {
+        &self.name
+    }
+
+    pub fn is_system(&self) -> bool
+        ensures { result ≡ self.now.system }
+    {
+        self.system
+    }
+
+    /// Whether a directory may hold it: its name is one of the grammar, and its copies are one, two or three.
+    pub fn is_allowed(&self) -> bool
+        ensures { result ≡ is_template self.now }
+    {
+        self.name.is_name() && 1 <= self.copies && self.copies <= 3
+    }
+}

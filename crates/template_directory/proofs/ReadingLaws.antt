@@ -1,0 +1,357 @@
+-- Templates and settings are read from their one spelling alone.
+use Rattle.std.proofs.Common.{◌≡◌, ℕ, zero, suc, ◌^◌, ◌<◌, ◌≤◌, Bool, true, false, leb, ltb, eqb, cond, List, [], ◌∷◌, ◌++◌, length, Option, Some, None, refl, sym, ap, subst, ◌∙◌, append_assoc, arith}
+use Rattle.std.specs.Prelude.{◌&&◌}
+use Rattle.std.specs.Int.{w64}
+use Rattle.std.specs.List.{flat_map, list_all, AllByRecursion}
+use Rattle.std.specs.Option.{option_and_then, option_map}
+use Rattle.std.specs.Prelude.{IfSome}
+use Rattle.std.proofs.lemmas.Bool.{and_parts, and_from, eqb-true, leb-true, le-leb, ltb-true, lt-ltb, true≢false}
+use Rattle.asm_group.specs.declared.Stripe.{Stripe}
+use Rattle.asm_group.specs.declared.Stripe.TheVariants.{Coarse, Fine}
+use Rattle.asm_group.specs.Names.{is_name, is_part}
+use Rattle.asm_group.specs.Group.{Template}
+use Rattle.asm_formats.specs.Bytes.{number, name_field}
+use Rattle.asm_formats.specs.Codes.{flag, stripe_code}
+use Rattle.asm_formats.specs.Items.{Settings, Item, Key, file_item, chunk_item, disk_item, rebalance_item, pending_item, templates_item, node_item, settings_item, marks_item, key, is_same_key, is_item, is_redundancy, is_template, is_text, names_ascend, most_templates}
+use Rattle.asm_formats.specs.Values.{value, template_fields, settings_value, decoded_item}
+use Rattle.asm_formats.proofs.Bodies.{item_codec}
+use Rattle.asm_base.specs.Readings.{Reading, both}
+use Rattle.asm_base.specs.Records.{Entry, all_of, are_bytes}
+use Rattle.asm_base.specs.Tables.{entry_of_record, item_record}
+use Rattle.asm_base.proofs.Exact.{IsBytes, IsExact, bind_some, some_is, both_exact, as_exact, decoded_exact, fits_exact}
+use Rattle.asm_base.proofs.Numbers.{number_exact}
+use Rattle.asm_base.proofs.FieldLaws.{byte_exact, flag_exact, counted_exact}
+use Rattle.asm_base.proofs.NameLaws.{name_exact, text_exact, name_is_part}
+use Rattle.asm_base.proofs.Tables.{bytes_are, are_bytes_is}
+use Rattle.asm_base.proofs.ItemTables.{value_is_decoded}
+use Rattle.template_directory.specs.Tables.{Table, IsTable, records_of, settings_said, table_of, templates_said}
+use Rattle.template_directory.specs.Readings.{known_stripe, stripe_reading, TemplateParts, to_template, template_reading, templates_reading, are_right, right_templates, SettingParts, to_settings, settings_reading}
+
+-- ---- the stripe
+
+stripe_exact : IsExact (λ s. stripe_code s ∷ []) (λ s. Unit {0}) stripe_reading
+stripe_exact = decoded_exact known_stripe stripe_code known one_code fits_code byte_exact where
+  known : (s : Stripe) → known_stripe (stripe_code s) ≡ Some s
+  known Coarse = refl
+  known Fine = refl
+
+  one_code : (n : ℕ) (s : Stripe) → known_stripe n ≡ Some s → n ≡ stripe_code s
+  one_code zero s e = absurd cc
+  one_code (suc zero) Coarse e = refl
+  one_code (suc zero) Fine e = absurd cc
+  one_code (suc (suc zero)) Coarse e = absurd cc
+  one_code (suc (suc zero)) Fine e = refl
+  one_code (suc (suc (suc n))) s e = absurd cc
+
+  fits_code : (s : Stripe) → stripe_code s < 256
+  fits_code Coarse = omega arith
+  fits_code Fine = omega arith
+
+-- ---- templates
+
+of_template : Template → TemplateParts
+of_template t = (t.name, (t.copies, (t.stripe, t.system)))
+
+record FitsTemplate (t : Template) : Type 0 where
+  name : is_part 30 t.name ≡ true
+  copies : t.copies < 256
+
+template_exact : IsExact template_fields FitsTemplate template_reading
+unfolding template_reading of_template
+template_exact =
+    let fields = both_exact (name_exact 30 (omega arith)) (both_exact byte_exact (both_exact stripe_exact flag_exact)) in
+    fits_exact (λ t f. record { name = f.0; copies = f.1.0 }) (λ t f. (f.name, (f.copies, (tt, tt))))
+    (as_exact to_template of_template (λ p. refl) (λ t. refl) fields)
+
+templates_value : List Template → List ℕ
+templates_value ts = length ts ∷ flat_map template_fields ts
+
+FitsTemplates : List Template → Type 0
+FitsTemplates ts = (length ts ≤ 64) × AllByRecursion FitsTemplate ts
+
+templates_exact : IsExact templates_value FitsTemplates templates_reading
+unfolding templates_reading templates_value FitsTemplates
+templates_exact = counted_exact 64 (omega arith) template_exact
+
+-- ---- settings
+
+of_settings : Settings → SettingParts
+of_settings s = (s.incarnation, (s.attributes.repair, (s.attributes.asm, (s.attributes.rdbms, s.attributes.advm))))
+
+Text : List ℕ → Type 0
+Text t = (length t ≤ 30) × IsBytes t
+
+record FitsSettings (s : Settings) : Type 0 where
+  incarnation : s.incarnation < 2 ^ 64
+  repair : s.attributes.repair < 2 ^ 64
+  asm : Text s.attributes.asm
+  rdbms : Text s.attributes.rdbms
+  advm : Text s.attributes.advm
+
+settings_exact : IsExact settings_value FitsSettings settings_reading
+unfolding settings_reading of_settings Text
+settings_exact =
+    let text = text_exact 30 (omega arith) in
+    let fields = both_exact (number_exact w64) (both_exact (number_exact w64) (both_exact text (both_exact text text))) in
+    fits_exact (λ s f. record { incarnation = f.0; repair = f.1.0; asm = f.1.1.0; rdbms = f.1.1.1.0; advm = f.1.1.1.1 }) (λ s f. (f.incarnation, (f.repair, (f.asm, (f.rdbms, f.advm)))))
+    (as_exact to_settings of_settings (λ p. refl) (λ s. refl) fields)
+
+-- ---- what the records may be
+
+fits_of : (ts : List Template) → list_all is_template ts ≡ true → AllByRecursion FitsTemplate ts
+fits_of [] ok = tt
+fits_of (t ∷ ts) ok =
+    let a = and_parts (is_template t) (list_all is_template ts) ok in
+    let b = and_parts (is_name t.name) (is_redundancy t.copies) a.0 in
+    let c = and_parts (leb 1 t.copies) (leb t.copies 3) b.1 in
+    (record { name = name_is_part t.name b.0; copies = omega (arith, leb-true t.copies 3 c.1) }, fits_of ts a.1)
+
+templates_allowed : (ts : List Template) → FitsTemplates ts → are_right ts ≡ true → is_item (templates_item ts) ≡ true
+unfolding is_item are_right FitsTemplates
+templates_allowed ts fits ok = and_from (leb (length ts) 64) (list_all is_template ts && names_ascend ts) (le-leb (length ts) 64 fits.0) ok
+
+templates_fit : (ts : List Template) → is_item (templates_item ts) ≡ true → FitsTemplates ts × (are_right ts ≡ true)
+unfolding is_item are_right FitsTemplates
+templates_fit ts ok =
+    let a = and_parts (leb (length ts) 64) (list_all is_template ts && names_ascend ts) ok in
+    ((leb-true (length ts) 64 a.0, fits_of ts (and_parts (list_all is_template ts) (names_ascend ts) a.1).0), a.1)
+
+text_allowed : (t : List ℕ) → Text t → is_text t ≡ true
+unfolding Text
+text_allowed t fits = and_from (leb (length t) 30) (are_bytes t) (le-leb (length t) 30 fits.0) (bytes_are t fits.1)
+
+text_fits : (t : List ℕ) → is_text t ≡ true → Text t
+unfolding Text
+text_fits t ok =
+    let a = and_parts (leb (length t) 30) (are_bytes t) ok in
+    (leb-true (length t) 30 a.0, are_bytes_is t a.1)
+
+settings_allowed : (s : Settings) → FitsSettings s → is_item (settings_item s) ≡ true
+unfolding is_item
+settings_allowed s fits =
+    let t = s.attributes in
+    and_from (ltb s.incarnation (2 ^ 64)) _ (lt-ltb s.incarnation (2 ^ 64) fits.incarnation)
+    (and_from (ltb t.repair (2 ^ 64)) _ (lt-ltb t.repair (2 ^ 64) fits.repair)
+    (and_from (is_text t.asm) _ (text_allowed t.asm fits.asm)
+    (and_from (is_text t.rdbms) (is_text t.advm) (text_allowed t.rdbms fits.rdbms) (text_allowed t.advm fits.advm))))
+
+settings_fit : (s : Settings) → is_item (settings_item s) ≡ true → FitsSettings s
+unfolding is_item
+settings_fit s ok =
+    let t = s.attributes in
+    let a = and_parts (ltb s.incarnation (2 ^ 64)) _ ok in
+    let b = and_parts (ltb t.repair (2 ^ 64)) _ a.1 in
+    let c = and_parts (is_text t.asm) _ b.1 in
+    let d = and_parts (is_text t.rdbms) (is_text t.advm) c.1 in
+    record { incarnation = ltb-true s.incarnation (2 ^ 64) a.0; repair = ltb-true t.repair (2 ^ 64) b.0; asm = text_fits t.asm c.0; rdbms = text_fits t.rdbms d.0; advm = text_fits t.advm d.1 }
+
+-- numbers of their types pass where the texts do
+by_texts : (s : Settings) → s.incarnation < 2 ^ 64 → s.attributes.repair < 2 ^ 64 → (is_text s.attributes.asm && (is_text s.attributes.rdbms && is_text s.attributes.advm)) ≡ is_item (settings_item s)
+unfolding is_item
+by_texts s incarnation repair = rw (lt-ltb s.incarnation (2 ^ 64) incarnation, lt-ltb s.attributes.repair (2 ^ 64) repair) refl
+
+pub texts_are_all : {v s : Settings} → v ≡ s → v.incarnation < 2 ^ 64 → v.attributes.repair < 2 ^ 64 → (is_text s.attributes.asm && (is_text s.attributes.rdbms && is_text s.attributes.advm)) ≡ is_item (settings_item s)
+texts_are_all {v} {s} same incarnation repair = by_texts s (subst (λ (t : Settings). t.incarnation < 2 ^ 64) same incarnation) (subst (λ (t : Settings). t.attributes.repair < 2 ^ 64) same repair)
+
+-- ---- the records
+
+templates_of_key : (i : Item) → key i ≡ record { kind = 5; a = 0; b = 0 } → (ts : List Template) × (i ≡ templates_item ts)
+templates_of_key (file_item f h) e = absurd (omega (arith, ap (λ (k : Key). k.kind) e))
+templates_of_key (chunk_item f c homes) e = absurd (omega (arith, ap (λ (k : Key). k.kind) e))
+templates_of_key (disk_item d info) e = absurd (omega (arith, ap (λ (k : Key). k.kind) e))
+templates_of_key (rebalance_item power) e = absurd (omega (arith, ap (λ (k : Key). k.kind) e))
+templates_of_key (pending_item op) e = absurd (omega (arith, ap (λ (k : Key). k.kind) e))
+templates_of_key (templates_item ts) e = (ts, refl)
+templates_of_key (node_item n node) e = absurd (omega (arith, ap (λ (k : Key). k.kind) e))
+templates_of_key (settings_item s) e = absurd (omega (arith, ap (λ (k : Key). k.kind) e))
+templates_of_key (marks_item f c marks) e = absurd (omega (arith, ap (λ (k : Key). k.kind) e))
+
+settings_of_key : (i : Item) → key i ≡ record { kind = 9; a = 0; b = 0 } → (s : Settings) × (i ≡ settings_item s)
+settings_of_key (file_item f h) e = absurd (omega (arith, ap (λ (k : Key). k.kind) e))
+settings_of_key (chunk_item f c homes) e = absurd (omega (arith, ap (λ (k : Key). k.kind) e))
+settings_of_key (disk_item d info) e = absurd (omega (arith, ap (λ (k : Key). k.kind) e))
+settings_of_key (rebalance_item power) e = absurd (omega (arith, ap (λ (k : Key). k.kind) e))
+settings_of_key (pending_item op) e = absurd (omega (arith, ap (λ (k : Key). k.kind) e))
+settings_of_key (templates_item ts) e = absurd (omega (arith, ap (λ (k : Key). k.kind) e))
+settings_of_key (node_item n node) e = absurd (omega (arith, ap (λ (k : Key). k.kind) e))
+settings_of_key (settings_item s) e = (s, refl)
+settings_of_key (marks_item f c marks) e = absurd (omega (arith, ap (λ (k : Key). k.kind) e))
+
+templates_value_is : (ts : List Template) → value (templates_item ts) ≡ templates_value ts
+unfolding value templates_value
+templates_value_is ts = refl
+
+settings_value_is : (s : Settings) → value (settings_item s) ≡ settings_value s
+unfolding value
+settings_value_is s = refl
+
+templates_are_read : (bytes : List ℕ) → option_map templates_item (right_templates (all_of templates_reading bytes)) ≡ decoded_item (record { kind = 5; a = 0; b = 0 }) bytes
+templates_are_read bytes =
+    value_is_decoded are_right templates_item templates_exact (record { kind = 5; a = 0; b = 0 }) templates_value_is (λ ts fits e. (templates_allowed ts fits e, refl)) known bytes where
+      known : (i : Item) → is_item i ≡ true → key i ≡ record { kind = 5; a = 0; b = 0 } → (ts : List Template) × (templates_item ts ≡ i) × FitsTemplates ts × (are_right ts ≡ true)
+      known i ok at =
+          let ts = templates_of_key i at in
+          let p = templates_fit ts.0 (subst (λ (j : Item). is_item j ≡ true) ts.1 ok) in
+          (ts.0, sym ts.1, p.0, p.1)
+
+unchanged : {A : Type 0} (o : Option A) → o ≡ option_and_then (λ x. cond true (Some x) None) o
+unchanged None = refl
+unchanged (Some x) = refl
+
+settings_are_read : (bytes : List ℕ) → option_map settings_item (all_of settings_reading bytes) ≡ decoded_item (record { kind = 9; a = 0; b = 0 }) bytes
+settings_are_read bytes =
+    ap (option_map settings_item) (unchanged (all_of settings_reading bytes))
+    ∙ value_is_decoded (λ s. true) settings_item settings_exact (record { kind = 9; a = 0; b = 0 }) settings_value_is (λ s fits e. (settings_allowed s fits, refl)) known bytes where
+      known : (i : Item) → is_item i ≡ true → key i ≡ record { kind = 9; a = 0; b = 0 } → (s : Settings) × (settings_item s ≡ i) × FitsSettings s × (true ≡ true)
+      known i ok at =
+          let s = settings_of_key i at in
+          (s.0, sym s.1, settings_fit s.0 (subst (λ (j : Item). is_item j ≡ true) s.1 ok), refl)
+
+-- ---- what a record says
+
+only_key : (k : Key) (n : ℕ) → is_same_key k (record { kind = n; a = 0; b = 0 }) ≡ true → k ≡ record { kind = n; a = 0; b = 0 }
+only_key k n e =
+    let p = and_parts (eqb k.kind n) (eqb k.a 0 && eqb k.b 0) e in
+    let q = and_parts (eqb k.a 0) (eqb k.b 0) p.1 in
+    λ i. record { kind = eqb-true k.kind n p.0 i; a = eqb-true k.a 0 q.0 i; b = eqb-true k.b 0 q.1 i }
+
+said_again : (o : Option (List Template)) → o ≡ option_and_then templates_said (option_map templates_item o)
+said_again None = refl
+said_again (Some ts) = refl
+
+settings_again : (o : Option Settings) → o ≡ option_and_then settings_said (option_map settings_item o)
+settings_again None = refl
+settings_again (Some s) = refl
+
+pub templates_are_said : (k : Key) (bytes : List ℕ) → is_same_key k (record { kind = 5; a = 0; b = 0 }) ≡ true → right_templates (all_of templates_reading bytes) ≡ entry_of_record templates_said (k, bytes)
+unfolding entry_of_record
+templates_are_said k bytes e =
+    said_again (right_templates (all_of templates_reading bytes)) ∙ ap (option_and_then templates_said) (templates_are_read bytes ∙ ap (λ (j : Key). decoded_item j bytes) (sym (only_key k 5 e)))
+
+pub settings_are_said : (k : Key) (bytes : List ℕ) → is_same_key k (record { kind = 9; a = 0; b = 0 }) ≡ true → all_of settings_reading bytes ≡ entry_of_record settings_said (k, bytes)
+unfolding entry_of_record
+settings_are_said k bytes e =
+    settings_again (all_of settings_reading bytes) ∙ ap (option_and_then settings_said) (settings_are_read bytes ∙ ap (λ (j : Key). decoded_item j bytes) (sym (only_key k 9 e)))
+
+-- the item that is decoded has the key
+at_key : (k : Key) (bytes : List ℕ) (i : Item) → decoded_item k bytes ≡ Some i → key i ≡ k
+at_key k bytes i e = (item_codec.decoded k bytes i e).1
+
+pub no_templates : (k : Key) (bytes : List ℕ) → is_same_key k (record { kind = 5; a = 0; b = 0 }) ≡ false → None ≡ entry_of_record templates_said (k, bytes)
+unfolding entry_of_record
+no_templates k bytes other = by_item (decoded_item k bytes) (at_key k bytes) where
+  by_item : (o : Option Item) → ((i : Item) → o ≡ Some i → key i ≡ k) → None ≡ option_and_then templates_said o
+  by_item None at = refl
+  by_item (Some (templates_item ts)) at = absurd (true≢false (ap (λ (j : Key). is_same_key j (record { kind = 5; a = 0; b = 0 })) (at (templates_item ts) refl) ∙ other))
+  by_item (Some (file_item f h)) at = refl
+  by_item (Some (chunk_item f c homes)) at = refl
+  by_item (Some (disk_item d info)) at = refl
+  by_item (Some (rebalance_item power)) at = refl
+  by_item (Some (pending_item op)) at = refl
+  by_item (Some (node_item n node)) at = refl
+  by_item (Some (settings_item s)) at = refl
+  by_item (Some (marks_item f c marks)) at = refl
+
+pub no_settings : (k : Key) (bytes : List ℕ) → is_same_key k (record { kind = 9; a = 0; b = 0 }) ≡ false → None ≡ entry_of_record settings_said (k, bytes)
+unfolding entry_of_record
+no_settings k bytes other = by_item (decoded_item k bytes) (at_key k bytes) where
+  by_item : (o : Option Item) → ((i : Item) → o ≡ Some i → key i ≡ k) → None ≡ option_and_then settings_said o
+  by_item None at = refl
+  by_item (Some (templates_item ts)) at = refl
+  by_item (Some (file_item f h)) at = refl
+  by_item (Some (chunk_item f c homes)) at = refl
+  by_item (Some (disk_item d info)) at = refl
+  by_item (Some (rebalance_item power)) at = refl
+  by_item (Some (pending_item op)) at = refl
+  by_item (Some (node_item n node)) at = refl
+  by_item (Some (settings_item s)) at = absurd (true≢false (ap (λ (j : Key). is_same_key j (record { kind = 9; a = 0; b = 0 })) (at (settings_item s) refl) ∙ other))
+  by_item (Some (marks_item f c marks)) at = refl
+
+-- ---- the table
+
+record SaysTemplates (e : Entry) (ts : List Template) : Type 0 where
+  allowed : is_item (templates_item ts) ≡ true
+  same : e ≡ item_record (templates_item ts)
+
+record SaysSettings (e : Entry) (s : Settings) : Type 0 where
+  allowed : is_item (settings_item s) ≡ true
+  same : e ≡ item_record (settings_item s)
+
+templates_item_of : (i : Item) (ts : List Template) → templates_said i ≡ Some ts → i ≡ templates_item ts
+templates_item_of (templates_item us) ts e = ap templates_item (some_is us ts e)
+templates_item_of (file_item f h) ts e = absurd cc
+templates_item_of (chunk_item f c homes) ts e = absurd cc
+templates_item_of (disk_item d info) ts e = absurd cc
+templates_item_of (rebalance_item power) ts e = absurd cc
+templates_item_of (pending_item op) ts e = absurd cc
+templates_item_of (node_item n node) ts e = absurd cc
+templates_item_of (settings_item s) ts e = absurd cc
+templates_item_of (marks_item f c marks) ts e = absurd cc
+
+settings_item_of : (i : Item) (s : Settings) → settings_said i ≡ Some s → i ≡ settings_item s
+settings_item_of (templates_item us) s e = absurd cc
+settings_item_of (file_item f h) s e = absurd cc
+settings_item_of (chunk_item f c homes) s e = absurd cc
+settings_item_of (disk_item d info) s e = absurd cc
+settings_item_of (rebalance_item power) s e = absurd cc
+settings_item_of (pending_item op) s e = absurd cc
+settings_item_of (node_item n node) s e = absurd cc
+settings_item_of (settings_item t) s e = ap settings_item (some_is t s e)
+settings_item_of (marks_item f c marks) s e = absurd cc
+
+says_templates : (e : Entry) (ts : List Template) → entry_of_record templates_said e ≡ Some ts → SaysTemplates e ts
+unfolding entry_of_record
+says_templates e ts said =
+    let b = bind_some templates_said (decoded_item e.0 e.1) ts said in
+    let d = item_codec.decoded e.0 e.1 b.0 b.1 in
+    let is = templates_item_of b.0 ts b.2 in
+    record {
+      allowed = sym (ap is_item is) ∙ d.0;
+      same = ap (λ (k : Key). (k, e.1)) (sym d.1 ∙ ap key is) ∙ ap (λ (v : List ℕ). (key (templates_item ts), v)) (d.2 ∙ ap value is);
+    }
+
+says_settings : (e : Entry) (s : Settings) → entry_of_record settings_said e ≡ Some s → SaysSettings e s
+unfolding entry_of_record
+says_settings e s said =
+    let b = bind_some settings_said (decoded_item e.0 e.1) s said in
+    let d = item_codec.decoded e.0 e.1 b.0 b.1 in
+    let is = settings_item_of b.0 s b.2 in
+    record {
+      allowed = sym (ap is_item is) ∙ d.0;
+      same = ap (λ (k : Key). (k, e.1)) (sym d.1 ∙ ap key is) ∙ ap (λ (v : List ℕ). (key (settings_item s), v)) (d.2 ∙ ap value is);
+    }
+
+-- templates and settings that records say may be held
+pub said_templates_allowed : (e : Entry) (ts : List Template) → entry_of_record templates_said e ≡ Some ts → is_item (templates_item ts) ≡ true
+said_templates_allowed e ts said = (says_templates e ts said).allowed
+
+pub said_settings_allowed : (e : Entry) (s : Settings) → entry_of_record settings_said e ≡ Some s → is_item (settings_item s) ≡ true
+said_settings_allowed e s said = (says_settings e s said).allowed
+
+map_some : {X Y : Type 0} (f : X → Y) (o : Option X) (y : Y) → option_map f o ≡ Some y → (x : X) × (o ≡ Some x) × (f x ≡ y)
+map_some f (Some x) y e = (x, refl, cc)
+map_some f None y e = absurd cc
+
+found_of : (es : List Entry) (t : Table) → table_of es ≡ Some t → IsTable t × (es ≡ records_of t)
+found_of [] t read = absurd cc
+found_of (e ∷ []) t read = absurd cc
+found_of (e ∷ f ∷ []) t read =
+    let a = bind_some (λ (ts : List Template). option_map (λ s. record { templates = ts; settings = s }) (entry_of_record settings_said f)) (entry_of_record templates_said e) t read in
+    let b = map_some (λ (s : Settings). record { templates = a.0; settings = s }) (entry_of_record settings_said f) t a.2 in
+    let one = says_templates e a.0 a.1 in
+    let two = says_settings f b.0 b.1 in
+    let whole : IsTable (record { templates = a.0; settings = b.0 }) = record { templates = one.allowed; settings = two.allowed } in
+    let same : e ∷ f ∷ [] ≡ records_of (record { templates = a.0; settings = b.0 }) = ap (λ (x : Entry). x ∷ f ∷ []) one.same ∙ ap (λ (x : Entry). item_record (templates_item a.0) ∷ x ∷ []) two.same in
+    subst (λ (u : Table). IsTable u × (e ∷ f ∷ [] ≡ records_of u)) b.2 (whole, same)
+found_of (e ∷ f ∷ g ∷ es) t read = absurd cc
+
+again_of : (t : Table) → IsTable t → table_of (records_of t) ≡ Some t
+unfolding entry_of_record
+again_of t is = rw (item_codec.again (templates_item t.templates) is.templates, item_codec.again (settings_item t.settings) is.settings) refl
+
+pub table_found : (es : List Entry) (read : Option Table) → read ≡ table_of es → IfSome read (λ t. IsTable t × (es ≡ records_of t))
+table_found es None e = tt
+table_found es (Some t) e = found_of es t (sym e)
+
+pub table_again : (es : List Entry) (read : Option Table) (t : Table) → read ≡ table_of es → IsTable t → es ≡ records_of t → read ≡ Some t
+table_again es read t e is same = e ∙ ap table_of same ∙ again_of t is

@@ -1,0 +1,4 @@
+pub mod Tables
+pub mod Readings
+pub mod Edits
+pub mod Meant

@@ -1,0 +1,55 @@
+-- The reading of the records of templates and of settings, field by field, and what is tested then.
+use Rattle.std.specs.Prelude.{ℕ, zero, suc, Bool, ◌&&◌, List, Option, Some, None, if◌then◌else◌}
+use Rattle.std.specs.Option.{option_and_then}
+use Rattle.std.specs.List.{list_all}
+use Rattle.std.specs.Int.{w64}
+use Rattle.asm_group.specs.declared.Stripe.{Stripe}
+use Rattle.asm_group.specs.declared.Stripe.TheVariants.{Coarse, Fine}
+use Rattle.asm_group.specs.Names.{Bytes}
+use Rattle.asm_group.specs.Group.{Template}
+use Rattle.asm_formats.specs.Items.{Settings, is_template, names_ascend, most_templates}
+use Rattle.asm_base.specs.Readings.{Reading, both, as_a, decoded, counted, byte_reading, flag_reading, number_reading, name_reading, text_reading}
+
+abbrev pub known_stripe : ℕ → Option Stripe
+known_stripe zero = None
+known_stripe (suc zero) = Some Coarse
+known_stripe (suc (suc zero)) = Some Fine
+known_stripe (suc (suc (suc n))) = None
+
+abbrev pub stripe_reading : Reading Stripe
+stripe_reading = decoded known_stripe byte_reading
+
+-- ---- templates
+
+abbrev pub TemplateParts : Type 0
+TemplateParts = Bytes × (ℕ × (Stripe × Bool))
+
+abbrev pub to_template : TemplateParts → Template
+to_template (name, (copies, (stripe, system))) = record { name = name; copies = copies; stripe = stripe; system = system }
+
+unfoldable pub template_reading : Reading Template
+template_reading = as_a to_template (both (name_reading 30) (both byte_reading (both stripe_reading flag_reading)))
+
+unfoldable pub templates_reading : Reading (List Template)
+templates_reading = counted most_templates template_reading
+
+-- what is tested besides
+unfoldable pub are_right : List Template → Bool
+are_right ts = list_all is_template ts && names_ascend ts
+
+-- the templates that are read, where they pass
+abbrev pub right_templates : Option (List Template) → Option (List Template)
+right_templates read = option_and_then (λ ts. if are_right ts then Some ts else None) read
+
+-- ---- settings
+
+abbrev pub SettingParts : Type 0
+SettingParts = ℕ × (ℕ × (Bytes × (Bytes × Bytes)))
+
+abbrev pub to_settings : SettingParts → Settings
+to_settings (incarnation, (repair, (asm, (rdbms, advm)))) =
+    record { incarnation = incarnation; attributes = record { repair = repair; asm = asm; rdbms = rdbms; advm = advm } }
+
+unfoldable pub settings_reading : Reading Settings
+settings_reading =
+    as_a to_settings (both (number_reading w64) (both (number_reading w64) (both (text_reading 30) (both (text_reading 30) (text_reading 30)))))
