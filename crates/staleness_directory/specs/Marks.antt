@@ -1,0 +1,68 @@
+-- The table of stale marks, as the list of the chunks' marks in the order of file and chunk.
+use Rattle.std.specs.Prelude.{ℕ, ◌+◌, ◌^◌, Bool, ◌==◌, ◌&&◌, List, length, nat_lt, Option, Some, None, if◌then◌else◌}
+use Rattle.std.specs.Ordering.{nat_cmp, ordering_then, is_lt}
+use Rattle.std.specs.declared.cmp.Ordering.{Ordering}
+use Rattle.std.specs.BTreeMap.{is_at, insert_entry}
+use Rattle.std.specs.Map.{lookup, remove_entry}
+use Rattle.std.specs.List.{list_all}
+use Rattle.asm_formats.specs.Items.{Item, marks_item, Key}
+use Rattle.asm_base.specs.Records.{Entry, add_item}
+use Rattle.asm_base.specs.Tables.{IsItemTable, entry_of_record, item_record}
+
+-- a file and a chunk of it
+abbrev pub Chunk : Type 0
+Chunk = ℕ × ℕ
+
+abbrev pub chunk_cmp : Chunk → Chunk → Ordering
+chunk_cmp x y = ordering_then (nat_cmp x.0 y.0) (nat_cmp x.1 y.1)
+
+abbrev pub is_before : Chunk → Chunk → Bool
+is_before x y = is_lt (chunk_cmp x y)
+
+-- a chunk's marks: of each extent a byte, bit k for copy k
+abbrev pub Marked : Type 0
+Marked = Chunk × List ℕ
+
+-- the marks of a chunk, and the table with other marks of it or without it
+abbrev pub marks_at : List Marked → Chunk → Option (List ℕ)
+marks_at table chunk = lookup (is_at (chunk_cmp chunk)) table
+
+abbrev pub with_marks : List Marked → Chunk → List ℕ → List Marked
+with_marks table chunk marks = insert_entry chunk_cmp table chunk marks
+
+abbrev pub without_marks : List Marked → Chunk → List Marked
+without_marks table chunk = remove_entry (is_at (chunk_cmp chunk)) table
+
+abbrev pub chunk_key : ℕ → ℕ → Key
+chunk_key f c = record { kind = 12; a = f; b = c }
+
+-- the item of a chunk's marks, and its record
+abbrev pub item_of : Marked → Item
+item_of x = marks_item x.0.0 x.0.1 x.1
+
+abbrev pub record_of : Marked → Entry
+record_of x = item_record (item_of x)
+
+abbrev pub is_marks : Key → Bool
+is_marks key = key.kind == 12
+
+-- the entry that an item is
+abbrev pub marked : Item → Option Marked
+marked (marks_item f c marks) = Some ((f, c), marks)
+marked _ = None
+
+-- a table: chunks in order, each of the formats
+abbrev pub IsTable : List Marked → Type 0
+IsTable table = IsItemTable is_before item_of table
+
+abbrev pub add : List Marked → Entry → Option (List Marked)
+add table e = add_item is_before (entry_of_record marked) table e
+
+-- ---- the reading of a record's value
+
+-- each byte marks three copies at most
+abbrev pub are_marks : List ℕ → Bool
+are_marks bytes = list_all (λ m. nat_lt m 8) bytes
+
+unfoldable pub read_marks : ℕ → List ℕ → Option (List ℕ)
+read_marks chunk bytes = if nat_lt (chunk + 1) (2 ^ 32) && ((length bytes == 256) && are_marks bytes) then Some bytes else None

@@ -1,0 +1,52 @@
+//! The marks of a chunk.
+
+ghost use Rattle.std.specs.Prelude.{◌≡◌};
+ghost use Rattle.asm_formats.specs.Items.{marks_item};
+ghost use Rattle.asm_formats.specs.Values.{decoded_item};
+ghost use Rattle.std.specs.Option.{option_map};
+ghost use Rattle.staleness_directory.specs.Marks.{are_marks, chunk_key, read_marks};
+
+use std::marker::Model;
+
+/// The marks of a chunk: of each of its 256 extents a byte, whose bit k is set where copy k is stale. Contracts see the
+/// bytes.
+#[derive(Clone, Copy, Debug)]
+pub struct Marks {
+    pub bits: [u8; 256],
+}
+
+impl Model for Marks {
+    ghost use Rattle.std.specs.Prelude.{List as Items, ℕ};
+
+    ghost Value = { Items ℕ };
+
+    ghost view = { λ m. m.bits };
+
+    ghost inverse = { λ bits. record { bits = bits } };
+}
+
+/// The marks of a file's chunk that a value has, or None where their record isn't of the formats.
+pub fn marks_of(file: u32, chunk: u32, bytes: &[u8]) -> Option<Marks>
+    ensures { option_map (marks_item file chunk) result ≡ decoded_item (chunk_key file chunk) bytes.now }
+{
+    read_marks(chunk, bytes)
+}
+
+#[tactic(auto, unfolding(crate::specs::Marks::read_marks))]
+fn read_marks(chunk: u32, bytes: &[u8]) -> Option<Marks>
+    ensures { result ≡ read_marks chunk bytes.now }
+{
+    if chunk == u32::MAX || bytes.len() != 256 || !are_marks(bytes) {
+        return None;
+    }
+    let mut bits = [0; 256];
+    bits.copy_from_slice(bytes);
+    Some(Marks { bits })
+}
+
+/// An extent has three copies at most.
+fn are_marks(bytes: &[u8]) -> bool
+    ensures { result ≡ are_marks bytes.now }
+{
+    bytes.iter().all(|marks| *marks < 8)
+}
