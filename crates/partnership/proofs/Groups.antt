@@ -1,0 +1,121 @@
+-- In how many failure groups disks lie.
+use Rattle.std.proofs.Common.{◌≡◌, ℕ, suc, ◌+◌, ◌<◌, ◌≤◌, Bool, true, false, cond, not, ◌||◌, List, [], ◌∷◌, length, filter, get_or, drop, refl, sym, ap, ◌∙◌, Option, Some, None, arith, eqb}
+use Rattle.std.specs.List.{cons_option, list_any}
+use Rattle.std.proofs.lemmas.Bool.{cond_both, eqb-true, eq-eqb, ne_eqb, both_ways, or_parts, or_from}
+use Rattle.asm_formats.specs.Status.{Entry}
+use Rattle.allocator.specs.UnitMaps.{UnitMap}
+use Rattle.asm_placement.specs.DiskSets.{is_among, groups_of}
+use Rattle.partnership.specs.Candidates.{Candidate, candidates, among, entries, group_count}
+use Rattle.partnership.specs.Steps.{candidate_if, is_new_group, is_of, is_one_of}
+use Rattle.partnership.proofs.Turns.{among_from, none_from}
+
+-- all but a number
+abbrev but : ℕ → List ℕ → List ℕ
+but g gs = filter (λ h. not (eqb h g)) gs
+
+still_among : (g h : ℕ) (gs : List ℕ) → (g ≡ h → ⊥) → is_among (but g gs) h ≡ is_among gs h
+still_among g h [] other = refl
+still_among g h (k ∷ gs) other = by (eqb k g) refl (still_among g h gs other)
+  where
+    by : (b : Bool) → eqb k g ≡ b → is_among (but g gs) h ≡ is_among gs h → is_among (cond (not b) (k ∷ but g gs) (but g gs)) h ≡ (eqb k h || is_among gs h)
+    by true is later =
+        let same : k ≡ g = eqb-true k g is in
+        rw (ne_eqb k h (λ e. other (sym same ∙ e))) later
+    by false is later = ap (λ (b : Bool). eqb k h || b) later
+
+none_left : (g : ℕ) (gs : List ℕ) → is_among (but g gs) g ≡ false
+none_left g [] = refl
+none_left g (k ∷ gs) = by (eqb k g) refl (none_left g gs)
+  where
+    by : (b : Bool) → eqb k g ≡ b → is_among (but g gs) g ≡ false → is_among (cond (not b) (k ∷ but g gs) (but g gs)) g ≡ false
+    by true is later = later
+    by false is later = rw is later
+
+none_to_drop : (g : ℕ) (gs : List ℕ) → is_among gs g ≡ false → but g gs ≡ gs
+none_to_drop g [] none = refl
+none_to_drop g (k ∷ gs) none = by (eqb k g) none (none_to_drop g gs)
+  where
+    by : (b : Bool) → (b || is_among gs g) ≡ false → (is_among gs g ≡ false → but g gs ≡ gs) → cond (not b) (k ∷ but g gs) (but g gs) ≡ k ∷ gs
+    by true h later = absurd cc
+    by false h later = ap (λ (l : List ℕ). k ∷ l) (later h)
+
+-- no number is there twice
+abbrev AreDistinct : List ℕ → Type 0
+AreDistinct [] = Unit {0}
+AreDistinct (g ∷ gs) = (is_among gs g ≡ false) × AreDistinct gs
+
+but_not : (g h : ℕ) (gs : List ℕ) → is_among gs h ≡ false → is_among (but g gs) h ≡ false
+but_not g h [] none = refl
+but_not g h (k ∷ gs) none =
+    let parts = or_parts (eqb k h) (is_among gs h) none in
+    let later : is_among (but g gs) h ≡ false = but_not g h gs parts.1 in
+    cond_both (not (eqb k g)) (k ∷ but g gs) (but g gs) (λ (l : List ℕ). is_among l h ≡ false) (λ kept. or_from (eqb k h) (is_among (but g gs) h) parts.0 later) (λ out. later)
+
+distinct_but : (g : ℕ) (gs : List ℕ) → AreDistinct gs → AreDistinct (but g gs)
+distinct_but g [] d = tt
+distinct_but g (k ∷ gs) d = cond_both (not (eqb k g)) (k ∷ but g gs) (but g gs) AreDistinct (λ kept. (but_not g k gs d.0, distinct_but g gs d.1)) (λ out. distinct_but g gs d.1)
+
+groups_distinct : (es : List Entry) → AreDistinct (groups_of es)
+groups_distinct [] = tt
+groups_distinct (e ∷ es) = (none_left e.failgroup (groups_of es), distinct_but e.failgroup (groups_of es) (groups_distinct es))
+
+-- one that is there is taken out once
+one_less : (g : ℕ) (gs : List ℕ) → AreDistinct gs → is_among gs g ≡ true → suc (length (but g gs)) ≡ length gs
+one_less g [] d there = absurd cc
+one_less g (k ∷ gs) d there = by (eqb k g) refl there (one_less g gs d.1)
+  where
+    by : (b : Bool) → eqb k g ≡ b → (b || is_among gs g) ≡ true → (is_among gs g ≡ true → suc (length (but g gs)) ≡ length gs) → suc (length (cond (not b) (k ∷ but g gs) (but g gs))) ≡ suc (length gs)
+    by true is h later =
+        let gone : but g gs ≡ gs = none_to_drop g gs (ap (λ (n : ℕ). is_among gs n) (sym (eqb-true k g is)) ∙ d.0) in
+        ap (λ (l : List ℕ). suc (length l)) gone
+    by false is h later = ap (λ (n : ℕ). suc n) (later h)
+
+-- a group is among those of disks where one of them lies in it
+groups_any : (g : ℕ) (cs : List Candidate) → is_among (groups_of (entries cs)) g ≡ list_any (is_of g) cs
+groups_any g [] = refl
+groups_any g (c ∷ cs) = by (eqb c.entry.failgroup g) refl (groups_any g cs)
+  where
+    by : (b : Bool) → eqb c.entry.failgroup g ≡ b → is_among (groups_of (entries cs)) g ≡ list_any (is_of g) cs → (b || is_among (but c.entry.failgroup (groups_of (entries cs))) g) ≡ (b || list_any (is_of g) cs)
+    by true is later = refl
+    by false is later = still_among c.entry.failgroup g (groups_of (entries cs)) (λ e. both_ways (eqb c.entry.failgroup g) is (eq-eqb c.entry.failgroup g e)) ∙ later
+
+count_cons : (o : Option Candidate) (cs : List Candidate) → group_count (cons_option o cs) ≡ cond (is_new_group cs o) (group_count cs + 1) (group_count cs)
+count_cons None cs = refl
+count_cons (Some c) cs = by (list_any (is_of c.entry.failgroup) cs) (sym (groups_any c.entry.failgroup cs))
+  where
+    by : (b : Bool) → b ≡ is_among (groups_of (entries cs)) c.entry.failgroup → suc (length (but c.entry.failgroup (groups_of (entries cs)))) ≡ cond (not b) (group_count cs + 1) (group_count cs)
+    by true is = one_less c.entry.failgroup (groups_of (entries cs)) (groups_distinct (entries cs)) (sym is)
+    by false is = omega (arith, ap (λ (l : List ℕ). length l) (none_to_drop c.entry.failgroup (groups_of (entries cs)) (sym is)))
+
+-- how many there are from a place on
+pub count_from : (test : Entry → Bool) (n : ℕ) (es : List Entry) (ms : List UnitMap) (i : ℕ) (e : Entry) (m : UnitMap) (next : Option Candidate) → i < length es → length ms ≡ length es → e ≡ get_or es i e → m ≡ get_or ms i m
+    → next ≡ candidate_if test n e m
+    → group_count (among test (candidates n (drop i es) (drop i ms)))
+    ≡ cond (is_new_group (among test (candidates n (drop (i + 1) es) (drop (i + 1) ms))) next) (group_count (among test (candidates n (drop (i + 1) es) (drop (i + 1) ms))) + 1) (group_count (among test (candidates n (drop (i + 1) es) (drop (i + 1) ms))))
+count_from test n es ms i e m next within same e_is m_is is =
+    ap (λ (cs : List Candidate). group_count cs) (among_from test n es ms i e m within same e_is m_is) ∙ rw is (count_cons (candidate_if test n e m) (among test (candidates n (drop (i + 1) es) (drop (i + 1) ms))))
+
+-- the count so far, with one more where the next disk's group is new
+pub count_turn : (test : Entry → Bool) (n : ℕ) (es : List Entry) (ms : List UnitMap) (i j : ℕ) (e : Entry) (m : UnitMap) (next : Option Candidate) (so_far : ℕ) (new : Bool) → i ≡ j + 1 → j < length es → length ms ≡ length es → e ≡ get_or es j e → m ≡ get_or ms j m
+    → next ≡ candidate_if test n e m → so_far ≡ group_count (among test (candidates n (drop i es) (drop i ms)))
+    → new ≡ is_new_group (among test (candidates n (drop (j + 1) es) (drop (j + 1) ms))) next
+    → cond new (so_far + 1) so_far ≡ group_count (among test (candidates n (drop j es) (drop j ms)))
+count_turn test n es ms i j e m next so_far new is within same e_is m_is next_is counted new_is =
+    let here : so_far ≡ group_count (among test (candidates n (drop (j + 1) es) (drop (j + 1) ms))) = counted ∙ ap (λ (k : ℕ). group_count (among test (candidates n (drop k es) (drop k ms)))) is in
+    rw (new_is, here) (sym (count_from test n es ms j e m next within same e_is m_is next_is))
+
+pub count_start : (test : Entry → Bool) (n : ℕ) (es : List Entry) (ms : List UnitMap) (i : ℕ) → length es ≤ i → 0 ≡ group_count (among test (candidates n (drop i es) (drop i ms)))
+count_start test n es ms i past = rw (none_from n es ms i past) refl
+
+any_cons : (g : ℕ) (o : Option Candidate) (cs : List Candidate) → list_any (is_of g) (cons_option o cs) ≡ (is_one_of g o || list_any (is_of g) cs)
+any_cons g None cs = refl
+any_cons g (Some c) cs = refl
+
+-- whether one from a place on lies in a group
+pub any_from : (test : Entry → Bool) (g n : ℕ) (es : List Entry) (ms : List UnitMap) (i : ℕ) (e : Entry) (m : UnitMap) → i < length es → length ms ≡ length es → e ≡ get_or es i e → m ≡ get_or ms i m
+    → list_any (is_of g) (among test (candidates n (drop i es) (drop i ms))) ≡ (is_one_of g (candidate_if test n e m) || list_any (is_of g) (among test (candidates n (drop (i + 1) es) (drop (i + 1) ms))))
+any_from test g n es ms i e m within same e_is m_is =
+    ap (λ (cs : List Candidate). list_any (is_of g) cs) (among_from test n es ms i e m within same e_is m_is) ∙ any_cons g (candidate_if test n e m) (among test (candidates n (drop (i + 1) es) (drop (i + 1) ms)))
+
+pub any_end : (test : Entry → Bool) (g n : ℕ) (es : List Entry) (ms : List UnitMap) (i : ℕ) → length es ≤ i → list_any (is_of g) (among test (candidates n (drop i es) (drop i ms))) ≡ false
+any_end test g n es ms i past = rw (none_from n es ms i past) refl

@@ -1,0 +1,7 @@
+pub mod Runs
+pub mod Turns
+pub mod Groups
+pub mod Choices
+pub mod Placement
+pub mod Kept
+pub mod Tables

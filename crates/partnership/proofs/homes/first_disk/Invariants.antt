@@ -1,0 +1,6 @@
+use Rattle.std.proofs.Common.{◌≡◌, drop}
+use Rattle.partnership.specs.Candidates.{among, candidates, may_be_first, tried_first}
+use Rattle.partnership.proofs.homes.first_disk.Given as goal
+
+abbrev pub invariant-loop-i : goal.invariant-loop-i
+invariant-loop-i l = l.best ≡ tried_first (among (may_be_first (candidates l.n l.disks l.units) l.copies) (candidates l.n (drop l.i l.disks) (drop l.i l.units)))

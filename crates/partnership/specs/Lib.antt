@@ -1,0 +1,4 @@
+pub mod Candidates
+pub mod UnitsOf
+pub mod Tables
+pub mod Steps

@@ -1,0 +1,118 @@
+//! Disks that may take a copy.
+
+ghost use Rattle.std.specs.Prelude.{◌≡◌, ◌<◌};
+ghost use Rattle.std.specs.Option.{option_and_then};
+ghost use Rattle.asm_placement.specs.Modes.{is_target};
+ghost use Rattle.partnership.specs.Candidates.{candidate, earlier, home_of, is_before, lowest};
+ghost use Rattle.partnership.specs.Steps.{with_next};
+
+use allocator::Units;
+use asm_base::{Home, Mode};
+use status_table::PstEntry;
+use std::marker::Model;
+
+/// A disk that may take a copy, and how full it is.
+#[derive(Clone, Copy)]
+pub struct Candidate {
+    pub disk: PstEntry,
+    /// Used user units.
+    pub used: u32,
+    /// User units.
+    pub total: u32,
+    /// Where the copy would begin.
+    pub unit: u32,
+}
+
+impl Model for Candidate {
+    ghost use Rattle.std.specs.Prelude.{Some};
+    ghost use Rattle.partnership.specs.Candidates.{Candidate as DiskCandidate, unit_of};
+
+    ghost Value = { DiskCandidate };
+
+    ghost view = { λ c. record { entry = c.disk; used = c.used; total = c.total; home = Some (record { disk = c.disk.number; unit = c.unit }) } };
+
+    ghost inverse = { λ c. record { disk = c.entry; used = c.used; total = c.total; unit = unit_of c.home } };
+}
+
+impl Candidate {
+    pub fn home(&self) -> Home
+        ensures { Some result ≡ self.now.home }
+    {
+        Home {
+            disk: self.disk.number,
+            unit: self.unit,
+        }
+    }
+}
+
+/// Whether new copies may go to the disk.
+pub fn is_target(disk: &PstEntry) -> bool
+    ensures { result ≡ is_target disk.now }
+{
+    matches!(disk.mode, Mode::Online) && !disk.quorum
+}
+
+/// The disk, where it may take a copy of so many units.
+#[tactic(auto, unfolding(crate::specs::Candidates::candidate))]
+pub fn candidate_on(disk: &PstEntry, units: &Units, n: u32) -> Option<Candidate>
+    requires { 0 < n }
+    ensures { result ≡ candidate n disk.now units.now }
+{
+    if !is_target(disk) {
+        return None;
+    }
+    let unit = lowest(units, n)?;
+    Some(Candidate {
+        disk: *disk,
+        used: units.used(),
+        total: units.total(),
+        unit,
+    })
+}
+
+#[tactic(auto, using(crate::proofs::Runs::lowest_is))]
+fn lowest(units: &Units, n: u32) -> Option<u32>
+    requires { 0 < n }
+    ensures { result ≡ lowest n units.now }
+{
+    units.lowest(n)
+}
+
+/// Whether a is tried before b: it is less full, or as full and of a lower number. Fills are compared by cross products.
+#[tactic(auto, unfolding(crate::specs::Candidates::is_before))]
+fn is_before(a: &Candidate, b: &Candidate) -> bool
+    ensures { result ≡ is_before a.now b.now }
+{
+    let fill_of_a = a.used as u64 * b.total as u64;
+    let fill_of_b = b.used as u64 * a.total as u64;
+    fill_of_a < fill_of_b || (fill_of_a == fill_of_b && a.disk.number < b.disk.number)
+}
+
+/// The one of the two that is tried first.
+fn earlier(candidate: Candidate, best: Option<Candidate>) -> Candidate
+    ensures { Some result ≡ earlier candidate best }
+{
+    match best {
+        Some(best) if is_before(&best, &candidate) => best,
+        _ => candidate,
+    }
+}
+
+/// The first of those so far, with one more where there is one.
+pub fn with_next(next: Option<Candidate>, best: Option<Candidate>) -> Option<Candidate>
+    ensures { result ≡ with_next next best }
+{
+    match next {
+        Some(candidate) => Some(earlier(candidate, best)),
+        None => best,
+    }
+}
+
+pub fn home_of(candidate: Option<Candidate>) -> Option<Home>
+    ensures { result ≡ option_and_then home_of candidate }
+{
+    match candidate {
+        Some(candidate) => Some(candidate.home()),
+        None => None,
+    }
+}

@@ -1,0 +1,15 @@
+//! Which disks are partners, and where new copies go.
+#![tactic(auto)]
+
+mod candidate;
+mod homes;
+mod pairs;
+mod partner_table;
+mod replacement;
+
+pub use homes::choose_homes;
+pub use partner_table::partners;
+pub use replacement::{choose_copy, eligible};
+
+#[cfg(test)]
+mod tests;
