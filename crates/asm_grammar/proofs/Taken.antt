@@ -1,8 +1,9 @@
 -- What the readers of the words of verbs compute.
 use Rattle.std.proofs.Common.{◌≡◌, ℕ, suc, ◌-◌, ◌≤◌, min, Bool, true, false, ◌&&◌, inl, inr, List, [], ◌∷◌, length, refl, sym, ap, subst, ◌∙◌, Option, Some, None, arith}
 use Rattle.std.specs.Prelude.{◌==◌, if◌then◌else◌}
+use Rattle.std.specs.List.{list_all}
 use Rattle.std.proofs.lemmas.Bool.{eqb-true, eq-eqb}
-use Rattle.asm_grammar.specs.Argument.{TextKind, Kind, Exact, Text, HexBytes, hex_bytes, Says, Stage, Rest, start, ends_at, onward, reached, near_from, accepts, is_of, said_at, argument_of}
+use Rattle.asm_grammar.specs.Argument.{TextKind, Kind, Exact, Text, HexBytes, hex_bytes, is_hex, Says, Stage, Rest, Whole, start, ends_at, onward, reached, near_from, accepts, is_of, said_at, argument_of}
 use Rattle.asm_grammar.specs.Bytes.{is_space, is_filled, run_of, after_run}
 use Rattle.asm_grammar.specs.Word.{Argument, End, end_of, fit, near, with_rest}
 use Rattle.asm_grammar.specs.Reading.{Took, Failed, one, close, ends, is_all}
@@ -90,6 +91,24 @@ refused k t text word n l left a b e is none =
 
 pub hex_yes : (bytes : List ℕ) → is_of HexBytes bytes ≡ true → argument_of HexBytes bytes ≡ Some (hex_bytes bytes)
 hex_yes bytes e = said_text (hex_bytes bytes) (reached (start HexBytes) bytes) true e
+
+-- digits behind whole bytes
+more_digits : (bytes : List ℕ) → accepts (Whole true) bytes ≡ true → list_all is_hex bytes ≡ true
+more_digits [] e = refl
+more_digits (b ∷ []) e = elim (is_true_or_false (is_hex b)) [ inl x ↦ absurd (let f = rw x at e in cc) | inr x ↦ absurd (let f = rw x at e in cc) ]
+more_digits (b ∷ c ∷ bytes) e = elim (is_true_or_false (is_hex b)) [
+  | inr x ↦ absurd (let f = rw x at e in cc)
+  | inl x ↦ elim (is_true_or_false (is_hex c)) [ inr y ↦ absurd (let f = rw (x, y) at e in cc) | inl y ↦ rw (x, y) (more_digits bytes (rw (x, y) at e)) ]
+]
+
+-- All of them are digits.
+pub hex_digits : (bytes : List ℕ) → is_of HexBytes bytes ≡ true → list_all is_hex bytes ≡ true
+hex_digits [] e = cc
+hex_digits (b ∷ []) e = elim (is_true_or_false (is_hex b)) [ inl x ↦ absurd (let f = rw x at e in cc) | inr x ↦ absurd (let f = rw x at e in cc) ]
+hex_digits (b ∷ c ∷ bytes) e = elim (is_true_or_false (is_hex b)) [
+  | inr x ↦ absurd (let f = rw x at e in cc)
+  | inl x ↦ elim (is_true_or_false (is_hex c)) [ inr y ↦ absurd (let f = rw (x, y) at e in cc) | inl y ↦ rw (x, y) (more_digits bytes (rw (x, y) at e)) ]
+]
 
 pub hex_no : (bytes : List ℕ) → is_of HexBytes bytes ≡ false → argument_of HexBytes bytes ≡ None
 hex_no bytes e = said_text (hex_bytes bytes) (reached (start HexBytes) bytes) false e

@@ -1,7 +1,8 @@
 //! Reading one word of a verb, which spaces and tabs alone part.
 
 ghost use Rattle.std.specs.Option.{option_map};
-ghost use Rattle.std.specs.Prelude.{◌≡◌, ◌+◌, ◌-◌, ◌<◌, min, length, true, false, Some, None};
+ghost use Rattle.std.specs.Prelude.{◌≡◌, ◌+◌, ◌-◌, ◌<◌, min, length, true, false, IfOk, Some, None};
+ghost use Rattle.std.specs.List.{list_all};
 ghost use Rattle.asm_grammar.specs.Argument.{Exact, Text, Numbered, Sized, HexBytes, HexByte, Rest, text_start, near_from, argument_of, is_of, onward, ends_at, said_at, number_at, hex_bytes, hex_value, is_hex, NumberStart, SizeStart, HexStart};
 ghost use Rattle.asm_grammar.specs.Word.{Argument, End, fit};
 ghost use Rattle.asm_grammar.specs.Reading.{one, close};
@@ -231,7 +232,8 @@ fn judge_hex(word: &[u8]) -> (bool, usize)
 
 /// The next word is an even number of hexadecimal digits, which it gives.
 pub fn hex_word<'a>(place: Place<'a>) -> Result<(&'a [u8], Place<'a>), ReadError>
-    ensures { Gives (λ b. hex_bytes b.now) result (one (Argument HexBytes) place.entry.rest.now place.entry.left (fit (Argument HexBytes) place.entry.rest.now)) }
+    ensures digits { IfOk result (λ r. list_all is_hex r.0.now ≡ true) }
+    ensures gives { Gives (λ b. hex_bytes b.now) result (one (Argument HexBytes) place.entry.rest.now place.entry.left (fit (Argument HexBytes) place.entry.rest.now)) }
 {
     let (_spaces, text) = split_run(Run::Spaces, place.rest);
     let (word, rest) = split_run(Run::Filled, text);
@@ -251,7 +253,7 @@ pub fn hex_word<'a>(place: Place<'a>) -> Result<(&'a [u8], Place<'a>), ReadError
 }
 
 /// What a hexadecimal digit stands for.
-fn hex_value(digit: u8) -> u8
+pub fn hex_value(digit: u8) -> u8
     requires { is_hex digit ≡ true }
     ensures value { result ≡ hex_value digit }
     ensures small { result < 16 }
