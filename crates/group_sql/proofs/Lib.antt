@@ -1,0 +1,9 @@
+pub mod Names
+pub mod Items
+pub mod Failgroups
+pub mod Steps
+pub mod Added
+pub mod Exact
+pub mod Parts
+pub mod Ties
+pub mod Groups

@@ -1,0 +1,11 @@
+use Rattle.std.proofs.Common.{◌≡◌, length}
+use Rattle.asm_grammar.specs.Reads.{items_from}
+use Rattle.asm_world.specs.Meaning.{attribute_of}
+use Rattle.asm_world.specs.Grammar as g
+use Rattle.group_sql.proofs.creation.more_attributes.Given as goal
+
+abbrev pub invariant-loop-alloc : goal.invariant-loop-alloc
+invariant-loop-alloc l = items_from g.attribute attribute_of 44 l.attributes l.place.rest.now l.place.left ≡ items_from g.attribute attribute_of 44 l.initial.attributes l.initial.place.rest.now l.initial.place.left
+
+abbrev pub decreases-loop-alloc : goal.decreases-loop-alloc
+decreases-loop-alloc l = length l.place.rest.now

@@ -1,0 +1,23 @@
+-- What reading a whole text answers.
+use Rattle.std.specs.Prelude.{◌≡◌, Result, Ok, Err}
+use Rattle.asm_grammar.specs.Laws.{IsLongestFront}
+use Rattle.asm_grammar.specs.Reading.{whole, result_of}
+use Rattle.asm_group.specs.Names.{Bytes}
+use Rattle.asm_world.specs.Grammar as g
+use Rattle.asm_world.specs.Meaning.{Says, statement_of}
+use Rattle.asm_world.specs.Statement as s
+use Rattle.group_sql.specs.Said.{statement_said}
+use Rattle.group_sql.specs.declared.reading.ReadError.{ReadError}
+use Rattle.group_sql.specs.declared.reading.ReadError.TheVariants.{Syntax, NoMemory}
+use Rattle.group_sql.specs.declared.statement.Statement.{Statement}
+
+-- What reading by the grammar of statements gives, unless memory was wanted.
+abbrev pub IsRead : Result Statement ReadError → Bytes → Type 0
+IsRead (Ok x) text = result_of statement_of (whole g.statement g.semicolon text) ≡ Ok (statement_said x)
+IsRead (Err (Syntax at)) text = result_of statement_of (whole g.statement g.semicolon text) ≡ Err at
+IsRead (Err NoMemory) text = Unit {0}
+
+-- The text says no statement, and so many of its bytes, and no more, begin one.
+abbrev pub IsRefused : ReadError → Bytes → Type 0
+IsRefused (Syntax at) text = IsLongestFront g.statement 59 text at × ((x : s.Statement) → Says text x → ⊥)
+IsRefused NoMemory text = Unit {0}

@@ -1,0 +1,20 @@
+-- What the readers of parts of a statement give.
+use Rattle.std.specs.Prelude.{◌≡◌, Result, Ok, Err}
+use Rattle.asm_grammar.specs.Reads.{Refuses}
+use Rattle.asm_grammar.specs.Syntax.{Syntax, Value}
+use Rattle.asm_grammar.specs.Reading.{Outcome, Took, mapped, parse}
+use Rattle.asm_grammar.specs.declared.words.Place.{Place}
+use Rattle.asm_grammar.specs.declared.words.ReadError.{ReadError}
+
+-- the outcome of reading a part from a place, with what it says
+abbrev pub reads : {A : Type 0} → (syntax : Syntax) → (Value syntax → A) → Place → Outcome A
+reads syntax says from = mapped says (parse syntax from.rest.now from.left)
+
+-- What was returned, seen by view, and the place behind it are what reading gives.
+abbrev pub Gives : {X Y : Type 0} → (X → Y) → Result X ReadError → Place → Outcome Y → Type 0
+Gives view (Ok x) to read = read ≡ Took (view x) to.rest.now to.left
+Gives view (Err e) to read = Refuses e read
+
+-- A part that may be absent is always read.
+abbrev pub Finds : {A : Type 0} → A → Place → Outcome A → Type 0
+Finds value to read = read ≡ Took value to.rest.now to.left

@@ -1,0 +1,22 @@
+//! The statements of the DISKGROUP language, read and written.
+#![tactic(auto)]
+
+mod clauses;
+mod creation;
+mod cutting;
+mod disks;
+mod options;
+mod reading;
+mod statement;
+mod templates;
+mod words;
+
+pub use cutting::next_command;
+pub use reading::{ReadError, read_statement};
+pub use statement::{
+    Attribute, Clause, Disks, DroppedDisk, FailgroupKind, NewDisk, NewFailgroup, Rebalance,
+    Statement, TemplateWords,
+};
+
+#[cfg(test)]
+mod tests;
