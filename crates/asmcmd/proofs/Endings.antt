@@ -1,0 +1,31 @@
+-- Texts of many lines.
+use Rattle.std.proofs.Common.{◌≡◌, ℕ, List, [], ◌∷◌, ◌++◌, ap, sym, ◌∙◌, append_assoc, append-nil}
+use Rattle.std.specs.Prelude.{map}
+use Rattle.std.specs.List.{flat_map}
+use Rattle.std.proofs.lemmas.List.Folds.{flat_map-map}
+use Rattle.asm_group.specs.Names.{Bytes}
+use Rattle.asm_group.specs.Refusal.{spaced}
+use Rattle.asm_world.specs.Text.{ended}
+
+-- the lines of rows, each with its end
+pub ended_rows : {X : Type 0} (line : X → Bytes) (rows : List X) → ended (map line rows) ≡ flat_map (λ row. line row ++ 10 ∷ []) rows
+ended_rows line rows = flat_map-map (λ l. l ++ 10 ∷ []) line rows
+
+-- below a head line
+pub headed : {X : Type 0} (line : X → Bytes) (rows : List X) (head text longer : Bytes) → text ≡ head ++ 10 ∷ [] → longer ≡ text ++ flat_map (λ row. line row ++ 10 ∷ []) rows → longer ≡ ended (head ∷ map line rows)
+headed line rows head text longer e f = f ∙ (ap (λ t. t ++ flat_map (λ row. line row ++ 10 ∷ []) rows) e ∙ ap (λ t. (head ++ 10 ∷ []) ++ t) (sym (ended_rows line rows)))
+
+-- the first word, and the others each after a space
+spaced_after : (word : Bytes) (words : List Bytes) → spaced (word ∷ words) ≡ word ++ flat_map (λ other. 32 ∷ other) words
+spaced_after word [] = sym (append-nil word)
+spaced_after word (next ∷ words) = ap (λ line. word ++ 32 ∷ line) (spaced_after next words)
+
+-- a text, its first word, the others each after a space, and a line feed
+pub line_made : {X : Type 0} (printed : X → Bytes) (first : Bytes) (others : List X) (t t₁ t₂ longer : Bytes) → t₁ ≡ t ++ first → t₂ ≡ t₁ ++ flat_map (λ x. 32 ∷ printed x) others → longer ≡ t₂ ++ 10 ∷ []
+    → longer ≡ (t ++ spaced (first ∷ map printed others)) ++ 10 ∷ []
+line_made printed first others t t₁ t₂ longer e f h = h ∙ ap (λ z. z ++ 10 ∷ []) (f ∙ (ap (λ z. z ++ rest) e ∙ (append_assoc t first rest ∙ ap (λ z. t ++ z) (sym whole)))) where
+  rest : Bytes
+  rest = flat_map (λ x. 32 ∷ printed x) others
+
+  whole : spaced (first ∷ map printed others) ≡ first ++ rest
+  whole = spaced_after first (map printed others) ∙ ap (λ z. first ++ z) (flat_map-map (λ other. 32 ∷ other) printed others)

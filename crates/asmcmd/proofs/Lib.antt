@@ -1,0 +1,7 @@
+pub mod NameWords
+pub mod Choices
+pub mod Copies
+pub mod Lines
+pub mod Endings
+pub mod Shown
+pub mod EqualBytes

@@ -1,0 +1,5 @@
+pub mod Verbs
+pub mod Rows
+pub mod Exact
+pub mod Texts
+pub mod Runs

@@ -1,0 +1,69 @@
+//! Texts, made line by line.
+
+ghost use Rattle.std.specs.List.{flat_map};
+ghost use Rattle.std.specs.Prelude.{◌≡◌, ◌++◌, ◌∷◌, [], map, IfOk};
+ghost use Rattle.asm_group.specs.Refusal.{spaced};
+ghost use Rattle.asmcmd.specs.Texts.{printed};
+
+use asm_base::NoMemory;
+use itoa::Buffer;
+
+/// A word of a line.
+#[derive(Clone, Copy)]
+pub enum Field<'a> {
+    Word(&'a [u8]),
+    /// A name, with `/` after it.
+    Directory(&'a [u8]),
+    Number(u64),
+    /// An offset or a length, which may be past the greatest number of 64 bits.
+    Wide(u128),
+}
+
+pub fn with_bytes(mut text: Vec<u8>, bytes: &[u8]) -> Result<Vec<u8>, NoMemory>
+    ensures { IfOk result (λ longer. longer.items ≡ text.items ++ bytes.now) }
+{
+    text.extend_from_slice(bytes).map_err(|_| NoMemory)?;
+    Ok(text)
+}
+
+pub fn with_byte(mut text: Vec<u8>, byte: u8) -> Result<Vec<u8>, NoMemory>
+    ensures { IfOk result (λ longer. longer.items ≡ text.items ++ byte ∷ []) }
+{
+    text.push(byte).map_err(|_| NoMemory)?;
+    Ok(text)
+}
+
+fn with_field(text: Vec<u8>, field: Field<'_>) -> Result<Vec<u8>, NoMemory>
+    ensures { IfOk result (λ longer. longer.items ≡ text.items ++ printed field.entry) }
+{
+    match field {
+        Field::Word(word) => with_bytes(text, word),
+        Field::Directory(name) => with_byte(with_bytes(text, name)?, b'/'),
+        Field::Number(n) => with_bytes(text, Buffer::new().format(n).as_bytes()),
+        Field::Wide(n) => with_bytes(text, Buffer::new().format(n).as_bytes()),
+    }
+}
+
+fn with_next(text: Vec<u8>, field: Field<'_>) -> Result<Vec<u8>, NoMemory>
+    ensures { IfOk result (λ longer. longer.items ≡ text.items ++ 32 ∷ printed field.entry) }
+{
+    with_field(with_byte(text, b' ')?, field)
+}
+
+fn with_others(mut text: Vec<u8>, others: &[Field<'_>]) -> Result<Vec<u8>, NoMemory>
+    ensures { IfOk result (λ longer. longer.items ≡ text.items ++ flat_map (λ field. 32 ∷ printed field) others.now) }
+{
+    for field in others {
+        text = with_next(text, *field)?;
+    }
+    Ok(text)
+}
+
+/// The text with a line more: its words with one space between, and a line feed.
+pub fn with_line(text: Vec<u8>, first: Field<'_>, others: &[Field<'_>]) -> Result<Vec<u8>, NoMemory>
+    ensures { IfOk result (λ longer. longer.items ≡ text.items ++ spaced (printed first.entry ∷ map printed others.now) ++ 10 ∷ []) }
+{
+    let text = with_field(text, first)?;
+    let text = with_others(text, others)?;
+    with_byte(text, b'\n')
+}
