@@ -1,0 +1,13 @@
+pub mod Gathering
+pub mod Windows
+pub mod Bodies
+pub mod Spares
+pub mod Usable
+pub mod Contents
+pub mod Runs
+pub mod Homing
+pub mod Keeping
+pub mod Zeroing
+pub mod Shutting
+pub mod Losing
+pub mod Afterwards

@@ -1,0 +1,123 @@
+// A format: both log slots are closed, and the pages are zeroed.
+ghost use Rattle.std.specs.Prelude.{◌≡◌, ◌≤◌, ◌<◌, ◌+◌, ◌*◌, ◌/◌, IfOk, OnOk, OnErr, length, get_or, ℕ};
+ghost use Rattle.bay.specs.Image.{ChangesOnly};
+ghost use Rattle.bay.specs.State.{KeepsAttached, IsSlot};
+ghost use Rattle.bay.specs.Counts.{Rose};
+ghost use Rattle.bay.specs.Moments.{Runs, Ends, Holds, NowOnly};
+ghost use Rattle.change_directory.specs.Places.{IsCopy, HomesAt};
+ghost use Rattle.change_directory.specs.Changes.{IsAtHome, DecodesIn};
+ghost use Rattle.change_directory.specs.Formatting.{MayShut, HasShutSpare, HasShut, MayFormat, HasFormatted, Zeroes, MayLoseContent, Loses};
+
+use crate::copy::{BLOCK, DirCopy, LogSlot, log_place, other_slot};
+use crate::spare::spare_slot;
+use bay::{Bay, Fault};
+use gate_slot::close_gate;
+
+/// The most bytes that one write of zeros takes.
+const PIECE: usize = 262_144;
+
+/// The first byte of the directory region.
+const START: u64 = 40_960;
+
+/// The blocks behind the gate of a log slot.
+const LOG_BLOCKS: u32 = 65;
+
+/// Takes a copy's content away: closes the log slot of the smaller commit number and then the other one, and zeroes all
+/// pages. The content stays until it is gone.
+pub fn format<B: Bay>(bay: &mut B, copy: DirCopy) -> Result<(), Fault>
+    requires { IsCopy (B.state bay.old) copy }
+    ensures attached { KeepsAttached (B.state bay.old) (B.state bay.new) }
+    ensures calls { (B.state bay.new).calls ≤ (B.state bay.old).calls + (copy.dir_blocks * 4096) / 262144 + 14 }
+    ensures written { (B.state bay.new).written copy.slot ≤ (B.state bay.old).written copy.slot + 2 * copy.sector + copy.dir_blocks * 4096 }
+    ensures runs { Runs (IsSlot copy.slot) (MayFormat copy) (B.state bay.old) (B.state bay.new) }
+    ensures content { NowOnly (B.state bay.old) (DecodesIn copy) → NowOnly (B.state bay.old) (IsAtHome copy)
+        → Runs (IsSlot copy.slot) (MayLoseContent copy) (B.state bay.old) (B.state bay.new) }
+    ensures done { OnOk result (Ends (HasFormatted copy) (B.state bay.old) (B.state bay.new)) }
+    ensures cause { OnErr result (Rose ((B.state bay.old).faults copy.slot) ((B.state bay.new).faults copy.slot)) }
+{
+    erase(bay, copy)
+}
+
+/// Closes both log slots, and zeroes all pages.
+fn erase<B: Bay>(bay: &mut B, copy: DirCopy) -> Result<(), Fault>
+    requires { IsCopy (B.state bay.old) copy }
+    ensures attached { KeepsAttached (B.state bay.old) (B.state bay.new) }
+    ensures calls { (B.state bay.new).calls ≤ (B.state bay.old).calls + (copy.dir_blocks * 4096) / 262144 + 14 }
+    ensures written { (B.state bay.new).written copy.slot ≤ (B.state bay.old).written copy.slot + 2 * copy.sector + copy.dir_blocks * 4096 }
+    ensures runs { Runs (IsSlot copy.slot) (MayFormat copy) (B.state bay.old) (B.state bay.new) }
+    ensures loses { Runs (IsSlot copy.slot) (Loses copy) (B.state bay.old) (B.state bay.new) }
+    ensures done { OnOk result (Ends (HasFormatted copy) (B.state bay.old) (B.state bay.new)) }
+    ensures cause { OnErr result (Rose ((B.state bay.old).faults copy.slot) ((B.state bay.new).faults copy.slot)) }
+{
+    close_logs(bay, copy)?;
+    zero_pages(bay, copy)
+}
+
+/// Closes the log slot that doesn't hold the content, and then the other one.
+fn close_logs<B: Bay>(bay: &mut B, copy: DirCopy) -> Result<(), Fault>
+    requires { IsCopy (B.state bay.old) copy }
+    ensures attached { KeepsAttached (B.state bay.old) (B.state bay.new) }
+    ensures calls { (B.state bay.new).calls ≤ (B.state bay.old).calls + 12 }
+    ensures written { (B.state bay.new).written copy.slot ≤ (B.state bay.old).written copy.slot + 2 * copy.sector }
+    ensures runs { Runs (IsSlot copy.slot) (MayShut copy) (B.state bay.old) (B.state bay.new) }
+    ensures loses { Runs (IsSlot copy.slot) (Loses copy) (B.state bay.old) (B.state bay.new) }
+    ensures done { OnOk result (Ends (HasShut copy) (B.state bay.old) (B.state bay.new)) }
+    ensures cause { OnErr result (Rose ((B.state bay.old).faults copy.slot) ((B.state bay.new).faults copy.slot)) }
+{
+    let spare = close_spare(bay, copy)?;
+    let other = other_slot(spare);
+    close_gate(bay, copy.slot, log_place(copy, other, LOG_BLOCKS))
+}
+
+/// Closes the log slot that doesn't hold the content, and tells which it is.
+fn close_spare<B: Bay>(bay: &mut B, copy: DirCopy) -> Result<LogSlot, Fault>
+    requires { IsCopy (B.state bay.old) copy }
+    ensures attached { KeepsAttached (B.state bay.old) (B.state bay.new) }
+    ensures calls { (B.state bay.new).calls ≤ (B.state bay.old).calls + 8 }
+    ensures written { (B.state bay.new).written copy.slot ≤ (B.state bay.old).written copy.slot + copy.sector }
+    ensures runs { Runs (IsSlot copy.slot) (MayShut copy) (B.state bay.old) (B.state bay.new) }
+    ensures loses { Runs (IsSlot copy.slot) (Loses copy) (B.state bay.old) (B.state bay.new) }
+    ensures done { IfOk result (λ log. Ends (HasShutSpare copy log) (B.state bay.old) (B.state bay.new)) }
+    ensures cause { OnErr result (Rose ((B.state bay.old).faults copy.slot) ((B.state bay.new).faults copy.slot)) }
+{
+    let spare = spare_slot(bay, copy)?;
+    close_gate(bay, copy.slot, log_place(copy, spare, LOG_BLOCKS))?;
+    Ok(spare)
+}
+
+/// Zeroes all pages, and syncs.
+fn zero_pages<B: Bay>(bay: &mut B, copy: DirCopy) -> Result<(), Fault>
+    requires { IsCopy (B.state bay.old) copy }
+    ensures attached { KeepsAttached (B.state bay.old) (B.state bay.new) }
+    ensures calls { (B.state bay.new).calls ≤ (B.state bay.old).calls + (copy.dir_blocks * 4096) / 262144 + 2 }
+    ensures written { (B.state bay.new).written copy.slot ≤ (B.state bay.old).written copy.slot + copy.dir_blocks * 4096 }
+    ensures runs { Runs (IsSlot copy.slot) (ChangesOnly (HomesAt copy)) (B.state bay.old) (B.state bay.new) }
+    ensures done { OnOk result (Ends (Zeroes copy (copy.dir_blocks * 4096)) (B.state bay.old) (B.state bay.new)) }
+    ensures cause { OnErr result (Rose ((B.state bay.old).faults copy.slot) ((B.state bay.new).faults copy.slot)) }
+{
+    let zeros = [0; PIECE];
+    zero_with(bay, copy, &zeros)?;
+    bay.sync(copy.slot)
+}
+
+/// Writes zeros over all pages, so many at a time.
+fn zero_with<B: Bay>(bay: &mut B, copy: DirCopy, zeros: &[u8]) -> Result<(), Fault>
+    requires copy { IsCopy (B.state bay.old) copy }
+    requires piece { length zeros.now ≡ 262144 }
+    requires zeros { (k : ℕ) → k < length zeros.now → get_or zeros.now k 0 ≡ 0 }
+    ensures attached { KeepsAttached (B.state bay.old) (B.state bay.new) }
+    ensures calls { (B.state bay.new).calls ≤ (B.state bay.old).calls + (copy.dir_blocks * 4096) / 262144 + 1 }
+    ensures written { (B.state bay.new).written copy.slot ≤ (B.state bay.old).written copy.slot + copy.dir_blocks * 4096 }
+    ensures runs { Runs (IsSlot copy.slot) (ChangesOnly (HomesAt copy)) (B.state bay.old) (B.state bay.new) }
+    ensures held { OnOk result (Holds (Zeroes copy (copy.dir_blocks * 4096)) (B.state bay.old) (B.state bay.new)) }
+    ensures cause { OnErr result (Rose ((B.state bay.old).faults copy.slot) ((B.state bay.new).faults copy.slot)) }
+{
+    let len = copy.dir_blocks as usize * BLOCK as usize;
+    let pieces = len.div_ceil(PIECE);
+    for piece in 0..pieces {
+        let done = piece * PIECE;
+        let count = PIECE.min(len - done);
+        bay.write(copy.slot, START + done as u64, &zeros[..count])?;
+    }
+    Ok(())
+}

@@ -1,0 +1,21 @@
+//! One copy of a group's directories on one disk: pages, and a change log of two gated slots. A commit puts the changed
+//! pages into a log slot, and its checkpoint writes them home.
+#![tactic(auto)]
+
+mod change;
+mod copy;
+mod erase;
+mod head;
+mod home;
+mod laws;
+mod pages;
+mod spare;
+
+pub use change::commit;
+pub use copy::{DirCopy, LogSlot};
+pub use erase::format;
+pub use home::checkpoint;
+pub use laws::{homed_are_at_home, logged_are_due, logged_is_put, logging_is_put};
+
+#[cfg(test)]
+mod tests;
