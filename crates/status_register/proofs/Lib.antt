@@ -1,0 +1,14 @@
+pub mod Telling
+pub mod Shown
+pub mod Filling
+pub mod Surveying
+pub mod Joining
+pub mod Counting
+pub mod Tallying
+pub mod Choosing
+pub mod Raising
+pub mod Answering
+pub mod Taking
+pub mod RowFits
+pub mod Meeting
+pub mod RaisingRecords

@@ -1,0 +1,59 @@
+-- What is told of the disks over calls that leave them.
+use Rattle.std.proofs.Common.{◌≡◌, ℕ, ◌≤◌, Option, Some, None, refl, sym, subst, ◌∙◌, arith}
+use Rattle.std.specs.Prelude.{IsSome, unwrap_or}
+use Rattle.std.proofs.lemmas.Bool.{false≢true}
+use Rattle.std.proofs.lemmas.Option.{same_Some}
+use Rattle.bay.specs.Image.{Image, Same}
+use Rattle.bay.specs.State.{BayState, IsSound}
+use Rattle.bay.specs.Moments.{Runs, Ends, Durable}
+use Rattle.bay.proofs.Calls.{stops, still_durable, as_held}
+use Rattle.status_register.specs.Places.{HasSlots}
+use Rattle.status_register.specs.Told.{Told}
+use Rattle.status_register.specs.Slots.{FoundGate}
+
+module _ (s m t : BayState) (P : Image → Type 0) {slots : ℕ → Type 0} {step : Image → Image → Type 0} where
+  -- what was told is told later
+  pub told_later : Runs slots step m t → Told s m P → Told s t P
+  told_later run told = λ now holds. let from = run.held now holds in told from.0 from.1
+
+  -- what is told of disks that are as they were is told of those before
+  pub told_before : {early : ℕ → Type 0} → Runs early Same s m → Runs slots step m t → ((x y : Image) → Same x y → P y → P x) → Told m t P → Told s t P
+  told_before first next keeps told = λ now holds image was.
+      let mid = next.held now holds in
+      let start = first.held mid.0 mid.1 in
+      subst P (same_Some start.0 image (sym start.1 ∙ was)) (keeps start.0 mid.0 start.2 (told now holds mid.0 mid.1))
+
+-- two things that are told
+pub told_both : (s t : BayState) (P Q R : Image → Type 0) → ((x : Image) → P x → Q x → R x) → Told s t P → Told s t Q → Told s t R
+told_both s t P Q R joins p q = λ now holds image was. joins image (p now holds image was) (q now holds image was)
+
+-- each byte of a slot's disk is the same
+abbrev pub SameBytes : ℕ → Image → Image → Type 0
+SameBytes slot x y = (k : ℕ) → y.byte slot k ≡ x.byte slot k
+
+size_known : (o : Option ℕ) → IsSome o → (size : ℕ) × (o ≡ Some size) × (unwrap_or o 0 ≡ size)
+size_known (Some n) is = (n, refl, refl)
+size_known None is = absurd (false≢true is)
+
+-- a disk with its slots is as long in each image that a stop may leave
+pub slots_long : {s : BayState} (slot sector : ℕ) → IsSound s → HasSlots s slot sector → (image : Image) → s.leaves s.calls image → 40960 ≤ image.size slot
+slots_long {s} slot sector sound has image left =
+    let size = size_known (s.attached slot) has.attached in
+    omega (arith, has.long, size.2, sound.sized slot size.0 image size.1 left)
+
+-- What is told after a sync of a slot's disk holds of each image that a stop may leave.
+module _ (m t : BayState) {slot : ℕ} {later : ℕ → Type 0} (gate_of : Image → ℕ) (gate : ℕ) (depends : (x y : Image) → SameBytes slot x y → gate_of y ≡ gate_of x) (next : Runs later Same m t)
+    (told : Told m t (λ image. gate_of image ≡ gate)) where
+  held_gate : (image : Image) → t.holds ≡ Some image → gate_of image ≡ gate
+  held_gate image holds = let mid = next.held image holds in depends mid.0 image (λ k. mid.2.byte slot k) ∙ told image holds mid.0 mid.1
+
+  pub gate_found : {s : BayState} {slots : ℕ → Type 0} → IsSound t → Durable slot m → Runs slots Same s t → Ends (FoundGate gate_of gate) s t
+  gate_found {s} sound durable whole =
+      let settled : Durable slot t = still_durable (λ x y k same. same.byte slot k) next durable in
+      record {
+        held = λ image holds. let from = whole.held image holds in (from.0, from.1, record { gate_is = held_gate image holds; same = from.2 });
+        now = λ image left.
+            let from = (stops whole).now image left in
+            let there = as_held {image = image} sound settled left in
+            (from.0, from.1, record { gate_is = depends there.0 image there.2 ∙ held_gate there.0 there.1; same = from.2 });
+      }

@@ -1,0 +1,18 @@
+use Rattle.std.proofs.Common.{◌∙◌, sym}
+use Rattle.bay.proofs.Calls.{goes_on, stops}
+use Rattle.bay.proofs.Images.{same-trans}
+use Rattle.status_register.specs.Slots.{status_gate, other_gate}
+use Rattle.status_register.proofs.Telling.{gate_found}
+use Rattle.status_register.proofs.Shown.{same_status_gate, status_gate_is}
+use Rattle.status_register.proofs.gates.next_status_gate.Goals as goal
+
+pub returns-clause-done : goal.returns-clause-done
+returns-clause-done g c =
+    let m = g.B.Bay.state c.sync.new.self in
+    let t = g.B.Bay.state c.read_records.new.bay in
+    let number = c.record_number.ensures in
+    let other = c.record_number-2.ensures in
+    gate_found m t (status_gate c.args.id c.args.slot) c.other_gate.result (same_status_gate c.args.id c.args.slot) c.read_records.ensures.runs
+    (λ now holds image was. let both = c.in_ok-first.ensures.records now holds image was in
+    status_gate_is c.args.id c.args.slot image c.in_ok-first.first c.in_ok-first.second both.0 both.1 ∙ (sym (λ i. other_gate 6 8 (number i) (other i)) ∙ sym c.other_gate.ensures))
+    (g.met.B.Bay.sound c.read_records.new.bay) c.in_ok-sync.ensures.durable (goes_on same-trans c.sync.ensures.runs (stops c.sync.ensures.runs) c.read_records.ensures.runs)

@@ -1,0 +1,12 @@
+pub mod Places
+pub mod Told
+pub mod Slots
+pub mod Surveys
+pub mod Sayings
+pub mod Counting
+pub mod Tallies
+pub mod History
+pub mod Answers
+pub mod Rows
+pub mod Registered
+pub mod SurveyLaws

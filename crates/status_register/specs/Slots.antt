@@ -1,0 +1,61 @@
+-- What stands in the claim and status slots of a disk, and which slot the next claim or record is put into.
+use Rattle.std.specs.Prelude.{◌≡◌, ◌⊎◌, ℕ, ◌*◌, ◌==◌, Bool, nat_le, if◌then◌else◌, List, Option, Some, None}
+use Rattle.std.specs.Option.{option_map}
+use Rattle.bay.specs.Image.{Image, Range, Same, ChangesOnly}
+use Rattle.asm_formats.specs.Bytes.{block_size}
+use Rattle.asm_formats.specs.Claim.{Claim, decoded_claim}
+use Rattle.asm_formats.specs.Status.{Status, decoded_status}
+use Rattle.asm_formats.specs.Following.{rank}
+use Rattle.asm_images.specs.Bridge.{shown}
+
+-- what the body behind a gate says: nothing where the gate is shut, and no value where the body is none
+abbrev pub said : {A : Type 0} → (List ℕ → Option A) → Image → ℕ → ℕ → Option (Option A)
+said decoded image slot gate = option_map decoded (shown image slot gate)
+
+-- the number of a value that passes
+abbrev pub number_of : {A : Type 0} → (A → Bool) → (A → ℕ) → Option (Option A) → Option ℕ
+number_of test number None = None
+number_of test number (Some None) = None
+number_of test number (Some (Some x)) = if test x then Some (number x) else None
+
+-- the epoch of a claim of the group, and the number of a record of it
+abbrev pub claim_number : ℕ → Option (Option Claim) → Option ℕ
+claim_number id o = number_of (λ (c : Claim). c.id == id) (λ (c : Claim). c.epoch) o
+
+abbrev pub record_number : ℕ → Option (Option Status) → Option ℕ
+record_number id o = number_of (λ (r : Status). r.id == id) rank o
+
+-- The slot beside the one that holds, by the numbers in both: the first where neither has one. Where both have one number the first holds.
+abbrev pub other_gate : ℕ → ℕ → Option ℕ → Option ℕ → ℕ
+other_gate first second None other = first
+other_gate first second (Some n) None = second
+other_gate first second (Some n) (Some m) = if nat_le m n then second else first
+
+-- the gate of the slot that the next claim is put into, and that of the next record
+unfoldable pub claim_gate : ℕ → ℕ → Image → ℕ
+claim_gate id slot image = other_gate 2 4 (claim_number id (said decoded_claim image slot 2)) (claim_number id (said decoded_claim image slot 4))
+
+unfoldable pub status_gate : ℕ → ℕ → Image → ℕ
+status_gate id slot image = other_gate 6 8 (record_number id (said decoded_status image slot 6)) (record_number id (said decoded_status image slot 8))
+
+-- the disks are the same, and it is known which gate is the next
+pub record FoundGate (gate_of : Image → ℕ) (gate : ℕ) (old new : Image) : Type 0 where
+  pub gate_is : gate_of new ≡ gate
+  pub same : Same old new
+
+-- a body is being put behind this gate: the slot shows what it did, nothing or the body
+pub record MayFill (gate slot : ℕ) (body : List ℕ) (old new : Image) : Type 0 where
+  pub shows : (shown new slot gate ≡ shown old slot gate) ⊎ ((shown new slot gate ≡ None) ⊎ (shown new slot gate ≡ Some body))
+  pub elsewhere : ChangesOnly (Range slot (gate * block_size) (2 * block_size)) old new
+
+-- the slot shows the body
+pub record Fills (gate slot : ℕ) (body : List ℕ) (old new : Image) : Type 0 where
+  pub shows : shown new slot gate ≡ Some body
+  pub elsewhere : ChangesOnly (Range slot (gate * block_size) (2 * block_size)) old new
+
+-- a body is being put into the slot that is the next
+abbrev pub MayPutNext : (ℕ → Image → ℕ) → ℕ → List ℕ → Image → Image → Type 0
+MayPutNext gate_of slot body old new = MayFill (gate_of slot old) slot body old new
+
+abbrev pub PutsNext : (ℕ → Image → ℕ) → ℕ → List ℕ → Image → Image → Type 0
+PutsNext gate_of slot body old new = Fills (gate_of slot old) slot body old new

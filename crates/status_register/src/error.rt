@@ -1,0 +1,11 @@
+//! Why a survey or a claim is refused.
+
+/// Why a survey or a claim is refused.
+#[derive(Clone, Copy, Debug, PartialEq, Eq)]
+pub enum SurveyError {
+    /// Of a set of the greatest record fewer disks were read, or took the claim, than are needed: of the holders where these fall
+    /// short, else of the next holders. One is needed where no record was read.
+    NoMajority { seen: u8, need: u8 },
+    /// The first block, by member and then by block, where a claim or a record must stand and doesn't.
+    Damaged { slot: u32, block: u64 },
+}

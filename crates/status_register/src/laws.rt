@@ -1,0 +1,27 @@
+// What a survey finds, in the words of the members of an image. Each function has an empty body: its contract is the law.
+ghost use Rattle.status_register.specs.SurveyLaws.{ClaimedRecordBegins, ShownClaimIsSeen, StoredRecordsFit, SurveyedEpochIsAbove, SurveyedRecordCounts};
+
+/// The record that a survey gives is the one that was last completed, or one begun after it.
+pub fn surveyed_record_counts()
+    ensures { SurveyedRecordCounts }
+{}
+
+/// The epoch after a survey is above those of all records that count.
+pub fn surveyed_epoch_is_above()
+    ensures { SurveyedEpochIsAbove }
+{}
+
+/// A claim that a majority of each set shows is seen by every set that is enough, so that a record of its epoch may be begun.
+pub fn shown_claim_is_seen()
+    ensures { ShownClaimIsSeen }
+{}
+
+/// While the last record that was begun is put on members, in whole or in part, the image fits the history.
+pub fn stored_records_fit()
+    ensures { StoredRecordsFit }
+{}
+
+/// A record of a claimed epoch that follows, with a number above all that count, is begun.
+pub fn claimed_record_begins()
+    ensures { ClaimedRecordBegins }
+{}
