@@ -62,4 +62,8 @@ fn extents_for_a_size(rt: HostRuntime) {
     assert_eq!(rt; extents_for(coarse, 229_888), 18);
     assert_eq!(rt; extents_for(fine, 229_376), 24);
     assert_eq!(rt; extents_for(fine, 0), 0);
+    // The chunk is an eighth of a small unit.
+    assert_eq!(rt; extent_of(fine, 511), (0, 511));
+    assert_eq!(rt; extent_of(fine, 512), (1, 0));
+    assert_eq!(rt; extent_of(fine, 4_096), (0, 512));
 }
