@@ -47,26 +47,77 @@ struct Refused {
 const REFUSED: [Refused; 21] = [
     Refused { line: b"", at: 0 },
     Refused { line: b"LS", at: 0 },
-    Refused { line: b"lsx", at: 2 },
-    Refused { line: b"pwd\r", at: 3 },
-    Refused { line: b"pwd x", at: 4 },
-    Refused { line: b"cd a*", at: 4 },
+    Refused {
+        line: b"lsx",
+        at: 2,
+    },
+    Refused {
+        line: b"pwd\r",
+        at: 3,
+    },
+    Refused {
+        line: b"pwd x",
+        at: 4,
+    },
+    Refused {
+        line: b"cd a*",
+        at: 4,
+    },
     Refused { line: b"cd", at: 2 },
-    Refused { line: b"ls -l -l", at: 8 },
-    Refused { line: b"cp ./a ./b", at: 8 },
-    Refused { line: b"dbwrite u 0 616", at: 15 },
-    Refused { line: b"dbwrite u 0 6g", at: 13 },
-    Refused { line: b"dbfill u 0 512 6161", at: 17 },
-    Refused { line: b"dbread u 0 512k", at: 14 },
-    Refused { line: b"rebal DATA 18446744073709551616", at: 30 },
-    Refused { line: b"lsdsk 1DATA", at: 6 },
+    Refused {
+        line: b"ls -l -l",
+        at: 8,
+    },
+    Refused {
+        line: b"cp ./a ./b",
+        at: 8,
+    },
+    Refused {
+        line: b"dbwrite u 0 616",
+        at: 15,
+    },
+    Refused {
+        line: b"dbwrite u 0 6g",
+        at: 13,
+    },
+    Refused {
+        line: b"dbfill u 0 512 6161",
+        at: 17,
+    },
+    Refused {
+        line: b"dbread u 0 512k",
+        at: 14,
+    },
+    Refused {
+        line: b"rebal DATA 18446744073709551616",
+        at: 30,
+    },
+    Refused {
+        line: b"lsdsk 1DATA",
+        at: 6,
+    },
     // A front of CREATE, ALTER or DROP counts too.
-    Refused { line: b"CRE", at: 3 },
-    Refused { line: b"crEx", at: 3 },
-    Refused { line: b"dro", at: 3 },
-    Refused { line: b"dbo", at: 2 },
+    Refused {
+        line: b"CRE",
+        at: 3,
+    },
+    Refused {
+        line: b"crEx",
+        at: 3,
+    },
+    Refused {
+        line: b"dro",
+        at: 3,
+    },
+    Refused {
+        line: b"dbo",
+        at: 2,
+    },
     Refused { line: b"cr", at: 2 },
-    Refused { line: b"ALTERx", at: 5 },
+    Refused {
+        line: b"ALTERx",
+        at: 5,
+    },
 ];
 
 fn is_verb(alloc: Global, line: &[u8]) -> bool {
