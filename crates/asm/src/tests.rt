@@ -242,13 +242,13 @@ fn stops_leave_the_group_or_none(rt: HostRuntime) -> Result<(), Fail> {
         let mut bay = bay_of(alloc, 25 * MB)?;
         bay.stop_after(stop);
         let (report, _sink) = ran(alloc, "/d0", CREATE, &mut bay, &NONE)?;
-        let stands = what_stands(alloc, &bay).map_err(|_| "memory")?;
+        bay.restart();
+        let stands = what_stands(alloc, &mut bay).map_err(|_| "memory")?;
         assert!(rt; stands != Stands::Otherwise, "at call {stop}");
         let is_there = stands == Stands::EmptyGroup;
         assert!(rt; !is_there || stood, "at call {stop}");
         assert!(rt; is_there || report.status == 1, "at call {stop}");
         stood = is_there;
-        bay.restart();
         let (_again, sink) = ran(alloc, "/d0", OTHER, &mut bay, &NONE)?;
         let free = sink.bytes() == b"ok\n".as_slice();
         let taken = sink.bytes() == b"error 6 DiskTaken /d0\n".as_slice();
