@@ -4,3 +4,5 @@ pub mod Group
 pub mod NewGroup
 pub mod Refusal
 pub mod Rows
+pub mod Causes
+pub mod TreeEdits

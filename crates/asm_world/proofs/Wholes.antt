@@ -142,17 +142,8 @@ whole_from w new whole h = record {
 
 -- NAMES OF GROUPS
 
-aliased_name : (g : Group) (alias : Path) (o : Option ℕ) → (e.with_alias g alias o).name ≡ g.name
-aliased_name g alias None = refl
-aliased_name g alias (Some n) = refl
-
 changed_name : (g : Group) (edit : e.TreeEdit) → (e.changed g edit).name ≡ g.name
-changed_name g (e.MakeDir path) = refl
-changed_name g (e.DropDir path) = refl
-changed_name g (e.RenameDir old new) = refl
-changed_name g (e.AddAlias alias path) = aliased_name g alias (e.file_at g path)
-changed_name g (e.RenameAlias old new) = aliased_name (e.without_node g old) new (e.file_at g old)
-changed_name g (e.DropAlias path) = refl
+changed_name g edit = refl
 
 edited_name : (g h : Group) (edit : e.TreeEdit) → e.edited g edit ≡ Ok h → h.name ≡ g.name
 edited_name g h edit k = ap (λ (x : Group). x.name) (sym (ok_is (e.first_cause (e.edit_causes g edit)) (e.changed g edit) h k).1) ∙ changed_name g edit

@@ -3,6 +3,7 @@ use Rattle.std.specs.Prelude.{ℕ, Bool, false, ◌&&◌, ◌||◌, ◌==◌, no
 use Rattle.std.specs.List.{list_all}
 use Rattle.std.specs.Str.{bytes_eq}
 use Rattle.asm_group.specs.Names.{Bytes, Path, is_part, is_part_byte, is_same_name}
+pub use Rattle.asm_group.specs.TreeEdits.{up, last_part}
 
 abbrev pub before_first : Bytes → List Bytes → List Bytes
 before_first part [] = part ∷ []
@@ -14,17 +15,6 @@ between_slashes [] = [] ∷ []
 between_slashes (b ∷ bytes) =
     let rest = between_slashes bytes in
     if b == 47 then [] ∷ rest else before_first (b ∷ []) rest
-
--- all parts but the last
-abbrev pub up : List Bytes → List Bytes
-up [] = []
-up (part ∷ []) = []
-up (part ∷ next ∷ parts) = part ∷ up (next ∷ parts)
-
-abbrev pub last_part : List Bytes → Bytes
-last_part [] = []
-last_part (part ∷ []) = part
-last_part (part ∷ next ∷ parts) = last_part (next ∷ parts)
 
 abbrev pub two_points : Bytes
 two_points = 46 ∷ 46 ∷ []
