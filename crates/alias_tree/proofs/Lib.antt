@@ -5,3 +5,4 @@ pub mod Children
 pub mod Rules
 pub mod Under
 pub mod Single
+pub mod Ways

@@ -1,3 +1,4 @@
 pub mod Nodes
 pub mod Readings
 pub mod Places
+pub mod Trees
