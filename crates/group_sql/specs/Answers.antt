@@ -1,5 +1,5 @@
 -- What reading a whole text answers.
-use Rattle.std.specs.Prelude.{◌≡◌, Result, Ok, Err}
+use Rattle.std.specs.Prelude.{◌≡◌, ℕ, Result, Ok, Err}
 use Rattle.asm_grammar.specs.Laws.{IsLongestFront}
 use Rattle.asm_grammar.specs.Reading.{whole, result_of}
 use Rattle.asm_group.specs.Names.{Bytes}
@@ -11,10 +11,14 @@ use Rattle.group_sql.specs.declared.reading.ReadError.{ReadError}
 use Rattle.group_sql.specs.declared.reading.ReadError.TheVariants.{Syntax, NoMemory}
 use Rattle.group_sql.specs.declared.statement.Statement.{Statement}
 
+-- What the text says as a statement, or else how many of its bytes begin one.
+unfoldable pub asked : Bytes → Result s.Statement ℕ
+asked text = result_of statement_of (whole g.statement g.semicolon text)
+
 -- What reading by the grammar of statements gives, unless memory was wanted.
 abbrev pub IsRead : Result Statement ReadError → Bytes → Type 0
-IsRead (Ok x) text = result_of statement_of (whole g.statement g.semicolon text) ≡ Ok (statement_said x)
-IsRead (Err (Syntax at)) text = result_of statement_of (whole g.statement g.semicolon text) ≡ Err at
+IsRead (Ok x) text = asked text ≡ Ok (statement_said x)
+IsRead (Err (Syntax at)) text = asked text ≡ Err at
 IsRead (Err NoMemory) text = Unit {0}
 
 -- The text says no statement, and so many of its bytes, and no more, begin one.
