@@ -5,3 +5,4 @@ mod cutter;
 mod first_word;
 
 pub use cutter::{Cutter, Span, State, goes_on_with_more, next_command};
+pub use first_word::opens_statement;

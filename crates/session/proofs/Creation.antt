@@ -32,7 +32,7 @@ use Rattle.group_disks.specs.Creating.{Allows, HasMember, Creates, MayCreate, Ha
 use Rattle.group_disks.proofs.Outsiders.{widened}
 use Rattle.session.specs.Claims.{StandsFor, IsApart}
 use Rattle.session.specs.Effects.{Past, Keeps}
-use Rattle.session.specs.Meaning.{meaning, command_from, creation_of}
+use Rattle.session.specs.Meaning.{meaning}
 
 -- ---- images that stay, and images that a creation changes
 

@@ -20,13 +20,14 @@ use Rattle.session.specs.Claims.{StandsFor}
 use Rattle.asm_world.specs.Waits.{HasLines}
 use Rattle.group_disks.specs.Found.{Counts, counts_of}
 use Rattle.session.specs.Counts.{ReplyCause}
-use Rattle.session.specs.Meaning.{said, meaning}
+use Rattle.session.specs.Meaning.{meaning}
 use Rattle.session.specs.Effects.{Past, HasEffect, below_with}
 use Rattle.session.specs.Quiet.{quiet}
 use Rattle.session.specs.Sessions.{SessionView, Knows}
 use Rattle.session.specs.Stops.{IsReplyOrNoMemory, IsPart}
 use Rattle.session.specs.declared.stop.Stop.{Stop}
 use Rattle.session.proofs.Chains.{acts-one, acts-then, or-false}
+use Rattle.session.proofs.Reading.{ReadAs, creates, refuses_at, read_as}
 
 -- ---- nothing is due
 
@@ -124,13 +125,13 @@ acts-answers gives paths whole found text reply sent w w' time given given' old 
       refusal = refusal;
     })
 
-no_memory_lines : (found : Found) (text : Bytes) (w : World) (v : Option (Bytes × Bytes)) → said text ≡ v → HasLines (below_with found) w (meaning text) (Refused [] r.NoMemory)
-no_memory_lines found text w None e = rw e refl
-no_memory_lines found text w (Some v) e = rw e refl
+no_memory_lines : (found : Found) (text : Bytes) (w : World) → ReadAs text → HasLines (below_with found) w (meaning text) (Refused [] r.NoMemory)
+no_memory_lines found text w (creates name path e) = rw e refl
+no_memory_lines found text w (refuses_at at e) = rw e refl
 
-no_memory_counted : (paths : List Bytes) (text : Bytes) (v : Option (Bytes × Bytes)) → said text ≡ v → (s t : Counts) → ReplyCause paths text (Refused [] r.NoMemory) s t
-no_memory_counted paths text None e s t = rw e tt
-no_memory_counted paths text (Some v) e s t = rw e tt
+no_memory_counted : (paths : List Bytes) (text : Bytes) → ReadAs text → (s t : Counts) → ReplyCause paths text (Refused [] r.NoMemory) s t
+no_memory_counted paths text (creates name path e) s t = rw e tt
+no_memory_counted paths text (refuses_at at e) s t = rw e tt
 
 -- the reply that was printed, where it isn't the one that the command was given
 pub effect-printed : (paths : List Bytes) (found : Found) (text : Bytes) (reply printed : Reply) (given given' : ℕ) (old new : BayState) (w w' : World) → IsReplyOrNoMemory reply printed
@@ -140,10 +141,10 @@ effect-printed paths found text reply printed given given' old new w w' (inr (re
   step = effect.no_memory refuses;
   no_memory = λ is. effect.no_memory refuses;
   cause = tt;
-  lines = no_memory_lines found text w (said text) refl;
+  lines = no_memory_lines found text w (read_as text);
   ids_read = effect.ids_read;
   made = effect.made;
-  counted = no_memory_counted paths text (said text) refl (counts_of old) (counts_of new);
+  counted = no_memory_counted paths text (read_as text) (counts_of old) (counts_of new);
   calls = effect.calls;
   past = effect.past;
   keeps = effect.keeps;

@@ -10,12 +10,13 @@ use Rattle.bay.specs.Counts.{last_count}
 use Rattle.asm_group.specs.Names.{Bytes}
 use Rattle.asm_group.specs.Refusal as r
 use Rattle.asm_world.specs.Causes.{mounted_count}
+use Rattle.asm_world.specs.Command.{Said}
 use Rattle.asm_world.specs.Reply.{Reply, Done, Refused}
 use Rattle.asm_world.specs.World.{World, entry_in, entry_among}
 use Rattle.group_disks.specs.Found.{counts_of, AreIdsRead, RefusalCause, IsEarly}
 use Rattle.group_disks.specs.Creating.{HasCreated, made_group}
 use Rattle.session.specs.Effects.{HasEffect}
-use Rattle.session.specs.Meaning.{said}
+use Rattle.session.specs.Meaning.{meaning, creation_of}
 use Rattle.session.specs.Sessions.{SessionView, Knows, AreGiven, given_after, entries_of}
 use Rattle.bay.proofs.Calls.{started}
 use Rattle.bay.proofs.Images.{same-refl}
@@ -35,7 +36,7 @@ abbrev pub Answered : List Bytes → List ℕ → Option ℕ → Bytes → Reply
 Answered paths ids made text reply session session' old new w =
     (w' : World) × Knows session' w' × HasEffect paths (record { ids = ids; made = made }) text reply session.given session'.given old new w w'
 
-module _ (paths : List Bytes) (text name path : Bytes) (says : said text ≡ Some (name, path)) (ids : List ℕ) (slots : ℕ → Type 0) (session : SessionView) (w : World) (knows : Knows session w)
+module _ (paths : List Bytes) (text name path : Bytes) (says : meaning text ≡ Said (creation_of name path)) (ids : List ℕ) (slots : ℕ → Type 0) (session : SessionView) (w : World) (knows : Knows session w)
     (room : nat_le 8 (mounted_count w) ≡ false) (absent : is_some (entry_among session.entries name) ≡ false) (entries : AreGiven session.entries session.given) (old new : BayState) (read : AreIdsRead ids (counts_of old) (counts_of new)) (ok : Bool) (sound : IsSound old) where
   none : is_some (entry_in w name) ≡ false
   none = rw knows.entries_are absent
@@ -77,14 +78,14 @@ as_many slots n k name ok old new made same writes =
     subst (λ (j : ℕ). MatchOption made (Runs slots Same old new) (λ id. HasCreated j id (made_group name) ok old new)) same writes
 
 -- a creation that no place is left for
-pub too_many : (paths : List Bytes) (text name path : Bytes) → said text ≡ Some (name, path) → (given : ℕ) (old : BayState) (w : World) → nat_le 8 (mounted_count w) ≡ true
+pub too_many : (paths : List Bytes) (text name path : Bytes) → meaning text ≡ Said (creation_of name path) → (given : ℕ) (old : BayState) (w : World) → nat_le 8 (mounted_count w) ≡ true
     → HasEffect paths unread text (Refused [] (r.TooMany r.Groups 8)) given given old old w w
 too_many paths text name path says given old w many =
     plain paths unread text (r.TooMany r.Groups 8) given given (λ s. ⊥) old old w (rw says refl) (rw says (too_many_cause unread w name path many)) (rw says refl) (none_read (counts_of old) (counts_of old))
     (rw says (λ id none. absurd cc)) (rw says tt) (omega arith) (started same-refl)
 
 -- a creation of a name that is in the session
-pub exists_already : (paths : List Bytes) (text name path : Bytes) → said text ≡ Some (name, path) → (given : ℕ) (old : BayState) (w : World) → nat_le 8 (mounted_count w) ≡ false
+pub exists_already : (paths : List Bytes) (text name path : Bytes) → meaning text ≡ Said (creation_of name path) → (given : ℕ) (old : BayState) (w : World) → nat_le 8 (mounted_count w) ≡ false
     → is_some (entry_in w name) ≡ true → HasEffect paths unread text (Refused [] r.GroupExists) given given old old w w
 exists_already paths text name path says given old w few there =
     plain paths unread text r.GroupExists given given (λ s. ⊥) old old w (rw says refl) (rw says (exists_cause unread w name path few there)) (rw says refl) (none_read (counts_of old) (counts_of old))

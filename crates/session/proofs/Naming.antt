@@ -1,20 +1,26 @@
 -- The name that a creation says is a name of a group.
-use Rattle.std.proofs.Common.{◌≡◌, ℕ, ◌+◌, ◌<◌, ◌≤◌, Bool, true, false, cond, ◌&&◌, List, [], ◌∷◌, length, Option, Some, None, refl, sym, ◌∙◌, ap, subst, arith, IsTrue}
-use Rattle.std.specs.Prelude.{Result, Ok, Err, if◌then◌else◌, nat_le}
+use Rattle.std.proofs.Common.{◌≡◌, ℕ, ◌+◌, ◌<◌, ◌≤◌, Bool, true, false, cond, ◌&&◌, List, [], ◌∷◌, length, Option, Some, None, inl, inr, refl, sym, ◌∙◌, ap, subst, arith}
+use Rattle.std.specs.Prelude.{if◌then◌else◌, nat_le, option_map, ok_or, IfOk}
 use Rattle.std.specs.List.{list_all}
 use Rattle.std.proofs.lemmas.Bool.{and_parts, leb-true, le-leb}
 use Rattle.asm_group.specs.Names as names
 use Rattle.asm_group.specs.Names.{is_name_byte}
 use Rattle.asm_grammar.specs.Bytes.{is_letter, is_blank, is_word, run_of, after_run}
-use Rattle.asm_grammar.specs.Word.{Word, Mark, Name, fit, is_name, starts_with_letter, when, with_rest}
-use Rattle.asm_grammar.specs.Syntax.{Value}
-use Rattle.asm_grammar.specs.Reading.{whole}
-use Rattle.asm_grammar.specs.Laws.{IsText}
+use Rattle.asm_grammar.specs.Word.{Name, fit, is_name, when, with_rest}
+use Rattle.asm_grammar.specs.Syntax.{Value, Has}
 use Rattle.asm_grammar.proofs.Consumes.{some_pair}
-use Rattle.asm_base.specs.Names.{name_of}
-use Rattle.asm_base.proofs.NameLaws.{name_is_part}
-use Rattle.asm_grammar.proofs.Whole.{whole_texts}
-use Rattle.session.specs.Meaning.{creation, name_and_path, said, said_of}
+use Rattle.asm_group.specs.declared.GroupKind.{GroupKind}
+use Rattle.asm_group.specs.declared.GroupKind.TheVariants.{External}
+use Rattle.asm_group.specs.Names.{Bytes}
+use Rattle.asm_world.specs.Grammar as g
+use Rattle.asm_world.specs.Meaning.{Says, statement_of}
+use Rattle.asm_world.specs.Statement.{Statement, CreateGroup, NewFailgroup, Attribute}
+use Rattle.asmcmd.specs.declared.verb.ReadError.TheVariants.{Syntax}
+use Rattle.session.specs.declared.reader.Command as reader
+use Rattle.session.specs.declared.reader.Command.TheVariants.{CreateExternal}
+use Rattle.session.specs.Meaning.{one_disk, creation_of, creation_in}
+use Rattle.session.specs.Reads.{IsNamed, creation_view}
+use Rattle.session.proofs.Reading.{creation_is}
 
 -- the bytes of a word are those of names
 word_step : (b : ℕ) (text : List ℕ) (t : Bool) → is_word b ≡ t → list_all is_name_byte (run_of is_word text) ≡ true → list_all is_name_byte (cond t (b ∷ run_of is_word text) []) ≡ true
@@ -45,18 +51,21 @@ taken_here here name rest false is e = absurd cc
 taken : (text name rest : List ℕ) → fit Name text ≡ Some (name, rest) → names.is_name name ≡ true
 taken text name rest e = taken_here (after_run is_blank text) name rest (is_name (run_of is_word (after_run is_blank text))) refl e
 
-said_here : (text name path : List ℕ) (r : Result (Value creation) ℕ) → whole creation (Mark 59) text ≡ r → said_of r ≡ Some (name, path) → names.is_name name ≡ true
-said_here text name path (Err at) is e = absurd cc
-said_here text name path (Ok v) is e =
-    let text_is = (whole_texts creation 59 text v refl).0 is in
-    let has = text_is.has in
-    let name_is : (name_and_path v).0 ≡ name = (some_pair e).0 in
-    subst (λ (n : List ℕ). names.is_name n ≡ true) name_is (taken has.2.0 (name_and_path v).0 has.2.2.0 has.2.2.1)
+-- the name of a creation stands in the text as a word
+named_at : (value : Value g.statement) (text rest name : Bytes) (kind : Option GroupKind) (groups : List NewFailgroup) (attributes : List Attribute)
+    → Has g.statement value text rest → statement_of value ≡ CreateGroup name kind groups attributes → names.is_name name ≡ true
+named_at (inl (create, inl (word, (path, (sign, size))))) text rest name kind groups attributes has is = absurd cc
+named_at (inl (create, inr (word, (n, (k, (fs, ts)))))) text rest name kind groups attributes has is =
+    let same : n ≡ name = cc in
+    subst (λ (x : List ℕ). names.is_name x ≡ true) same (taken has.2.0 n has.2.2.0 has.2.2.1)
+named_at (inr (inl (drop, (word, (n, None))))) text rest name kind groups attributes has is = absurd cc
+named_at (inr (inl (drop, (word, (n, Some (inl including, contents)))))) text rest name kind groups attributes has is = absurd cc
+named_at (inr (inl (drop, (word, (n, Some (inr excluding, contents)))))) text rest name kind groups attributes has is = absurd cc
+named_at (inr (inr (alter, (word, (n, c))))) text rest name kind groups attributes has is = absurd cc
 
--- the name that a whole text says
-pub said_name : (text name path : List ℕ) → said text ≡ Some (name, path) → names.is_name name ≡ true
-said_name text name path e = said_here text name path (whole creation (Mark 59) text) refl e
+said_name : (text name path : Bytes) → Says text (creation_of name path) → names.is_name name ≡ true
+said_name text name path says = named_at says.value text says.rest name (Some External) (one_disk path ∷ []) [] says.has says.is
 
--- the code reads it as the name that it is
-pub said_name_is_read : (text name path : List ℕ) → said text ≡ Some (name, path) → name_of 30 name ≡ Some name
-said_name_is_read text name path e = rw (name_is_part name (said_name text name path e)) refl
+pub named_read : (text : Bytes) (s : Statement) (o : Option reader.Command) → Says text s → option_map creation_view o ≡ creation_in s → IfOk (ok_or o (Syntax 0)) IsNamed
+named_read text s None says e = tt
+named_read text s (Some (CreateExternal name path)) says e = said_name text name path (subst (λ x. Says text x) (creation_is s name path (sym e)) says)

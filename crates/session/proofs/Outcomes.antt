@@ -27,16 +27,14 @@ use Rattle.asm_world.specs.Waits.{HasLines}
 use Rattle.asm_world.specs.World.{World, SessionEntry, entry_in, has_mounted, is_mounted, with_group, mounted_entry}
 use Rattle.group_disks.specs.Found.{Counts, counts_of, AreIdsRead, RefusalCause, IsEarly}
 use Rattle.group_disks.specs.Creating.{HasCreated, made_group}
-use Rattle.std.specs.Option.{option_map}
-use Rattle.session.specs.declared.reader.Creation.{Creation}
-use Rattle.session.specs.Views.{creation_view}
 use Rattle.session.specs.Claims.{StandsFor, IsApart}
 use Rattle.session.specs.Counts.{IsRefused, ReplyCause, IsMade}
 use Rattle.session.specs.Effects.{Past, Keeps, HasEffect, below_with}
-use Rattle.session.specs.Meaning.{meaning, said, command_from, creation_of}
+use Rattle.session.specs.Meaning.{meaning, creation_of, creation_asked}
 use Rattle.session.specs.Sessions.{AreGiven}
 use Rattle.session.proofs.Causes.{no_disk_cause, disk_taken_cause, too_small_cause, write_fault_cause, done_cause}
 use Rattle.session.proofs.Creation.{same_keeps, creation_keeps}
+use Rattle.session.proofs.Reading.{ReadAs, creates, refuses_at, read_as}
 
 abbrev pub unread : Found
 unread = record { ids = []; made = None }
@@ -46,18 +44,18 @@ pub none_read : (s t : Counts) → AreIdsRead [] s t
 none_read s t = record { each = λ i below. absurd (omega arith) }
 
 -- want of memory leaves the world as it was
-stays_by : (found : Found) (text : Bytes) (w : World) (v : Option (Bytes × Bytes)) → said text ≡ v → Step (below_with found) w (meaning text) (Refused [] r.NoMemory) w
-stays_by found text w None e = rw e (inl refl)
-stays_by found text w (Some v) e = rw e (inl refl)
+stays_by : (found : Found) (text : Bytes) (w : World) → ReadAs text → Step (below_with found) w (meaning text) (Refused [] r.NoMemory) w
+stays_by found text w (creates name path e) = rw e (inl refl)
+stays_by found text w (refuses_at at e) = rw e (inl refl)
 
 -- A command that wrote nothing was refused: what is asked of the refusal, and the rest follows.
 pub plain : (paths : List Bytes) (found : Found) (text : Bytes) (cause : r.Refusal) (given given' : ℕ) (slots : ℕ → Type 0) (old new : BayState) (w : World)
     → Step (below_with found) w (meaning text) (Refused [] cause) w → HasCause (below_with found) w (meaning text) (Refused [] cause) → HasLines (below_with found) w (meaning text) (Refused [] cause)
-    → AreIdsRead found.ids (counts_of old) (counts_of new) → IsMade (said text) found.made w → ReplyCause paths text (Refused [] cause) (counts_of old) (counts_of new)
+    → AreIdsRead found.ids (counts_of old) (counts_of new) → IsMade (creation_asked (meaning text)) found.made w → ReplyCause paths text (Refused [] cause) (counts_of old) (counts_of new)
     → given ≤ given' → Runs slots Same old new → HasEffect paths found text (Refused [] cause) given given' old new w w
 plain paths found text cause given given' slots old new w step has lines read made counted more runs = record {
   step = step;
-  no_memory = λ is. stays_by found text w (said text) refl;
+  no_memory = λ is. stays_by found text w (read_as text);
   cause = has;
   lines = lines;
   ids_read = read;
@@ -68,25 +66,20 @@ plain paths found text cause given given' slots old new w step has lines read ma
   keeps = λ known stands apart. same_keeps (length paths) known given given' slots old new w more runs stands text;
 }
 
--- what was read says nothing
-pub said_none : (read : Option Creation) (text : Bytes) → option_map creation_view read ≡ said text → read ≡ None → said text ≡ None
-said_none None text e is = sym e
-said_none (Some v) text e is = absurd cc
-
--- a text that says nothing
-pub unreadable : (paths : List Bytes) (text : Bytes) (given given' : ℕ) (slots : ℕ → Type 0) (old new : BayState) (w : World) → said text ≡ None → given ≤ given' → Runs slots Same old new
-    → HasEffect paths unread text (Refused [] (r.Syntax 0)) given given' old new w w
-unreadable paths text given given' slots old new w none more runs =
-    plain paths unread text (r.Syntax 0) given given' slots old new w (rw none refl) (rw none refl) (rw none refl) (none_read (counts_of old) (counts_of new)) (rw none refl) (rw none tt) more runs
+-- a text that is refused
+pub unreadable : (paths : List Bytes) (text : Bytes) (at : ℕ) (given given' : ℕ) (slots : ℕ → Type 0) (old new : BayState) (w : World) → meaning text ≡ Unreadable at → given ≤ given' → Runs slots Same old new
+    → HasEffect paths unread text (Refused [] (r.Syntax at)) given given' old new w w
+unreadable paths text at given given' slots old new w none more runs =
+    plain paths unread text (r.Syntax at) given given' slots old new w (rw none refl) (rw none refl) (rw none refl) (none_read (counts_of old) (counts_of new)) (rw none refl) (rw none tt) more runs
 
 -- want of memory before the disks were asked
 pub no_memory : (paths : List Bytes) (text : Bytes) (given given' : ℕ) (slots : ℕ → Type 0) (old new : BayState) (w : World) → given ≤ given' → Runs slots Same old new
     → HasEffect paths unread text (Refused [] r.NoMemory) given given' old new w w
-no_memory paths text given given' slots old new w more runs = by (said text) refl
+no_memory paths text given given' slots old new w more runs = by (read_as text)
   where
-    by : (v : Option (Bytes × Bytes)) → said text ≡ v → HasEffect paths unread text (Refused [] r.NoMemory) given given' old new w w
-    by None e = plain paths unread text r.NoMemory given given' slots old new w (rw e (inl refl)) tt (rw e refl) (none_read (counts_of old) (counts_of new)) (rw e refl) (rw e tt) more runs
-    by (Some v) e = plain paths unread text r.NoMemory given given' slots old new w (rw e (inl refl)) tt (rw e refl) (none_read (counts_of old) (counts_of new)) (rw e (λ id none. absurd cc)) (rw e tt) more runs
+    by : ReadAs text → HasEffect paths unread text (Refused [] r.NoMemory) given given' old new w w
+    by (refuses_at at e) = plain paths unread text r.NoMemory given given' slots old new w (rw e (inl refl)) tt (rw e refl) (none_read (counts_of old) (counts_of new)) (rw e refl) (rw e tt) more runs
+    by (creates name path e) = plain paths unread text r.NoMemory given given' slots old new w (rw e (inl refl)) tt (rw e refl) (none_read (counts_of old) (counts_of new)) (rw e (λ id none. absurd cc)) (rw e tt) more runs
 
 or_parts : (a b : Bool) → (a || b) ≡ true → (a ≡ true) ⊎ (b ≡ true)
 or_parts true b is = inl refl
@@ -107,7 +100,7 @@ entered (e ∷ session) name id i other is = ⊎_elim
 
 -- ---- a creation
 
-module _ (paths : List Bytes) (text name path : Bytes) (says : said text ≡ Some (name, path)) (w : World) (few : nat_le 8 (mounted_count w) ≡ false) (absent : is_some (entry_in w name) ≡ false)
+module _ (paths : List Bytes) (text name path : Bytes) (says : meaning text ≡ Said (creation_of name path)) (w : World) (few : nat_le 8 (mounted_count w) ≡ false) (absent : is_some (entry_in w name) ≡ false)
     (ids : List ℕ) (slots : ℕ → Type 0) (given given' : ℕ) (old new : BayState) (read : AreIdsRead ids (counts_of old) (counts_of new)) where
   -- it was refused before anything was written
   pub refused_early : (cause : r.Refusal) → IsEarly cause → RefusalCause paths path cause (counts_of old) (counts_of new) → given ≤ given' → Runs slots Same old new
@@ -153,7 +146,7 @@ module _ (paths : List Bytes) (text name path : Bytes) (says : said text ≡ Som
       above = above;
     }
 
-    has_group : (session : List SessionEntry) → IsMade (said text) found.made (after session)
+    has_group : (session : List SessionEntry) → IsMade (creation_asked (meaning text)) found.made (after session)
     has_group session = rw says (λ i is.
         let here : id ≡ i = same_Some id i is in
         let P : ℕ → Type 0 = λ j. maps.get (maps.insert w.groups id (made_group name ∷ [])) j ≡ Some (made_group name ∷ []) in

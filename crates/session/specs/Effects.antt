@@ -16,7 +16,7 @@ use Rattle.group_disks.specs.Found.{counts_of, AreIdsRead}
 use Rattle.group_disks.specs.Creating.{Allows}
 use Rattle.session.specs.Counts.{ReplyCause, IsMade}
 use Rattle.session.specs.Claims.{StandsFor, IsStanding, IsApart}
-use Rattle.session.specs.Meaning.{meaning, said}
+use Rattle.session.specs.Meaning.{meaning, creation_asked}
 use Rattle.session.specs.Quiet.{quiet}
 
 -- a later call says nothing new of a moment that has ended
@@ -42,7 +42,7 @@ pub record HasEffect (paths : List Bytes) (found : Found) (text : Bytes) (reply 
   pub cause : HasCause (below_with found) w (meaning text) reply
   pub lines : HasLines (below_with found) w (meaning text) reply
   pub ids_read : AreIdsRead found.ids (counts_of old) (counts_of new)
-  pub made : IsMade (said text) found.made w'
+  pub made : IsMade (creation_asked (meaning text)) found.made w'
   pub counted : ReplyCause paths text reply (counts_of old) (counts_of new)
   pub calls : old.calls ≤ new.calls
   pub past : Past old new

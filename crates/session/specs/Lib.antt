@@ -1,6 +1,7 @@
 pub mod Entries
 pub mod Meaning
 pub mod Views
+pub mod Reads
 pub mod Counts
 pub mod Claims
 pub mod Acts

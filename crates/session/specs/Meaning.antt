@@ -1,18 +1,14 @@
--- What the texts of commands ask for, as far as commands are understood yet: the creation of a group on one disk.
-use Rattle.std.specs.Prelude.{◌≡◌, ℕ, false, List, [], ◌∷◌, codes, Option, Some, None, Result, Ok, Err}
-use Rattle.asm_group.specs.declared.GroupKind.TheVariants.{External}
+-- What the program takes the text of a command for: what the two languages say of it, as far as its form is built.
+use Rattle.std.specs.Prelude.{ℕ, Bool, false, ◌||◌, is_some, List, [], ◌∷◌, Option, Some, None, if◌then◌else◌}
+use Rattle.std.specs.Option.{option_map}
+use Rattle.asm_group.specs.declared.GroupKind.{GroupKind}
+use Rattle.asm_group.specs.declared.GroupKind.TheVariants.{External, Normal, High}
 use Rattle.asm_group.specs.Names.{Bytes}
-use Rattle.asm_grammar.specs.Word.{Key, Mark, Name, Quoted}
-use Rattle.asm_grammar.specs.Syntax.{Syntax, One, Then, Value}
-use Rattle.asm_grammar.specs.Reading.{whole}
-use Rattle.asm_world.specs.Command.{Command, Said, Unreadable}
-use Rattle.asm_world.specs.Statement.{Statement, CreateGroup, NewDisk, NewFailgroup}
+use Rattle.asm_world.specs.Command.{Command, Said, Asked, Unreadable}
+use Rattle.asm_world.specs.Language.{command_of}
+use Rattle.asm_world.specs.Statement.{Statement, CreateDisk, CreateGroup, DropGroup, Alter, Attribute, NewDisk, NewFailgroup}
 
--- CREATE DISKGROUP name EXTERNAL REDUNDANCY DISK path
-abbrev pub creation : Syntax
-creation =
-    Then (One (Key (codes "CREATE"))) (Then (One (Key (codes "DISKGROUP"))) (Then (One Name)
-    (Then (One (Key (codes "EXTERNAL"))) (Then (One (Key (codes "REDUNDANCY"))) (Then (One (Key (codes "DISK"))) (One Quoted))))))
+-- ---- the creation of an EXTERNAL group on one disk, which its path alone names
 
 abbrev pub one_disk : Bytes → NewFailgroup
 one_disk path = record { quorum = false; name = None; disks = record { path = path; name = None; size = None; force = false } ∷ [] }
@@ -20,23 +16,53 @@ one_disk path = record { quorum = false; name = None; disks = record { path = pa
 abbrev pub creation_of : Bytes → Bytes → Statement
 creation_of name path = CreateGroup name (Some External) (one_disk path ∷ []) []
 
--- the name and the path of a creation
-abbrev pub name_and_path : Value creation → Bytes × Bytes
-name_and_path (a, (b, (name, (c, (d, (e, path)))))) = (name, path)
+-- the item of a list of one
+abbrev pub only : {A : Type 0} → List A → Option A
+only [] = None
+only (x ∷ []) = Some x
+only (x ∷ y ∷ others) = None
 
--- what a text says, where it is a creation: its name and path
-abbrev pub said_of : Result (Value creation) ℕ → Option (Bytes × Bytes)
-said_of (Ok v) = Some (name_and_path v)
-said_of (Err at) = None
+-- the path of a disk of which nothing else is said
+abbrev pub plain_path : Option NewDisk → Option Bytes
+plain_path None = None
+plain_path (Some d) = if is_some d.name || is_some d.size || d.force then None else Some d.path
 
-abbrev pub command_from : Option (Bytes × Bytes) → Command
-command_from None = Unreadable 0
-command_from (Some (name, path)) = Said (creation_of name path)
+-- the same of the only disk of a failure group without a name
+abbrev pub path_in_group : Option NewFailgroup → Option Bytes
+path_in_group None = None
+path_in_group (Some f) = if f.quorum || is_some f.name then None else plain_path (only f.disks)
 
--- what a whole text says
-abbrev pub said : Bytes → Option (Bytes × Bytes)
-said text = said_of (whole creation (Mark 59) text)
+abbrev pub external_path : Option GroupKind → List NewFailgroup → List Attribute → Option Bytes
+external_path None groups attributes = None
+external_path (Some Normal) groups attributes = None
+external_path (Some High) groups attributes = None
+external_path (Some External) groups [] = path_in_group (only groups)
+external_path (Some External) groups (attribute ∷ attributes) = None
 
--- Every other text is refused at its first byte.
-abbrev pub meaning : Bytes → Command
-meaning text = command_from (said text)
+-- the name and the path of such a creation
+abbrev pub creation_in : Statement → Option (Bytes × Bytes)
+creation_in (CreateGroup name kind groups attributes) = option_map (λ path. (name, path)) (external_path kind groups attributes)
+creation_in (CreateDisk path size) = None
+creation_in (DropGroup name contents) = None
+creation_in (Alter name clause) = None
+
+-- ---- what is built
+
+-- Each statement that is built joins by its own case.
+abbrev pub is_built : Statement → Bool
+is_built s = is_some (creation_in s)
+
+-- A form that isn't built yet is refused at its first byte, any other text where its longest front that begins a command ends.
+abbrev pub built : Command → Command
+built (Said s) = if is_built s then Said s else Unreadable 0
+built (Asked verb) = Unreadable 0
+built (Unreadable at) = Unreadable at
+
+unfoldable pub meaning : Bytes → Command
+meaning text = built (command_of text)
+
+-- the name and the path of the creation that a command asks for
+abbrev pub creation_asked : Command → Option (Bytes × Bytes)
+creation_asked (Said s) = creation_in s
+creation_asked (Asked verb) = None
+creation_asked (Unreadable at) = None

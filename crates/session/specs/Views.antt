@@ -1,16 +1,11 @@
 -- What the code's types say.
 use Rattle.std.specs.Prelude.{ℕ, List, [], Option, None}
-use Rattle.asm_group.specs.Names.{Bytes}
 use Rattle.asm_base.specs.Refusals.{said}
 use Rattle.asm_world.specs.Reply as world
 use Rattle.asm_world.specs.Below.{Found}
 use Rattle.session.specs.declared.found.FoundIds.{FoundIds}
-use Rattle.session.specs.declared.reader.Creation.{Creation}
 use Rattle.session.specs.declared.reply.Reply.{Reply}
 use Rattle.session.specs.declared.reply.Reply.TheVariants.{Done, Refused}
-
-abbrev pub creation_view : Creation → Bytes × Bytes
-creation_view c = (c.name.now, c.path.now)
 
 -- No command that is understood yet has lines before its last, and each disk in a refusal is spelt.
 abbrev pub reply_view : Reply → world.Reply

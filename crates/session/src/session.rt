@@ -1,19 +1,21 @@
 // The groups of the session, and the commands on them.
-ghost use Rattle.std.specs.Prelude.{◌≡◌, ℕ, max, map, length, ◌≤◌, ◌<◌, ◌++◌, [], is_some, nat_le, false, Some, IsTrue, IfSome, OnOk, OnErr};
+ghost use Rattle.std.specs.Prelude.{◌≡◌, ℕ, max, map, length, ◌≤◌, ◌<◌, ◌++◌, [], is_some, nat_le, false, IsTrue, IfSome, OnOk, OnErr};
 ghost use Rattle.std.specs.String.{string_bytes};
 ghost use Rattle.asm_group.specs.Names.{is_name};
 ghost use Rattle.asm_world.specs.Causes.{mounted_count};
 ghost use Rattle.asm_world.specs.World.{World, entry_among};
-ghost use Rattle.session.specs.Meaning.{said};
+ghost use Rattle.asm_world.specs.Command.{Said};
+ghost use Rattle.session.specs.Meaning.{meaning, creation_of};
 ghost use Rattle.session.specs.Entries.{entry_view};
 ghost use Rattle.session.specs.Sessions.{Knows, given_after, entries_of};
 ghost use Rattle.session.specs.Effects.{HasEffect};
-ghost use Rattle.session.specs.Views.{reply_view, creation_view, found_view, nothing_found};
+ghost use Rattle.session.specs.Views.{reply_view, found_view, nothing_found};
 
 use crate::found::FoundIds;
-use crate::reader::{Creation, read_creation};
+use crate::reader::{Command, read_command};
 use crate::reply::Reply;
 use asm_base::{Limited, Name, NoMemory, Refusal};
+use asmcmd::ReadError;
 use bay::Bay;
 use group_disks::create_group;
 use std::alloc::Global;
@@ -105,10 +107,12 @@ impl Session {
         ensures effect { (w : World) → Knows self.old w → (w' : World) × Knows self.new w'
             × HasEffect (map string_bytes paths.now) (found_view found.new) command.now (reply_view result) self.old.given self.new.given (B.state bay.old) (B.state bay.new) w w' }
     {
-        match read_creation(command) {
-            Ok(Some(said)) => self.create(alloc, bay, paths, command, said, found),
-            Ok(None) => Reply::Refused(Refusal::Syntax { at: 0 }),
-            Err(NoMemory) => Reply::Refused(Refusal::NoMemory),
+        match read_command(alloc, command) {
+            Ok(Command::CreateExternal { name, path }) => {
+                self.create(alloc, bay, paths, command, path.as_slice(), name, found)
+            }
+            Err(ReadError::Syntax { at }) => Reply::Refused(Refusal::Syntax { at }),
+            Err(ReadError::NoMemory) => Reply::Refused(Refusal::NoMemory),
         }
     }
 
@@ -119,20 +123,17 @@ impl Session {
         bay: &mut B,
         paths: &[String],
         command: &[u8],
-        creation: Creation,
+        path: &[u8],
+        name: Name,
         found: &mut FoundIds,
     ) -> Reply
         requires few { length paths.now ≤ 512 }
         requires none { found_view found.old ≡ nothing_found }
-        requires says { said command.now ≡ Some (creation_view creation) }
+        requires says { meaning command.now ≡ Said (creation_of name path.now) }
+        requires name { IsTrue (is_name name) }
         ensures effect { (w : World) → Knows self.old w → (w' : World) × Knows self.new w'
             × HasEffect (map string_bytes paths.now) (found_view found.new) command.now (reply_view result) self.old.given self.new.given (B.state bay.old) (B.state bay.new) w w' }
     {
-        let name = match Name::read(alloc, creation.name, 30) {
-            Ok(Some(name)) => name,
-            Ok(None) => return Reply::Refused(Refusal::Syntax { at: 0 }),
-            Err(NoMemory) => return Reply::Refused(Refusal::NoMemory),
-        };
         if self.is_full() {
             return Reply::Refused(Refusal::TooMany {
                 kind: Limited::Groups,
@@ -145,7 +146,7 @@ impl Session {
         if self.make_room().is_err() {
             return Reply::Refused(Refusal::NoMemory);
         }
-        self.create_named(alloc, bay, paths, command, creation.path, name, found)
+        self.create_named(alloc, bay, paths, command, path, name, found)
     }
 
     /// The creation of a group whose name isn't in the session, for whose entry there is room.
@@ -161,7 +162,7 @@ impl Session {
     ) -> Reply
         requires few { length paths.now ≤ 512 }
         requires none { found_view found.old ≡ nothing_found }
-        requires says { said command.now ≡ Some (name, path.now) }
+        requires says { meaning command.now ≡ Said (creation_of name path.now) }
         requires name { IsTrue (is_name name) }
         requires absent { is_some (entry_among self.old.entries name) ≡ false }
         requires room { (w : World) → Knows self.old w → nat_le 8 (mounted_count w) ≡ false }
