@@ -123,7 +123,7 @@ fn scripts_are_answered(rt: HostRuntime) -> Result<(), Fail> {
             megabytes: 25,
             script: b"pwd\nDROP DISKGROUP 'x;';",
             status: 1,
-            output: b"error 1 Syntax 0\nerror 1 Syntax 0\n",
+            output: b"error 1 Syntax 0\nerror 1 Syntax 15\n",
             replies: 2,
         },
         Row {
@@ -158,6 +158,75 @@ fn scripts_are_answered(rt: HostRuntime) -> Result<(), Fail> {
         if let Some(last) = report.marks.last() {
             assert_eq!(rt; *last, bay.calls());
         }
+    }
+    Ok(())
+}
+
+// A text that isn't of the languages is refused where it parts from them, and one whose form isn't built at its first byte.
+#[test]
+fn texts_are_refused_at_their_places(rt: HostRuntime) -> Result<(), Fail> {
+    let alloc = rt.alloc();
+    let rows: [(&[u8], &[u8]); 12] = [
+        (b"ALTER DISKGROUP data ADD", b"error 1 Syntax 24\n"),
+        (b"pwd\r\n", b"error 1 Syntax 3\n"),
+        (b"pwd \n", b"error 1 Syntax 0\n"),
+        (b"lsx", b"error 1 Syntax 2\n"),
+        (b"LS", b"error 1 Syntax 0\n"),
+        (b"CREx", b"error 1 Syntax 3\n"),
+        (b"cp ./a ./b", b"error 1 Syntax 8\n"),
+        (b"ALTER DISKGROUP data MOUNT;", b"error 1 Syntax 0\n"),
+        (
+            b"ALTER DISKGROUP data ADD VOLUME v;",
+            b"error 1 Syntax 25\n",
+        ),
+        (
+            b"CREATE DISKGROUP H HIGH REDUNDANCY DISK '/d0', '/d1';",
+            b"error 1 Syntax 0\n",
+        ),
+        (
+            b"CREATE DISKGROUP DATA EXTERNAL REDUNDANCY DISK '/d0' FORCE;",
+            b"error 1 Syntax 0\n",
+        ),
+        (
+            b"CREATE DISKGROUP DATA EXTERNAL REDUNDANCY DISK '/d0' ATTRIBUTE 'au_size' = '1M';",
+            b"error 1 Syntax 0\n",
+        ),
+    ];
+    for (script, output) in rows {
+        let mut bay = bay_of(alloc, 25 * MB)?;
+        let (report, sink) = ran(alloc, "/d0", script, &mut bay, &NONE)?;
+        assert_eq!(rt; sink.bytes(), output);
+        assert!(rt; report.status == 1 && report.replies == 1 && bay.calls() == 0);
+    }
+    Ok(())
+}
+
+#[test]
+fn every_prefix_of_a_statement_is_refused_at_its_length(rt: HostRuntime) -> Result<(), Fail> {
+    let alloc = rt.alloc();
+    let text = b"ALTER DISKGROUP data DROP DISK d1 FORCE;";
+    for len in 1..40usize {
+        let mut bay = bay_of(alloc, 25 * MB)?;
+        let (report, sink) = ran(alloc, "/d0", &text[..len], &mut bay, &NONE)?;
+        let line = format!(in alloc; "error 1 Syntax {len}\n")?;
+        assert_eq!(rt; sink.bytes(), line.as_bytes());
+        assert_eq!(rt; report.status, 1);
+    }
+    Ok(())
+}
+
+// Words that say what holds anyway make the same statement.
+#[test]
+fn one_statement_has_many_spellings(rt: HostRuntime) -> Result<(), Fail> {
+    let alloc = rt.alloc();
+    for script in [
+        b"create\tdiskgroup Data\nexternal redundancy\ndisk'/d0';".as_slice(),
+        b"CREATE DISKGROUP DATA EXTERNAL REDUNDANCY REGULAR DISK '/d0' NOFORCE;".as_slice(),
+    ] {
+        let mut bay = bay_of(alloc, 25 * MB)?;
+        let (report, sink) = ran(alloc, "/d0", script, &mut bay, &NONE)?;
+        assert_eq!(rt; sink.bytes(), b"ok\n".as_slice());
+        assert_eq!(rt; report.status, 0);
     }
     Ok(())
 }
