@@ -1,0 +1,12 @@
+pub mod Counting
+pub mod Pivots
+pub mod Surveying
+pub mod Rising
+pub mod Histories
+pub mod Invariant
+pub mod Keeping
+pub mod Finding
+pub mod Beginning
+pub mod Completing
+pub mod Running
+pub mod RowProofs

@@ -1,0 +1,4 @@
+pub mod Disks
+pub mod Machine
+pub mod Laws
+pub mod Rows
