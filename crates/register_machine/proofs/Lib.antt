@@ -8,5 +8,6 @@ pub mod Keeping
 pub mod Finding
 pub mod Beginning
 pub mod Completing
+pub mod Mounting
 pub mod Running
 pub mod RowProofs

@@ -7,6 +7,8 @@ use Rattle.asm_formats.specs.Following.{Holder, rank}
 use Rattle.register_machine.specs.Disks.{surveyed}
 use Rattle.register_machine.specs.Machine.{Mark, Completed, Program, Claiming, Writing, State, Event, Creates, Surveys, Claims, ClaimStands, Begins, Stores, Completes, Stops, Allowed, after, AreAllowed, after_all, start}
 use Rattle.register_machine.specs.Laws.{begun, Always, SurveyIsCurrent, StatusIsCurrent, BegunFollow, NumbersRise, CompletedIsHeld, LastIsGreatest, EpochsAreSeen, NeverUndone}
+use Rattle.register_machine.specs.Mounts.{CanBeMounted}
+use Rattle.register_machine.proofs.Mounting.{can_be_mounted}
 use Rattle.register_machine.proofs.Surveying.{status_surveyed}
 use Rattle.register_machine.proofs.Histories.{base, has_base, compared}
 use Rattle.register_machine.proofs.Invariant.{IsClaim, Knows, Holds}
@@ -92,6 +94,9 @@ completed_is_held events may v read last enough = let s = after_all start events
 
 pub epochs_are_seen : Always EpochsAreSeen
 epochs_are_seen events may r g read current enough h = let s = after_all start events in current_sees s.disks s.history (reached events may).kept r g read current enough h
+
+pub all_can_be_mounted : Always CanBeMounted
+all_can_be_mounted events may read found e lt = let s = after_all start events in can_be_mounted s (reached events may).kept read found e lt
 
 -- marks stay
 mark_stays_once : (s : State) (event : Event) (m : Mark) → IsAmong s.history m → IsAmong (after s event).history m

@@ -1,4 +1,5 @@
 pub mod Disks
 pub mod Machine
 pub mod Laws
+pub mod Mounts
 pub mod Rows

@@ -6,7 +6,8 @@ use Rattle.asm_group.specs.declared.Mode.TheVariants.{Online, Offline, Dropping}
 use Rattle.asm_formats.specs.Status.{Status, Entry}
 use Rattle.asm_formats.specs.Following.{Holder}
 use Rattle.register_machine.specs.Disks.{status}
-use Rattle.register_machine.specs.Machine.{Event, Creates, Surveys, Claims, ClaimStands, Begins, Stores, Completes, Stops, AreAllowed, after_all, start}
+use Rattle.register_machine.specs.Mounts.{claims, completes, surveys, writes}
+use Rattle.register_machine.specs.Machine.{Event, Creates, Stops, AreAllowed, after_all, start}
 
 -- disk d has birth d + 1
 abbrev pub disk : ℕ → Holder
@@ -42,30 +43,12 @@ record_of epoch turn holders next_holders mode changed = record {
   entries = map (entry mode changed) (0 ∷ 1 ∷ 2 ∷ 3 ∷ []);
 }
 
--- ---- parts of runs
-
--- the claim is put on these disks, and stands
-abbrev pub claims : List ℕ → Status → ℕ → List Event
-claims ds found epoch = map (λ d. Claims (disk d) found epoch) ds ++ ClaimStands found epoch ∷ []
-
--- the record is begun, and put on these disks
-abbrev pub writes : List ℕ → Status → List Event
-writes ds next = Begins next ∷ map (λ d. Stores (disk d) next) ds
-
--- and it is complete
-abbrev pub completes : List ℕ → Status → List Event
-completes ds next = writes ds next ++ Completes next ∷ []
-
--- a program reads these disks, finds this record and claims this epoch on them
-abbrev pub mounts : List ℕ → Status → ℕ → List Event
-mounts ds found epoch = Surveys (disks ds) found ∷ claims ds found epoch
-
 -- four disks, all Online
 abbrev pub created : Status
 created = record_of 1 1 7 0 Online []
 
 abbrev pub creation : List Event
-creation = Creates created ∷ claims (0 ∷ 1 ∷ 2 ∷ []) created 1 ++ completes (0 ∷ 1 ∷ 2 ∷ []) created
+creation = Creates created ∷ claims (disks (0 ∷ 1 ∷ 2 ∷ [])) created 1 ++ completes (disks (0 ∷ 1 ∷ 2 ∷ [])) created
 
 -- what disks give for Status after the creation and these events
 abbrev pub status_after : List Event → List ℕ → Option Status
@@ -82,10 +65,10 @@ abbrev pub second_offline : Status
 second_offline = record_of 2 1 7 0 Offline (2 ∷ [])
 
 abbrev pub stopped_change : List Event
-stopped_change = writes (2 ∷ []) third_offline ++ Stops ∷ []
+stopped_change = writes (disks (2 ∷ [])) third_offline ++ Stops ∷ []
 
 abbrev pub one_holder : List Event
-one_holder = stopped_change ++ mounts (0 ∷ 1 ∷ 3 ∷ []) created 2 ++ completes (1 ∷ 0 ∷ []) second_offline ++ Stops ∷ []
+one_holder = stopped_change ++ surveys (disks (0 ∷ 1 ∷ 3 ∷ [])) created 2 ++ completes (disks (1 ∷ 0 ∷ [])) second_offline ++ Stops ∷ []
 
 pub record OneHolderRow : Type 0 where
   pub allowed : AreAllowed start (creation ++ one_holder)
@@ -107,8 +90,8 @@ other_mount = record_of 3 1 7 0 Offline (2 ∷ [])
 
 abbrev pub two_mounts : List Event
 two_mounts =
-    Stops ∷ mounts (0 ∷ 1 ∷ 2 ∷ []) created 2 ++ writes (2 ∷ []) stopped_mount
-    ++ Stops ∷ mounts (0 ∷ 1 ∷ 3 ∷ []) created 3 ++ completes (1 ∷ 0 ∷ []) other_mount ++ Stops ∷ []
+    Stops ∷ surveys (disks (0 ∷ 1 ∷ 2 ∷ [])) created 2 ++ writes (disks (2 ∷ [])) stopped_mount
+    ++ Stops ∷ surveys (disks (0 ∷ 1 ∷ 3 ∷ [])) created 3 ++ completes (disks (1 ∷ 0 ∷ [])) other_mount ++ Stops ∷ []
 
 pub record TwoMountsRow : Type 0 where
   pub allowed : AreAllowed start (creation ++ two_mounts)
@@ -126,10 +109,10 @@ abbrev pub moved : Status
 moved = record_of 1 4 14 0 Dropping (0 ∷ [])
 
 abbrev pub half_moved : List Event
-half_moved = completes (2 ∷ 1 ∷ 0 ∷ []) dropping ++ completes (3 ∷ 2 ∷ 1 ∷ 0 ∷ []) moving
+half_moved = completes (disks (2 ∷ 1 ∷ 0 ∷ [])) dropping ++ completes (disks (3 ∷ 2 ∷ 1 ∷ 0 ∷ [])) moving
 
 abbrev pub all_moved : List Event
-all_moved = half_moved ++ completes (3 ∷ 2 ∷ 1 ∷ []) moved
+all_moved = half_moved ++ completes (disks (3 ∷ 2 ∷ 1 ∷ [])) moved
 
 pub record TwoSetsRow : Type 0 where
   pub allowed : AreAllowed start (creation ++ all_moved)

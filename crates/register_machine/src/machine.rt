@@ -1,6 +1,7 @@
 //! What holds in each state, whatever happens. Each law is the contract of a function that does nothing.
 
 ghost use Rattle.register_machine.specs.Laws.{Always, BegunFollow, CompletedIsHeld, EpochsAreSeen, LastIsGreatest, NumbersRise, NeverUndone, StatusIsCurrent, SurveyIsCurrent};
+ghost use Rattle.register_machine.specs.Mounts.{CanBeMounted};
 
 /// Whichever disks are left, Status is the record that was completed last, or one begun after it, and these have greater
 /// numbers and follow it.
@@ -21,4 +22,9 @@ pub fn completed_stays()
 pub fn numbers_are_new()
     ensures numbers { Always NumbersRise }
     ensures epochs { Always EpochsAreSeen }
+{}
+
+/// Wherever the last program stopped, disks that are enough for their greatest record can be mounted, while there are epochs.
+pub fn enough_disks_mount()
+    ensures { Always CanBeMounted }
 {}
