@@ -1,0 +1,78 @@
+// Fields that stand for a word or a small number.
+ghost use Rattle.asm_base.specs.Readings.{flag_reading};
+ghost use Rattle.directory_page.specs.Checks.{Passes, passed};
+ghost use Rattle.directory_page.specs.Values.{copies_reading, stripe_reading, system_reading, home_reading, pending_kind_reading, node_kind_reading};
+
+use asm_base::{Reader, take_flag, take_u8, take_u32};
+
+/// Passes over a number of copies: 1 to 3.
+pub(crate) fn pass_copies(from: &mut Reader) -> Option<()>
+    ensures { Passes from.new result (passed copies_reading from.old) }
+{
+    let copies = take_u8(from)?;
+    if 1 <= copies && copies <= 3 {
+        Some(())
+    } else {
+        None
+    }
+}
+
+/// Passes over a stripe: 1 COARSE, 2 FINE.
+pub(crate) fn pass_stripe(from: &mut Reader) -> Option<()>
+    ensures { Passes from.new result (passed stripe_reading from.old) }
+{
+    match take_u8(from)? {
+        1 | 2 => Some(()),
+        _ => None,
+    }
+}
+
+/// Passes over yes or no: 1 or 0.
+pub(crate) fn pass_flag(from: &mut Reader) -> Option<()>
+    ensures { Passes from.new result (passed flag_reading from.old) }
+{
+    take_flag(from)?;
+    Some(())
+}
+
+/// Passes over the node of a system name, which isn't 0.
+pub(crate) fn pass_system(from: &mut Reader) -> Option<()>
+    ensures { Passes from.new result (passed system_reading from.old) }
+{
+    let node = take_u32(from)?;
+    if 0 < node { Some(()) } else { None }
+}
+
+/// Passes over a home. An absent one is 255 and 0.
+#[tactic(auto, unfolding(crate::specs::Values::home_reading))]
+pub(crate) fn pass_home(from: &mut Reader) -> Option<()>
+    ensures { Passes from.new result (passed home_reading from.old) }
+{
+    let disk = take_u8(from)?;
+    let unit = take_u32(from)?;
+    if disk != 255 || unit == 0 {
+        Some(())
+    } else {
+        None
+    }
+}
+
+/// Passes over the kind of a pending operation: 1 create, 2 remove, 3 grow, 4 shrink.
+pub(crate) fn pass_pending_kind(from: &mut Reader) -> Option<()>
+    ensures { Passes from.new result (passed pending_kind_reading from.old) }
+{
+    match take_u8(from)? {
+        1 | 2 | 3 | 4 => Some(()),
+        _ => None,
+    }
+}
+
+/// Passes over the kind of a node: 1 directory, 2 system name, 3 alias.
+pub(crate) fn pass_node_kind(from: &mut Reader) -> Option<()>
+    ensures { Passes from.new result (passed node_kind_reading from.old) }
+{
+    match take_u8(from)? {
+        1 | 2 | 3 => Some(()),
+        _ => None,
+    }
+}
