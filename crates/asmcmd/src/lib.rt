@@ -23,4 +23,6 @@ pub use runs::read_text;
 pub use verb::{ReadError, Verb};
 
 #[cfg(test)]
+mod report_tests;
+#[cfg(test)]
 mod tests;

@@ -4,7 +4,7 @@ use std::alloc::Global;
 use std::test::*;
 
 /// A line of each verb, with and without what may be absent.
-const VERBS: [&[u8]; 30] = [
+const VERBS: [&[u8]; 36] = [
     b"dbcreate +DATA/o/DATAFILE/u 1M",
     b"dbcreate o/DATAFILE/u 512 scratch",
     b"dbwrite u.256.1 1K 61fF00",
@@ -35,6 +35,13 @@ const VERBS: [&[u8]; 30] = [
     b"offline DATA DATA_0003",
     b"online DATA d1",
     b"rebal DATA 0004",
+    // At the limits.
+    b"rebal \t DATA\t18446744073709551615 ",
+    b"lsdsk abcdefghijklmnopqrstuvwxyz$#_1",
+    b"rm 0123456789012345678901234567890123456789012345678901234567890123456789012345678.",
+    b"dbresize u 16777215T",
+    b"ls +",
+    b"ls -l *",
 ];
 
 /// A line that is no verb, and where it is refused.
@@ -44,7 +51,7 @@ struct Refused {
     at: u64,
 }
 
-const REFUSED: [Refused; 21] = [
+const REFUSED: [Refused; 29] = [
     Refused { line: b"", at: 0 },
     Refused { line: b"LS", at: 0 },
     Refused {
@@ -118,6 +125,39 @@ const REFUSED: [Refused; 21] = [
         line: b"ALTERx",
         at: 5,
     },
+    // Beyond the limits.
+    Refused {
+        line: b"lsdsk abcdefghijklmnopqrstuvwxyz$#_12",
+        at: 36,
+    },
+    Refused {
+        line: b"rm 0123456789012345678901234567890123456789012345678901234567890123456789012345678.x",
+        at: 83,
+    },
+    Refused {
+        line: b"dbresize u 16777216T",
+        at: 19,
+    },
+    Refused {
+        line: b"dbresize u 18446744073709551616",
+        at: 30,
+    },
+    Refused {
+        line: b"rebal DATA 4K",
+        at: 12,
+    },
+    Refused {
+        line: b"cd .",
+        at: 4,
+    },
+    Refused {
+        line: b"cd a//b",
+        at: 5,
+    },
+    Refused {
+        line: b"dbcreate u 1M t-1",
+        at: 15,
+    },
 ];
 
 fn is_verb(alloc: Global, line: &[u8]) -> bool {
@@ -144,6 +184,16 @@ fn other_lines_are_refused_at_their_place(rt: HostRuntime) -> Result<(), Fail> {
     for row in REFUSED {
         assert_eq!(rt; refused_at(rt.alloc(), row.line), Some(row.at));
     }
+    Ok(())
+}
+
+#[test]
+fn each_prefix_of_a_line_is_refused_at_its_length(rt: HostRuntime) -> Result<(), Fail> {
+    let line = b"dbfill u.256.1 512K 512 6A";
+    for len in 1..26usize {
+        assert_eq!(rt; refused_at(rt.alloc(), &line[..len]), Some(len as u64));
+    }
+    assert!(rt; is_verb(rt.alloc(), line));
     Ok(())
 }
 
