@@ -1,18 +1,18 @@
 -- The table of extents is read exactly from its records.
-use Rattle.std.proofs.Common.{◌≡◌, ℕ, suc, ◌+◌, ◌-◌, ◌^◌, ◌<◌, ◌≤◌, Bool, true, false, cond, eqb, List, [], ◌∷◌, length, map, Ordering, Option, Some, None, refl, sym, ap, subst, ◌∙◌, arith}
-use Rattle.std.specs.Prelude.{IfSome, ◌&&◌, not, ◌/◌, ◌%◌, replicate, slice_set}
-use Rattle.std.specs.Ordering.{nat_cmp, is_lt, ordering_then}
+use Rattle.std.proofs.Common.{◌≡◌, ℕ, ◌+◌, ◌-◌, ◌<◌, Bool, true, false, cond, List, [], ◌∷◌, map, Ordering, Option, Some, None, refl, sym, ap, subst, ◌∙◌, arith}
+use Rattle.std.specs.Prelude.{Result, Ok, Err, OnOk, OnErr, IfSome, ◌/◌, ◌%◌, replicate, slice_set}
+use Rattle.std.specs.Ordering.{nat_cmp, ordering_then}
 use Rattle.std.specs.declared.cmp.Ordering.TheVariants.{Less, Equal, Greater}
 use Rattle.std.specs.Map.{lookup, set_value}
 use Rattle.std.specs.List.{AllByRecursion}
-use Rattle.std.specs.Option.{is_some, option_and_then, option_map}
+use Rattle.std.specs.Option.{is_some, option_map}
 use Rattle.std.proofs.lemmas.Bool.{eq-eqb, ne_eqb}
 use Rattle.std.proofs.lemmas.Cmp.{nat_cmp_total, then_total, on_total}
 use Rattle.std.specs.Cmp.{IsTotalOrder}
 use Rattle.asm_formats.specs.Items.{Homes, Item, file_item, chunk_item, disk_item, rebalance_item, pending_item, templates_item, node_item, settings_item, marks_item, Key, is_item}
 use Rattle.asm_formats.specs.Values.{decoded_item}
 use Rattle.asm_base.specs.Records.{Entry, of_kinds, read_from, Ascend, ends_below}
-use Rattle.asm_base.specs.Tables.{IsItemTable, entry_of_record}
+use Rattle.asm_base.specs.Tables.{entry_of_record}
 use Rattle.asm_base.proofs.Exact.{bind_some, some_is, test_some}
 use Rattle.asm_base.proofs.ItemTables.{IsEntry, entry_is_read, entry_taken, items_found, items_again}
 use Rattle.extent_map.specs.Extents.{absent, Chunk, Chunked, IsNumbered, IsTable, add, chunk_cmp, chunk_key, chunked, has_no_gap, is_before, chunk_at, is_chunk, item_of, record_of, with_chunk, with_extent, without_gap}
@@ -117,3 +117,8 @@ nothing_set {K} {X} test (e ∷ es) w none = found_or (test e.0) refl none (λ m
 
 pub new_extent : (t s : List Chunked) (f i : ℕ) (homes : Homes) → s ≡ t → false ≡ is_some (chunk_at t (f, i / 256)) → with_chunk s (f, i / 256) (slice_set (replicate 256 absent) (i % 256) homes) ≡ with_extent t f i homes
 new_extent t s f i homes is none = rw (is, ← none) refl
+
+-- a table stays one, whether there was memory or not
+pub put_keeps_table : {E : Type 0} (r : Result (Unit {0}) E) (old new w : List Chunked) → OnOk r (new ≡ w) → OnErr r (new ≡ old) → IsTable w → IsTable old → IsTable new
+put_keeps_table (Ok u) old new w ok err fits before = subst IsTable (sym ok) fits
+put_keeps_table (Err e) old new w ok err fits before = subst IsTable (sym err) before

@@ -1,3 +1,6 @@
 pub mod Values
 pub mod Laws
 pub mod Numbering
+pub mod Lookups
+pub mod Ends
+pub mod FileEnds

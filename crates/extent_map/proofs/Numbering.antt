@@ -4,15 +4,14 @@ use Rattle.std.specs.Prelude.{◌&&◌, ◌||◌, not}
 use Rattle.std.specs.Ordering.{is_eq, is_lt, nat_cmp, ordering_reverse}
 use Rattle.std.specs.declared.cmp.Ordering.TheVariants.{Less, Equal, Greater}
 use Rattle.std.specs.BTreeMap.{is_at}
-use Rattle.std.specs.Map.{lookup}
-use Rattle.std.specs.List.{AllByRecursion, list_all}
+use Rattle.std.specs.List.{AllByRecursion}
 use Rattle.std.specs.Option.{unwrap_or}
 use Rattle.std.proofs.lemmas.Bool.{and_parts, cases_eq, eqb-true, ne_eqb}
 use Rattle.std.proofs.lemmas.Option.{none-some}
 use Rattle.asm_formats.specs.Items.{Homes, is_item}
 use Rattle.asm_base.specs.Records.{Ascend}
 use Rattle.asm_base.proofs.Exact.{some_is, test_some}
-use Rattle.extent_map.specs.Extents.{Chunk, Chunked, HasExtent, IsTable, chunk_at, chunk_cmp, has_home, has_no_gap, is_before, is_behind, is_blank, is_full, item_of, opened, stand_first, stands_at}
+use Rattle.extent_map.specs.Extents.{Chunk, Chunked, IsTable, chunk_at, chunk_cmp, has_home, has_no_gap, is_before, is_behind, is_blank, is_full, item_of, opened, stand_first, stands_at}
 use Rattle.extent_map.specs.Laws.{NumbersExtents}
 use Rattle.extent_map.proofs.Laws.{chunk_total, same_chunk}
 use Rattle.extent_map.proofs.Values.{chunk_fits}
@@ -23,7 +22,7 @@ rest_true : (b y : Bool) → cond b false y ≡ true → y ≡ true
 rest_true true y e = absurd cc
 rest_true false y e = e
 
-both_true : (b y : Bool) → cond b y false ≡ true → (b ≡ true) × (y ≡ true)
+pub both_true : (b y : Bool) → cond b y false ≡ true → (b ≡ true) × (y ≡ true)
 both_true true y e = (refl, e)
 both_true false y e = absurd cc
 
@@ -31,7 +30,7 @@ or_right : (a b : Bool) → (a || b) ≡ true → a ≡ false → b ≡ true
 or_right true b e f = absurd cc
 or_right false b e f = e
 
-clash : (b : Bool) → b ≡ true → b ≡ false → ⊥
+pub clash : (b : Bool) → b ≡ true → b ≡ false → ⊥
 clash true e f = absurd cc
 clash false e f = absurd cc
 
@@ -41,7 +40,7 @@ not_first : (b y : Bool) → cond (true && b) false y ≡ true → b ≡ false
 not_first true y e = absurd cc
 not_first false y e = refl
 
-first_home : (homes : List Homes) → stand_first true homes ≡ true → has_home (get_or homes 0 []) ≡ false
+pub first_home : (homes : List Homes) → stand_first true homes ≡ true → has_home (get_or homes 0 []) ≡ false
 first_home [] e = refl
 first_home (g ∷ gs) e = not_first (has_home g) (stand_first (not (has_home g)) gs) e
 
@@ -49,7 +48,7 @@ at_head : (b : Bool) (homes : List Homes) → stand_first (not b) homes ≡ true
 at_head true homes s e = refl
 at_head false homes s e = absurd (clash (has_home (get_or homes 0 [])) e (first_home homes s))
 
-next_home : (homes : List Homes) (ended : Bool) (p : ℕ) → stand_first ended homes ≡ true → has_home (get_or homes (suc p) []) ≡ true → has_home (get_or homes p []) ≡ true
+pub next_home : (homes : List Homes) (ended : Bool) (p : ℕ) → stand_first ended homes ≡ true → has_home (get_or homes (suc p) []) ≡ true → has_home (get_or homes p []) ≡ true
 next_home [] ended p s e = absurd cc
 next_home (h ∷ homes) ended zero s e = at_head (has_home h) homes (rest_true (ended && has_home h) (stand_first (not (has_home h)) homes) s) e
 next_home (h ∷ homes) ended (suc p) s e = next_home homes (not (has_home h)) p (rest_true (ended && has_home h) (stand_first (not (has_home h)) homes) s) e
@@ -67,19 +66,19 @@ not_blank homes e = by (is_blank homes) refl where
   by true q = absurd (clash (has_home (get_or homes 0 [])) e (blank_first homes q))
   by false q = q
 
-full_at : (homes : List Homes) (p : ℕ) → is_full homes ≡ true → p < length homes → has_home (get_or homes p []) ≡ true
+pub full_at : (homes : List Homes) (p : ℕ) → is_full homes ≡ true → p < length homes → has_home (get_or homes p []) ≡ true
 full_at [] p e lt = absurd (omega (arith, lt))
 full_at (h ∷ homes) zero e lt = (and_parts (has_home h) (is_full homes) e).0
 full_at (h ∷ homes) (suc p) e lt = full_at homes p (and_parts (has_home h) (is_full homes) e).1 (omega (arith, lt))
 
 -- ---- the chunk of a number
 
-is_same : (o : Ordering) → is_eq o ≡ true → o ≡ Equal
+pub is_same : (o : Ordering) → is_eq o ≡ true → o ≡ Equal
 is_same Less e = absurd cc
 is_same Equal e = refl
 is_same Greater e = absurd cc
 
-less_is : (o : Ordering) → is_lt o ≡ true → o ≡ Less
+pub less_is : (o : Ordering) → is_lt o ≡ true → o ≡ Less
 less_is Less e = refl
 less_is Equal e = absurd cc
 less_is Greater e = absurd cc
@@ -87,27 +86,27 @@ less_is Greater e = absurd cc
 self_cmp : (n : ℕ) → nat_cmp n n ≡ Equal
 self_cmp n = grind arith
 
-found_self : (f c : ℕ) → is_at (chunk_cmp (f, c)) (f, c) ≡ true
+pub found_self : (f c : ℕ) → is_at (chunk_cmp (f, c)) (f, c) ≡ true
 found_self f c = rw (self_cmp f, self_cmp c) refl
 
-abbrev found : Chunk → Chunked → Bool
+abbrev pub found : Chunk → Chunked → Bool
 found k x = is_at (chunk_cmp k) x.0
 
-either : (b : Bool) → (b ≡ true) ⊎ (b ≡ false)
+pub either : (b : Bool) → (b ≡ true) ⊎ (b ≡ false)
 either true = inl refl
 either false = inr refl
 
 -- the chunk that is found is this one, or stands behind it
-found_or : (k : Chunk) (x : Chunked) (t : List Chunked) (homes : List Homes) → chunk_at (x ∷ t) k ≡ Some homes → ((k ≡ x.0) × (x.1 ≡ homes)) ⊎ ((found k x ≡ false) × (chunk_at t k ≡ Some homes))
+pub found_or : (k : Chunk) (x : Chunked) (t : List Chunked) (homes : List Homes) → chunk_at (x ∷ t) k ≡ Some homes → ((k ≡ x.0) × (x.1 ≡ homes)) ⊎ ((found k x ≡ false) × (chunk_at t k ≡ Some homes))
 found_or k x t homes e = elim (either (found k x)) [
   | inl here ↦ inl (same_chunk k x.0 (is_same (chunk_cmp k x.0) here), some_is x.1 homes (rw here at e))
   | inr other ↦ inr (other, rw other at e)
 ]
 
-abbrev Stands : List Homes → Type 0
+abbrev pub Stands : List Homes → Type 0
 Stands homes = stand_first false homes ≡ true
 
-all_stand : (t : List Chunked) (past : Option Chunk) (k : Chunk) (homes : List Homes) → has_no_gap past t ≡ true → chunk_at t k ≡ Some homes → Stands homes
+pub all_stand : (t : List Chunked) (past : Option Chunk) (k : Chunk) (homes : List Homes) → has_no_gap past t ≡ true → chunk_at t k ≡ Some homes → Stands homes
 all_stand [] past k homes s e = absurd cc
 all_stand (x ∷ t) past k homes s e =
     let g = both_true (stands_at past x) (has_no_gap (opened x) t) s in
@@ -117,18 +116,18 @@ all_stand (x ∷ t) past k homes s e =
     ]
 
 -- what is found behind a chunk comes after it
-comes_after : (x : Chunked) (t : List Chunked) (k : Chunk) (homes : List Homes) → Ascend is_before (x ∷ t) → chunk_at t k ≡ Some homes → chunk_cmp x.0 k ≡ Less
+pub comes_after : (x : Chunked) (t : List Chunked) (k : Chunk) (homes : List Homes) → Ascend is_before (x ∷ t) → chunk_at t k ≡ Some homes → chunk_cmp x.0 k ≡ Less
 comes_after x [] k homes up e = absurd cc
 comes_after x (y ∷ t) k homes up e = elim (found_or k y t homes e) [
   | inl here ↦ subst (λ (j : Chunk). chunk_cmp x.0 j ≡ Less) (sym here.0) (less_is (chunk_cmp x.0 y.0) up.0)
   | inr behind ↦ chunk_total.trans x.0 y.0 k (less_is (chunk_cmp x.0 y.0) up.0) (comes_after y t k homes up.1 behind.1)
 ]
 
-tail_up : (x : Chunked) (t : List Chunked) → Ascend is_before (x ∷ t) → Ascend is_before t
+pub tail_up : (x : Chunked) (t : List Chunked) → Ascend is_before (x ∷ t) → Ascend is_before t
 tail_up x [] up = tt
 tail_up x (y ∷ t) up = up.1
 
-abbrev Full : List Chunked → Chunk → Type 0
+abbrev pub Full : List Chunked → Chunk → Type 0
 Full t k = (homes : List Homes) × (chunk_at t k ≡ Some homes) × (is_full homes ≡ true)
 
 behind_is : (past : Option Chunk) (f c : ℕ) → is_behind past (f, c + 1) ≡ true → past ≡ Some (f, c)
@@ -148,7 +147,7 @@ stands_behind past f c homes s filled =
     behind_is past f c (or_right (eqb (c + 1) 0) (is_behind past (f, c + 1)) (or_right (is_blank homes) (eqb (c + 1) 0 || is_behind past (f, c + 1)) p filled) (not_zero c))
 
 -- the chunk before one with extents is full
-full_before : (t : List Chunked) (past : Option Chunk) (f c : ℕ) (homes : List Homes) → has_no_gap past t ≡ true → Ascend is_before t → chunk_at t (f, c + 1) ≡ Some homes → is_blank homes ≡ false → (past ≡ Some (f, c)) ⊎ Full t (f, c)
+pub full_before : (t : List Chunked) (past : Option Chunk) (f c : ℕ) (homes : List Homes) → has_no_gap past t ≡ true → Ascend is_before t → chunk_at t (f, c + 1) ≡ Some homes → is_blank homes ≡ false → (past ≡ Some (f, c)) ⊎ Full t (f, c)
 full_before [] past f c homes s up e filled = absurd cc
 full_before (x ∷ t) past f c homes s up e filled =
     let g = both_true (stands_at past x) (has_no_gap (opened x) t) s in
@@ -168,7 +167,7 @@ full_before (x ∷ t) past f c homes s up e filled =
       ]
     ]
 
-size_of : (t : List Chunked) (k : Chunk) (homes : List Homes) → AllByRecursion (λ x. is_item (item_of x) ≡ true) t → chunk_at t k ≡ Some homes → length homes ≡ 256
+pub size_of : (t : List Chunked) (k : Chunk) (homes : List Homes) → AllByRecursion (λ x. is_item (item_of x) ≡ true) t → chunk_at t k ≡ Some homes → length homes ≡ 256
 size_of [] k homes all e = absurd cc
 size_of (x ∷ t) k homes all e = elim (found_or k x t homes e) [
   | inl here ↦ ap length (sym here.1) ∙ (chunk_fits x.0.0 x.0.1 x.1 all.0).0
@@ -186,10 +185,10 @@ step i = elim (cases_eq (i % 256) 255) [
   | inr other ↦ inl (omega (arith, other), omega (arith, other))
 ]
 
-abbrev at_place : Option (List Homes) → ℕ → Bool
+abbrev pub at_place : Option (List Homes) → ℕ → Bool
 at_place chunk p = has_home (get_or (unwrap_or chunk []) p [])
 
-the_chunk : (o : Option (List Homes)) (p : ℕ) → at_place o p ≡ true → (homes : List Homes) × (o ≡ Some homes) × (has_home (get_or homes p []) ≡ true)
+pub the_chunk : (o : Option (List Homes)) (p : ℕ) → at_place o p ≡ true → (homes : List Homes) × (o ≡ Some homes) × (has_home (get_or homes p []) ≡ true)
 the_chunk None p e = absurd cc
 the_chunk (Some homes) p e = (homes, refl, e)
 

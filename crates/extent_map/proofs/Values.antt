@@ -1,6 +1,7 @@
 -- The value of a chunk's record is read exactly.
-use Rattle.std.proofs.Common.{◌≡◌, ℕ, suc, ◌+◌, ◌^◌, ◌<◌, Bool, true, false, cond, eqb, ltb, List, [], ◌∷◌, ◌++◌, length, Option, Some, None, refl, sym, ap, subst, ◌∙◌, arith, inl, inr, ◌⊎◌}
-use Rattle.std.specs.Prelude.{◌&&◌}
+use Rattle.std.proofs.Common.{◌≡◌, ℕ, zero, suc, replicate, ◌+◌, ◌^◌, ◌<◌, Bool, true, false, cond, eqb, ltb, List, [], ◌∷◌, ◌++◌, length, Option, Some, None, refl, sym, ap, subst, ◌∙◌, arith, inl, inr}
+use Rattle.std.specs.Prelude.{slice_set}
+use Rattle.std.proofs.lemmas.List.{length-replicate, length-set}
 use Rattle.std.specs.Int.{w32}
 use Rattle.std.specs.Option.{option_and_then, option_map}
 use Rattle.std.specs.List.{AllByRecursion, flat_map, list_all}
@@ -8,13 +9,13 @@ use Rattle.std.proofs.lemmas.Bool.{and_parts, cases_eq, eqb-true, eq-eqb, ltb-tr
 use Rattle.asm_formats.specs.Bytes.{number}
 use Rattle.asm_formats.specs.Items.{Home, Homes, Item, file_item, chunk_item, disk_item, rebalance_item, pending_item, templates_item, node_item, settings_item, marks_item, Key, key, is_home, is_homes, is_item}
 use Rattle.asm_formats.specs.Values.{decoded_item, home_fields, value}
-use Rattle.asm_base.specs.Readings.{Reading, both, byte_reading, decoded, number_reading}
+use Rattle.asm_base.specs.Readings.{Reading, decoded}
 use Rattle.asm_base.specs.Records.{all_of}
-use Rattle.asm_base.proofs.Exact.{AreFitting, Begins, IsExact, IsBytes, bind_some, both_exact, chosen, fits_exact, repeated_exact, some_is, test_some}
+use Rattle.asm_base.proofs.Exact.{AreFitting, Begins, IsExact, IsBytes, bind_some, both_exact, chosen, repeated_exact, some_is, test_some}
 use Rattle.asm_base.proofs.Numbers.{number_exact}
 use Rattle.asm_base.proofs.FieldLaws.{one_byte, byte_exact}
 use Rattle.asm_base.proofs.ItemTables.{value_is_decoded}
-use Rattle.extent_map.specs.Extents.{chunk_key}
+use Rattle.extent_map.specs.Extents.{absent, chunk_key}
 use Rattle.extent_map.specs.Readings.{home_of, home_reading, extent_reading, chunk_reading}
 
 -- ---- homes
@@ -169,3 +170,27 @@ pub chunk_is_read : (f c : ℕ) → f < 2 ^ 32 → c + 1 < 2 ^ 32 → (bytes : L
 chunk_is_read f c file number bytes read is =
     ap (option_map (chunk_item f c)) (is ∙ sym (all_kept (all_of chunk_reading bytes)))
     ∙ value_is_decoded (λ homes. true) (chunk_item f c) extents_exact (chunk_key f c) (chunk_value f c) (λ homes fits t. (chunk_allowed f c homes file number fits, refl)) (known f c) bytes
+
+-- ---- a chunk with another extent
+
+set_fits : (xs : List Homes) (i : ℕ) (h : Homes) → AllByRecursion IsHomes xs → IsHomes h → AllByRecursion IsHomes (slice_set xs i h)
+set_fits [] i h all fits = tt
+set_fits (x ∷ xs) zero h all fits = (fits, all.1)
+set_fits (x ∷ xs) (suc i) h all fits = (all.0, set_fits xs i h all.1 fits)
+
+same_fits : (n : ℕ) (h : Homes) → IsHomes h → AllByRecursion IsHomes (replicate n h)
+same_fits zero h fits = tt
+same_fits (suc n) h fits = (fits, same_fits n h fits)
+
+file_of : (f c : ℕ) (homes : List Homes) → is_item (chunk_item f c homes) ≡ true → f < 2 ^ 32
+unfolding is_item
+file_of f c homes ok = ltb-true f (2 ^ 32) (and_parts (ltb f (2 ^ 32)) _ ok).0
+
+pub set_allowed : (f c : ℕ) (homes : List Homes) (i : ℕ) (h : Homes) → is_item (chunk_item f c homes) ≡ true → is_homes h ≡ true → is_item (chunk_item f c (slice_set homes i h)) ≡ true
+set_allowed f c homes i h ok right =
+    let fits = chunk_fits f c homes ok in
+    chunk_allowed f c (slice_set homes i h) (file_of f c homes ok) (chunk_numbered f c homes ok) (length-set homes i h ∙ fits.0, set_fits homes i h fits.1 (homes_fit h right))
+
+pub new_allowed : (f c i : ℕ) (h : Homes) → f < 2 ^ 32 → c + 1 < 2 ^ 32 → is_homes h ≡ true → is_item (chunk_item f c (slice_set (replicate 256 absent) i h)) ≡ true
+new_allowed f c i h file number right =
+    chunk_allowed f c (slice_set (replicate 256 absent) i h) file number (length-set (replicate 256 absent) i h ∙ length-replicate 256 absent, set_fits (replicate 256 absent) i h (same_fits 256 absent (homes_fit absent refl)) (homes_fit h right))

@@ -1,12 +1,12 @@
 -- The table of extents, as the list of the chunks in the order of file and number.
-use Rattle.std.specs.Prelude.{ℕ, ◌+◌, ◌/◌, ◌%◌, ◌<◌, ◌^◌, Bool, true, false, ◌==◌, ◌&&◌, ◌||◌, not, List, [], ◌∷◌, get_or, nat_lt, replicate, slice_set, Option, Some, None, if◌then◌else◌, IsTrue}
+use Rattle.std.specs.Prelude.{ℕ, ◌+◌, ◌/◌, ◌%◌, ◌<◌, ◌^◌, ◌↔◌, Bool, true, false, ◌==◌, ◌&&◌, ◌||◌, not, List, [], ◌∷◌, get_or, nat_lt, replicate, slice_set, Option, Some, None, if◌then◌else◌, IsTrue}
 use Rattle.std.specs.Ordering.{nat_cmp, ordering_then, is_lt}
 use Rattle.std.specs.declared.cmp.Ordering.{Ordering}
 use Rattle.std.specs.BTreeMap.{is_at, insert_entry}
 use Rattle.std.specs.Map.{lookup, remove_entry, set_value}
 use Rattle.std.specs.List.{list_all}
 use Rattle.std.specs.Option.{is_some, option_and_then, unwrap_or}
-use Rattle.asm_formats.specs.Items.{Homes, Item, chunk_item, chunk_len, Key}
+use Rattle.asm_formats.specs.Items.{Homes, Item, chunk_item, chunk_len, is_homes, Key}
 use Rattle.asm_base.specs.Records.{Entry, add_item}
 use Rattle.asm_base.specs.Tables.{IsItemTable, entry_of_record, item_record}
 
@@ -48,8 +48,19 @@ abbrev pub extent_at : List Chunked → ℕ → ℕ → Option Homes
 extent_at table f i = option_and_then (λ chunk. if has_home (get_or chunk (i % chunk_len) []) then Some (get_or chunk (i % chunk_len) []) else None) (chunk_at table (f, i / chunk_len))
 
 -- the file has the extent: it has a home in its chunk
+abbrev pub has_extent : List Chunked → ℕ → ℕ → Bool
+has_extent table f i = has_home (get_or (unwrap_or (chunk_at table (f, i / chunk_len)) []) (i % chunk_len) [])
+
 abbrev pub HasExtent : List Chunked → ℕ → ℕ → Type 0
-HasExtent table f i = IsTrue (has_home (get_or (unwrap_or (chunk_at table (f, i / chunk_len)) []) (i % chunk_len) []))
+HasExtent table f i = IsTrue (has_extent table f i)
+
+-- the file has the extents below this number, and no others
+abbrev pub HasCount : List Chunked → ℕ → ℕ → Type 0
+HasCount table f n = (i : ℕ) → HasExtent table f i ↔ i < n
+
+-- extent i may be put with these homes: its chunk has a number, and each home is one of the formats
+abbrev pub may_stand : ℕ → Homes → Bool
+may_stand i homes = nat_lt (i / chunk_len + 1) (2 ^ 32) && (is_homes homes && has_home homes)
 
 -- the table with other homes at a place of a chunk that is there
 abbrev pub with_homes : List Chunked → Chunk → ℕ → Homes → List Chunked

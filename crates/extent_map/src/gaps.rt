@@ -1,9 +1,21 @@
-//! What the rule of a table comes to. The law is the contract of a function that does nothing.
+//! What the rule of a table comes to. Each law is the contract of a function that does nothing.
 
-ghost use Rattle.extent_map.specs.Laws.{NumbersExtents};
+ghost use Rattle.extent_map.specs.Laws.{AppendsExtents, NumbersExtents, TakesLast};
 
 /// The extents of each file of a table are numbered from 0 without a gap.
 #[tactic(auto, using(crate::proofs::Numbering::numbers_extents))]
 pub fn extents_have_no_gap()
     ensures { NumbersExtents }
+{}
+
+/// A table with an extent more at a file's end is a table.
+#[tactic(auto, using(crate::proofs::FileEnds::appends_extents))]
+pub fn an_extent_may_be_appended()
+    ensures { AppendsExtents }
+{}
+
+/// A table without a file's last extent is a table.
+#[tactic(auto, using(crate::proofs::FileEnds::takes_last))]
+pub fn the_last_extent_may_go()
+    ensures { TakesLast }
 {}

@@ -2,13 +2,15 @@
 #![tactic(auto)]
 
 mod chunk;
+mod counting;
 mod gaps;
 mod reading;
 mod rule;
 mod table;
 mod writing;
 
-pub use gaps::extents_have_no_gap;
+pub use counting::may_stand;
+pub use gaps::{an_extent_may_be_appended, extents_have_no_gap, the_last_extent_may_go};
 pub use table::ExtentMap;
 
 #[cfg(test)]

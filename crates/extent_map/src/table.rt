@@ -33,7 +33,7 @@ impl Model for ExtentMap {
 }
 
 impl ExtentMap {
-    ghost use Rattle.extent_map.specs.Extents.{absent, Chunked, IsNumbered, IsTable, add, chunk_at, extent_at, has_no_gap, is_before, is_chunk, record_of, with_chunk, with_extent, with_homes, without_chunk, without_extent, without_gap};
+    ghost use Rattle.extent_map.specs.Extents.{absent, Chunked, IsNumbered, IsTable, add, chunk_at, extent_at, has_extent, has_no_gap, is_before, is_chunk, record_of, with_chunk, with_extent, with_homes, without_chunk, without_extent, without_gap};
 
     pub fn new(alloc: Global) -> ExtentMap
         ensures { result ≡ [] }
@@ -53,6 +53,17 @@ impl ExtentMap {
         if has_home(homes) { Some(homes) } else { None }
     }
 
+    /// Whether a file has an extent.
+    pub(crate) fn has(&self, file: u32, index: u64) -> bool
+        requires { index / 256 < 2 ^ 32 }
+        ensures { result ≡ has_extent self.now file index }
+    {
+        match self.map.get(&(file, (index / 256) as u32)) {
+            Some(chunk) => has_home(chunk.get((index % 256) as u8)),
+            None => false,
+        }
+    }
+
     /// The homes of a chunk's 256 extents.
     pub fn chunk(&self, file: u32, chunk: u32) -> Option<&[Homes]>
         ensures { option_copied result ≡ chunk_at self.now (file, chunk) }
@@ -62,8 +73,17 @@ impl ExtentMap {
     }
 
     /// Puts the homes of an extent, with its chunk where that isn't there. Where there is no memory the table stays.
+    #[tactic(auto, using(crate::proofs::Laws::put_keeps_table))]
     pub fn put(&mut self, key: ExtentId, item: Homes) -> Result<(), NoMemory>
         requires { IsTable (with_extent self.old key.file key.index item) }
+        ensures ok { OnOk result (self.new ≡ with_extent self.old key.file key.index item) }
+        ensures err { OnErr result (self.new ≡ self.old) }
+        ensures table { IsTable self.old → IsTable self.new }
+    {
+        self.put_homes(key, item)
+    }
+
+    fn put_homes(&mut self, key: ExtentId, item: Homes) -> Result<(), NoMemory>
         ensures ok { OnOk result (self.new ≡ with_extent self.old key.file key.index item) }
         ensures err { OnErr result (self.new ≡ self.old) }
     {
@@ -90,6 +110,7 @@ impl ExtentMap {
         requires { IsTable (without_extent self.old key.file key.index) }
         ensures there { result ≡ is_some (extent_at self.old key.file key.index) }
         ensures after { self.new ≡ without_extent self.old key.file key.index }
+        ensures table { IsTable self.new }
     {
         let is_there = self.get(key).is_some();
         let _ = self.set((key.file, key.index / 256), (key.index % 256) as u8, ABSENT);
@@ -101,6 +122,7 @@ impl ExtentMap {
         requires { IsTable (without_chunk self.old (file, chunk)) }
         ensures there { result ≡ is_some (chunk_at self.old (file, chunk)) }
         ensures after { self.new ≡ without_chunk self.old (file, chunk) }
+        ensures table { IsTable self.new }
     {
         self.map.remove(&(file, chunk)).is_some()
     }

@@ -1,3 +1,5 @@
+ghost use Rattle.extent_map.specs.Extents.{IsTable};
+
 use super::*;
 use asm_base::{Change, ExtentId, Home, Homes, Key, List, Records, Value};
 use std::alloc::Global;
@@ -28,6 +30,14 @@ fn chunk_key(chunk: u32) -> Key {
         kind: 1,
         a: 256,
         b: chunk.saturating_add(1),
+    }
+}
+
+fn homes(disk: u8, unit: u32) -> Homes {
+    Homes {
+        first: Some(Home { disk, unit }),
+        second: None,
+        third: None,
     }
 }
 
@@ -111,5 +121,57 @@ fn gap(rt: HostRuntime) -> Result<(), Fail> {
     let value = value_of(alloc, 3, 1)?;
     assert!(rt; records.insert(chunk_key(0), value).is_ok());
     assert!(rt; read(alloc, &records).is_none());
+    Ok(())
+}
+
+/// Puts the extent of an index, which must be the file's next one.
+fn append(map: &mut ExtentMap, index: u32, homes: Homes) -> Result<(), Fail>
+    requires { IsTable map.old }
+    ensures { IsTable map.new }
+{
+    if map.count(256) != index as u64 || !may_stand(index, &homes) {
+        return Err(Fail::from("the next extent"));
+    }
+    match map.put(ExtentId { file: 256, index }, homes) {
+        Ok(()) => Ok(()),
+        Err(_) => Err(Fail::from("memory")),
+    }
+}
+
+/// Takes the extent of an index away, which must be the file's last one.
+fn take_last(map: &mut ExtentMap, index: u32) -> bool
+    requires { IsTable map.old }
+    ensures { IsTable map.new }
+{
+    map.count(256) == index as u64 + 1 && map.remove(ExtentId { file: 256, index })
+}
+
+/// Extents are put behind the last one, at need in a new chunk, and the last one is taken away.
+#[test]
+fn put_at_the_end(rt: HostRuntime) -> Result<(), Fail> {
+    let alloc = rt.alloc();
+    let mut records = Records::new(alloc);
+    let value = value_of(alloc, 255, 256)?;
+    assert!(rt; records.insert(chunk_key(0), value).is_ok());
+    let Ok(Some(read)) = ExtentMap::from_records(alloc, &records) else {
+        return Err(Fail::from("the records of a map"));
+    };
+    let mut map = read;
+    append(&mut map, 255, homes(3, 70))?;
+    append(&mut map, 256, homes(4, 71))?;
+    let last = ExtentId {
+        file: 256,
+        index: 256,
+    };
+    let Some(found) = map.get(last) else {
+        return Err(Fail::from("the extent that was put"));
+    };
+    let found = *found;
+    assert!(rt; found == homes(4, 71));
+    if !take_last(&mut map, 256) {
+        return Err(Fail::from("the last extent"));
+    }
+    assert_eq!(rt; map.count(256), 256);
+    assert_eq!(rt; map.count(257), 0);
     Ok(())
 }

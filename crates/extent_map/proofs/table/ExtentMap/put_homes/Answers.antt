@@ -2,7 +2,7 @@ use Rattle.std.proofs.Common.{◌≡◌, List, subst}
 use Rattle.std.specs.Prelude.{OnErr, OnOk}
 use Rattle.extent_map.specs.Extents.{Chunked}
 use Rattle.extent_map.proofs.Laws.{new_extent}
-use Rattle.extent_map.proofs.table.ExtentMap.put.Goals as goal
+use Rattle.extent_map.proofs.table.ExtentMap.put_homes.Goals as goal
 
 pub returns-clause-ok : goal.returns-clause-ok
 returns-clause-ok c =
