@@ -82,7 +82,9 @@ fn kept_by_number(rt: HostRuntime) -> Result<(), Fail> {
 #[test]
 fn bytes_of_a_record(rt: HostRuntime) -> Result<(), Fail> {
     let alloc = rt.alloc();
-    let head = head(alloc, 0x0A0B)?;
+    let Ok(head) = head(alloc, 0x0A0B)?.copy() else {
+        return Err(Fail::from("memory"));
+    };
     assert!(rt; head.is_allowed(256));
     let Ok((key, value)) = record_of(alloc, 256, &head) else {
         return Err(Fail::from("memory"));
