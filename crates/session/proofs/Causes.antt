@@ -1,11 +1,11 @@
 -- Why a creation is refused, in the order of the world's causes.
-use Rattle.std.proofs.Common.{◌≡◌, ◌⊎◌, inl, inr, ℕ, ◌<◌, ◌≤◌, Bool, true, false, List, [], ◌∷◌, ◌++◌, length, Option, Some, None, refl, sym, ◌∙◌, ap, subst, arith, is_some}
+use Rattle.std.proofs.Common.{◌≡◌, inl, inr, ℕ, true, false, [], refl, is_some}
 use Rattle.std.specs.Prelude.{nat_le}
 use Rattle.asm_group.specs.Names.{Bytes}
 use Rattle.asm_group.specs.Refusal as r
 use Rattle.asm_world.specs.Below.{Found}
-use Rattle.asm_world.specs.Causes.{Cause, When, May, IsCaused, HasCause, causes, mounted_count}
-use Rattle.asm_world.specs.Command.{Said, Unreadable}
+use Rattle.asm_world.specs.Causes.{HasCause, mounted_count}
+use Rattle.asm_world.specs.Command.{Said}
 use Rattle.asm_world.specs.Reply.{Done, Refused}
 use Rattle.asm_world.specs.World.{World, entry_in}
 use Rattle.session.specs.Effects.{below_with}

@@ -1,22 +1,19 @@
 -- What parts of the program do, one after another.
-use Rattle.std.proofs.Common.{◌≡◌, ◌⊎◌, ◌||◌, ℕ, ◌+◌, ◌<◌, ◌≤◌, Bool, true, false, if◌then◌else◌, MatchBool, List, [], ◌∷◌, ◌++◌, Option, Some, None, inl, inr, refl, sym, ◌∙◌, ap, subst, append_assoc, length, Result, Ok, Err, is_ok, IsOk, arith}
-use Rattle.std.proofs.lemmas.Bool.{false≢true}
+use Rattle.std.proofs.Common.{◌≡◌, ◌||◌, ℕ, ◌<◌, ◌≤◌, Bool, true, false, MatchBool, List, [], ◌∷◌, ◌++◌, inl, inr, refl, sym, ◌∙◌, ap, subst, append_assoc, length, arith}
 use Rattle.std.proofs.lemmas.List.{append-nil}
 use Rattle.std.proofs.lemmas.List.Concat.{flat_map-append}
-use Rattle.std.specs.List.{flat_map, list_any}
 use Rattle.std.specs.Str.{bytes_eq}
 use Rattle.std.specs.Io.KnownBytes.{Appends}
 use Rattle.bay.specs.Image.{Image}
-use Rattle.bay.specs.State.{BayState}
 use Rattle.bay.specs.Readings.{Readings}
 use Rattle.bay.proofs.Known.{Appends-none, Appends-more}
 use Rattle.asm_group.specs.Names.{Bytes}
-use Rattle.asm_world.specs.Run.{Outside, State, Entry, Move, Starts, Expires, Answers, Slices, Rests, Full, Does, IsMove, IsRun, end_of, entry_text, IsFull, IsPrinted, IsPrintedToCut, output_of, commands_at, answered, times_at, times_of, marks_at, marks_of, refuses, has_refusal}
+use Rattle.asm_world.specs.Run.{Outside, State, Entry, Move, Full, IsMove, IsRun, end_of, entry_text, IsFull, IsPrinted, IsPrintedToCut, output_of, commands_at, answered, times_at, times_of, marks_at, marks_of, refuses, has_refusal}
 use Rattle.asm_world.proofs.Histories.{joined, end_append}
 use Rattle.group_disks.specs.Found.{Counts}
 use Rattle.session.specs.Claims.{outside, held_outside, StandsFor, CreatesApart, Premises}
 use Rattle.session.specs.Effects.{Past}
-use Rattle.session.specs.Acts.{Scene, state_of, Holding, Acts, unread}
+use Rattle.session.specs.Acts.{Scene, state_of, Acts}
 
 pub run-calls : {I : Type 0} (out : Outside Counts I) (s : State Counts) (h : List (Entry Counts)) → IsRun out s h → s.calls ≤ (end_of s h).calls
 run-calls out s [] p = omega arith

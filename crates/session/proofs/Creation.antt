@@ -1,11 +1,8 @@
 -- What a creation does to the world and to what the disks hold.
-use Rattle.std.proofs.Common.{◌≡◌, ◌≢◌, ◌⊎◌, inl, inr, ⊎_elim, ℕ, ◌+◌, ◌-◌, ◌^◌, ◌<◌, ◌≤◌, Bool, true, false, cond, List, [], ◌∷◌, ◌++◌, length, map, Option, Some, None, refl, sym, ◌∙◌, ap, subst, arith, ◌==◌, is_some, if◌then◌else◌}
-use Rattle.std.specs.Prelude.{All, Contains, MatchOption, Result, Ok, Err, unwrap_or}
-use Rattle.std.specs.Option.{ForSome}
+use Rattle.std.proofs.Common.{◌≡◌, ◌≢◌, ◌⊎◌, inl, inr, ⊎_elim, ℕ, ◌+◌, ◌<◌, ◌≤◌, Bool, true, false, cond, List, [], ◌∷◌, ◌++◌, Option, Some, refl, sym, ◌∙◌, ap, subst, arith, ◌==◌, if◌then◌else◌}
+use Rattle.std.specs.Prelude.{All, Contains, unwrap_or}
 use Rattle.std.specs.FinMap as maps
-use Rattle.std.specs.Ordering.{nat_cmp}
 use Rattle.std.specs.Cmp.{unsigned_tied}
-use Rattle.std.proofs.lemmas.List.{append-nil}
 use Rattle.std.proofs.lemmas.List.Elements.{All-contains}
 use Rattle.std.proofs.lemmas.Bool.{cases_eq, cases_Bool, eq-eqb, ne_eqb}
 use Rattle.std.proofs.lemmas.Option.{none-some}
@@ -16,7 +13,6 @@ use Rattle.bay.specs.Moments.{Runs}
 use Rattle.bay.specs.Counts.{last_count}
 use Rattle.asm_group.specs.Names.{Bytes, ByNumber}
 use Rattle.asm_group.specs.Group.{Group}
-use Rattle.asm_group.specs.Refusal as r
 use Rattle.asm_placement.specs.Among.{IsAmong}
 use Rattle.asm_images.specs.Members.{all_members}
 use Rattle.asm_images.specs.Bridge.{disks_in}
@@ -26,12 +22,11 @@ use Rattle.asm_images.proofs.Bridges.{same_is_same}
 use Rattle.asm_images.proofs.Keeping.{same_is_kept, bystanders_are_kept}
 use Rattle.asm_world.specs.Below.{Found}
 use Rattle.asm_world.specs.Between.{groups_between}
-use Rattle.asm_world.specs.Command.{Said}
 use Rattle.asm_world.specs.World.{World, groups_of, has_mounted, with_group}
-use Rattle.group_disks.specs.Creating.{Allows, HasMember, Creates, MayCreate, HasCreated, made_group}
+use Rattle.group_disks.specs.Creating.{Allows, HasMember, Creates, MayCreate, HasCreated}
 use Rattle.group_disks.proofs.Outsiders.{widened}
 use Rattle.session.specs.Claims.{StandsFor, IsApart}
-use Rattle.session.specs.Effects.{Past, Keeps}
+use Rattle.session.specs.Effects.{Keeps}
 use Rattle.session.specs.Meaning.{meaning}
 
 -- ---- images that stay, and images that a creation changes

@@ -1,4 +1,5 @@
 pub mod Reading
+pub mod Languages
 pub mod Chains
 pub mod Creation
 pub mod Causes

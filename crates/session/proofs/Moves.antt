@@ -1,5 +1,5 @@
 -- The moves of one command.
-use Rattle.std.proofs.Common.{◌≡◌, ◌≢◌, ◌⊎◌, ◌||◌, ℕ, ◌+◌, ◌<◌, ◌≤◌, Bool, true, false, MatchBool, List, [], ◌∷◌, ◌++◌, Option, Some, None, Result, Ok, Err, is_ok, IsOk, inl, inr, refl, sym, ◌∙◌, ap, subst, length, arith}
+use Rattle.std.proofs.Common.{◌≡◌, ◌||◌, ℕ, ◌<◌, Bool, true, false, MatchBool, List, [], ◌∷◌, ◌++◌, Option, Some, None, Result, Ok, Err, is_ok, IsOk, inl, inr, refl, sym, ◌∙◌, ap, subst, length, arith}
 use Rattle.std.specs.Prelude.{if◌then◌else◌, OnOk}
 use Rattle.std.specs.Str.{bytes_eq}
 use Rattle.std.specs.Io.KnownBytes.{Appends}
@@ -14,14 +14,13 @@ use Rattle.asm_world.specs.Below.{Found}
 use Rattle.asm_world.specs.Reply.{Reply, Refused}
 use Rattle.asm_world.specs.Text.{reply_text}
 use Rattle.asm_world.specs.World.{World, SessionEntry, entry_in, is_mounted}
-use Rattle.asm_world.specs.Run.{Phase, Resting, Expiring, Slicing, Slice, Resync, Rebalance, Starts, Answers, Rests, AnswersAt, next_expiry, next_slice, below_of_entry, expiring_of, due_resync, due_rebalance, slices_of, mounted_groups, phase_after, is_refusal, times_of}
-use Rattle.session.specs.Acts.{Scene, scene, state_of, Acts, unread}
-use Rattle.session.specs.Claims.{StandsFor}
+use Rattle.asm_world.specs.Run.{Phase, Resting, Expiring, Slicing, Starts, Answers, Rests, AnswersAt, next_expiry, next_slice, below_of_entry, expiring_of, due_resync, due_rebalance, slices_of, mounted_groups, phase_after, is_refusal, times_of}
+use Rattle.session.specs.Acts.{scene, state_of, Acts, unread}
 use Rattle.asm_world.specs.Waits.{HasLines}
 use Rattle.group_disks.specs.Found.{Counts, counts_of}
 use Rattle.session.specs.Counts.{ReplyCause}
 use Rattle.session.specs.Meaning.{meaning}
-use Rattle.session.specs.Effects.{Past, HasEffect, below_with}
+use Rattle.session.specs.Effects.{HasEffect, below_with}
 use Rattle.session.specs.Quiet.{quiet}
 use Rattle.session.specs.Sessions.{SessionView, Knows}
 use Rattle.session.specs.Stops.{IsReplyOrNoMemory, IsPart}

@@ -1,7 +1,6 @@
 -- The creation of a group whose name isn't in the session, by its answer.
-use Rattle.std.proofs.Common.{◌≡◌, ℕ, ◌+◌, ◌<◌, ◌≤◌, Bool, true, false, List, [], ◌∷◌, ◌++◌, length, map, Option, Some, None, refl, sym, ◌∙◌, ap, subst, arith, is_some}
-use Rattle.std.specs.Prelude.{All, Result, Ok, Err, OnOk, IfErr, nat_le, min, IfSome, IsSome, MatchOption}
-use Rattle.std.proofs.lemmas.List.{append-nil}
+use Rattle.std.proofs.Common.{◌≡◌, ℕ, ◌<◌, ◌≤◌, Bool, true, false, List, [], ◌++◌, length, Option, Some, None, refl, sym, subst, arith, is_some}
+use Rattle.std.specs.Prelude.{All, Result, Ok, Err, OnOk, IfErr, nat_le, IfSome, IsSome, MatchOption}
 use Rattle.std.proofs.lemmas.Option.{none-some}
 use Rattle.bay.specs.Image.{Same}
 use Rattle.bay.specs.State.{BayState, IsSound}

@@ -1,7 +1,6 @@
 -- What a command did, by how it was answered.
-use Rattle.std.proofs.Common.{◌≡◌, ◌≢◌, ◌⊎◌, ◌&&◌, ◌||◌, ◌==◌, inl, inr, ⊎_elim, suc, ℕ, ◌+◌, ◌-◌, ◌^◌, ◌<◌, ◌≤◌, Bool, true, false, cond, List, [], ◌∷◌, ◌++◌, length, map, Option, Some, None, refl, sym, ◌∙◌, ap, subst, arith, is_some}
+use Rattle.std.proofs.Common.{◌≡◌, ◌≢◌, ◌⊎◌, ◌&&◌, ◌||◌, ◌==◌, inl, inr, ⊎_elim, suc, ℕ, ◌+◌, ◌<◌, ◌≤◌, Bool, true, false, cond, List, [], ◌∷◌, ◌++◌, length, Some, None, refl, sym, ◌∙◌, ap, subst, arith, is_some}
 use Rattle.std.specs.Prelude.{All, nat_le, min}
-use Rattle.std.specs.Option.{ForSome}
 use Rattle.std.specs.FinMap as maps
 use Rattle.std.specs.Cmp.{unsigned_tied}
 use Rattle.std.proofs.lemmas.Cmp.{nat_cmp_total}
@@ -14,13 +13,12 @@ use Rattle.bay.specs.State.{BayState, IsSound}
 use Rattle.bay.specs.Moments.{Runs}
 use Rattle.bay.specs.Counts.{last_count}
 use Rattle.asm_group.specs.Names.{Bytes}
-use Rattle.asm_group.specs.Group.{Group}
 use Rattle.asm_group.specs.NewGroup.{new_group}
 use Rattle.asm_group.specs.Refusal as r
 use Rattle.asm_world.specs.Below.{Found}
 use Rattle.asm_world.specs.Causes.{HasCause, mounted_count}
-use Rattle.asm_world.specs.Command.{Command, Said, Unreadable}
-use Rattle.asm_world.specs.Reply.{Reply, Done, Refused}
+use Rattle.asm_world.specs.Command.{Said, Unreadable}
+use Rattle.asm_world.specs.Reply.{Done, Refused}
 use Rattle.asm_world.specs.Settings as t
 use Rattle.asm_world.specs.Step.{Step, IsNewId, LeavesCreated, MadeGroup}
 use Rattle.asm_world.specs.Waits.{HasLines}
@@ -28,8 +26,8 @@ use Rattle.asm_world.specs.World.{World, SessionEntry, entry_in, has_mounted, is
 use Rattle.group_disks.specs.Found.{Counts, counts_of, AreIdsRead, RefusalCause, IsEarly}
 use Rattle.group_disks.specs.Creating.{HasCreated, made_group}
 use Rattle.session.specs.Claims.{StandsFor, IsApart}
-use Rattle.session.specs.Counts.{IsRefused, ReplyCause, IsMade}
-use Rattle.session.specs.Effects.{Past, Keeps, HasEffect, below_with}
+use Rattle.session.specs.Counts.{ReplyCause, IsMade}
+use Rattle.session.specs.Effects.{Keeps, HasEffect, below_with}
 use Rattle.session.specs.Meaning.{meaning, creation_of, creation_asked}
 use Rattle.session.specs.Sessions.{AreGiven}
 use Rattle.session.proofs.Causes.{no_disk_cause, disk_taken_cause, too_small_cause, write_fault_cause, done_cause}

@@ -1,8 +1,7 @@
 -- What a text asks for, by what is read of it.
-use Rattle.std.proofs.Common.{◌≡◌, ◌⊎◌, ℕ, suc, ◌<◌, Bool, true, false, List, [], ◌∷◌, ◌++◌, length, map, Option, Some, None, Result, Ok, Err, refl, sym, ◌∙◌, ap, subst, inl, inr, arith, is_some}
-use Rattle.std.specs.Prelude.{◌==◌, ◌||◌, max, option_map, option_to_list, ok_or, codes, if◌then◌else◌}
+use Rattle.std.proofs.Common.{◌≡◌, ◌⊎◌, ℕ, ◌<◌, Bool, true, false, List, [], ◌∷◌, ◌++◌, length, Option, Some, None, Result, Ok, Err, refl, sym, ◌∙◌, ap, subst, inl, inr, arith}
+use Rattle.std.specs.Prelude.{◌==◌, ◌||◌, max, option_map, option_to_list, ok_or}
 use Rattle.std.proofs.lemmas.Bool.{eqb-true}
-use Rattle.asm_grammar.specs.Bytes.{is_blank}
 use Rattle.asm_grammar.specs.Reading.{whole, result_of}
 use Rattle.asm_grammar.specs.Syntax.{Value}
 use Rattle.asm_grammar.specs.Word.{End}
@@ -27,7 +26,7 @@ use Rattle.group_sql.specs.Answers as sql
 use Rattle.script.specs.Script as script
 use Rattle.session.specs.declared.reader.Command as reader
 use Rattle.session.specs.declared.reader.Command.TheVariants.{CreateExternal}
-use Rattle.session.specs.Meaning.{one_disk, creation_of, only, plain_path, path_in_group, external_path, creation_in, is_built, built, meaning}
+use Rattle.session.specs.Meaning.{one_disk, creation_of, only, plain_path, path_in_group, external_path, creation_in, built, meaning}
 use Rattle.session.specs.Reads.{IsRead, creation_view}
 
 -- ---- lists of one
@@ -129,7 +128,7 @@ read_as text = as_command text (command_of text) refl
 
 -- ---- a statement
 
-said_meaning : (text : Bytes) (s : Statement) → Says text s → meaning text ≡ built (Said s)
+pub said_meaning : (text : Bytes) (s : Statement) → Says text s → meaning text ≡ built (Said s)
 unfolding meaning
 said_meaning text s says = ap (λ c. built c) ((statements_found text s).1 says)
 

@@ -10,7 +10,7 @@ use Rattle.asm_images.specs.Kept.{Kept, IsKept}
 use Rattle.asm_images.specs.Stands.{Standing}
 use Rattle.asm_world.specs.World.{World, groups_of, has_mounted}
 use Rattle.asm_world.specs.Below.{Found}
-use Rattle.asm_world.specs.Run.{Outside, State, Entry, Move, Starts, Expires, Answers, Slices, Rests}
+use Rattle.asm_world.specs.Run.{Outside, Entry, Move, Starts, Expires, Answers, Slices, Rests}
 use Rattle.group_disks.specs.Found.{Counts}
 use Rattle.group_disks.specs.Creating.{Allows, HasMember}
 use Rattle.session.specs.Counts.{HasCounts}

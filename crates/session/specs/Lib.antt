@@ -1,5 +1,6 @@
 pub mod Entries
 pub mod Meaning
+pub mod MeaningLaws
 pub mod Views
 pub mod Reads
 pub mod Counts

@@ -1,7 +1,6 @@
 -- What the session knows of the world.
 use Rattle.std.specs.Prelude.{◌≡◌, ℕ, ◌+◌, ◌<◌, min, List, [], ◌∷◌, All, Option, Some, None}
 use Rattle.asm_group.specs.Names.{Bytes}
-use Rattle.std.specs.List.{list_all}
 use Rattle.bay.specs.Counts.{last_count}
 use Rattle.asm_world.specs.World.{SessionEntry, World, mounted_entry}
 

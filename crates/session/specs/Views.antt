@@ -1,5 +1,5 @@
 -- What the code's types say.
-use Rattle.std.specs.Prelude.{ℕ, List, [], Option, None}
+use Rattle.std.specs.Prelude.{[], None}
 use Rattle.asm_base.specs.Refusals.{said}
 use Rattle.asm_world.specs.Reply as world
 use Rattle.asm_world.specs.Below.{Found}

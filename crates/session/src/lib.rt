@@ -2,6 +2,7 @@
 #![tactic(auto)]
 
 mod found;
+mod laws;
 mod reader;
 mod reply;
 mod server;
@@ -9,6 +10,7 @@ mod service;
 mod session;
 mod stop;
 
+pub use laws::meaning_is_of_the_languages;
 pub use server::serve;
 pub use service::Service;
 pub use session::Session;

@@ -1,4 +1,4 @@
-use Rattle.std.proofs.Common.{refl, ◌++◌, ◌+◌, ◌-◌, arith, []}
+use Rattle.std.proofs.Common.{refl, ◌++◌, arith, []}
 use Rattle.std.proofs.lemmas.Result.{err_from_is_err_and}
 use Rattle.asm_world.specs.Run.{Resting}
 use Rattle.session.proofs.Chains.{acts-none, acts-then}

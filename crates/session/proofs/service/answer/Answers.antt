@@ -1,4 +1,4 @@
-use Rattle.std.proofs.Common.{◌≡◌, refl, sym, ap, ◌∙◌, ◌++◌, ◌||◌, arith, ◌≤◌, true, false, inl, inr, [], ◌∷◌}
+use Rattle.std.proofs.Common.{refl, ap, ◌||◌, true, false}
 use Rattle.asm_world.specs.Text.{reply_text}
 use Rattle.asm_world.specs.Run.{phase_after}
 use Rattle.session.specs.Views.{reply_view, found_view}

@@ -1,4 +1,4 @@
-use Rattle.std.proofs.Common.{◌≡◌, refl, sym, ap, ◌∙◌, ◌++◌, ◌||◌, arith, ◌≤◌, true, false, inl, inr, [], ◌∷◌}
+use Rattle.std.proofs.Common.{◌≡◌, refl, ap, inl, []}
 use Rattle.std.proofs.lemmas.Result.{err_from_is_err_and}
 use Rattle.asm_world.specs.Run.{Resting}
 use Rattle.session.specs.Sessions.{SessionView, Knows}

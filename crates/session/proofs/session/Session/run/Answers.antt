@@ -1,4 +1,4 @@
-use Rattle.std.proofs.Common.{◌≤◌, ℕ, arith}
+use Rattle.std.proofs.Common.{arith}
 use Rattle.asm_base.specs.Refusals.{said}
 use Rattle.bay.proofs.Calls.{started}
 use Rattle.bay.proofs.Images.{same-refl}
