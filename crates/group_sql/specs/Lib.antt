@@ -4,3 +4,4 @@ pub mod Readers
 pub mod Rows
 pub mod Answers
 pub mod Choices
+pub mod Lines

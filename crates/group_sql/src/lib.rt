@@ -5,11 +5,15 @@ mod clauses;
 mod creation;
 mod cutting;
 mod disks;
+mod line;
 mod options;
 mod reading;
 mod statement;
 mod templates;
 mod words;
+mod writing;
+mod written_clauses;
+mod written_disks;
 
 pub use cutting::next_command;
 pub use reading::{ReadError, read_statement};
@@ -17,6 +21,11 @@ pub use statement::{
     Attribute, Clause, Disks, DroppedDisk, FailgroupKind, NewDisk, NewFailgroup, Rebalance,
     Statement, TemplateWords,
 };
+pub use writing::write_statement;
 
+#[cfg(test)]
+mod refusals;
+#[cfg(test)]
+mod rewriting;
 #[cfg(test)]
 mod tests;
