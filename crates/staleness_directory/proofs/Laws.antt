@@ -1,11 +1,11 @@
 -- The table of stale marks is read exactly from its records.
-use Rattle.std.proofs.Common.{◌≡◌, ℕ, ◌^◌, ◌<◌, ◌+◌, Bool, true, false, cond, eqb, ltb, List, [], ◌∷◌, length, map, Ordering, Option, Some, None, refl, sym, ap, subst, ◌∙◌, arith}
+use Rattle.std.proofs.Common.{◌≡◌, ℕ, ◌^◌, ◌<◌, ◌+◌, Bool, true, false, cond, eqb, ltb, List, [], length, map, Ordering, Option, Some, None, refl, sym, ap, subst, ◌∙◌, arith}
 use Rattle.std.specs.Prelude.{IfSome, ◌&&◌}
-use Rattle.std.specs.Ordering.{nat_cmp, is_lt, ordering_then}
+use Rattle.std.specs.Ordering.{nat_cmp, ordering_then}
 use Rattle.std.specs.declared.cmp.Ordering.TheVariants.{Less, Equal, Greater}
 use Rattle.std.specs.Option.{option_map}
 use Rattle.std.specs.BTreeMap.{is_at}
-use Rattle.std.proofs.lemmas.Bool.{and_parts, eqb-true, eq-eqb, lt-ltb}
+use Rattle.std.proofs.lemmas.Bool.{and_parts, eq-eqb, lt-ltb}
 use Rattle.std.proofs.lemmas.Cmp.{nat_cmp_total, then_total, on_total}
 use Rattle.std.specs.Cmp.{IsTotalOrder}
 use Rattle.asm_formats.specs.Items.{Item, file_item, chunk_item, disk_item, rebalance_item, pending_item, templates_item, node_item, settings_item, marks_item, Key, key, is_item}
@@ -55,6 +55,10 @@ passes c bytes = ltb (c + 1) (2 ^ 32) && (eqb (length bytes) 256 && are_marks by
 is_marks_item : (f c : ℕ) (bytes : List ℕ) → f < 2 ^ 32 → passes c bytes ≡ true → is_item (marks_item f c bytes) ≡ true
 unfolding is_item
 is_marks_item f c bytes file pass = rw (lt-ltb f (2 ^ 32) file) pass
+
+pub marks_allowed : (f c : ℕ) (marks : List ℕ) → f < 2 ^ 32 → length marks ≡ 256 → is_item (marks_item f c marks) ≡ (ltb (c + 1) (2 ^ 32) && are_marks marks)
+unfolding is_item
+marks_allowed f c marks file size = rw (lt-ltb f (2 ^ 32) file, eq-eqb (length marks) 256 size) refl
 
 passes_of : (f c : ℕ) (marks : List ℕ) → is_item (marks_item f c marks) ≡ true → passes c marks ≡ true
 unfolding is_item

@@ -25,6 +25,21 @@ impl Model for Marks {
     ghost inverse = { λ bits. record { bits = bits } };
 }
 
+impl Marks {
+    ghost use Rattle.std.specs.Prelude.{◌≡◌};
+    ghost use Rattle.asm_formats.specs.Items.{is_item, marks_item};
+
+    /// Whether a directory may hold them as those of a chunk: each extent has three copies at most.
+    #[tactic(auto, using(crate::proofs::Laws::marks_allowed))]
+    pub fn is_allowed(&self, file: u32, chunk: u32) -> bool
+        ensures { result ≡ is_item (marks_item file chunk self.now) }
+    {
+        // Reading a number shows that it is one of its type.
+        let _file = file;
+        chunk != u32::MAX && are_marks(&self.bits)
+    }
+}
+
 /// The marks of a file's chunk that a value has, or None where their record isn't of the formats.
 pub fn marks_of(file: u32, chunk: u32, bytes: &[u8]) -> Option<Marks>
     ensures { option_map (marks_item file chunk) result ≡ decoded_item (chunk_key file chunk) bytes.now }

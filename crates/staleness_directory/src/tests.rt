@@ -65,3 +65,29 @@ fn what_is_left_is_written(rt: HostRuntime) -> Result<(), Fail> {
     assert_eq!(rt; change.put.len(), 1);
     Ok(())
 }
+
+/// Marks are put, and their record has them.
+#[test]
+fn marks_are_put(rt: HostRuntime) -> Result<(), Fail> {
+    let alloc = rt.alloc();
+    let mut table = StaleTable::new(alloc);
+    let mut bits = [0; 256];
+    bits[3] = 5;
+    let marks = Marks { bits };
+    if !marks.is_allowed(256, 1) {
+        return Err(Fail::from("marks of three copies"));
+    }
+    assert!(rt; table.put((256, 1), marks).is_ok());
+    let Some(found) = table.get((256, 1)) else {
+        return Err(Fail::from("the marks that were put"));
+    };
+    let Ok((key, value)) = StaleTable::to_record(alloc, (256, 1), found) else {
+        return Err(Fail::from("memory"));
+    };
+    let chunk = key.b;
+    assert_eq!(rt; chunk, 1);
+    let bytes = value.as_bytes();
+    assert_eq!(rt; bytes.len(), 256);
+    assert_eq!(rt; bytes.get(3).copied(), Some(5));
+    Ok(())
+}
