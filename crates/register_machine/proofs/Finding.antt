@@ -1,11 +1,11 @@
 -- What a survey finds.
-use Rattle.std.proofs.Common.{◌≡◌, ◌⊎◌, inl, inr, ⊎_elim, ℕ, ◌+◌, ◌<◌, ◌≤◌, true, List, refl, sym, ap, ◌∙◌, Option, Some, None, arith}
-use Rattle.std.proofs.lemmas.Bool.{cases_lt, false≢true, leb-true}
+use Rattle.std.proofs.Common.{◌≡◌, ◌⊎◌, inl, inr, ⊎_elim, ℕ, ◌+◌, ◌<◌, ◌≤◌, true, List, [], refl, sym, ap, subst, ◌∙◌, Option, Some, None, arith}
+use Rattle.std.proofs.lemmas.Bool.{cases_lt, cond-true, false≢true, leb-true}
 use Rattle.std.proofs.lemmas.Option.{same_Some}
 use Rattle.asm_formats.specs.Among.{IsAmong}
 use Rattle.asm_formats.specs.Status.{Status}
 use Rattle.asm_formats.specs.Following.{Holder, rank, sets, Follows}
-use Rattle.register_machine.specs.Disks.{Disks, is_in, is_enough, greatest, surveyed, shown_epoch, seen_epoch}
+use Rattle.register_machine.specs.Disks.{Disks, is_in, is_enough, greatest, where_enough, surveyed, shown_epoch, seen_epoch}
 use Rattle.register_machine.specs.Machine.{Mark, Completed}
 use Rattle.register_machine.specs.Laws.{begun, begun_since, last_completed, IsCurrent}
 use Rattle.register_machine.proofs.Counting.{majorities_meet, majority_of}
@@ -89,13 +89,24 @@ current_sees disks history kept r g read current enough h =
 -- ---- the completed record
 
 pub completed_held : (disks : Disks) (history : List Mark) (kept : Kept disks history) (v : Status) (read : List Holder) → last_completed history ≡ Some v → is_enough (is_in read) v ≡ true
-    → (r : Status) × (greatest disks read ≡ Some r) × (rank v ≤ rank r)
+    → (r : Status) × (greatest disks read ≡ Some r) × IsCurrent history r
 completed_held disks history kept v read last enough =
     let at = kept.at_base v (last_is_base history v last) in
     let set = pivot (sets v) in
     let among = shares_pivot v v (follows_itself v) in
     let m = majorities_meet (is_in read) (has_from disks (rank v)) set (majority_of (is_in read) v set enough among) (majority_of (has_from disks (rank v)) v set (at.stands last) among) in
-    from_one disks read (rank v) m.0 (in_read read m.0 m.2) m.3
+    let g = from_one disks read (rank v) m.0 (in_read read m.0 m.2) m.3 in
+    let h = greatest_held disks read g.0 g.1 in
+    (g.0, g.1, at.current g.0 (kept.held h.0 g.0 h.2) g.2)
+
+pub completed_found : (disks : Disks) (history : List Mark) (kept : Kept disks history) (v : Status) (read : List Holder) → last_completed history ≡ Some v → begun_since history ≡ []
+    → is_enough (is_in read) v ≡ true → surveyed disks read ≡ Some v
+completed_found disks history kept v read last none enough =
+    let h = completed_held disks history kept v read last enough in
+    let same : h.0 ≡ v = ⊎_elim
+    (λ (is : last_completed history ≡ Some h.0). same_Some h.0 v (sym is ∙ last))
+    (λ since. absurd (subst (λ (l : List Status). IsAmong l h.0) none since)) h.2 in
+    ap (λ (o : Option Status). where_enough read o) (h.1 ∙ ap (λ (r : Status). Some r) same) ∙ cond-true (is_enough (is_in read) v) (Some v) None enough
 
 pub begun_follow : (disks : Disks) (history : List Mark) (kept : Kept disks history) (v r : Status) → last_completed history ≡ Some v → IsAmong (begun_since history) r → (rank v < rank r) × Follows v r
 begun_follow disks history kept v r last since =

@@ -6,14 +6,14 @@ use Rattle.asm_formats.specs.Status.{Status}
 use Rattle.asm_formats.specs.Following.{Holder, rank}
 use Rattle.register_machine.specs.Disks.{surveyed}
 use Rattle.register_machine.specs.Machine.{Mark, Completed, Program, Claiming, Writing, State, Event, Creates, Surveys, Claims, ClaimStands, Begins, Stores, Completes, Stops, Allowed, after, AreAllowed, after_all, start}
-use Rattle.register_machine.specs.Laws.{begun, Always, SurveyIsCurrent, StatusIsCurrent, BegunFollow, NumbersRise, CompletedIsHeld, LastIsGreatest, EpochsAreSeen, NeverUndone}
+use Rattle.register_machine.specs.Laws.{begun, Always, SurveyIsCurrent, StatusIsCurrent, BegunFollow, NumbersRise, CompletedIsHeld, CompletedIsFound, LastIsGreatest, EpochsAreSeen, NeverUndone}
 use Rattle.register_machine.specs.Mounts.{CanBeMounted}
 use Rattle.register_machine.proofs.Mounting.{can_be_mounted}
 use Rattle.register_machine.proofs.Surveying.{status_surveyed}
 use Rattle.register_machine.proofs.Histories.{base, has_base, compared}
 use Rattle.register_machine.proofs.Invariant.{IsClaim, Knows, Holds}
 use Rattle.register_machine.proofs.Keeping.{claim_kept, claim_known, record_kept, record_known}
-use Rattle.register_machine.proofs.Finding.{found_begun, found_from, found_current, found_claims, current_sees, completed_held, begun_follow, last_greatest}
+use Rattle.register_machine.proofs.Finding.{found_begun, found_from, found_current, found_claims, current_sees, completed_held, completed_found, begun_follow, last_greatest}
 use Rattle.register_machine.proofs.Beginning.{next_kept, may_begin}
 use Rattle.register_machine.proofs.Completing.{complete_kept, complete_known}
 
@@ -82,6 +82,9 @@ status_is_current events may read r e = survey_is_current events may read r (sta
 
 pub begun_follow_always : Always BegunFollow
 begun_follow_always events may v r last since = let s = after_all start events in begun_follow s.disks s.history (reached events may).kept v r last since
+
+pub completed_is_found : Always CompletedIsFound
+completed_is_found events may v read last none enough = let s = after_all start events in completed_found s.disks s.history (reached events may).kept v read last none enough
 
 pub last_is_greatest : Always LastIsGreatest
 last_is_greatest events may v w last done = let s = after_all start events in last_greatest s.disks s.history (reached events may).kept v w last done

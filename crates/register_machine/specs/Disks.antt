@@ -24,7 +24,7 @@ is_same d e = (d.0 == e.0) && (d.1 == e.1)
 abbrev pub with_disk : Disks → Holder → Disk → Disks
 with_disk disks d new e = if is_same d e then new else disks e
 
--- a claim is put on a disk
+-- a claim is put on a disk, where a greater one stays
 abbrev pub with_claim : Disks → Holder → ℕ → Disks
 with_claim disks d epoch = with_disk disks d (record { claimed = max epoch (disks d).claimed; status = (disks d).status })
 

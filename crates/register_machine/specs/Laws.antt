@@ -58,10 +58,15 @@ LastIsGreatest s = (v w : Status) → last_completed s.history ≡ Some v → Is
 abbrev pub NumbersRise : State → Type 0
 NumbersRise s = AreNumbered (begun s.history)
 
--- disks that are enough for the completed record hold it, or a greater one
+-- of disks that are enough for the completed record, the greatest one is current
 abbrev pub CompletedIsHeld : State → Type 0
 CompletedIsHeld s = (v : Status) (read : List Holder) → last_completed s.history ≡ Some v → IsTrue (is_enough (is_in read) v)
-    → (r : Status) × (greatest s.disks read ≡ Some r) × (rank v ≤ rank r)
+    → (r : Status) × (greatest s.disks read ≡ Some r) × IsCurrent s.history r
+
+-- and where nothing was begun since, they survey it
+abbrev pub CompletedIsFound : State → Type 0
+CompletedIsFound s = (v : Status) (read : List Holder) → last_completed s.history ≡ Some v → begun_since s.history ≡ [] → IsTrue (is_enough (is_in read) v)
+    → surveyed s.disks read ≡ Some v
 
 -- disks that are enough for a current record show each epoch in which a record was begun
 abbrev pub EpochsAreSeen : State → Type 0

@@ -29,7 +29,7 @@ pub record State : Type 0 where
   pub history : List Mark
 
 -- Each survey names the disks that it can read: so disks are lost, and come back with what they held.
--- What a stop tears in a put leaves the disk as it was, or with the record.
+-- A put that a stop tears leaves the disk as it was, or with what was put; puts may go to any disks, and leave any out.
 pub data Event : Type 0 where
   -- a group is created, with this first record
   Creates : (first : Status) → Event
@@ -37,12 +37,15 @@ pub data Event : Type 0 where
   Surveys : (read : List Holder) (found : Status) → Event
   -- its claim is put on a disk
   Claims : (disk : Holder) (found : Status) (epoch : ℕ) → Event
-  -- its claim stands on disks enough
+  -- its claim stands on disks that are enough for that record
   ClaimStands : (found : Status) (epoch : ℕ) → Event
+  -- a record may be put from now on
   Begins : (next : Status) → Event
   -- the record is put on a disk
   Stores : (disk : Holder) (next : Status) → Event
+  -- the record stands on disks that are enough for it, and is acknowledged
   Completes : (next : Status) → Event
+  -- the program ends, wherever it is
   Stops : Event
 
 -- After its claim a program writes the sets that it found, under the epoch that it claimed. Then each record follows the last one, with a greater turn.

@@ -1,6 +1,6 @@
 //! What holds in each state, whatever happens. Each law is the contract of a function that does nothing.
 
-ghost use Rattle.register_machine.specs.Laws.{Always, BegunFollow, CompletedIsHeld, EpochsAreSeen, LastIsGreatest, NumbersRise, NeverUndone, StatusIsCurrent, SurveyIsCurrent};
+ghost use Rattle.register_machine.specs.Laws.{Always, BegunFollow, CompletedIsFound, CompletedIsHeld, EpochsAreSeen, LastIsGreatest, NumbersRise, NeverUndone, StatusIsCurrent, SurveyIsCurrent};
 ghost use Rattle.register_machine.specs.Mounts.{CanBeMounted};
 
 /// Whichever disks are left, Status is the record that was completed last, or one begun after it, and these have greater
@@ -11,11 +11,12 @@ pub fn status_is_current()
     ensures follow { Always BegunFollow }
 {}
 
-/// A record that was completed is never undone.
+/// A record that was completed is never undone, and found by disks that are enough for it.
 pub fn completed_stays()
     ensures never_undone { NeverUndone }
     ensures greatest { Always LastIsGreatest }
     ensures held { Always CompletedIsHeld }
+    ensures found { Always CompletedIsFound }
 {}
 
 /// No two records bear one number, and no epoch is claimed again in which a record was begun.
