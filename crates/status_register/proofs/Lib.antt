@@ -12,3 +12,11 @@ pub mod Taking
 pub mod RowFits
 pub mod Meeting
 pub mod RaisingRecords
+pub mod Holding
+pub mod Losing
+pub mod Answered
+pub mod Placing
+pub mod Seeing
+pub mod Completing
+pub mod Written
+pub mod Rewriting

@@ -45,7 +45,7 @@ or_later : (b c : Bool) → c ≡ true → (b || c) ≡ true
 or_later true c is = refl
 or_later false c is = is
 
-any_among : {A : Type 0} (p : A → Bool) (xs : List A) (x : A) → IsAmong xs x → p x ≡ true → list_any p xs ≡ true
+pub any_among : {A : Type 0} (p : A → Bool) (xs : List A) (x : A) → IsAmong xs x → p x ≡ true → list_any p xs ≡ true
 any_among p [] x h pass = absurd h
 any_among p (y ∷ xs) x (inl same) pass = by (p y) (ap p (sym same) ∙ pass) where
   by : (b : Bool) → b ≡ true → (b || list_any p xs) ≡ true
@@ -58,7 +58,7 @@ epoch_most [] c h = absurd h
 epoch_most (x ∷ xs) c (inl same) = omega (arith, ap (λ (d : Claim). d.epoch) same)
 epoch_most (x ∷ xs) c (inr h) = omega (arith, epoch_most xs c h)
 
-found : {A : Type 0} (p : A → Bool) (xs : List A) → list_any p xs ≡ true → (x : A) × IsAmong xs x × (p x ≡ true)
+pub found : {A : Type 0} (p : A → Bool) (xs : List A) → list_any p xs ≡ true → (x : A) × IsAmong xs x × (p x ≡ true)
 found p [] e = absurd (false≢true e)
 found p (x ∷ xs) e = ⊎_elim (λ here. (x, inl refl, here)) (λ later. let f = found p xs later in (f.0, inr f.1, f.2)) (or_cases (p x) (list_any p xs) e)
 
@@ -100,7 +100,7 @@ module _ (slots id : ℕ) (image : bay.Image) (read : List Member) (are : (m : M
       let n : a.Member = record { slot = m.slot; header = on.header; disk = get_or disks m.slot (metadata []) } in
       (n, among_filtered (λ (k : a.Member). slots_of read k.slot) all n one (any_among (λ (k : Member). k.slot == m.slot) read m h (eq-eqb m.slot m.slot refl)), disk, on.number, on.birth)
 
-  to_image : (r : Status) → IsAmong (records_on id image read) r → IsAmong (statuses id chosen) r
+  pub to_image : (r : Status) → IsAmong (records_on id image read) r → IsAmong (statuses id chosen) r
   unfolding records_on statuses
   to_image r h =
       let f = among_flat_map (λ (m : Member). of_group id (disk_in image m.slot).statuses) read r h in
@@ -132,7 +132,7 @@ module _ (slots id : ℕ) (image : bay.Image) (read : List Member) (are : (m : M
       flat_map_among (λ (k : Member). claims_of_group id (disk_in image k.slot).claims) read m.0 c m.1 (subst (λ (d : Metadata). IsAmong (claims_of_group id d.claims) c) disk f.2)
 
   -- a disk with a header has its slots
-  long_enough : (m : Member) → IsAmong read m → 40960 ≤ image.size m.slot
+  pub long_enough : (m : Member) → IsAmong read m → 40960 ≤ image.size m.slot
   long_enough m h =
       let on = are m h in
       let bytes = disk_bytes image m.slot in
@@ -149,7 +149,7 @@ module _ (slots id : ℕ) (image : bay.Image) (read : List Member) (are : (m : M
     says_claim : (slot gate : ℕ) → shown image slot gate ≡ Some (claim_spelling c) → said decoded_claim image slot gate ≡ Some (Some c)
     says_claim slot gate is = ap (λ (o : Option (List ℕ)). option_map decoded_claim o) is ∙ ap (λ (o : Option Claim). Some o) (claim_codec.1 c allowed)
 
-    shows_claim : (m : Member) → IsAmong read m → HasBody 2 4 (claim_spelling c) m.slot image → IsAmong (claims_of_group id (disk_in image m.slot).claims) c
+    pub shows_claim : (m : Member) → IsAmong read m → HasBody 2 4 (claim_spelling c) m.slot image → IsAmong (claims_of_group id (disk_in image m.slot).claims) c
     shows_claim m h has =
         let first = listed (said decoded_claim image m.slot 2) in
         let second = listed (said decoded_claim image m.slot 4) in
@@ -190,7 +190,7 @@ module _ (slots id : ℕ) (image : bay.Image) (read : List Member) (are : (m : M
       (λ yes rest. λ i. majority_there set yes i && all_there others rest i)
       (λ out some. absurd (none-some _ (sym some))) none
 
-  enough_there : (r : Status) → missing read (Some r) ≡ None → IsTrue (is_enough r chosen)
+  pub enough_there : (r : Status) → missing read (Some r) ≡ None → IsTrue (is_enough r chosen)
   unfolding is_enough
   enough_there r none = all_there (sets r) none
 

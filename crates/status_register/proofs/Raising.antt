@@ -36,7 +36,7 @@ raised_fits id old completed begun fits slot bytes inside raises =
     subst (λ (l : List Member). Fits id l completed begun) (sym members_same) (fits_raised id f keeps ms raised statuses_same completed begun fits)
 
 module _ (slots id slot : ℕ) (c : Claim) (allowed : IsTrue (is_claim c)) (inside : slot < slots) (x y : bay.Image) (long : 40960 ≤ x.size slot) (step : MayPutNext (claim_gate id) slot (claim_spelling c) x y) where
-  raises : RaisesClaims id (metadata (disk_bytes x slot)) (metadata (disk_bytes y slot))
+  pub raises : RaisesClaims id (metadata (disk_bytes x slot)) (metadata (disk_bytes y slot))
   raises =
       let next = claim_gate_next id slot x long in
       let gate = claim_gate id slot x in

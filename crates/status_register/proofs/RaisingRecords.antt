@@ -43,7 +43,7 @@ raised_records_fit id old completed begun fits r last slot bytes inside raises =
     subst (λ (l : List Member). Fits id l completed begun) (sym members_same) (fits_then id f keeps ms completed begun fits r last raised from claims_same turns)
 
 module _ (slots id slot : ℕ) (r : Status) (allowed : IsTrue (is_status r)) (inside : slot < slots) (x y : bay.Image) (long : 40960 ≤ x.size slot) (step : MayPutNext (status_gate id) slot (status_spelling r) x y) where
-  raises : RaisesRecords id (metadata (disk_bytes x slot)) (metadata (disk_bytes y slot)) r
+  pub raises : RaisesRecords id (metadata (disk_bytes x slot)) (metadata (disk_bytes y slot)) r
   raises =
       let next = status_gate_next id slot x long in
       let gate = status_gate id slot x in

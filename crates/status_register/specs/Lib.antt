@@ -10,3 +10,6 @@ pub mod Answers
 pub mod Rows
 pub mod Registered
 pub mod SurveyLaws
+pub mod Holders
+pub mod Writes
+pub mod Keeping

@@ -74,3 +74,10 @@ ClaimedRecordBegins =
     → ((m : Member) → IsAmong took m → HasBody 2 4 (claim_spelling (record { id = id; epoch = r.epoch })) m.slot image)
     → IsAmong (current_records completed begun) g → missing took (Some g) ≡ None → ((v : Status) → base completed begun ≡ Some v → Follows v r)
     → IsTrue (is_status r) → ((s : Status) → IsAmong (current_records completed begun) s → rank s < rank r) → FitsIn slots id completed (begun ++ r ∷ []) image
+
+-- Once the last record stands on members that are enough for it, it is the one that was last completed, and no other counts.
+abbrev pub StoredRecordCompletes : Type 0
+StoredRecordCompletes =
+    (slots id : ℕ) (completed : Option Status) (begun : List Status) (image : Image) (took : List Member) (r : Status) → FitsIn slots id completed begun image → IsLast completed begun r
+    → IsTrue (is_status r) → r.id ≡ id → ((m : Member) → IsAmong took m → IsMemberOn slots id image m)
+    → ((m : Member) → IsAmong took m → HasBody 6 8 (status_spelling r) m.slot image) → missing took (Some r) ≡ None → FitsIn slots id (Some r) [] image

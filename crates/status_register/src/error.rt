@@ -1,4 +1,4 @@
-//! Why a survey or a claim is refused.
+//! Why a survey, a claim or a write is refused.
 
 /// Why a survey or a claim is refused.
 #[derive(Clone, Copy, Debug, PartialEq, Eq)]
@@ -8,4 +8,10 @@ pub enum SurveyError {
     NoMajority { seen: u8, need: u8 },
     /// The first block, by member and then by block, where a claim or a record must stand and doesn't.
     Damaged { slot: u32, block: u64 },
+}
+
+/// The slot of a disk that failed, where too few took a record.
+#[derive(Clone, Copy, Debug, PartialEq, Eq)]
+pub struct Dead {
+    pub slot: u32,
 }

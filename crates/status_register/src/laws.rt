@@ -1,5 +1,5 @@
 // What a survey finds, in the words of the members of an image. Each function has an empty body: its contract is the law.
-ghost use Rattle.status_register.specs.SurveyLaws.{ClaimedRecordBegins, ShownClaimIsSeen, StoredRecordsFit, SurveyedEpochIsAbove, SurveyedRecordCounts};
+ghost use Rattle.status_register.specs.SurveyLaws.{ClaimedRecordBegins, ShownClaimIsSeen, StoredRecordCompletes, StoredRecordsFit, SurveyedEpochIsAbove, SurveyedRecordCounts};
 
 /// The record that a survey gives is the one that was last completed, or one begun after it.
 pub fn surveyed_record_counts()
@@ -24,4 +24,9 @@ pub fn stored_records_fit()
 /// A record of a claimed epoch that follows, with a number above all that count, is begun.
 pub fn claimed_record_begins()
     ensures { ClaimedRecordBegins }
+{}
+
+/// Once the last record stands on members that are enough for it, it is the one that was last completed, and no other counts.
+pub fn stored_record_completes()
+    ensures { StoredRecordCompletes }
 {}

@@ -5,21 +5,25 @@ mod bodies;
 mod claiming;
 mod error;
 mod gates;
+mod holders;
 mod laws;
+mod losses;
 mod majorities;
 mod member;
 mod members;
 mod places;
 mod reading;
+mod recording;
 mod register;
 mod storing;
 mod survey;
 mod tally;
+mod writing;
 
-pub use error::SurveyError;
+pub use error::{Dead, SurveyError};
 pub use laws::{
-    claimed_record_begins, shown_claim_is_seen, stored_records_fit, surveyed_epoch_is_above,
-    surveyed_record_counts,
+    claimed_record_begins, shown_claim_is_seen, stored_record_completes, stored_records_fit,
+    surveyed_epoch_is_above, surveyed_record_counts,
 };
 pub use member::Member;
 pub use register::Register;

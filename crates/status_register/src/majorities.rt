@@ -91,7 +91,7 @@ fn count_set(members: &[Member], entries: &[PstEntry], set: DiskSet) -> Presence
 }
 
 /// How many disks of a set are among the members, and how many are needed, where they aren't a majority.
-fn lacking(members: &[Member], entries: &[PstEntry], set: DiskSet) -> Option<(u8, u8)>
+pub fn lacking(members: &[Member], entries: &[PstEntry], set: DiskSet) -> Option<(u8, u8)>
     ensures { result ≡ shortfall members.now (disks_of entries.now set ∷ []) }
 {
     let presence = count_set(members, entries, set);

@@ -1,21 +1,29 @@
 //! The record of a group whose epoch was claimed.
 
-ghost use Rattle.std.specs.Prelude.{◌≡◌, ◌≤◌, ◌<◌, ◌+◌, ◌*◌, [], None, Some, length, replicate, set};
-ghost use Rattle.std.specs.Option.{option_map};
+ghost use Rattle.std.specs.Prelude.{◌≡◌, ◌≤◌, ◌<◌, ◌+◌, ◌*◌, ◌^◌, [], None, Some, true, length, replicate, set, IsTrue, IfErr, IfOk, OnOk};
 ghost use Rattle.asm_formats.specs.Claim.{claim_spelling};
-ghost use Rattle.asm_formats.specs.Status.{entry_of};
+ghost use Rattle.asm_formats.specs.Following.{Follows, Holder, disks_of, sets};
+ghost use Rattle.asm_formats.specs.Status.{is_status, status_spelling};
+ghost use Rattle.asm_placement.specs.Among.{IsAmong};
 ghost use Rattle.bay.specs.State.{KeepsAttached};
-ghost use Rattle.bay.specs.Moments.{Runs};
-ghost use Rattle.status_register.specs.Registered.{AreNumbered, IsClaimAnswer, KeepsHistory, all_placed, is_birth, next_epoch};
+ghost use Rattle.bay.specs.Moments.{Ends, Runs};
+ghost use Rattle.status_register.specs.Holders.{HoldSlots, SlotsDiffer, attached_to, numbered};
+ghost use Rattle.status_register.specs.Keeping.{IsReady, KeepsFromFirst, KeepsWritten};
+ghost use Rattle.status_register.specs.Surveys.{is_there, missing};
+ghost use Rattle.status_register.specs.Writes.{FailedAlone, HoldersShow, IsDeadOf, IsWriteAnswer, ShowBut, after_write, first_holders, first_register};
+ghost use Rattle.status_register.specs.Registered.{AreNumbered, IsClaimAnswer, KeepsHistory, all_placed, next_epoch};
 ghost use Rattle.status_register.specs.Rows.{AreApart, PutsRow};
-ghost use Rattle.status_register.specs.Slots.{claim_gate};
+ghost use Rattle.status_register.specs.Slots.{claim_gate, status_gate};
 ghost use Rattle.status_register.specs.Tallies.{HaveSlots, IsSlotOf};
 
 use crate::claiming::claim_all;
-use crate::majorities::{birth_of, missing};
+use crate::holders::is_of_entry;
+use crate::majorities::missing;
 use crate::members::MemberList;
-use crate::{Member, SurveyError};
-use asm_base::Block;
+use crate::recording::renumbered;
+use crate::writing::{write_first, write_record};
+use crate::{Dead, Member, SurveyError};
+use asm_base::{Block, DiskSet};
 use bay::Bay;
 use status_table::{Claim, PstEntry, PstRecord, encode_claim};
 use std::marker::Model;
@@ -57,15 +65,74 @@ impl Register {
     {
         self.members[member.number as usize] = Some(member);
     }
-}
 
-/// Whether the member is the disk of its number's entry.
-fn is_of_entry(entries: &[PstEntry], member: Member) -> bool
-    ensures { result ≡ is_birth (option_map (λ e. e.birth) (entry_of entries.now member.number)) member.birth }
-{
-    match birth_of(entries, member.number) {
-        Some(birth) => birth == member.birth,
-        None => false,
+    /// Writes the first record of a group on its holders, whose slots are closed: each of them must take it. `Dead` has the slot
+    /// of one that failed. At each moment the disks fit the history in which the record is begun, and in the end it is completed.
+    pub fn first<B: Bay>(
+        bay: &mut B,
+        value: &PstRecord,
+        members: &[Member],
+    ) -> Result<Register, Dead>
+        requires status { IsTrue (is_status value.now) }
+        requires slots { HaveSlots (B.state bay.old) members.now }
+        requires apart { AreApart members.now }
+        requires numbers { AreNumbered members.now }
+        requires holders { (h : Holder) → IsAmong (disks_of value.now.entries value.now.holders) h → IsTrue (is_there members.now h) }
+        ensures register { IfOk result (λ register. register ≡ first_register value.now members.now) }
+        ensures ready { IfOk result (λ register. IsReady register (B.state bay.new)) }
+        ensures shown { OnOk result (Ends (HoldersShow members.now value.now) (B.state bay.old) (B.state bay.new)) }
+        ensures cause { IfErr result (λ dead. IsDeadOf members.now dead.slot (B.state bay.old) (B.state bay.new)) }
+        ensures attached { KeepsAttached (B.state bay.old) (B.state bay.new) }
+        ensures calls { (B.state bay.new).calls ≤ (B.state bay.old).calls + 13 * length (first_holders value.now members.now) }
+        ensures runs { Runs (IsSlotOf (first_holders value.now members.now)) (PutsRow (status_gate value.now.id) (first_holders value.now members.now) (status_spelling value.now)) (B.state bay.old) (B.state bay.new) }
+        ensures history { KeepsFromFirst value.now members.now result (B.state bay.old) (B.state bay.new) }
+    {
+        let places = by_number(members, value.entries());
+        match write_first(bay, &places, value) {
+            Err(dead) => Err(dead),
+            Ok(()) => Ok(Register {
+                id: value.id,
+                members: places,
+                value: value.copy(),
+                epoch: value.epoch,
+                turn: value.turn,
+                is_fresh: false,
+            }),
+        }
+    }
+
+    /// Writes the record under the next number, on all attached disks of its sets, in any mode, from the greatest disk number down
+    /// and past faults. Gives the set of those that failed. `Dead` comes where fewer than a majority of a set took the record,
+    /// with the slot of a disk of this set that failed; then the number is used up, and the record that holds is the one before.
+    /// At each moment the disks fit the history in which the record is begun, and once a set is given it is completed.
+    pub fn write<B: Bay>(&mut self, bay: &mut B, next: &PstRecord) -> Result<DiskSet, Dead>
+        requires status { IsTrue (is_status next.now) }
+        requires group { next.now.id ≡ self.old.value.id }
+        requires follows { Follows self.old.value next.now }
+        requires fresh { self.old.is_fresh ≡ true → sets next.now ≡ sets self.old.value }
+        requires slots { HoldSlots (B.state bay.old) self.old.members }
+        requires apart { SlotsDiffer self.old.members }
+        requires majority { missing (attached_to self.old.members next.now) (Some next.now) ≡ None }
+        ensures answer { IsWriteAnswer (attached_to self.old.members next.now) (numbered self.old next.now) result (B.state bay.old) (B.state bay.new) }
+        ensures shown { IfOk result (λ failed. Ends (ShowBut (attached_to self.old.members next.now) failed (numbered self.old next.now)) (B.state bay.old) (B.state bay.new)) }
+        ensures failed { IfOk result (λ failed. FailedAlone (attached_to self.old.members next.now) failed (B.state bay.old) (B.state bay.new)) }
+        ensures register { self.new ≡ after_write self.old next.now result }
+        ensures attached { KeepsAttached (B.state bay.old) (B.state bay.new) }
+        ensures calls { (B.state bay.new).calls ≤ (B.state bay.old).calls + 13 * length (attached_to self.old.members next.now) }
+        ensures runs { Runs (IsSlotOf (attached_to self.old.members next.now)) (PutsRow (status_gate self.old.id) (attached_to self.old.members next.now) (status_spelling (numbered self.old next.now))) (B.state bay.old) (B.state bay.new) }
+        ensures history { KeepsWritten self.old next.now result self.new (B.state bay.old) (B.state bay.new) }
+    {
+        let turn = self.turn.saturating_add(1);
+        self.turn = turn;
+        let status = renumbered(next, self.epoch, turn);
+        match write_record(bay, self.id, &self.members, &status) {
+            Err(dead) => Err(dead),
+            Ok(failed) => {
+                self.value = status;
+                self.is_fresh = false;
+                Ok(failed)
+            }
+        }
     }
 }
 
@@ -100,6 +167,7 @@ pub fn claim_epoch<B: Bay>(
     ensures calls { (B.state bay.new).calls ≤ (B.state bay.old).calls + 13 * length members }
     ensures runs { Runs (IsSlotOf members) (PutsRow (claim_gate id) members (claim_spelling (record { id = id; epoch = next_epoch epoch }))) (B.state bay.old) (B.state bay.new) }
     ensures history { KeepsHistory (record { id = id; members = members; read = []; value = value; epoch = epoch }) (B.state bay.old) (B.state bay.new) }
+    ensures small { id < 2 ^ 64 }
 {
     let claim = Claim {
         id,

@@ -1,12 +1,13 @@
 //! What a mount reads of the members before it claims an epoch.
 
-ghost use Rattle.std.specs.Prelude.{◌≡◌, ◌≤◌, ◌+◌, ◌*◌, length};
+ghost use Rattle.std.specs.Prelude.{◌≡◌, ◌≤◌, ◌+◌, ◌*◌, length, IfOk};
 ghost use Rattle.bay.specs.Image.{Same};
 ghost use Rattle.bay.specs.State.{KeepsAttached};
 ghost use Rattle.bay.specs.Moments.{Runs};
 ghost use Rattle.status_register.specs.Tallies.{HaveSlots, IsSlotOf};
 ghost use Rattle.status_register.specs.Answers.{IsSurveyed, Judges};
 ghost use Rattle.asm_formats.specs.Claim.{claim_spelling};
+ghost use Rattle.status_register.specs.Keeping.{IsReady, KeepsFromClaim};
 ghost use Rattle.status_register.specs.Registered.{AreNumbered, IsClaimAnswer, KeepsHistory, claim_of};
 ghost use Rattle.status_register.specs.Rows.{AreApart, PutsRow};
 ghost use Rattle.status_register.specs.Slots.{claim_gate};
@@ -63,6 +64,9 @@ impl Survey {
         ensures calls { (B.state bay.new).calls ≤ (B.state bay.old).calls + 13 * length self.members }
         ensures runs { Runs (IsSlotOf self.members) (PutsRow (claim_gate self.id) self.members (claim_spelling (claim_of self))) (B.state bay.old) (B.state bay.new) }
         ensures history { KeepsHistory self (B.state bay.old) (B.state bay.new) }
+        // The register may be written, and keeps the history that the disks fit.
+        ensures ready { IfOk result (λ register. IsReady register (B.state bay.new)) }
+        ensures kept { KeepsFromClaim self result (B.state bay.old) (B.state bay.new) }
     {
         claim_epoch(bay, self.id, self.members, self.value, self.epoch)
     }

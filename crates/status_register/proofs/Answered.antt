@@ -1,0 +1,46 @@
+-- What a write on some disks answers.
+use Rattle.std.proofs.Common.{◌≡◌, ℕ, ◌<◌, true, false, List, Some, None, Err, refl, subst, find}
+use Rattle.std.specs.Prelude.{not}
+use Rattle.bay.specs.State.{BayState}
+use Rattle.bay.specs.Moments.{Ends}
+use Rattle.bay.proofs.Calls.{done_less}
+use Rattle.asm_placement.specs.Among.{IsAmong}
+use Rattle.asm_formats.specs.Status.{Status, status_spelling}
+use Rattle.asm_formats.specs.Following.{sets}
+use Rattle.status_register.specs.Rows.{HasBody, HaveBody}
+use Rattle.status_register.specs.Surveys.{AreRead}
+use Rattle.status_register.specs.Writes.{is_one_of, IsFailed, IsLost, IsDeadOf, IsWriteAnswer, ShowBut}
+use Rattle.status_register.specs.declared.member.Member.{Member}
+use Rattle.status_register.proofs.Losing.{twin_of, left_out_failed, none_in, found_in, shown_but}
+use Rattle.status_register.proofs.Tallying.{RoseAt}
+use Rattle.std.proofs.lemmas.Bool.{both_ways, not-true, cases_Bool}
+use Rattle.std.proofs.Common.{⊎_elim, ap}
+
+module _ (s t : BayState) (r : Status) (ms took shown : List Member) (body : List ℕ) (are : AreRead (RoseAt s t) ms took) (done : Ends (HaveBody 6 8 body took) s t) (spelt : body ≡ status_spelling r) (same : shown ≡ took) where
+  they_show : Ends (HaveBody 6 8 (status_spelling r) took) s t
+  they_show = subst (λ (b : List ℕ). Ends (HaveBody 6 8 b took) s t) spelt done
+
+  pub write_lost : (disk : Member) → IsLost ms shown (sets r) disk → IsWriteAnswer ms r (Err (record { slot = disk.slot })) s t
+  write_lost disk lost =
+      let here = subst (λ (l : List Member). IsLost ms l (sets r) disk) same lost in
+      (took, are, they_show, (disk, here, refl, left_out_failed (RoseAt s t) ms took are disk here.lost.attached here.lost.not_taken))
+
+  -- each that isn't left out has it
+  all_show : ((m : Member) → IsAmong ms m → is_one_of took m ≡ true) → Ends (HaveBody 6 8 (status_spelling r) ms) s t
+  all_show all = done_less (λ x y have m h. let twin = twin_of took m (all m h) in subst (λ (k : ℕ). HasBody 6 8 (status_spelling r) k y) twin.slot (have twin.twin twin.among)) they_show
+
+  pub all_done : find (λ (m : Member). not (is_one_of shown m)) ms ≡ None → Ends (HaveBody 6 8 (status_spelling r) ms) s t
+  all_done none = all_show (λ m h. subst (λ (l : List Member). is_one_of l m ≡ true) same (taken m (none_in (λ (m : Member). not (is_one_of shown m)) ms none m h)))
+    where
+      taken : (m : Member) → not (is_one_of shown m) ≡ false → is_one_of shown m ≡ true
+      taken m out = ⊎_elim (λ there. there) (λ absent. absurd (both_ways (not (is_one_of shown m)) out (ap not absent))) (cases_Bool (is_one_of shown m))
+
+  pub one_dead : (m : Member) → find (λ (m : Member). not (is_one_of shown m)) ms ≡ Some m → IsDeadOf ms m.slot s t
+  one_dead m is =
+      let f = found_in (λ (m : Member). not (is_one_of shown m)) ms m is in
+      ((m, f.among, refl), left_out_failed (RoseAt s t) ms took are m f.among (subst (λ (l : List Member). is_one_of l m ≡ false) same (not-true (is_one_of shown m) f.passes)))
+
+-- each disk that isn't in the set shows the record
+pub show_but : (s t : BayState) (r : Status) (ms took : List Member) (failed : ℕ) → ((m : Member) → IsAmong ms m → m.number < 64) → Ends (HaveBody 6 8 (status_spelling r) took) s t → IsFailed ms took failed → Ends (ShowBut ms failed r) s t
+show_but s t r ms took failed small done is = done_less
+    (λ x y have m h out. let twin = twin_of took m (shown_but ms took failed is m h (small m h) out) in subst (λ (k : ℕ). HasBody 6 8 (status_spelling r) k y) twin.slot (have twin.twin twin.among)) done

@@ -1,0 +1,62 @@
+use Rattle.std.proofs.Common.{[], List, length, take, get_or, refl, sym, ap, subst, arith}
+use Rattle.std.proofs.lemmas.List.{take_more, take_all}
+use Rattle.bay.proofs.Calls.{goes_on, stops, on_more, started, attached-trans}
+use Rattle.bay.proofs.Images.{same-refl}
+use Rattle.bay.specs.Moments.{Ends}
+use Rattle.status_register.specs.Rows.{HaveBody, no_put}
+use Rattle.status_register.specs.Slots.{status_gate}
+use Rattle.status_register.specs.Surveys.{AreRead, none_yet}
+use Rattle.status_register.specs.declared.member.Member.{Member}
+use Rattle.status_register.proofs.Filling.{still_slots}
+use Rattle.status_register.proofs.Tallying.{RoseAt, among_get}
+use Rattle.status_register.proofs.Taking.{none_have, takes_few, takes_kept, takes_more, kept_among, earlier_slot, row_more, status_gate_either}
+use Rattle.status_register.proofs.recording.record_all.Goals as goal
+
+pub loop-member-init : goal.loop-member-init
+loop-member-init g c =
+    let s = g.B.Bay.state c.args.bay.now in
+    record {
+      few = omega (arith, ap length c.empty-took.ensures);
+      took = subst (λ (l : List Member). AreRead (RoseAt s s) [] l) (sym c.empty-took.ensures) none_yet;
+      done = subst (λ (l : List Member). Ends (HaveBody 6 8 c.args.body.now.bytes l) s s) (sym c.empty-took.ensures) (none_have s 6 8 c.args.body.now.bytes);
+      attached = record { same = λ slot. refl };
+      calls = omega arith;
+      runs = started (λ x. no_put x x (same-refl x));
+    }
+
+pub record_one-took-requires-clause-slots : goal.record_one-took-requires-clause-slots
+record_one-took-requires-clause-slots g c =
+    let none : Member = record { slot = 0; number = 0; birth = 0; sector = 0 } in
+    still_slots (c.requires.slots (get_or c.args.members.now c.loop-member.member-index none) (among_get c.args.members.now c.loop-member.member-index none c.loop-member-test.true)) c.loop-member.invariant.attached
+
+pub loop-member-preserved : goal.loop-member-preserved
+loop-member-preserved g c =
+    let s = g.B.Bay.state c.args.bay.now in
+    let t = g.B.Bay.state c.loop-member.bay in
+    let u = g.B.Bay.state c.record_one-took.new.bay in
+    let ms = c.args.members.now in
+    let body = c.args.body.now.bytes in
+    let gate = status_gate c.args.id in
+    let i = c.loop-member.member-index in
+    let none : Member = record { slot = 0; number = 0; birth = 0; sector = 0 } in
+    let member = get_or ms i none in
+    let among = among_get ms i none c.loop-member-test.true in
+    let first = c.loop-member.invariant.runs in
+    let next = c.record_one-took.ensures.runs in
+    let old = c.loop-member.took in
+    let new = c.record_one-took.result in
+    let takes = c.record_one-took.ensures.takes in
+    record {
+      few = omega (arith, c.loop-member.invariant.few, takes_few t u gate member body old new takes);
+      took = subst (λ (l : List Member). AreRead (RoseAt s u) l new) (sym (take_more ms i none c.loop-member-test.true)) (takes_kept s t u first next gate member body old new takes (take i ms) c.loop-member.invariant.took);
+      done = takes_more gate 6 8 (status_gate_either c.args.id) body member old
+          (λ n h. earlier_slot ms i none n c.requires.apart c.loop-member-test.true (kept_among (RoseAt s t) (take i ms) old c.loop-member.invariant.took n h)) new takes next c.loop-member.invariant.done;
+      attached = attached-trans c.loop-member.invariant.attached c.record_one-took.ensures.attached;
+      calls = omega (arith, c.loop-member.invariant.calls, c.record_one-took.ensures.calls);
+      runs = goes_on (row_more gate ms body member among) first (stops first) (on_more (λ slot is. (member, among, is)) next);
+    }
+
+pub returns-clause-took : goal.returns-clause-took
+returns-clause-took g c =
+    subst (λ (l : List Member). AreRead (RoseAt (g.B.Bay.state c.args.bay.now) (g.B.Bay.state c.loop-member.bay)) l c.loop-member.took)
+    (take_all c.loop-member.member-index c.args.members.now c.loop-member-test.false) c.loop-member.invariant.took

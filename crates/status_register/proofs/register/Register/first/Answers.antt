@@ -1,0 +1,95 @@
+use Rattle.std.proofs.Common.{◌≡◌, ◌∙◌, List, Option, Some, None, [], false, sym, ap, subst, replicate}
+use Rattle.bay.specs.Moments.{Ends, Runs}
+use Rattle.asm_formats.specs.Status.{Entry, status_spelling}
+use Rattle.status_register.specs.Holders.{attached_to, HoldSlots, SlotsDiffer}
+use Rattle.status_register.specs.Keeping.{Keeps}
+use Rattle.status_register.specs.Registered.{Registered, all_placed}
+use Rattle.status_register.specs.Rows.{HaveBody, PutsRow}
+use Rattle.status_register.specs.Slots.{status_gate}
+use Rattle.status_register.specs.Tallies.{IsSlotOf}
+use Rattle.status_register.specs.Writes.{IsDeadOf, first_register}
+use Rattle.status_register.specs.declared.member.Member.{Member}
+use Rattle.status_register.proofs.Placing.{places_hold, places_differ, places_ready, first_slot, holders_show}
+use Rattle.status_register.proofs.Written.{first_fits, first_completed}
+use Rattle.status_register.proofs.register.Register.first.Goals as goal
+
+pub write_first-requires-clause-slots : goal.write_first-requires-clause-slots
+write_first-requires-clause-slots g c =
+    let s = g.B.Bay.state c.args.bay.now in
+    let r = c.args.value.now in
+    let ms = c.args.members.now in
+    let places = c.by_number-places.ensures.places ∙ ap (λ (es : List Entry). all_placed es (replicate 64 None) ms) c.entries.ensures.entries in
+    subst (λ (l : List (Option Member)). HoldSlots s l) (sym places) (places_hold r.entries ms c.requires.numbers s c.requires.slots)
+
+pub write_first-requires-clause-apart : goal.write_first-requires-clause-apart
+write_first-requires-clause-apart g c =
+    let s = g.B.Bay.state c.args.bay.now in
+    let r = c.args.value.now in
+    let ms = c.args.members.now in
+    let places = c.by_number-places.ensures.places ∙ ap (λ (es : List Entry). all_placed es (replicate 64 None) ms) c.entries.ensures.entries in
+    subst SlotsDiffer (sym places) (places_differ r.entries ms c.requires.numbers c.requires.apart)
+
+pub returns-in-Err-clause-cause : goal.returns-in-Err-clause-cause
+returns-in-Err-clause-cause g c =
+    let s = g.B.Bay.state c.args.bay.now in
+    let r = c.args.value.now in
+    let ms = c.args.members.now in
+    let places = c.by_number-places.ensures.places ∙ ap (λ (es : List Entry). all_placed es (replicate 64 None) ms) c.entries.ensures.entries in
+    let t = g.B.Bay.state c.write_first.new.bay in
+    let dead = subst (λ (l : List (Option Member)). IsDeadOf (attached_to l r) c.in-Err.dead.slot s t) places c.in-Err.ensures.cause in
+    (first_slot r ms c.requires.numbers c.in-Err.dead.slot dead.0, dead.1)
+
+pub returns-in-Err-clause-runs : goal.returns-in-Err-clause-runs
+returns-in-Err-clause-runs g c =
+    let s = g.B.Bay.state c.args.bay.now in
+    let r = c.args.value.now in
+    let ms = c.args.members.now in
+    let places = c.by_number-places.ensures.places ∙ ap (λ (es : List Entry). all_placed es (replicate 64 None) ms) c.entries.ensures.entries in
+    let t = g.B.Bay.state c.write_first.new.bay in
+    subst (λ (l : List (Option Member)). Runs (IsSlotOf (attached_to l r)) (PutsRow (status_gate r.id) (attached_to l r) (status_spelling r)) s t) places c.write_first.ensures.runs
+
+pub returns-in-Err-clause-history : goal.returns-in-Err-clause-history
+returns-in-Err-clause-history g c =
+    let s = g.B.Bay.state c.args.bay.now in
+    let r = c.args.value.now in
+    let ms = c.args.members.now in
+    let places = c.by_number-places.ensures.places ∙ ap (λ (es : List Entry). all_placed es (replicate 64 None) ms) c.entries.ensures.entries in
+    let t = g.B.Bay.state c.write_first.new.bay in
+    let run = subst (λ (l : List (Option Member)). Runs (IsSlotOf (attached_to l r)) (PutsRow (status_gate r.id) (attached_to l r) (status_spelling r)) s t) places c.write_first.ensures.runs in
+    λ slots enough before. record { moments = first_fits s t (g.met.B.Bay.sound c.args.bay.now) r c.requires.status ms c.requires.numbers c.requires.slots run slots before; after = tt }
+
+pub returns-in-Ok-clause-ready : goal.returns-in-Ok-clause-ready
+returns-in-Ok-clause-ready g c =
+    let s = g.B.Bay.state c.args.bay.now in
+    let r = c.args.value.now in
+    let ms = c.args.members.now in
+    let places = c.by_number-places.ensures.places ∙ ap (λ (es : List Entry). all_placed es (replicate 64 None) ms) c.entries.ensures.entries in
+    let t = g.B.Bay.state c.write_first.new.bay in
+    let made : Registered = record { id = c.value.inside.id; members = c.by_number-places.result; value = c.copy.result; epoch = c.value.inside.epoch; turn = c.value.inside.turn; is_fresh = false } in
+    places_ready r.entries ms c.requires.numbers s t made places c.requires.slots c.requires.apart c.write_first.ensures.attached
+
+pub returns-in-Ok-clause-shown : goal.returns-in-Ok-clause-shown
+returns-in-Ok-clause-shown g c =
+    let s = g.B.Bay.state c.args.bay.now in
+    let r = c.args.value.now in
+    let ms = c.args.members.now in
+    let places = c.by_number-places.ensures.places ∙ ap (λ (es : List Entry). all_placed es (replicate 64 None) ms) c.entries.ensures.entries in
+    let t = g.B.Bay.state c.write_first.new.bay in
+    holders_show r ms c.requires.numbers s t c.requires.holders (subst (λ (l : List (Option Member)). Ends (HaveBody 6 8 (status_spelling r) (attached_to l r)) s t) places c.in-Ok.ensures.done)
+
+pub returns-in-Ok-clause-history : goal.returns-in-Ok-clause-history
+returns-in-Ok-clause-history g c =
+    let s = g.B.Bay.state c.args.bay.now in
+    let r = c.args.value.now in
+    let ms = c.args.members.now in
+    let places = c.by_number-places.ensures.places ∙ ap (λ (es : List Entry). all_placed es (replicate 64 None) ms) c.entries.ensures.entries in
+    let t = g.B.Bay.state c.write_first.new.bay in
+    let run = subst (λ (l : List (Option Member)). Runs (IsSlotOf (attached_to l r)) (PutsRow (status_gate r.id) (attached_to l r) (status_spelling r)) s t) places c.write_first.ensures.runs in
+    let done = subst (λ (l : List (Option Member)). Ends (HaveBody 6 8 (status_spelling r) (attached_to l r)) s t) places c.in-Ok.ensures.done in
+    let made : Registered = record { id = c.value.inside.id; members = c.by_number-places.result; value = c.copy.result; epoch = c.value.inside.epoch; turn = c.value.inside.turn; is_fresh = false } in
+    let made_is : made ≡ first_register r ms = λ i. record { id = (c.value.view_is i).id; members = places i; value = c.copy.ensures i; epoch = (c.value.view_is i).epoch; turn = (c.value.view_is i).turn; is_fresh = false } in
+    λ slots enough before. record {
+      moments = first_fits s t (g.met.B.Bay.sound c.args.bay.now) r c.requires.status ms c.requires.numbers c.requires.slots run slots before;
+      after = subst (λ (register : Registered). Keeps slots register (Some r) [] t) (sym made_is)
+          (first_completed s t (g.met.B.Bay.sound c.args.bay.now) r c.requires.status ms c.requires.numbers c.requires.slots run slots before done enough);
+    }

@@ -1,0 +1,121 @@
+// A record is written on the attached disks of its sets, and judged by those that took it.
+ghost use Rattle.std.specs.Prelude.{◌≡◌, ◌≤◌, ◌+◌, ◌*◌, length, true, IsTrue, None, Some, OnOk, IfErr};
+ghost use Rattle.asm_formats.specs.Status.{is_status, status_spelling};
+ghost use Rattle.bay.specs.State.{KeepsAttached};
+ghost use Rattle.bay.specs.Moments.{Runs, Ends};
+ghost use Rattle.status_register.specs.Holders.{AreHolders, HoldSlots, SlotsDiffer, attached_to};
+ghost use Rattle.status_register.specs.Rows.{AreApart, HaveBody, PutsRow};
+ghost use Rattle.status_register.specs.Slots.{status_gate};
+ghost use Rattle.status_register.specs.Surveys.{missing};
+ghost use Rattle.status_register.specs.Tallies.{HaveSlots, IsSlotOf};
+ghost use Rattle.status_register.specs.Writes.{IsDeadOf, IsWriteAnswer};
+
+use crate::holders::attached_to;
+use crate::losses::{failed_set, first_failed, lost_disk};
+use crate::recording::record_all;
+use crate::{Dead, Member};
+use asm_base::{Block, DiskSet};
+use bay::Bay;
+use status_table::{PstRecord, encode};
+
+/// The body of a record.
+fn body_of(status: &PstRecord) -> Block
+    requires { IsTrue (is_status status.now) }
+    ensures { result.bytes ≡ status_spelling status.now }
+{
+    let mut body = Block::zeros();
+    encode(status, &mut body);
+    body
+}
+
+/// Writes a record on the disks, past faults. A majority of each of its sets must take it; gives the set of those that failed.
+pub fn write_on_majorities<B: Bay>(
+    bay: &mut B,
+    id: u64,
+    holders: &[Member],
+    status: &PstRecord,
+) -> Result<DiskSet, Dead>
+    requires status { IsTrue (is_status status.now) }
+    requires slots { HaveSlots (B.state bay.old) holders.now }
+    requires few { length holders.now ≤ 64 }
+    requires apart { AreApart holders.now }
+    requires holders { AreHolders status.now.entries holders.now }
+    requires majority { missing holders.now (Some status.now) ≡ None }
+    ensures answer { IsWriteAnswer holders.now status.now result (B.state bay.old) (B.state bay.new) }
+    ensures attached { KeepsAttached (B.state bay.old) (B.state bay.new) }
+    ensures calls { (B.state bay.new).calls ≤ (B.state bay.old).calls + 13 * length holders.now }
+    ensures runs { Runs (IsSlotOf holders.now) (PutsRow (status_gate id) holders.now (status_spelling status.now)) (B.state bay.old) (B.state bay.new) }
+{
+    let body = body_of(status);
+    let took = record_all(bay, id, holders, &body);
+    match lost_disk(holders, took.members(), status) {
+        Some(member) => Err(Dead { slot: member.slot }),
+        None => Ok(failed_set(holders, took.members())),
+    }
+}
+
+/// Writes a record on the disks. Each of them must take it.
+pub fn write_on_all<B: Bay>(
+    bay: &mut B,
+    id: u64,
+    holders: &[Member],
+    status: &PstRecord,
+) -> Result<(), Dead>
+    requires status { IsTrue (is_status status.now) }
+    requires slots { HaveSlots (B.state bay.old) holders.now }
+    requires few { length holders.now ≤ 64 }
+    requires apart { AreApart holders.now }
+    ensures done { OnOk result (Ends (HaveBody 6 8 (status_spelling status.now) holders.now) (B.state bay.old) (B.state bay.new)) }
+    ensures cause { IfErr result (λ dead. IsDeadOf holders.now dead.slot (B.state bay.old) (B.state bay.new)) }
+    ensures attached { KeepsAttached (B.state bay.old) (B.state bay.new) }
+    ensures calls { (B.state bay.new).calls ≤ (B.state bay.old).calls + 13 * length holders.now }
+    ensures runs { Runs (IsSlotOf holders.now) (PutsRow (status_gate id) holders.now (status_spelling status.now)) (B.state bay.old) (B.state bay.new) }
+{
+    let body = body_of(status);
+    let took = record_all(bay, id, holders, &body);
+    match first_failed(holders, took.members()) {
+        Some(member) => Err(Dead { slot: member.slot }),
+        None => Ok(()),
+    }
+}
+
+/// Writes a record on those of the members in their numbers' places that are disks of its sets, past faults.
+pub fn write_record<B: Bay>(
+    bay: &mut B,
+    id: u64,
+    places: &[Option<Member>],
+    status: &PstRecord,
+) -> Result<DiskSet, Dead>
+    requires status { IsTrue (is_status status.now) }
+    requires places { length places.now ≡ 64 }
+    requires slots { HoldSlots (B.state bay.old) places.now }
+    requires apart { SlotsDiffer places.now }
+    requires majority { missing (attached_to places.now status.now) (Some status.now) ≡ None }
+    ensures answer { IsWriteAnswer (attached_to places.now status.now) status.now result (B.state bay.old) (B.state bay.new) }
+    ensures attached { KeepsAttached (B.state bay.old) (B.state bay.new) }
+    ensures calls { (B.state bay.new).calls ≤ (B.state bay.old).calls + 13 * length (attached_to places.now status.now) }
+    ensures runs { Runs (IsSlotOf (attached_to places.now status.now)) (PutsRow (status_gate id) (attached_to places.now status.now) (status_spelling status.now)) (B.state bay.old) (B.state bay.new) }
+{
+    let holders = attached_to(places, status);
+    write_on_majorities(bay, id, holders.members(), status)
+}
+
+/// Writes a record on those of the members in their numbers' places that are disks of its sets. Each of them must take it.
+pub fn write_first<B: Bay>(
+    bay: &mut B,
+    places: &[Option<Member>],
+    status: &PstRecord,
+) -> Result<(), Dead>
+    requires status { IsTrue (is_status status.now) }
+    requires places { length places.now ≡ 64 }
+    requires slots { HoldSlots (B.state bay.old) places.now }
+    requires apart { SlotsDiffer places.now }
+    ensures done { OnOk result (Ends (HaveBody 6 8 (status_spelling status.now) (attached_to places.now status.now)) (B.state bay.old) (B.state bay.new)) }
+    ensures cause { IfErr result (λ dead. IsDeadOf (attached_to places.now status.now) dead.slot (B.state bay.old) (B.state bay.new)) }
+    ensures attached { KeepsAttached (B.state bay.old) (B.state bay.new) }
+    ensures calls { (B.state bay.new).calls ≤ (B.state bay.old).calls + 13 * length (attached_to places.now status.now) }
+    ensures runs { Runs (IsSlotOf (attached_to places.now status.now)) (PutsRow (status_gate status.now.id) (attached_to places.now status.now) (status_spelling status.now)) (B.state bay.old) (B.state bay.new) }
+{
+    let holders = attached_to(places, status);
+    write_on_all(bay, status.id, holders.members(), status)
+}
