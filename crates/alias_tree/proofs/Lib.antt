@@ -6,3 +6,14 @@ pub mod Rules
 pub mod Under
 pub mod Single
 pub mod Ways
+pub mod Paths
+pub mod Keeping
+pub mod Leading
+pub mod Growing
+pub mod Allowed
+pub mod Done
+pub mod Edited
+pub mod Moving
+pub mod Moved
+pub mod EditLaws
+pub mod Names

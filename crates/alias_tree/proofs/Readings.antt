@@ -157,3 +157,9 @@ node_is_read k bytes read high mine e =
 
       known : (i : Item) → is_item i ≡ true → key i ≡ k → (x : Node) × (node_item k.a x ≡ i) × FitsNode x × (true ≡ true)
       known i ok at = let n = node_known k i (and_parts (eqb k.kind 6) (ltb 0 k.a && eqb k.b 0) mine).0 ok at in (n.0, n.1, n.2, refl)
+
+pub file_is_small : (n : ℕ) (node : Node) → is_item (node_item n node) ≡ true → node.file < 2 ^ 32
+file_is_small n node h = (item_fits n node h).2.file
+
+pub hung_item : (n : ℕ) (node : Node) → 0 < n → n < 2 ^ 32 → node.parent < 2 ^ 32 → node.file < 2 ^ 32 → is_part 80 node.name ≡ true → is_item (node_item n node) ≡ true
+hung_item n node some small parent file name = fits_item n node some small (record { parent = parent; file = file; name = name })

@@ -1,6 +1,6 @@
 -- A tree of one directory.
-use Rattle.std.proofs.Common.{◌≡◌, ℕ, ◌≤◌, List, length, true, [], ◌∷◌, Some, None, refl, sym, ap, ◌∙◌, inl, inr}
-use Rattle.std.proofs.lemmas.Bool.{eq-eqb}
+use Rattle.std.proofs.Common.{◌≡◌, ℕ, ◌≤◌, nat_le, List, length, true, [], ◌∷◌, Some, None, refl, sym, ap, ◌∙◌, inl, inr}
+use Rattle.std.proofs.lemmas.Bool.{eq-eqb, leb-true, le-leb, true≢false}
 use Rattle.std.proofs.lemmas.Option.{none-some}
 use Rattle.asm_group.specs.Names.{is_part}
 use Rattle.asm_formats.specs.Items.{Node}
@@ -45,3 +45,13 @@ pub short_part : (name bytes : List ℕ) → bytes ≡ name → is_part 255 name
 short_part name bytes is part short =
     let p = part_of 255 name part in
     part_is 80 name (record { made = p.made; some = p.some; few = rw (← is) short; no_point = p.no_point })
+
+-- a part of a path is one of at most 80 bytes where it is so short
+pub short_is_part : (name bytes : List ℕ) → bytes ≡ name → is_part 255 name ≡ true → nat_le (length bytes) 80 ≡ is_part 80 name
+short_is_part name bytes is part = elim (either (nat_le (length bytes) 80)) [
+  | inl short ↦ short ∙ sym (short_part name bytes is part (leb-true (length bytes) 80 short))
+  | inr long ↦ elim (either (is_part 80 name)) [
+    | inl e ↦ absurd (let few : length name ≤ 80 = (part_of 80 name e).few in true≢false (sym (le-leb (length bytes) 80 (rw is few)) ∙ long))
+    | inr e ↦ long ∙ sym e
+  ]
+]

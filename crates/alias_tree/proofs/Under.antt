@@ -1,6 +1,6 @@
 -- The nodes of one parent are those in a run of the index.
-use Rattle.std.proofs.Common.{◌≡◌, ℕ, ◌<◌, Bool, true, false, eqb, Ordering, List, [], ◌∷◌, map, Option, Some, None, refl, sym, ap, ◌∙◌, arith, inl, inr}
-use Rattle.std.specs.Prelude.{◌||◌, filter}
+use Rattle.std.proofs.Common.{◌≡◌, ℕ, ◌<◌, Bool, true, false, eqb, Ordering, List, [], ◌∷◌, length, map, Option, Some, None, refl, sym, ap, ◌∙◌, arith, inl, inr}
+use Rattle.std.specs.Prelude.{◌||◌, filter, nat_lt}
 use Rattle.std.specs.Cmp.{Equal-is, nat_cmp_is}
 use Rattle.std.specs.List.{list_any, AllByRecursion}
 use Rattle.std.specs.List.Sorted.{IsStrictlySortedBy}
@@ -10,7 +10,7 @@ use Rattle.std.specs.BTreeMap.Range.{range_contains}
 use Rattle.std.specs.Ordering.{nat_cmp, is_eq, is_gt}
 use Rattle.std.specs.declared.cmp.Ordering.TheVariants.{Less, Equal, Greater}
 use Rattle.std.specs.declared.ops.Bound.TheVariants.{Included}
-use Rattle.std.proofs.lemmas.Bool.{eqb-true, eq-eqb, true≢false}
+use Rattle.std.proofs.lemmas.Bool.{eqb-true, eq-eqb, lt-ltb, true≢false}
 use Rattle.std.proofs.lemmas.Option.{none-some}
 use Rattle.asm_formats.specs.Items.{Node}
 use Rattle.asm_base.proofs.Exact.{some_is}
@@ -177,3 +177,11 @@ under_once nodes places parent numbers i up is =
           let s = stands nodes m p (i.only p m e) in
           let r = stands nodes m q (i.only q m f) in
           sym s.2 ∙ (ap place_of (some_is s.0 r.0 (sym s.1 ∙ r.1)) ∙ r.2)
+
+-- ---- whether a run has numbers
+
+pub some_number : (es : Index) (x : Place × ℕ) (rest : Index) (numbers : List ℕ) → es ≡ x ∷ rest → map (λ (e : Place × ℕ). e.1) es ≡ numbers → true ≡ nat_lt 0 (length numbers)
+some_number es x rest numbers e is = sym (lt-ltb 0 (length numbers) (rw (← is) (rw e (omega arith))))
+
+pub no_number : (es : Index) (numbers : List ℕ) → es ≡ [] → map (λ (e : Place × ℕ). e.1) es ≡ numbers → false ≡ nat_lt 0 (length numbers)
+no_number es numbers e is = sym (ap (λ (ns : List ℕ). nat_lt 0 (length ns)) (sym is ∙ ap (λ (xs : Index). map (λ (f : Place × ℕ). f.1) xs) e))

@@ -90,7 +90,7 @@ reaches_below nodes k n node e r = elim (either (eqb n 0)) [
       step_up nodes (suc k) n node (omega arith) (λ w. true≢false (sym (eq-eqb n 0 w) ∙ z)) e ∙ (ap (λ (j : ℕ). reaches_root nodes j node.parent) less ∙ r)
 ]
 
-at_zero : (nodes : List Numbered) (n : ℕ) → reaches_root nodes zero n ≡ true → n ≡ 0
+pub at_zero : (nodes : List Numbered) (n : ℕ) → reaches_root nodes zero n ≡ true → n ≡ 0
 at_zero nodes n r = eqb-true n 0 (sym (no_steps nodes zero n refl) ∙ r)
 
 pub reaches_more : (nodes : List Numbered) (k j n : ℕ) → reaches_root nodes k n ≡ true → reaches_root nodes (k + j) n ≡ true
@@ -259,10 +259,10 @@ tree_has nodes q t = maps.get-from_entries paths_total (map (entry nodes) nodes)
   two n e None f = none (ap (λ (o : Option ℕ). option_and_then (λ m. node_at nodes m) o) e ∙ f)
   two n e (Some node) f =
       listed nodes nodes q node (λ x m g.
-        let at = member_at nodes x t.items.0 m in
-        let by : number_by nodes 0 q ≡ Some x.0 = ap (λ (p : Path). number_by nodes 0 p) (sym g) ∙ way_leads nodes x.0 x.1 t at in
-        let same : x.0 ≡ n = some_is x.0 n (sym by ∙ e) in
-        some_is x.1 node (sym at ∙ (ap (λ (m : ℕ). node_at nodes m) same ∙ f)))
+      let at = member_at nodes x t.items.0 m in
+      let by : number_by nodes 0 q ≡ Some x.0 = ap (λ (p : Path). number_by nodes 0 p) (sym g) ∙ way_leads nodes x.0 x.1 t at in
+      let same : x.0 ≡ n = some_is x.0 n (sym by ∙ e) in
+      some_is x.1 node (sym at ∙ (ap (λ (m : ℕ). node_at nodes m) same ∙ f)))
       (n, node) (at_member nodes n node f) (way_is nodes q n t e)
 
   one : (o : Option ℕ) → number_by nodes 0 q ≡ o → in_list q (map (entry nodes) nodes) ≡ option_map entry_of_node (option_and_then (λ n. node_at nodes n) o)

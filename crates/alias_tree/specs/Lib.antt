@@ -2,3 +2,4 @@ pub mod Nodes
 pub mod Readings
 pub mod Places
 pub mod Trees
+pub mod Edits

@@ -2,6 +2,9 @@
 //! nodes. A name leads to the same node in any case of its letters.
 #![tactic(auto)]
 
+mod causes;
+mod changing;
+mod editing;
 mod index;
 mod node;
 mod nodes;
@@ -10,9 +13,12 @@ mod reading;
 mod tree;
 mod writing;
 
+pub use editing::{TreeEdit, TreeError};
 pub use node::Node;
 pub use tree::AliasTree;
 pub use writing::node_record;
 
+#[cfg(test)]
+mod edit_tests;
 #[cfg(test)]
 mod tests;

@@ -1,15 +1,18 @@
 //! The nodes by number.
 
-ghost use Rattle.std.specs.Prelude.{◌≡◌, ◌++◌, [], length, map, IfOk, IfSome, OnErr, OnOk, Some, None, if◌then◌else◌, is_some, ◌==◌, IsTrue};
+ghost use Rattle.std.specs.Prelude.{◌≡◌, ◌++◌, [], length, map, IfOk, IfSome, OnErr, OnOk, Some, None, if◌then◌else◌, is_some, ◌==◌, IsTrue, true};
 ghost use Rattle.std.specs.Bool.{OnTrue};
-ghost use Rattle.std.specs.List.{list_all};
+ghost use Rattle.std.specs.List.{list_all, list_any};
+ghost use Rattle.asm_group.specs.TreeEdits.{is_alias_of, names_file};
+ghost use Rattle.alias_tree.specs.Trees.{node_kind};
+ghost use Rattle.alias_tree.specs.Edits.{is_name_of};
 ghost use Rattle.std.specs.Option.{option_copied, option_map};
 ghost use Rattle.std.specs.Ordering.{nat_cmp};
 ghost use Rattle.std.specs.BTreeMap.{is_at};
 ghost use Rattle.asm_base.specs.Records.{Ascend, add_item, ends_below, of_kinds, read_from};
 ghost use Rattle.asm_base.specs.Tables.{IsItemTable, entry_of_record};
 
-use crate::node::Node;
+use crate::node::{Node, is_alias_of, is_name_of};
 use crate::reading::read_node;
 use crate::writing::node_record;
 use asm_base::{Change, Key, NoMemory, NodeKind, Records, Value};
@@ -78,6 +81,33 @@ impl Nodes {
         ensures at { (n : ℕ) → node_at self.new n ≡ (if is_at (nat_cmp number) n then None else node_at self.old n) }
     {
         self.map.remove(&number).is_some()
+    }
+
+    /// Whether a node is a user alias of the file.
+    pub(crate) fn has_alias(&self, file: u32) -> bool
+        ensures { result ≡ list_any (λ x. is_alias_of file (node_kind x.1.kind x.1.file)) self.now }
+    {
+        for (_, node) in self.map.iter() {
+            if is_alias_of(node, file) {
+                return true;
+            }
+        }
+        false
+    }
+
+    /// The first node that is a name of the file.
+    #[tactic(auto, using(crate::proofs::Leading::all_at))]
+    pub(crate) fn name_of(&self, file: u32) -> Option<u32>
+        requires { Ascend is_before self.now }
+        ensures there { is_some result ≡ list_any (λ x. names_file file (node_kind x.1.kind x.1.file)) self.now }
+        ensures named { IfSome result (λ n. is_name_of file (node_at self.now n) ≡ true) }
+    {
+        for (number, node) in self.map.iter() {
+            if is_name_of(node, file) {
+                return Some(*number);
+            }
+        }
+        None
     }
 
     /// Puts the records of the nodes into a change. After an `Err` some of them may stand there.

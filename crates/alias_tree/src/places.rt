@@ -1,10 +1,10 @@
 //! The index of the nodes by parent and name.
 
-ghost use Rattle.std.specs.Prelude.{◌≡◌, ◌≤◌, [], length, ◌++◌, drop, IfOk, OnErr, OnOk, Some, None, if◌then◌else◌, true};
+ghost use Rattle.std.specs.Prelude.{◌≡◌, ◌≤◌, [], length, ◌++◌, drop, IfOk, OnErr, OnOk, Some, None, if◌then◌else◌, true, nat_lt};
 ghost use Rattle.std.specs.List.Sorted.{IsStrictlySortedBy};
 ghost use Rattle.std.specs.Map.{keys_of};
 ghost use Rattle.asm_group.specs.Names.{folded, folded_byte};
-ghost use Rattle.alias_tree.specs.Places.{named_place};
+ghost use Rattle.alias_tree.specs.Places.{first_under, last_under, named_place};
 
 use asm_base::NoMemory;
 use std::alloc::Global;
@@ -33,6 +33,28 @@ pub(crate) fn named_place(parent: u32, bytes: &[u8]) -> Place
         parent,
         name,
         len: bytes.len() as u8,
+    }
+}
+
+/// Before the places of a parent.
+fn first_under(parent: u32) -> Place
+    ensures { result ≡ first_under parent }
+{
+    Place {
+        parent,
+        len: 0,
+        name: [0; 80],
+    }
+}
+
+/// Behind the places of a parent.
+fn last_under(parent: u32) -> Place
+    ensures { result ≡ last_under parent }
+{
+    Place {
+        parent,
+        len: 255,
+        name: [0; 80],
     }
 }
 
@@ -101,24 +123,26 @@ impl Places {
         let _ = self.map.remove(&place);
     }
 
+    /// Whether some place is of this parent.
+    #[tactic(auto, using(crate::proofs::Under::is_forward, crate::proofs::Under::some_number, crate::proofs::Under::no_number))]
+    pub(crate) fn has_under(&self, parent: u32) -> bool
+        ensures has { result ≡ nat_lt 0 (length (numbers_under self.now parent)) }
+        ensures ordered { IsStrictlySortedBy place_cmp (keys_of self.now) }
+    {
+        for (_, _number) in self.map.range(first_under(parent)..=last_under(parent)) {
+            return true;
+        }
+        false
+    }
+
     /// The numbers at the places of one parent, in the order of the places.
     #[tactic(auto, using(crate::proofs::Under::is_forward))]
     pub(crate) fn under(&self, alloc: Global, parent: u32) -> Result<Vec<u32>, NoMemory>
         ensures numbers { IfOk result (λ v. v.items ≡ numbers_under self.now parent) }
         ensures ordered { IsStrictlySortedBy place_cmp (keys_of self.now) }
     {
-        let first = Place {
-            parent,
-            len: 0,
-            name: [0; 80],
-        };
-        let last = Place {
-            parent,
-            len: 255,
-            name: [0; 80],
-        };
         let mut numbers = Vec::new(alloc);
-        for (_, number) in self.map.range(first..=last) {
+        for (_, number) in self.map.range(first_under(parent)..=last_under(parent)) {
             if numbers.push(*number).is_err() {
                 return Err(NoMemory);
             }

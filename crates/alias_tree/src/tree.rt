@@ -2,8 +2,9 @@
 
 ghost use Rattle.std.specs.Prelude.{◌≡◌, ◌≤◌, ◌++◌, [], length, map, IfOk, IfSome, OnErr, OnOk, Some, None, is_some, true, ℕ, ◌==◌};
 ghost use Rattle.std.specs.List.{list_any};
-ghost use Rattle.std.specs.Option.{option_copied};
-ghost use Rattle.asm_group.specs.Names.{folded};
+ghost use Rattle.std.specs.Option.{option_copied, option_map};
+ghost use Rattle.asm_group.specs.Names.{folded, folded_path};
+ghost use Rattle.asm_group.specs.TreeEdits.{entry_at, has_alias, has_entries, is_there, leads_to, names_file};
 ghost use Rattle.asm_base.specs.Records.{of_kinds};
 
 use crate::index::{places_of, put_node, remove_node};
@@ -38,6 +39,8 @@ impl Model for AliasTree {
 
 impl AliasTree {
     ghost use Rattle.std.specs.Prelude.{List as Items};
+    ghost use Rattle.alias_tree.specs.Edits.{is_name_of};
+    ghost use Rattle.alias_tree.specs.Trees.{entry_of_node, node_by, node_kind, tree_of};
     ghost use Rattle.alias_tree.specs.Nodes.{IsTable, Numbered, are_distinct, child, is_mine, is_under, node_at, number_from, number_of, record_of, with_node, without_node};
 
     /// A tree without names.
@@ -126,8 +129,63 @@ impl AliasTree {
         Ok(numbers)
     }
 
+    /// The node at a path, which the root hasn't.
+    pub(crate) fn node_of(&self, parts: &[Name]) -> Option<&Node>
+        ensures node { option_copied result ≡ node_by self.now (folded_path parts.now) }
+        ensures entry { option_map entry_of_node (option_copied result) ≡ entry_at (tree_of self.now) parts.now }
+    {
+        match self.find_parts(parts) {
+            Some(number) => self.nodes.get(number),
+            None => None,
+        }
+    }
+
+    /// Shows that the nodes keep the rule, and does nothing.
+    pub(crate) fn keeps_rule(&self)
+        ensures { IsTable self.now }
+    {
+        let _nodes = &self.nodes;
+    }
+
+    /// Whether the directory at a path has names.
+    pub(crate) fn has_entries(&self, parts: &[Name]) -> bool
+        requires { is_there (tree_of self.now) parts.now ≡ true }
+        ensures { result ≡ has_entries (tree_of self.now) parts.now }
+    {
+        match self.find_parts(parts) {
+            Some(number) => self.places.has_under(number),
+            None => false,
+        }
+    }
+
+    /// Whether a file has a user alias.
+    pub(crate) fn has_alias(&self, file: Option<u32>) -> bool
+        ensures { result ≡ has_alias (tree_of self.now) file }
+    {
+        match file {
+            Some(file) => self.nodes.has_alias(file),
+            None => false,
+        }
+    }
+
+    /// The first node that is a name of the file.
+    pub(crate) fn name_of(&self, file: u32) -> Option<u32>
+        ensures there { is_some result ≡ list_any (λ x. names_file file (node_kind x.1.kind x.1.file)) self.now }
+        ensures named { IfSome result (λ n. is_name_of file (node_at self.now n) ≡ true) }
+        ensures table { IsTable self.now }
+    {
+        self.nodes.name_of(file)
+    }
+
+    /// Whether a name stands for the file.
+    pub(crate) fn is_named(&self, file: u32) -> bool
+        ensures { result ≡ leads_to (tree_of self.now) (names_file file) }
+    {
+        self.name_of(file).is_some()
+    }
+
     #[tactic(auto, using(crate::proofs::Children::part_found_at, crate::proofs::Children::part_missing_at))]
-    fn find_parts(&self, parts: &[Name]) -> Option<u32>
+    pub(crate) fn find_parts(&self, parts: &[Name]) -> Option<u32>
         ensures { result ≡ number_from self.now 0 parts.now }
     {
         let mut at = 0;

@@ -1,0 +1,14 @@
+use Rattle.std.proofs.Common.{◌<◌, ◌-◌, ◌^◌, ℕ}
+use Rattle.std.specs.Prelude.{IsTrue, is_some}
+use Rattle.alias_tree.specs.Nodes.{node_at}
+use Rattle.alias_tree.proofs.tree.AliasTree.free_number.Given as goal
+
+abbrev pub invariant-loop-number : goal.invariant-loop-number
+invariant-loop-number l = record {
+  some : 0 < l.number;
+  small : l.number < 2 ^ 32;
+  taken : (k : ℕ) → 0 < k → k < l.number → IsTrue (is_some (node_at l.self k));
+}
+
+abbrev pub decreases-loop-number : goal.decreases-loop-number
+decreases-loop-number l = 2 ^ 32 - l.number
