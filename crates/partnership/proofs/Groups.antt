@@ -1,11 +1,13 @@
 -- In how many failure groups disks lie.
-use Rattle.std.proofs.Common.{◌≡◌, ℕ, suc, ◌+◌, ◌<◌, ◌≤◌, Bool, true, false, cond, not, ◌||◌, List, [], ◌∷◌, length, filter, get_or, drop, refl, sym, ap, ◌∙◌, Option, Some, None, arith, eqb}
-use Rattle.std.specs.List.{cons_option, list_any}
+use Rattle.std.proofs.Common.{◌≡◌, ℕ, suc, ◌+◌, ◌<◌, ◌≤◌, Bool, true, false, cond, not, ◌&&◌, ◌||◌, List, [], ◌∷◌, length, filter, get_or, drop, refl, sym, ap, ◌∙◌, Option, Some, None, arith, eqb}
+use Rattle.std.specs.List.{cons_option, list_any, slice_get}
+use Rattle.std.specs.Option.{is_some, option_and_then}
 use Rattle.std.proofs.lemmas.Bool.{cond_both, eqb-true, eq-eqb, ne_eqb, both_ways, or_parts, or_from}
 use Rattle.asm_formats.specs.Status.{Entry}
-use Rattle.allocator.specs.UnitMaps.{UnitMap}
+use Rattle.allocator.specs.UnitMaps.{UnitMap, total_of, used_of}
+use Rattle.asm_placement.specs.Modes.{is_target}
 use Rattle.asm_placement.specs.DiskSets.{is_among, groups_of}
-use Rattle.partnership.specs.Candidates.{Candidate, candidates, among, entries, group_count}
+use Rattle.partnership.specs.Candidates.{Candidate, candidate, candidate_at, candidates, among, entries, group_count, home_at, lowest}
 use Rattle.partnership.specs.Steps.{candidate_if, is_new_group, is_of, is_one_of}
 use Rattle.partnership.proofs.Turns.{among_from, none_from}
 
@@ -88,23 +90,23 @@ count_cons (Some c) cs = by (list_any (is_of c.entry.failgroup) cs) (sym (groups
     by false is = omega (arith, ap (λ (l : List ℕ). length l) (none_to_drop c.entry.failgroup (groups_of (entries cs)) (sym is)))
 
 -- how many there are from a place on
-pub count_from : (test : Entry → Bool) (n : ℕ) (es : List Entry) (ms : List UnitMap) (i : ℕ) (e : Entry) (m : UnitMap) (next : Option Candidate) → i < length es → length ms ≡ length es → e ≡ get_or es i e → m ≡ get_or ms i m
-    → next ≡ candidate_if test n e m
-    → group_count (among test (candidates n (drop i es) (drop i ms)))
-    ≡ cond (is_new_group (among test (candidates n (drop (i + 1) es) (drop (i + 1) ms))) next) (group_count (among test (candidates n (drop (i + 1) es) (drop (i + 1) ms))) + 1) (group_count (among test (candidates n (drop (i + 1) es) (drop (i + 1) ms))))
-count_from test n es ms i e m next within same e_is m_is is =
-    ap (λ (cs : List Candidate). group_count cs) (among_from test n es ms i e m within same e_is m_is) ∙ rw is (count_cons (candidate_if test n e m) (among test (candidates n (drop (i + 1) es) (drop (i + 1) ms))))
+pub count_from : (test : Entry → Bool) (n : ℕ) (es : List Entry) (ms : List UnitMap) (i : ℕ) (e : Entry) (next : Option Candidate) → i < length es → e ≡ get_or es i e
+    → next ≡ candidate_if test n e ms
+    → group_count (among test (candidates n (drop i es) ms))
+    ≡ cond (is_new_group (among test (candidates n (drop (i + 1) es) ms)) next) (group_count (among test (candidates n (drop (i + 1) es) ms)) + 1) (group_count (among test (candidates n (drop (i + 1) es) ms)))
+count_from test n es ms i e next within e_is is =
+    ap (λ (cs : List Candidate). group_count cs) (among_from test n es ms i e within e_is) ∙ rw is (count_cons (candidate_if test n e ms) (among test (candidates n (drop (i + 1) es) ms)))
 
 -- the count so far, with one more where the next disk's group is new
-pub count_turn : (test : Entry → Bool) (n : ℕ) (es : List Entry) (ms : List UnitMap) (i j : ℕ) (e : Entry) (m : UnitMap) (next : Option Candidate) (so_far : ℕ) (new : Bool) → i ≡ j + 1 → j < length es → length ms ≡ length es → e ≡ get_or es j e → m ≡ get_or ms j m
-    → next ≡ candidate_if test n e m → so_far ≡ group_count (among test (candidates n (drop i es) (drop i ms)))
-    → new ≡ is_new_group (among test (candidates n (drop (j + 1) es) (drop (j + 1) ms))) next
-    → cond new (so_far + 1) so_far ≡ group_count (among test (candidates n (drop j es) (drop j ms)))
-count_turn test n es ms i j e m next so_far new is within same e_is m_is next_is counted new_is =
-    let here : so_far ≡ group_count (among test (candidates n (drop (j + 1) es) (drop (j + 1) ms))) = counted ∙ ap (λ (k : ℕ). group_count (among test (candidates n (drop k es) (drop k ms)))) is in
-    rw (new_is, here) (sym (count_from test n es ms j e m next within same e_is m_is next_is))
+pub count_turn : (test : Entry → Bool) (n : ℕ) (es : List Entry) (ms : List UnitMap) (i j : ℕ) (e : Entry) (next : Option Candidate) (so_far : ℕ) (new : Bool) → i ≡ j + 1 → j < length es → e ≡ get_or es j e
+    → next ≡ candidate_if test n e ms → so_far ≡ group_count (among test (candidates n (drop i es) ms))
+    → new ≡ is_new_group (among test (candidates n (drop (j + 1) es) ms)) next
+    → cond new (so_far + 1) so_far ≡ group_count (among test (candidates n (drop j es) ms))
+count_turn test n es ms i j e next so_far new is within e_is next_is counted new_is =
+    let here : so_far ≡ group_count (among test (candidates n (drop (j + 1) es) ms)) = counted ∙ ap (λ (k : ℕ). group_count (among test (candidates n (drop k es) ms))) is in
+    rw (new_is, here) (sym (count_from test n es ms j e next within e_is next_is))
 
-pub count_start : (test : Entry → Bool) (n : ℕ) (es : List Entry) (ms : List UnitMap) (i : ℕ) → length es ≤ i → 0 ≡ group_count (among test (candidates n (drop i es) (drop i ms)))
+pub count_start : (test : Entry → Bool) (n : ℕ) (es : List Entry) (ms : List UnitMap) (i : ℕ) → length es ≤ i → 0 ≡ group_count (among test (candidates n (drop i es) ms))
 count_start test n es ms i past = rw (none_from n es ms i past) refl
 
 any_cons : (g : ℕ) (o : Option Candidate) (cs : List Candidate) → list_any (is_of g) (cons_option o cs) ≡ (is_one_of g o || list_any (is_of g) cs)
@@ -112,10 +114,32 @@ any_cons g None cs = refl
 any_cons g (Some c) cs = refl
 
 -- whether one from a place on lies in a group
-pub any_from : (test : Entry → Bool) (g n : ℕ) (es : List Entry) (ms : List UnitMap) (i : ℕ) (e : Entry) (m : UnitMap) → i < length es → length ms ≡ length es → e ≡ get_or es i e → m ≡ get_or ms i m
-    → list_any (is_of g) (among test (candidates n (drop i es) (drop i ms))) ≡ (is_one_of g (candidate_if test n e m) || list_any (is_of g) (among test (candidates n (drop (i + 1) es) (drop (i + 1) ms))))
-any_from test g n es ms i e m within same e_is m_is =
-    ap (λ (cs : List Candidate). list_any (is_of g) cs) (among_from test n es ms i e m within same e_is m_is) ∙ any_cons g (candidate_if test n e m) (among test (candidates n (drop (i + 1) es) (drop (i + 1) ms)))
+pub any_from : (test : Entry → Bool) (g n : ℕ) (es : List Entry) (ms : List UnitMap) (i : ℕ) (e : Entry) → i < length es → e ≡ get_or es i e
+    → list_any (is_of g) (among test (candidates n (drop i es) ms)) ≡ (is_one_of g (candidate_if test n e ms) || list_any (is_of g) (among test (candidates n (drop (i + 1) es) ms)))
+any_from test g n es ms i e within e_is =
+    ap (λ (cs : List Candidate). list_any (is_of g) cs) (among_from test n es ms i e within e_is) ∙ any_cons g (candidate_if test n e ms) (among test (candidates n (drop (i + 1) es) ms))
 
-pub any_end : (test : Entry → Bool) (g n : ℕ) (es : List Entry) (ms : List UnitMap) (i : ℕ) → length es ≤ i → list_any (is_of g) (among test (candidates n (drop i es) (drop i ms))) ≡ false
+pub any_end : (test : Entry → Bool) (g n : ℕ) (es : List Entry) (ms : List UnitMap) (i : ℕ) → length es ≤ i → list_any (is_of g) (among test (candidates n (drop i es) ms)) ≡ false
 any_end test g n es ms i past = rw (none_from n es ms i past) refl
+
+and_true : (b : Bool) → b ≡ (b && true)
+and_true true = refl
+and_true false = refl
+
+and_false : (b : Bool) → false ≡ (b && false)
+and_false true = refl
+and_false false = refl
+
+-- whether the disk that may take a copy lies in a group, by its entry
+pub one_of_disk : (test : Entry → Bool) (g n : ℕ) (e : Entry) (ms : List UnitMap) → is_one_of g (candidate_if test n e ms) ≡ (eqb e.failgroup g && is_some (candidate_if test n e ms))
+unfolding candidate_if candidate_at candidate
+one_of_disk test g n e ms = by (test e) (slice_get ms e.number)
+  where
+    made : (m : UnitMap) (fits : Bool) → is_one_of g (cond fits (Some (record { entry = e; used = used_of m; total = total_of m; home = home_at n e m })) None) ≡ (eqb e.failgroup g && is_some (cond {A = Option Candidate} fits (Some (record { entry = e; used = used_of m; total = total_of m; home = home_at n e m })) None))
+    made m true = and_true (eqb e.failgroup g)
+    made m false = and_false (eqb e.failgroup g)
+
+    by : (t : Bool) (o : Option UnitMap) → is_one_of g (cond t (option_and_then (candidate n e) o) None) ≡ (eqb e.failgroup g && is_some (cond t (option_and_then (candidate n e) o) None))
+    by true (Some m) = made m (is_target e && is_some (lowest n m))
+    by true None = and_false (eqb e.failgroup g)
+    by false o = and_false (eqb e.failgroup g)

@@ -1,8 +1,8 @@
 -- Where the maps are those of a group's records, the choices by maps are the choices of the placement.
 use Rattle.std.proofs.Common.{◌≡◌, ℕ, zero, suc, ◌+◌, ◌-◌, ◌<◌, Bool, true, false, cond, ◌&&◌, List, [], ◌∷◌, length, map, filter, refl, ap, ◌∙◌, Option, Some, None, leb}
-use Rattle.std.specs.Prelude.{if◌then◌else◌}
-use Rattle.std.specs.List.{cons_option}
-use Rattle.std.specs.Option.{is_some, option_map}
+use Rattle.std.specs.Prelude.{IsSomeAnd, if◌then◌else◌}
+use Rattle.std.specs.List.{cons_option, slice_get}
+use Rattle.std.specs.Option.{is_some, option_map, option_and_then}
 use Rattle.std.proofs.lemmas.List.Elements.{filter_agree}
 use Rattle.asm_group.specs.Shape.{Shape}
 use Rattle.asm_formats.specs.Sets.{has_bit}
@@ -15,7 +15,7 @@ use Rattle.asm_placement.specs.Space as space
 use Rattle.asm_placement.specs.Space.{used_units, user_units, lowest_run, has_room, is_tried_before}
 use Rattle.asm_placement.specs.Choices as choices
 use Rattle.asm_placement.specs.Choices.{home_on, partners_with_room, homes_for, disks_for}
-use Rattle.partnership.specs.Candidates.{Candidate, candidate, candidates, is_before, earlier, tried_first, entries, among, is_within, is_outside, group_count, may_be_first, in_turn, with_others, homes, three, chosen_homes}
+use Rattle.partnership.specs.Candidates.{Candidate, candidate, candidate_at, candidates, is_before, earlier, tried_first, entries, among, is_within, is_outside, group_count, may_be_first, in_turn, with_others, homes, three, chosen_homes}
 use Rattle.partnership.specs.UnitsOf.{AreUnits, AreUnitsOf}
 use Rattle.partnership.proofs.Runs.{lowest_of_disk}
 use Rattle.partnership.proofs.Turns.{filter_both}
@@ -46,12 +46,18 @@ candidate_is s items n e m some are =
     ∙ ap (λ (u : ℕ). made e u (total_of m) (lowest_run s items n e)) are.used
     ∙ ap (λ (t : ℕ). made e (used_units s items e.number) t (lowest_run s items n e)) total
 
+candidate_at_is : (s : Shape) (items : List Item) (n : ℕ) (e : Entry) (ms : List UnitMap) → 0 < n → IsSomeAnd (slice_get ms e.number) (AreUnits s items e) → candidate_at n e ms ≡ cond (may_have s items n e) (Some (as_candidate s items n e)) None
+unfolding candidate_at
+candidate_at_is s items n e ms some are = by (slice_get ms e.number) are
+  where
+    by : (o : Option UnitMap) → IsSomeAnd o (AreUnits s items e) → option_and_then (candidate n e) o ≡ cond (may_have s items n e) (Some (as_candidate s items n e)) None
+    by None none = absurd none
+    by (Some m) is = candidate_is s items n e m some is
+
 pub candidates_are : (s : Shape) (items : List Item) (n : ℕ) (es : List Entry) (ms : List UnitMap) → 0 < n → AreUnitsOf s items es ms → candidates n es ms ≡ map (as_candidate s items n) (with_room s items n es)
-candidates_are s items n [] [] some are = refl
-candidates_are s items n [] (m ∷ ms) some are = absurd are
-candidates_are s items n (e ∷ es) [] some are = absurd are
-candidates_are s items n (e ∷ es) (m ∷ ms) some are =
-    rw (candidate_is s items n e m some are.0, candidates_are s items n es ms some are.1) (by (may_have s items n e))
+candidates_are s items n [] ms some are = refl
+candidates_are s items n (e ∷ es) ms some are =
+    rw (candidate_at_is s items n e ms some are.0, candidates_are s items n es ms some are.1) (by (may_have s items n e))
   where
     by : (b : Bool) → cons_option (cond b (Some (as_candidate s items n e)) None) (map (as_candidate s items n) (with_room s items n es)) ≡ map (as_candidate s items n) (cond b (e ∷ with_room s items n es) (with_room s items n es))
     by true = refl

@@ -1,17 +1,17 @@
 -- One turn of a search over disks, from the last to the first.
-use Rattle.std.proofs.Common.{◌≡◌, ℕ, ◌+◌, ◌<◌, ◌≤◌, Bool, true, false, cond, ◌&&◌, List, [], ◌∷◌, length, get_or, drop, filter, refl, sym, ap, ◌∙◌, Option, Some, None, arith}
-use Rattle.std.specs.List.{cons_option}
-use Rattle.std.specs.Option.{is_some}
+use Rattle.std.proofs.Common.{◌≡◌, ℕ, ◌+◌, ◌<◌, ◌≤◌, Bool, true, false, cond, ◌&&◌, List, [], ◌∷◌, length, get_or, drop, filter, refl, sym, ap, ◌∙◌, Option, Some, None}
+use Rattle.std.specs.List.{cons_option, slice_get}
+use Rattle.std.specs.Option.{is_some, option_and_then}
 use Rattle.std.proofs.lemmas.List.{drop_more, drop_all}
 use Rattle.asm_formats.specs.Status.{Entry}
 use Rattle.allocator.specs.UnitMaps.{UnitMap, used_of, total_of}
 use Rattle.asm_placement.specs.Modes.{is_target}
-use Rattle.partnership.specs.Candidates.{Candidate, candidate, candidates, home_at, lowest, among, tried_first}
+use Rattle.partnership.specs.Candidates.{Candidate, candidate, candidate_at, candidates, home_at, lowest, among, tried_first}
 use Rattle.partnership.specs.Steps.{candidate_if, with_next}
 
-pub among_cons : (test : Entry → Bool) (n : ℕ) (e : Entry) (m : UnitMap) (cs : List Candidate) → among test (cons_option (candidate n e m) cs) ≡ cons_option (candidate_if test n e m) (among test cs)
-unfolding candidate candidate_if
-among_cons test n e m cs = by (record { entry = e; used = used_of m; total = total_of m; home = home_at n e m }) (is_target e && is_some (lowest n m)) (test e) refl
+among_one : (test : Entry → Bool) (n : ℕ) (e : Entry) (m : UnitMap) (cs : List Candidate) → among test (cons_option (candidate n e m) cs) ≡ cons_option (cond (test e) (candidate n e m) None) (among test cs)
+unfolding candidate
+among_one test n e m cs = by (record { entry = e; used = used_of m; total = total_of m; home = home_at n e m }) (is_target e && is_some (lowest n m)) (test e) refl
   where
     by : (c : Candidate) (fits t : Bool) → test c.entry ≡ t → among test (cons_option (cond fits (Some c) None) cs) ≡ cons_option (cond t (cond fits (Some c) None) None) (among test cs)
     by c true true is = rw is refl
@@ -19,37 +19,48 @@ among_cons test n e m cs = by (record { entry = e; used = used_of m; total = tot
     by c false true is = refl
     by c false false is = refl
 
+pub among_cons : (test : Entry → Bool) (n : ℕ) (e : Entry) (ms : List UnitMap) (cs : List Candidate) → among test (cons_option (candidate_at n e ms) cs) ≡ cons_option (candidate_if test n e ms) (among test cs)
+unfolding candidate_at candidate_if
+among_cons test n e ms cs = by (slice_get ms e.number)
+  where
+    nothing : (t : Bool) → among test cs ≡ cons_option (cond t None None) (among test cs)
+    nothing true = refl
+    nothing false = refl
+
+    by : (o : Option UnitMap) → among test (cons_option (option_and_then (candidate n e) o) cs) ≡ cons_option (cond (test e) (option_and_then (candidate n e) o) None) (among test cs)
+    by None = nothing (test e)
+    by (Some m) = among_one test n e m cs
+
 -- the candidates from a place on
-pub candidates_from : (n : ℕ) (es : List Entry) (ms : List UnitMap) (i : ℕ) (e : Entry) (m : UnitMap) → i < length es → length ms ≡ length es → e ≡ get_or es i e → m ≡ get_or ms i m
-    → candidates n (drop i es) (drop i ms) ≡ cons_option (candidate n e m) (candidates n (drop (i + 1) es) (drop (i + 1) ms))
-candidates_from n es ms i e m within same e_is m_is =
+pub candidates_from : (n : ℕ) (es : List Entry) (ms : List UnitMap) (i : ℕ) (e : Entry) → i < length es → e ≡ get_or es i e
+    → candidates n (drop i es) ms ≡ cons_option (candidate_at n e ms) (candidates n (drop (i + 1) es) ms)
+candidates_from n es ms i e within e_is =
     let a : drop i es ≡ e ∷ drop (i + 1) es = drop_more es i e within ∙ ap (λ (x : Entry). x ∷ drop (i + 1) es) (sym e_is) in
-    let b : drop i ms ≡ m ∷ drop (i + 1) ms = drop_more ms i m (omega arith) ∙ ap (λ (x : UnitMap). x ∷ drop (i + 1) ms) (sym m_is) in
-    rw (a, b) refl
+    rw a refl
 
 -- those of them that pass a test
-pub among_from : (test : Entry → Bool) (n : ℕ) (es : List Entry) (ms : List UnitMap) (i : ℕ) (e : Entry) (m : UnitMap) → i < length es → length ms ≡ length es → e ≡ get_or es i e → m ≡ get_or ms i m
-    → among test (candidates n (drop i es) (drop i ms)) ≡ cons_option (candidate_if test n e m) (among test (candidates n (drop (i + 1) es) (drop (i + 1) ms)))
-among_from test n es ms i e m within same e_is m_is =
-    ap (λ (cs : List Candidate). among test cs) (candidates_from n es ms i e m within same e_is m_is) ∙ among_cons test n e m (candidates n (drop (i + 1) es) (drop (i + 1) ms))
+pub among_from : (test : Entry → Bool) (n : ℕ) (es : List Entry) (ms : List UnitMap) (i : ℕ) (e : Entry) → i < length es → e ≡ get_or es i e
+    → among test (candidates n (drop i es) ms) ≡ cons_option (candidate_if test n e ms) (among test (candidates n (drop (i + 1) es) ms))
+among_from test n es ms i e within e_is =
+    ap (λ (cs : List Candidate). among test cs) (candidates_from n es ms i e within e_is) ∙ among_cons test n e ms (candidates n (drop (i + 1) es) ms)
 
 tried_cons : (o : Option Candidate) (cs : List Candidate) → with_next o (tried_first cs) ≡ tried_first (cons_option o cs)
 tried_cons None cs = refl
 tried_cons (Some c) cs = refl
 
 -- behind the last place there are none
-pub none_from : (n : ℕ) (es : List Entry) (ms : List UnitMap) (i : ℕ) → length es ≤ i → candidates n (drop i es) (drop i ms) ≡ []
+pub none_from : (n : ℕ) (es : List Entry) (ms : List UnitMap) (i : ℕ) → length es ≤ i → candidates n (drop i es) ms ≡ []
 none_from n es ms i past = rw (drop_all i es past) refl
 
 -- the first of those from a place on, by the first of those behind it
-pub tried_from : (test : Entry → Bool) (n : ℕ) (es : List Entry) (ms : List UnitMap) (i : ℕ) (e : Entry) (m : UnitMap) (next best : Option Candidate) → i < length es → length ms ≡ length es → e ≡ get_or es i e → m ≡ get_or ms i m
-    → best ≡ tried_first (among test (candidates n (drop (i + 1) es) (drop (i + 1) ms))) → next ≡ candidate_if test n e m
-    → with_next next best ≡ tried_first (among test (candidates n (drop i es) (drop i ms)))
-tried_from test n es ms i e m next best within same e_is m_is so_far is =
-    rw (so_far, is) (tried_cons (candidate_if test n e m) (among test (candidates n (drop (i + 1) es) (drop (i + 1) ms)))
-    ∙ sym (ap (λ (cs : List Candidate). tried_first cs) (among_from test n es ms i e m within same e_is m_is)))
+pub tried_from : (test : Entry → Bool) (n : ℕ) (es : List Entry) (ms : List UnitMap) (i : ℕ) (e : Entry) (next best : Option Candidate) → i < length es → e ≡ get_or es i e
+    → best ≡ tried_first (among test (candidates n (drop (i + 1) es) ms)) → next ≡ candidate_if test n e ms
+    → with_next next best ≡ tried_first (among test (candidates n (drop i es) ms))
+tried_from test n es ms i e next best within e_is so_far is =
+    rw (so_far, is) (tried_cons (candidate_if test n e ms) (among test (candidates n (drop (i + 1) es) ms))
+    ∙ sym (ap (λ (cs : List Candidate). tried_first cs) (among_from test n es ms i e within e_is)))
 
-pub tried_start : (test : Entry → Bool) (n : ℕ) (es : List Entry) (ms : List UnitMap) (i : ℕ) → length es ≤ i → None ≡ tried_first (among test (candidates n (drop i es) (drop i ms)))
+pub tried_start : (test : Entry → Bool) (n : ℕ) (es : List Entry) (ms : List UnitMap) (i : ℕ) → length es ≤ i → None ≡ tried_first (among test (candidates n (drop i es) ms))
 tried_start test n es ms i past = rw (none_from n es ms i past) refl
 
 -- ---- two tests in turn

@@ -1,6 +1,6 @@
 -- Where new copies go, by the disks' entries and maps of units alone.
 use Rattle.std.specs.Prelude.{ℕ, zero, suc, ◌+◌, ◌-◌, ◌*◌, Bool, true, false, ◌&&◌, ◌||◌, not, List, [], ◌∷◌, length, map, filter, if◌then◌else◌, nat_lt, nat_le, ◌==◌, Option, Some, None}
-use Rattle.std.specs.List.{range_with_len, list_all, list_any, find, cons_option}
+use Rattle.std.specs.List.{range_with_len, list_all, list_any, find, cons_option, slice_get}
 use Rattle.std.specs.Option.{is_some, option_and_then, option_map}
 use Rattle.asm_base.specs.Homes.{first_home, second_home, third_home}
 use Rattle.asm_formats.specs.Sets.{has_bit}
@@ -39,10 +39,14 @@ home_at n e m = option_map (λ u. record { disk = e.number; unit = u }) (lowest 
 unfoldable pub candidate : ℕ → Entry → UnitMap → Option Candidate
 candidate n e m = if is_target e && is_some (lowest n m) then Some (record { entry = e; used = used_of m; total = total_of m; home = home_at n e m }) else None
 
--- the disks that may take a copy of n units, by their entries and maps
+-- the same, where the disk's map stands at the place of its number
+unfoldable pub candidate_at : ℕ → Entry → List UnitMap → Option Candidate
+candidate_at n e ms = option_and_then (candidate n e) (slice_get ms e.number)
+
+-- the disks that may take a copy of n units, by their entries, and by maps each at the place of its disk's number
 abbrev pub candidates : ℕ → List Entry → List UnitMap → List Candidate
-candidates n (e ∷ es) (m ∷ ms) = cons_option (candidate n e m) (candidates n es ms)
-candidates n es ms = []
+candidates n [] ms = []
+candidates n (e ∷ es) ms = cons_option (candidate_at n e ms) (candidates n es ms)
 
 -- ---- the fuller-last order
 

@@ -4,11 +4,11 @@ use Rattle.std.specs.List.{list_any}
 use Rattle.std.specs.Option.{option_and_then}
 use Rattle.asm_formats.specs.Status.{Entry}
 use Rattle.allocator.specs.UnitMaps.{UnitMap}
-use Rattle.partnership.specs.Candidates.{Candidate, candidate, earlier, tried_first, among, is_within, is_outside}
+use Rattle.partnership.specs.Candidates.{Candidate, candidate_at, earlier, tried_first, among, is_within, is_outside}
 
 -- the disk, where it may take a copy and passes a test
-unfoldable pub candidate_if : (Entry → Bool) → ℕ → Entry → UnitMap → Option Candidate
-candidate_if test n e m = if test e then candidate n e m else None
+unfoldable pub candidate_if : (Entry → Bool) → ℕ → Entry → List UnitMap → Option Candidate
+candidate_if test n e ms = if test e then candidate_at n e ms else None
 
 -- the first of those so far, with one more where there is one
 abbrev pub with_next : Option Candidate → Option Candidate → Option Candidate

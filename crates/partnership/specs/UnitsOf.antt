@@ -1,6 +1,6 @@
 -- Maps of units that are those of a group's records, and the homes of an extent that are kept.
-use Rattle.std.specs.Prelude.{◌≡◌, ℕ, suc, ◌≤◌, ◌<◌, Bool, false, List, [], ◌∷◌, if◌then◌else◌, ◌==◌, Option, Some, None}
-use Rattle.std.specs.List.{AllZip}
+use Rattle.std.specs.Prelude.{◌≡◌, IsSomeAnd, ℕ, suc, ◌≤◌, ◌<◌, Bool, false, List, [], ◌∷◌, if◌then◌else◌, ◌==◌, Option, Some, None}
+use Rattle.std.specs.List.{AllByRecursion, slice_get}
 use Rattle.std.specs.Option.{is_some}
 use Rattle.asm_group.specs.Shape.{Shape}
 use Rattle.asm_formats.specs.Regions.{reserved_units}
@@ -18,9 +18,9 @@ pub record AreUnits (s : Shape) (items : List Item) (e : Entry) (m : UnitMap) : 
   pub free : (k : ℕ) → reserved_units s ≤ k → k < e.units → is_free m k ≡ is_free_run (placed s.step items) e.number 1 k
   pub used : used_of m ≡ used_units s items e.number
 
--- the maps are those of the disks, one for each, in their order
+-- the maps are those of the disks, each at the place of its disk's number
 abbrev pub AreUnitsOf : Shape → List Item → List Entry → List UnitMap → Type 0
-AreUnitsOf s items es ms = AllZip (AreUnits s items) es ms
+AreUnitsOf s items es ms = AllByRecursion (λ e. IsSomeAnd (slice_get ms e.number) (AreUnits s items e)) es
 
 -- ---- the homes of an extent
 

@@ -1,9 +1,10 @@
 //! Disks that may take a copy.
 
 ghost use Rattle.std.specs.Prelude.{◌≡◌, ◌<◌};
-ghost use Rattle.std.specs.Option.{option_and_then};
+ghost use Rattle.std.specs.List.{slice_get};
+ghost use Rattle.std.specs.Option.{option_and_then, option_copied};
 ghost use Rattle.asm_placement.specs.Modes.{is_target};
-ghost use Rattle.partnership.specs.Candidates.{candidate, earlier, home_of, is_before, lowest};
+ghost use Rattle.partnership.specs.Candidates.{candidate, candidate_at, earlier, home_of, is_before, lowest};
 ghost use Rattle.partnership.specs.Steps.{with_next};
 
 use allocator::Units;
@@ -52,9 +53,24 @@ pub fn is_target(disk: &PstEntry) -> bool
     matches!(disk.mode, Mode::Online) && !disk.quorum
 }
 
-/// The disk, where it may take a copy of so many units.
+/// The disk, where it may take a copy of so many units. `units` has its map at the place of its number.
+#[tactic(auto, unfolding(crate::specs::Candidates::candidate_at))]
+pub fn candidate_on(disk: &PstEntry, units: &[Units], n: u32) -> Option<Candidate>
+    requires { 0 < n }
+    ensures { result ≡ candidate_at n disk.now units.now }
+{
+    candidate_with(disk, units_of(units, disk.number)?, n)
+}
+
+/// The map at the place of a disk's number.
+fn units_of(units: &[Units], disk: u8) -> Option<&Units>
+    ensures { option_copied result ≡ slice_get units.now disk }
+{
+    units.get(disk as usize)
+}
+
 #[tactic(auto, unfolding(crate::specs::Candidates::candidate))]
-pub fn candidate_on(disk: &PstEntry, units: &Units, n: u32) -> Option<Candidate>
+fn candidate_with(disk: &PstEntry, units: &Units, n: u32) -> Option<Candidate>
     requires { 0 < n }
     ensures { result ≡ candidate n disk.now units.now }
 {

@@ -18,11 +18,10 @@ use status_table::PstEntry;
 
 /// Homes for one to three copies of a new extent of n units, or None where there is no space. The first goes to the
 /// first disk, the least full before the fuller, that is Online and regular, has room, and has partners for the others.
-/// Those go in turn to such partners of it, each in another failure group. `units` are those of each disk.
+/// Those go in turn to such partners of it, each in another failure group. `units` has the map of disk k at place k.
 #[tactic(auto, using(crate::proofs::Placement::homes_are))]
 pub fn choose_homes(disks: &[PstEntry], units: &[Units], copies: u8, n: u32) -> Option<Homes>
-    requires each_disk { length units.now ≡ length disks.now }
-    requires some { 0 < n }
+    requires { 0 < n }
     ensures chosen { result ≡ chosen_homes (candidates n disks.now units.now) copies }
     // Where the units are those of a group's records, the homes are those of their placement.
     ensures placement { (s : Shape) (items : List Item) → AreUnitsOf s items disks.now units.now → result ≡ option_map three (homes_for s items disks.now copies n) }
@@ -32,8 +31,7 @@ pub fn choose_homes(disks: &[PstEntry], units: &[Units], copies: u8, n: u32) -> 
 
 #[tactic(auto, using(crate::proofs::Choices::three_homes))]
 fn chosen_homes(disks: &[PstEntry], units: &[Units], copies: u8, n: u32) -> Option<Homes>
-    requires each_disk { length units.now ≡ length disks.now }
-    requires some { 0 < n }
+    requires { 0 < n }
     ensures { result ≡ chosen_homes (candidates n disks.now units.now) copies }
 {
     let first = first_disk(disks, units, copies, n)?;
@@ -49,13 +47,12 @@ fn chosen_homes(disks: &[PstEntry], units: &[Units], copies: u8, n: u32) -> Opti
 /// The disk of the first copy.
 #[tactic(auto, using(crate::proofs::Turns::tried_from, crate::proofs::Turns::tried_start))]
 fn first_disk(disks: &[PstEntry], units: &[Units], copies: u8, n: u32) -> Option<Candidate>
-    requires each_disk { length units.now ≡ length disks.now }
-    requires some { 0 < n }
+    requires { 0 < n }
     ensures { result ≡ tried_first (among (may_be_first (candidates n disks.now units.now) copies) (candidates n disks.now units.now)) }
 {
     let mut best = None;
     for i in (0..disks.len()).rev() {
-        let next = first_candidate(disks, units, copies, n, &disks[i], &units[i]);
+        let next = first_candidate(disks, units, copies, n, &disks[i]);
         best = with_next(next, best);
     }
     best
@@ -69,13 +66,11 @@ fn first_candidate(
     copies: u8,
     n: u32,
     disk: &PstEntry,
-    own: &Units,
 ) -> Option<Candidate>
-    requires each_disk { length units.now ≡ length disks.now }
-    requires some { 0 < n }
-    ensures { result ≡ candidate_if (may_be_first (candidates n disks.now units.now) copies) n disk.now own.now }
+    requires { 0 < n }
+    ensures { result ≡ candidate_if (may_be_first (candidates n disks.now units.now) copies) n disk.now units.now }
 {
-    let found = candidate_on(disk, own, n)?;
+    let found = candidate_on(disk, units, n)?;
     if may_be_first(disks, units, copies, n, disk.partners) {
         Some(found)
     } else {
@@ -85,8 +80,7 @@ fn first_candidate(
 
 /// Whether the partners that may take copies lie in failure groups enough for the other copies.
 fn may_be_first(disks: &[PstEntry], units: &[Units], copies: u8, n: u32, partners: DiskSet) -> bool
-    requires each_disk { length units.now ≡ length disks.now }
-    requires some { 0 < n }
+    requires { 0 < n }
     ensures { result ≡ nat_le copies (group_count (among (is_within partners) (candidates n disks.now units.now)) + 1) }
 {
     copies as usize <= group_count(disks, units, n, partners) + 1
@@ -95,15 +89,14 @@ fn may_be_first(disks: &[PstEntry], units: &[Units], copies: u8, n: u32, partner
 /// In how many failure groups those of a set lie that may take copies.
 #[tactic(auto, using(crate::proofs::Groups::count_from, crate::proofs::Groups::count_start))]
 fn group_count(disks: &[PstEntry], units: &[Units], n: u32, set: DiskSet) -> usize
-    requires each_disk { length units.now ≡ length disks.now }
-    requires some { 0 < n }
+    requires { 0 < n }
     ensures count { result ≡ group_count (among (is_within set) (candidates n disks.now units.now)) }
     ensures few { result ≤ length disks.now }
 {
     let mut count = 0;
     for i in (0..disks.len()).rev() {
-        let next = member(set, &disks[i], &units[i], n);
-        if is_new_group(&disks[i + 1..], &units[i + 1..], n, set, next) {
+        let next = member(set, &disks[i], units, n);
+        if is_new_group(&disks[i + 1..], units, n, set, next) {
             count += 1;
         }
     }
@@ -112,12 +105,12 @@ fn group_count(disks: &[PstEntry], units: &[Units], n: u32, set: DiskSet) -> usi
 
 /// The disk, where it is of the set and may take a copy.
 #[tactic(auto, unfolding(crate::specs::Steps::candidate_if))]
-fn member(set: DiskSet, disk: &PstEntry, own: &Units, n: u32) -> Option<Candidate>
+fn member(set: DiskSet, disk: &PstEntry, units: &[Units], n: u32) -> Option<Candidate>
     requires { 0 < n }
-    ensures { result ≡ candidate_if (is_within set) n disk.now own.now }
+    ensures { result ≡ candidate_if (is_within set) n disk.now units.now }
 {
     if set.has(disk.number) {
-        candidate_on(disk, own, n)
+        candidate_on(disk, units, n)
     } else {
         None
     }
@@ -131,8 +124,7 @@ fn is_new_group(
     set: DiskSet,
     next: Option<Candidate>,
 ) -> bool
-    requires each_disk { length units.now ≡ length disks.now }
-    requires some { 0 < n }
+    requires { 0 < n }
     ensures { result ≡ is_new_group (among (is_within set) (candidates n disks.now units.now)) next }
 {
     match next {
@@ -144,24 +136,23 @@ fn is_new_group(
 /// Whether one of the set that may take a copy lies in the failure group.
 #[tactic(auto, using(crate::proofs::Groups::any_from, crate::proofs::Groups::any_end))]
 fn has_member_in(disks: &[PstEntry], units: &[Units], n: u32, set: DiskSet, failgroup: u8) -> bool
-    requires each_disk { length units.now ≡ length disks.now }
-    requires some { 0 < n }
+    requires { 0 < n }
     ensures { result ≡ list_any (is_of failgroup) (among (is_within set) (candidates n disks.now units.now)) }
 {
     for i in 0..disks.len() {
-        if is_member_in(set, failgroup, &disks[i], &units[i], n) {
+        if is_member_in(set, failgroup, &disks[i], units, n) {
             return true;
         }
     }
     false
 }
 
-#[tactic(auto, unfolding(crate::specs::Steps::candidate_if, crate::specs::Candidates::candidate))]
-fn is_member_in(set: DiskSet, failgroup: u8, disk: &PstEntry, own: &Units, n: u32) -> bool
+#[tactic(auto, using(crate::proofs::Groups::one_of_disk))]
+fn is_member_in(set: DiskSet, failgroup: u8, disk: &PstEntry, units: &[Units], n: u32) -> bool
     requires { 0 < n }
-    ensures { result ≡ is_one_of failgroup (candidate_if (is_within set) n disk.now own.now) }
+    ensures { result ≡ is_one_of failgroup (candidate_if (is_within set) n disk.now units.now) }
 {
-    disk.failgroup == failgroup && member(set, disk, own, n).is_some()
+    disk.failgroup == failgroup && member(set, disk, units, n).is_some()
 }
 
 /// The disk of the second copy, where there is one.
@@ -173,8 +164,7 @@ fn second_disk(
     n: u32,
     first: &Candidate,
 ) -> Option<Candidate>
-    requires each_disk { length units.now ≡ length disks.now }
-    requires some { 0 < n }
+    requires { 0 < n }
     ensures { result ≡ second_of (among (is_within first.now.entry.partners) (candidates n disks.now units.now)) first.now.entry.failgroup copies }
 {
     if copies < 2 {
@@ -194,8 +184,7 @@ fn third_disk(
     first: &Candidate,
     second: &Option<Candidate>,
 ) -> Option<Candidate>
-    requires each_disk { length units.now ≡ length disks.now }
-    requires some { 0 < n }
+    requires { 0 < n }
     ensures { result ≡ third_of (among (is_within first.now.entry.partners) (candidates n disks.now units.now)) first.now.entry.failgroup copies second.now }
 {
     if copies < 3 {
@@ -215,13 +204,12 @@ fn next_disk(
     set: DiskSet,
     taken: &[u8],
 ) -> Option<Candidate>
-    requires each_disk { length units.now ≡ length disks.now }
-    requires some { 0 < n }
+    requires { 0 < n }
     ensures { result ≡ tried_first (among (is_outside taken.now) (among (is_within set) (candidates n disks.now units.now))) }
 {
     let mut best = None;
     for i in (0..disks.len()).rev() {
-        let next = free_member(set, taken, &disks[i], &units[i], n);
+        let next = free_member(set, taken, &disks[i], units, n);
         best = with_next(next, best);
     }
     best
@@ -232,14 +220,14 @@ fn free_member(
     set: DiskSet,
     taken: &[u8],
     disk: &PstEntry,
-    own: &Units,
+    units: &[Units],
     n: u32,
 ) -> Option<Candidate>
     requires { 0 < n }
-    ensures { result ≡ candidate_if (is_free_partner set taken.now) n disk.now own.now }
+    ensures { result ≡ candidate_if (is_free_partner set taken.now) n disk.now units.now }
 {
     if set.has(disk.number) && !is_among(taken, disk.failgroup) {
-        candidate_on(disk, own, n)
+        candidate_on(disk, units, n)
     } else {
         None
     }

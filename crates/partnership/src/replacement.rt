@@ -37,7 +37,7 @@ fn may_take_at(disks: &[PstEntry], kept: &[Home], holders: &[Home], d: u8) -> bo
 }
 
 /// The home of a copy of n units: the lowest run of the first eligible disk with room, the least full before the fuller.
-/// None where there is no such disk. `units` are those of each disk.
+/// None where there is no such disk. `units` has the map of disk k at place k.
 #[tactic(auto, using(crate::proofs::Kept::copy_is))]
 pub fn choose_copy(
     disks: &[PstEntry],
@@ -46,8 +46,7 @@ pub fn choose_copy(
     holders: &[Home],
     n: u32,
 ) -> Option<Home>
-    requires each_disk { length units.now ≡ length disks.now }
-    requires some { 0 < n }
+    requires { 0 < n }
     ensures chosen { result ≡ chosen_copy disks.now kept.now holders.now (candidates n disks.now units.now) }
     // Where the units are those of a group's records, and the homes those of an extent, the home takes a copy's place.
     ensures placement { (s : Shape) (items : List Item) (replaced : ℕ) (homes : Homes) → AreUnitsOf s items disks.now units.now → AreHomesOf disks.now replaced homes kept.now holders.now → result ≡ replacement s disks.now items n replaced homes }
@@ -62,8 +61,7 @@ fn chosen_copy(
     holders: &[Home],
     n: u32,
 ) -> Option<Home>
-    requires each_disk { length units.now ≡ length disks.now }
-    requires some { 0 < n }
+    requires { 0 < n }
     ensures { result ≡ chosen_copy disks.now kept.now holders.now (candidates n disks.now units.now) }
 {
     home_of(first_eligible(disks, units, kept, holders, n))
@@ -77,13 +75,12 @@ fn first_eligible(
     holders: &[Home],
     n: u32,
 ) -> Option<Candidate>
-    requires each_disk { length units.now ≡ length disks.now }
-    requires some { 0 < n }
+    requires { 0 < n }
     ensures { result ≡ tried_first (among (may_take disks.now kept.now holders.now) (candidates n disks.now units.now)) }
 {
     let mut best = None;
     for i in (0..disks.len()).rev() {
-        let next = eligible_candidate(disks, kept, holders, &disks[i], &units[i], n);
+        let next = eligible_candidate(disks, kept, holders, &disks[i], units, n);
         best = with_next(next, best);
     }
     best
@@ -95,14 +92,14 @@ fn eligible_candidate(
     kept: &[Home],
     holders: &[Home],
     disk: &PstEntry,
-    own: &Units,
+    units: &[Units],
     n: u32,
 ) -> Option<Candidate>
     requires { 0 < n }
-    ensures { result ≡ candidate_if (may_take disks.now kept.now holders.now) n disk.now own.now }
+    ensures { result ≡ candidate_if (may_take disks.now kept.now holders.now) n disk.now units.now }
 {
     if may_take(disks, kept, holders, disk) {
-        candidate_on(disk, own, n)
+        candidate_on(disk, units, n)
     } else {
         None
     }

@@ -137,3 +137,14 @@ fn copies_of_a_dropped_disk(rt: HostRuntime) {
         home(1, 11)
     );
 }
+
+/// Each disk's units stand at the place of its number; a disk whose number has no place takes no copy.
+#[test]
+fn units_by_number(rt: HostRuntime) {
+    let disks = [single(1, 8), single(3, 2)];
+    let units = four_used(rt.alloc(), [9, 2, 9, 3]).expect(&rt, "memory");
+    let homes = choose_homes(&disks, &units, 2, 1).expect(&rt, "room");
+    assert!(rt; homes.first == home(1, 11) && homes.second == home(3, 12));
+    let without_units = [single(7, 0)];
+    assert!(rt; choose_homes(&without_units, &units, 1, 1).is_none());
+}

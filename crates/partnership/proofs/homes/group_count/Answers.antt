@@ -6,18 +6,18 @@ use Rattle.partnership.proofs.homes.group_count.Goals as goal
 
 pub loop-i-preserved-then-is_new_group : goal.loop-i-preserved-then-is_new_group
 loop-i-preserved-then-is_new_group c =
-    let new = rw (take_rest c.args.disks.now (c.loop-i.i - 1 + 1), take_rest c.args.units.now (c.loop-i.i - 1 + 1)) at c.is_new_group.ensures in
+    let new = rw (take_rest c.args.disks.now (c.loop-i.i - 1 + 1)) at c.is_new_group.ensures in
     record {
-      counted = rw c.if-is_new_group.true at (count_turn (is_within c.args.set) c.args.n c.args.disks.now c.args.units.now c.loop-i.i (c.loop-i.i - 1) c.index-disks-i.result c.index-units-i.result c.member-next.result c.loop-i.count c.is_new_group.result
-          (omega arith) (omega arith) c.requires.each_disk c.index-disks-i.is c.index-units-i.is c.member-next.ensures c.loop-i.invariant.counted new);
+      counted = rw c.if-is_new_group.true at (count_turn (is_within c.args.set) c.args.n c.args.disks.now c.args.units.now c.loop-i.i (c.loop-i.i - 1) c.index-disks-i.result c.member-next.result c.loop-i.count c.is_new_group.result
+          (omega arith) (omega arith) c.index-disks-i.is c.member-next.ensures c.loop-i.invariant.counted new);
       few = omega arith;
     }
 
 pub loop-i-preserved : goal.loop-i-preserved
 loop-i-preserved c =
-    let new = rw (take_rest c.args.disks.now (c.loop-i.i - 1 + 1), take_rest c.args.units.now (c.loop-i.i - 1 + 1)) at c.is_new_group.ensures in
+    let new = rw (take_rest c.args.disks.now (c.loop-i.i - 1 + 1)) at c.is_new_group.ensures in
     record {
-      counted = rw c.if-is_new_group.false at (count_turn (is_within c.args.set) c.args.n c.args.disks.now c.args.units.now c.loop-i.i (c.loop-i.i - 1) c.index-disks-i.result c.index-units-i.result c.member-next.result c.loop-i.count c.is_new_group.result
-          (omega arith) (omega arith) c.requires.each_disk c.index-disks-i.is c.index-units-i.is c.member-next.ensures c.loop-i.invariant.counted new);
+      counted = rw c.if-is_new_group.false at (count_turn (is_within c.args.set) c.args.n c.args.disks.now c.args.units.now c.loop-i.i (c.loop-i.i - 1) c.index-disks-i.result c.member-next.result c.loop-i.count c.is_new_group.result
+          (omega arith) (omega arith) c.index-disks-i.is c.member-next.ensures c.loop-i.invariant.counted new);
       few = omega arith;
     }

@@ -3,4 +3,4 @@ use Rattle.partnership.specs.Candidates.{among, candidates, may_take, tried_firs
 use Rattle.partnership.proofs.replacement.first_eligible.Given as goal
 
 abbrev pub invariant-loop-i : goal.invariant-loop-i
-invariant-loop-i l = l.best ≡ tried_first (among (may_take l.disks l.kept l.holders) (candidates l.n (drop l.i l.disks) (drop l.i l.units)))
+invariant-loop-i l = l.best ≡ tried_first (among (may_take l.disks l.kept l.holders) (candidates l.n (drop l.i l.disks) l.units))
