@@ -13,6 +13,10 @@ use Rattle.asm_formats.specs.Items.{Key}
 abbrev pub key_cmp : Key → Key → Ordering
 key_cmp x y = ordering_then (nat_cmp x.kind y.kind) (ordering_then (nat_cmp x.a y.a) (nat_cmp x.b y.b))
 
+-- the keys are the same
+abbrev pub is_key : Key → Key → Bool
+is_key x y = is_at (key_cmp x) y
+
 -- a record, as a key and the bytes of its value
 abbrev pub Entry : Type 0
 Entry = Key × List ℕ

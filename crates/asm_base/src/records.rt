@@ -1,6 +1,6 @@
 //! Directory records: a map of keys to values, and changes of it.
 
-ghost use Rattle.std.specs.Prelude.{◌≡◌, ◌≤◌, [], length, IfOk, OnErr, OnOk};
+ghost use Rattle.std.specs.Prelude.{◌≡◌, ◌≤◌, [], length, if◌then◌else◌, IfOk, None, OnErr, OnOk, Some};
 ghost use Rattle.std.specs.Option.{option_copied};
 ghost use Rattle.asm_base.specs.Cursors.{written};
 
@@ -101,7 +101,8 @@ impl Model for Records {
 }
 
 impl Records {
-    ghost use Rattle.asm_base.specs.Records.{record_at, with_record, without_record};
+    ghost use Rattle.asm_formats.specs.Items.{Key as FormatKey};
+    ghost use Rattle.asm_base.specs.Records.{is_key, record_at, with_record, without_record};
 
     pub fn new(alloc: Global) -> Records
         ensures { result ≡ [] }
@@ -120,6 +121,9 @@ impl Records {
     pub fn insert(&mut self, key: Key, value: Value) -> Result<(), NoMemory>
         ensures ok { OnOk result (self.new ≡ with_record self.old key value) }
         ensures err { OnErr result (self.new ≡ self.old) }
+        // Other keys keep their values. Only a new key can fail.
+        ensures updates { OnOk result ((k : FormatKey) → record_at self.new k ≡ (if is_key key k then Some value else record_at self.old k)) }
+        ensures absent { OnErr result (record_at self.old key ≡ None) }
     {
         match self.map.insert(key, value) {
             Ok(_) => Ok(()),
@@ -128,7 +132,8 @@ impl Records {
     }
 
     pub fn remove(&mut self, key: Key)
-        ensures { self.new ≡ without_record self.old key }
+        ensures after { self.new ≡ without_record self.old key }
+        ensures updates { (k : FormatKey) → record_at self.new k ≡ (if is_key key k then None else record_at self.old k) }
     {
         let _ = self.map.remove(&key);
     }
