@@ -1,0 +1,5 @@
+pub mod Pages
+pub mod Keys
+pub mod Adding
+pub mod Changing
+pub mod Applied

@@ -1,0 +1,4 @@
+pub mod Free
+pub mod Changes
+pub mod Tables
+pub mod Applying
