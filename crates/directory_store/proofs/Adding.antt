@@ -1,9 +1,9 @@
 -- A record more on a free page.
-use Rattle.std.proofs.Common.{◌≡◌, ℕ, ◌+◌, ◌<◌, Bool, true, false, cond, eqb, List, length, refl, sym, ap, ◌∙◌, subst, arith, inl, inr, ◌⊎◌, Option, Some, None}
+use Rattle.std.proofs.Common.{◌≡◌, ℕ, ◌<◌, Bool, true, false, cond, eqb, List, refl, sym, ap, ◌∙◌, subst, arith, inl, inr, ◌⊎◌, Option, Some, None}
 use Rattle.std.specs.Prelude.{is_some}
 use Rattle.std.proofs.lemmas.Bool.{true≢false, eqb-true, eq-eqb}
 use Rattle.asm_formats.specs.Items.{Key}
-use Rattle.asm_base.specs.Records.{Entry, is_key, record_at}
+use Rattle.asm_base.specs.Records.{is_key, record_at}
 use Rattle.directory_store.specs.Free.{FreeMap, is_free, IsLeastFree}
 use Rattle.directory_store.specs.Tables.{PageTable, IsTable, place_at, SameTable, Adds, Removes, is_page, one_if}
 use Rattle.directory_store.proofs.Keys.{one_or_other, same_key, key_itself}
@@ -46,6 +46,7 @@ same_is_table old new sound same = record {
   inside = λ k page at. rw same.units (sound.inside k page (sym (same.places k) ∙ at));
   taken = λ k page at. same.free page ∙ sound.taken k page (sym (same.places k) ∙ at);
   apart = λ j k page first second. sound.apart j k page (sym (same.places j) ∙ first) (sym (same.places k) ∙ second);
+  owned = λ page inside taken. let h = sound.owned page (subst (λ (n : ℕ). page < n) same.units inside) (sym (same.free page) ∙ taken) in (h.0, same.places h.0 ∙ h.1);
 }
 
 some_is : {X : Type 0} (x y : X) → Some x ≡ Some y → x ≡ y
@@ -80,7 +81,23 @@ added_is_table old new key value page sound absent least records places free uni
       | inr i ↦ sound.apart j k q h.1 i.1
     ]
   ];
+  owned = λ q lt taken. elim (one_or_other (eqb q page)) [
+    | inl e ↦ let p : place_at new.places key ≡ Some page = rw (key_itself key) at (places key) in (key, p ∙ ap (λ (n : ℕ). Some n) (sym (eqb-true q page e)))
+    | inr e ↦
+        let was : is_free new.free q ≡ is_free old.free q = rw e at (free q) in
+        let h = sound.owned q (subst (λ (n : ℕ). q < n) units lt) (sym was ∙ taken) in
+        (h.0, places h.0 ∙ rw (other h.0 q h.1) h.1)
+  ];
 } where
+  -- a key that has a page is another one
+  other : (k : Key) (q : ℕ) → place_at old.places k ≡ Some q → is_key key k ≡ false
+  other k q at = elim (one_or_other (is_key key k)) [
+    | inl e ↦ absurd (no_page q (sym (subst (λ (j : Key). place_at old.places j ≡ None) (same_key key k e) absent) ∙ at))
+    | inr e ↦ e
+  ] where
+    no_page : (q : ℕ) → None ≡ Some q → ⊥
+    no_page q e = cc
+
   either : (b c : Bool) → c ≡ false → cond b false c ≡ false
   either true c e = refl
   either false c e = e
@@ -107,6 +124,7 @@ removed_is_table old new key sound gone = record {
   inside = λ k q at. rw gone.units (sound.inside k q (here k q at).1);
   taken = λ k q at. gone.free q ∙ other (place_at old.places key) refl k q (here k q at).0 (here k q at).1;
   apart = λ j k q first second. sound.apart j k q (here j q first).1 (here k q second).1;
+  owned = λ q lt taken. held (place_at old.places key) refl q (subst (λ (n : ℕ). q < n) gone.units lt) (sym (gone.free q) ∙ taken);
 } where
   none_some : (q : ℕ) → None ≡ Some q → ⊥
   none_some q e = cc
@@ -115,6 +133,29 @@ removed_is_table old new key sound gone = record {
   here k q at = elim (one_or_other (is_key key k)) [
     | inl e ↦ let p : place_at new.places k ≡ None = rw e at (gone.places k) in absurd (none_some q (sym p ∙ at))
     | inr e ↦ let p : place_at new.places k ≡ place_at old.places k = rw e at (gone.places k) in (e, sym p ∙ at)
+  ]
+
+  -- a key with a page that isn't given back is another one
+  stays : (was : Option ℕ) → place_at old.places key ≡ was → (k : Key) (q : ℕ) → place_at old.places k ≡ Some q → is_page was q ≡ false → is_key key k ≡ false
+  stays was there k q at isnt = elim (one_or_other (is_key key k)) [
+    | inl e ↦
+        let same : was ≡ Some q = sym there ∙ subst (λ (j : Key). place_at old.places j ≡ Some q) (sym (same_key key k e)) at in
+        absurd (true≢false (sym (ap (λ (o : Option ℕ). is_page o q) same ∙ eq-eqb q q refl) ∙ isnt))
+    | inr e ↦ e
+  ]
+
+  -- a page that isn't given back stays with its key
+  held : (was : Option ℕ) → place_at old.places key ≡ was → (q : ℕ) → q < old.free.units → cond (is_page was q) true (is_free old.free q) ≡ false
+      → (k : Key) × (place_at new.places k ≡ Some q)
+  held None none q lt taken = let h = sound.owned q lt taken in
+      let apart : is_key key h.0 ≡ false = stays None none h.0 q h.1 refl in
+      (h.0, gone.places h.0 ∙ rw apart h.1)
+  held (Some page) there q lt taken = elim (one_or_other (eqb q page)) [
+    | inl e ↦ absurd (true≢false (rw e at taken))
+    | inr e ↦
+        let h = sound.owned q lt (rw e at taken) in
+        let apart : is_key key h.0 ≡ false = stays (Some page) there h.0 q h.1 e in
+        (h.0, gone.places h.0 ∙ rw apart h.1)
   ]
 
   -- the page that is given back is another one

@@ -1,6 +1,6 @@
 -- What a whole change does to the table and to the pages that show it.
-use Rattle.std.proofs.Common.{◌≡◌, ◌+◌, ◌-◌, ◌<◌, ◌≤◌, ℕ, Bool, true, false, cond, eqb, leb, ltb, List, [], ◌∷◌, ◌++◌, length, map, replicate, refl, sym, ap, ◌∙◌, subst, arith, inl, inr, ◌⊎◌, Option, Some, None}
-use Rattle.std.specs.Prelude.{◌||◌, ◌&&◌, is_some, unwrap_or, find}
+use Rattle.std.proofs.Common.{◌≡◌, ◌+◌, ◌<◌, ◌≤◌, ℕ, Bool, true, false, cond, eqb, ltb, List, [], ◌∷◌, map, replicate, refl, sym, ap, ◌∙◌, subst, arith, inl, inr, Option, Some, None}
+use Rattle.std.specs.Prelude.{◌||◌, is_some, unwrap_or}
 use Rattle.std.specs.List.{list_all, AllByRecursion}
 use Rattle.std.specs.List.Sorted.{IsStrictlySortedBy}
 use Rattle.std.specs.BTreeMap.{is_at}
@@ -17,8 +17,8 @@ use Rattle.asm_formats.specs.Logs.{image_of}
 use Rattle.asm_formats.specs.Pages.{with_images}
 use Rattle.asm_formats.specs.Status.{ascends_from}
 use Rattle.asm_base.specs.declared.block.Block.{Block}
-use Rattle.asm_base.specs.Records.{Entry, is_key, record_at}
-use Rattle.directory_store.specs.Changes.{is_put, is_gone, last_put, value_after}
+use Rattle.asm_base.specs.Records.{Entry, record_at}
+use Rattle.directory_store.specs.Changes.{is_put, is_gone, last_put}
 use Rattle.directory_store.specs.Free.{is_free}
 use Rattle.directory_store.specs.Tables.{PageTable, IsTable, Shows, place_at, block_of}
 use Rattle.directory_store.specs.Applying.{AddsNew, RemovesAll, SetsAll, Blocks, Applies, block_at, image_of_page, page_number}

@@ -11,8 +11,8 @@ use Rattle.asm_base.specs.declared.block.Block.{Block}
 use Rattle.asm_base.specs.Records.{Entry, is_key, record_at}
 use Rattle.directory_store.specs.Changes.{is_put, is_gone, last_put}
 use Rattle.directory_store.specs.Free.{is_free}
-use Rattle.directory_store.specs.Tables.{PageTable, IsTable, place_at, block_of, SameTable, Adds, Removes, is_page, is_new}
-use Rattle.directory_store.specs.Applying.{AddsNew, RemovesAll, SetsAll, PutOne, PutBlocks, GoneBlocks, Blocks, block_at}
+use Rattle.directory_store.specs.Tables.{PageTable, IsTable, place_at, block_of, Adds, Removes, is_page, is_new}
+use Rattle.directory_store.specs.Applying.{AddsNew, RemovesAll, PutOne, PutBlocks, GoneBlocks, block_at}
 use Rattle.directory_store.proofs.Keys.{one_or_other, same_key, key_itself}
 
 -- a list by its first item and the others

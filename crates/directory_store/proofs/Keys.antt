@@ -1,5 +1,5 @@
 -- Keys that compare equal are one.
-use Rattle.std.proofs.Common.{◌≡◌, ℕ, Bool, true, false, cond, refl, sym, ap, ◌∙◌, subst, inl, inr, ◌⊎◌, Option, Some, None}
+use Rattle.std.proofs.Common.{◌≡◌, ℕ, Bool, true, false, refl, sym, ap, ◌∙◌, inl, inr, ◌⊎◌}
 use Rattle.std.specs.declared.cmp.Ordering.{Ordering}
 use Rattle.std.specs.declared.cmp.Ordering.TheVariants.{Less, Equal, Greater}
 use Rattle.std.specs.Ordering.{nat_cmp, ordering_then, is_eq}
@@ -7,7 +7,7 @@ use Rattle.std.proofs.lemmas.Bool.{true≢false}
 use Rattle.std.proofs.lemmas.Map.Lookups.{exact_unsigned}
 use Rattle.std.specs.Cmp.{nat_cmp_is}
 use Rattle.asm_formats.specs.Items.{Key}
-use Rattle.asm_base.specs.Records.{is_key, key_cmp}
+use Rattle.asm_base.specs.Records.{is_key}
 
 -- a test answers one or the other
 pub one_or_other : (b : Bool) → (b ≡ true) ⊎ (b ≡ false)

@@ -3,3 +3,4 @@ pub mod Keys
 pub mod Adding
 pub mod Changing
 pub mod Applied
+pub mod Showing

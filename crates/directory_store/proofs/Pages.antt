@@ -1,10 +1,10 @@
 -- One page that is taken or given back.
-use Rattle.std.proofs.Common.{◌≡◌, ℕ, ◌+◌, ◌-◌, ◌<◌, ◌≤◌, Bool, true, false, cond, leb, ltb, eqb, List, ◌++◌, length, take, drop, replicate, get_or, refl, sym, ap, ◌∙◌, subst, arith, inl, inr, ◌⊎◌, Option, Some, None}
+use Rattle.std.proofs.Common.{◌≡◌, ℕ, ◌+◌, ◌-◌, ◌<◌, ◌≤◌, Bool, true, false, cond, leb, eqb, List, ◌++◌, length, take, drop, replicate, get_or, refl, sym, ap, ◌∙◌, subst, arith, inl, inr, Option, Some, None}
 use Rattle.std.specs.Prelude.{not, ◌&&◌, IfSome, IfNone, MatchOption}
-use Rattle.std.proofs.lemmas.Bool.{cases_lt, true≢false, le-leb, ltb-true, lt-leb, lt-ltb, le-ltb, ne_eqb, eq-eqb}
+use Rattle.std.proofs.lemmas.Bool.{cases_lt, true≢false, le-leb, lt-leb, lt-ltb, le-ltb, ne_eqb, eq-eqb}
 use Rattle.std.proofs.lemmas.List.{length-take, length-drop, length-append, length-replicate, get_or_append_left, get_or-append_right, get_or-take, get_or-drop, get_or-replicate, get_or_default}
 use Rattle.allocator.specs.Words.{is_within}
-use Rattle.allocator.specs.UnitMaps.{UnitMap, IsFreeRun, HasNoRun, IsLowestRun, IsUsedRun, with_run, taken, unused}
+use Rattle.allocator.specs.UnitMaps.{IsFreeRun, HasNoRun, IsLowestRun, IsUsedRun, with_run, taken, unused}
 use Rattle.directory_store.specs.Free.{FreeMap, is_free, IsFreeMap, IsLeastFree}
 
 -- an element of a list of which a run was replaced

@@ -2,3 +2,4 @@ pub mod Free
 pub mod Changes
 pub mod Tables
 pub mod Applying
+pub mod Contents

@@ -1,5 +1,5 @@
 -- Which record stands on which page.
-use Rattle.std.specs.Prelude.{◌≡◌, ℕ, ◌+◌, ◌-◌, ◌<◌, Bool, true, false, ◌&&◌, ◌||◌, not, nat_le, ◌==◌, List, [], ◌∷◌, length, if◌then◌else◌, replicate, Option, Some, None, is_some}
+use Rattle.std.specs.Prelude.{◌≡◌, ℕ, ◌+◌, ◌-◌, ◌<◌, Bool, true, false, ◌&&◌, not, nat_le, ◌==◌, List, [], ◌∷◌, length, if◌then◌else◌, replicate, Option, Some, None, is_some}
 use Rattle.std.specs.Map.{lookup}
 use Rattle.asm_group.specs.Names.{Bytes}
 use Rattle.asm_formats.specs.Bytes.{block_size}
@@ -21,12 +21,13 @@ pub record PageTable : Type 0 where
   pub places : List (Key × ℕ)
   pub free : FreeMap
 
--- Each record has a page of its own, and no page that has one is free.
+-- Each record has a page of its own, and each page is free or a record's.
 pub record IsTable (t : PageTable) : Type 0 where
   pub same : (k : Key) → is_some (record_at t.records k) ≡ is_some (place_at t.places k)
   pub inside : (k : Key) (page : ℕ) → place_at t.places k ≡ Some page → page < t.free.units
   pub taken : (k : Key) (page : ℕ) → place_at t.places k ≡ Some page → is_free t.free page ≡ false
   pub apart : (j k : Key) (page : ℕ) → place_at t.places j ≡ Some page → place_at t.places k ≡ Some page → is_key j k ≡ true
+  pub owned : (page : ℕ) → page < t.free.units → is_free t.free page ≡ false → (k : Key) × (place_at t.places k ≡ Some page)
 
 -- ---- blocks
 

@@ -3,9 +3,11 @@
 
 mod change;
 mod free;
+mod laws;
 mod table;
 
 pub use change::{PageError, apply};
+pub use laws::shown_is_content;
 pub use table::PageMap;
 
 #[cfg(test)]

@@ -1,7 +1,6 @@
 use Rattle.std.proofs.Common.{rules, ◌≡◌, ◌-◌, List, true, false, length, take, drop, sym, subst}
 use Rattle.std.specs.Prelude.{◌&&◌, is_some}
 use Rattle.std.specs.Map.{lookup}
-use Rattle.asm_formats.specs.Items.{Key}
 use Rattle.asm_base.specs.Records.{Entry, is_key}
 use Rattle.directory_store.specs.Changes.{is_put}
 use Rattle.directory_store.specs.Tables.{is_new}

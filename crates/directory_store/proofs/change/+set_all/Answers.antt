@@ -1,5 +1,5 @@
-use Rattle.std.proofs.Common.{rules, ◌≡◌, ◌∙◌, List, true, ℕ, Option, Some, cond, refl, sym, ap}
-use Rattle.std.specs.Prelude.{◌||◌, is_some}
+use Rattle.std.proofs.Common.{rules, ◌∙◌, List, ℕ, Option, Some, cond, refl, sym, ap}
+use Rattle.std.specs.Prelude.{is_some}
 use Rattle.asm_formats.specs.Items.{Key}
 use Rattle.asm_base.specs.Records.{Entry, is_key, record_at}
 use Rattle.directory_store.specs.Changes.{is_put, last_put}

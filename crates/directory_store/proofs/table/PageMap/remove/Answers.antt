@@ -1,7 +1,7 @@
-use Rattle.std.proofs.Common.{◌≡◌, ◌+◌, length, cond, true, Some, Option, ℕ, sym, ap, ◌∙◌}
+use Rattle.std.proofs.Common.{◌+◌, length, cond, true, Option, ℕ, sym, ap, ◌∙◌}
 use Rattle.std.specs.Prelude.{is_some}
 use Rattle.directory_store.specs.Free.{is_free}
-use Rattle.directory_store.specs.Tables.{PageTable, Removes, place_at, is_page, one_if}
+use Rattle.directory_store.specs.Tables.{PageTable, Removes, is_page, one_if}
 use Rattle.directory_store.proofs.Adding.{removed_is_table}
 use Rattle.directory_store.proofs.table.PageMap.remove.Goals as goal
 
