@@ -8,7 +8,7 @@ use Rattle.asm_world.specs.Command.{Command, Said, Asked, Unreadable}
 use Rattle.asm_world.specs.Language.{command_of}
 use Rattle.asm_world.specs.Statement.{Statement, CreateDisk, CreateGroup, DropGroup, Alter, Attribute, NewDisk, NewFailgroup}
 
--- ---- the creation of an EXTERNAL group on one disk, which its path alone names
+-- ---- the creation of an EXTERNAL group on one disk, of which its path alone is said
 
 abbrev pub one_disk : Bytes → NewFailgroup
 one_disk path = record { quorum = false; name = None; disks = record { path = path; name = None; size = None; force = false } ∷ [] }
@@ -32,6 +32,7 @@ abbrev pub path_in_group : Option NewFailgroup → Option Bytes
 path_in_group None = None
 path_in_group (Some f) = if f.quorum || is_some f.name then None else plain_path (only f.disks)
 
+-- the same of the only failure group, where the group is EXTERNAL and has no attributes
 abbrev pub external_path : Option GroupKind → List NewFailgroup → List Attribute → Option Bytes
 external_path None groups attributes = None
 external_path (Some Normal) groups attributes = None
@@ -58,6 +59,7 @@ built (Said s) = if is_built s then Said s else Unreadable 0
 built (Asked verb) = Unreadable 0
 built (Unreadable at) = Unreadable at
 
+-- what the program takes a whole text for
 unfoldable pub meaning : Bytes → Command
 meaning text = built (command_of text)
 
