@@ -186,6 +186,7 @@ fn listed(alloc: Global, pages: BTreeMap<u32, Block>) -> Result<Vec<(u32, Block)
     ensures pages { IfOk result (λ list. list.items ≡ pages.entries) }
     ensures ascend { IfOk result (λ list. IsStrictlySortedBy nat_cmp (map_list page_number list.items)) }
 {
+    // `len` says that the pages ascend.
     let _ = pages.len();
     pages.into_iter().collect(alloc).map_err(|_| NoMemory)
 }
@@ -247,7 +248,9 @@ fn remove_all(map: &mut PageMap, gone: &[Key])
 }
 
 /// Applies a change, and gives the pages that change, by number, each with what stands on it then. Full, with nothing
-/// changed, exactly where more records are new than there is room for. All memory is taken before anything changes.
+/// changed, exactly where more records are new than there is room for. All memory is taken before anything changes, and
+/// without it nothing does. The calls nest as deep as the change is long, so more records than a commit takes are given
+/// in parts.
 pub fn apply(
     alloc: Global,
     map: &mut PageMap,
