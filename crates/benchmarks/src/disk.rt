@@ -1,0 +1,28 @@
+//! Taking a unit of a disk that is all but full.
+
+use crate::records::{out_of_memory, unexpected};
+use allocator::Units;
+use std::alloc::Global;
+use std::io;
+use std::time::{Duration, Instant};
+
+/// The most units that a disk may have.
+const UNITS: u32 = 16_777_216;
+
+const RESERVED: u32 = 9;
+
+/// The time that it takes to take the last free unit, where nothing tells that all before it are used.
+pub fn last_unit(alloc: Global, rt: &HostRuntime) -> io::Result<Duration> {
+    let mut units = Units::new(alloc, RESERVED, UNITS).map_err(out_of_memory)?;
+    if !units.mark(RESERVED, UNITS - RESERVED - 1) {
+        return Err(unexpected());
+    }
+    let start = Instant::now(rt)?;
+    let last = units.take(1);
+    let time = start.elapsed(rt)?;
+    if last == Some(UNITS - 1) {
+        Ok(time)
+    } else {
+        Err(unexpected())
+    }
+}

@@ -1,0 +1,51 @@
+//! Measures what no contract says: that some calls of the tables cost as little as they should. With a word, any one, it prints
+//! the ratios of the times; without one it does and prints nothing.
+#![tactic(auto)]
+
+mod disk;
+mod files;
+mod paths;
+mod records;
+
+use std::alloc::Global;
+use std::time::Duration;
+use std::{env, io};
+
+fn main(rt: HostRuntime) -> io::Result<()> {
+    if env::args(&rt)?.nth(1).is_none() {
+        return Ok(());
+    }
+    show(rt.alloc(), &rt)
+}
+
+fn show(alloc: Global, rt: &HostRuntime) -> io::Result<()> {
+    let few = paths::searches(alloc, rt, 10)?;
+    let many = paths::searches(alloc, rt, 100_000)?;
+    let of_few = percent(many, few);
+    println!(rt;
+        "finding a path beside 100,000 names of another directory: {of_few} % of the time beside 10"
+    )?;
+    let tenth = files::reading(alloc, rt, 1_000)?;
+    let all = files::reading(alloc, rt, 10_000)?;
+    let times = tenths(all, tenth);
+    println!(rt;
+        "reading the heads of 10,000 files: {times} tenths of the time of 1,000, so 100 if it is linear"
+    )?;
+    let take = disk::last_unit(alloc, rt)?;
+    let of_allowed = percent(take, Duration::from_millis(1));
+    println!(rt; "taking the last unit of 16,777,216: {of_allowed} % of a millisecond")
+}
+
+/// The first time in percent of the second.
+fn percent(time: Duration, of: Duration) -> u128 {
+    ratio(time, of, 100)
+}
+
+/// The first time in tenths of the second.
+fn tenths(time: Duration, of: Duration) -> u128 {
+    ratio(time, of, 10)
+}
+
+fn ratio(time: Duration, of: Duration, scale: u128) -> u128 {
+    time.as_nanos().saturating_mul(scale) / of.as_nanos().max(1)
+}
