@@ -11,3 +11,13 @@ pub mod Zeroing
 pub mod Shutting
 pub mod Losing
 pub mod Afterwards
+pub mod HeadLaws
+pub mod BlockRows
+pub mod PageRows
+pub mod Telling
+pub mod SlotLaws
+pub mod LoadLaws
+pub mod LoadSteps
+pub mod LoadTold
+pub mod LoadAnswers
+pub mod LoadJoins

@@ -4,3 +4,6 @@ pub mod Changes
 pub mod Homes
 pub mod Formatting
 pub mod Laws
+pub mod Told
+pub mod Loads
+pub mod Slots

@@ -8,7 +8,11 @@ mod erase;
 mod head;
 mod home;
 mod laws;
+mod loading;
+mod numbers;
+mod open_log;
 mod pages;
+mod slots;
 mod spare;
 
 pub use change::commit;
@@ -16,6 +20,7 @@ pub use copy::{DirCopy, LogSlot};
 pub use erase::format;
 pub use home::checkpoint;
 pub use laws::{homed_are_at_home, logged_are_due, logged_is_put, logging_is_put};
+pub use loading::{LoadFault, Pages, load};
 
 #[cfg(test)]
 mod tests;

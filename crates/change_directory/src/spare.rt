@@ -1,15 +1,15 @@
 // Which log slot the next commit writes.
-ghost use Rattle.std.specs.Prelude.{◌≡◌, ◌≤◌, ◌+◌, IfOk, OnErr, length};
+ghost use Rattle.std.specs.Prelude.{◌≡◌, ◌≤◌, ◌+◌, IfOk, OnErr};
 ghost use Rattle.std.specs.Option.{ForSome};
 ghost use Rattle.bay.specs.Image.{Same};
 ghost use Rattle.bay.specs.State.{KeepsAttached, IsSlot};
 ghost use Rattle.bay.specs.Counts.{Rose};
 ghost use Rattle.bay.specs.Moments.{Runs};
-ghost use Rattle.asm_formats.specs.Logs.{log_head_at};
 ghost use Rattle.change_directory.specs.Places.{IsCopy};
 ghost use Rattle.change_directory.specs.Logs.{open_number, spare_of, spare_in};
 
 use crate::copy::{BLOCK, DirCopy, LogSlot, gate_block, log_place};
+use crate::numbers::head_number;
 use bay::{Bay, Fault};
 use gate_slot::is_open;
 
@@ -62,15 +62,4 @@ fn open_number<B: Bay>(bay: &mut B, copy: DirCopy, log: LogSlot) -> Result<Optio
     let at = (gate_block(copy, log) as u64 + 1) * BLOCK;
     bay.read(copy.slot, at, &mut head)?;
     Ok(Some(head_number(&head)))
-}
-
-/// The commit number in a head.
-#[tactic(auto, unfolding(asm_formats::specs::Logs::log_head_at, asm_formats::specs::Bytes::number_at))]
-fn head_number(head: &[u8]) -> u64
-    requires { length head.now ≡ 4096 }
-    ensures { result ≡ (log_head_at head.now).commit }
-{
-    let mut field = [0; 8];
-    field.copy_from_slice(&head[4..12]);
-    u64::from_be_bytes(field)
 }

@@ -1,0 +1,19 @@
+use Rattle.std.proofs.Common.{◌≡◌, ◌+◌, ◌≤◌, ℕ, Some, length, map, ap, ◌∙◌, arith}
+use Rattle.asm_formats.specs.Logs.{decoded_log_head}
+use Rattle.change_directory.specs.Logs.{image_of_page}
+use Rattle.change_directory.specs.Slots.{bad_image}
+use Rattle.change_directory.proofs.HeadLaws.{pages_of}
+use Rattle.change_directory.proofs.Runs.{has_size}
+use Rattle.change_directory.proofs.SlotLaws.{rest_read}
+use Rattle.change_directory.proofs.slots.read_rest.Goals as goal
+
+pub returns-clause-rest : goal.returns-clause-rest
+returns-clause-rest g c =
+    let sound = g.met.B.Bay.sound c.args.bay.now in
+    let few : length c.deref.result.now ≤ 64 = omega (arith, (rw c.in-Some.is at c.in_ok-pages.ensures.few), c.deref.ensures.len) in
+    let decoded : Some c.deref.result.now ≡ pages_of (decoded_log_head c.args.copy.dir_blocks c.args.head.now) =
+    ap Some c.deref.ensures.value ∙ (rw c.in-Some.is at c.in_ok-pages.ensures.pages) in
+    λ now holds image was.
+    rest_read c.args.copy c.requires.copy.least c.args.log image (has_size sound c.requires.copy image (sound.held image was)) c.args.head.now c.deref.result.now _ few decoded
+    c.gate_block-gate.ensures c.head_number-number.ensures (c.in_ok-images.ensures.images now holds image was)
+    (c.first_bad-damage.ensures ∙ (λ j. bad_image (c.gate_block-gate.ensures j + 2) (map image_of_page (c.deref-2.ensures.value j))))
