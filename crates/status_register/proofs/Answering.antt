@@ -1,5 +1,6 @@
 -- What was judged by a tally is an answer to the survey.
 use Rattle.std.proofs.Common.{◌≡◌, ◌∙◌, ℕ, List, Option, Some, None, Result, Ok, Err, sym, ap, subst}
+use Rattle.std.specs.Prelude.{IfOk}
 use Rattle.bay.specs.State.{BayState}
 use Rattle.asm_formats.specs.Status.{Status}
 use Rattle.asm_images.specs.Register.{greatest}
@@ -27,6 +28,11 @@ answered s t id ms tally answer are told judged = (
       (subst (λ (r : Option Status). IsAnswer id ms tally.read tally.epoch r (first_damage image tally.read) answer) (sym so.status_is)
       (subst (λ (d : Option (ℕ × ℕ)). IsAnswer id ms tally.read tally.epoch tally.status d answer) (sym so.damage_is) judged)),
 )
+
+-- of those that were asked for
+pub judged : (id : ℕ) (ms : List Member) (tally : Tally) (answer : Result Surveyed SurveyError) → Judges id ms tally answer → IfOk answer (λ survey. (survey.id ≡ id) × (survey.members ≡ ms))
+judged id ms tally (Ok survey) judges = (judges.id_is, judges.members_are)
+judged id ms tally (Err refusal) judges = tt
 
 -- ---- the answer of a claim
 

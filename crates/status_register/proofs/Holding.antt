@@ -84,11 +84,11 @@ have_slots state places r hold m h = let f = among_below places r 64 m h in hold
 
 -- ---- no two with one slot
 
-abbrev Apart : List Member → Type 0
+abbrev pub Apart : List Member → Type 0
 Apart [] = Unit {0}
 Apart (m ∷ ms) = ((n : Member) → IsAmong ms n → n.slot ≢ m.slot) × Apart ms
 
-apart_list : (ms : List Member) → Apart ms → AreApart ms
+pub apart_list : (ms : List Member) → Apart ms → AreApart ms
 apart_list [] apart i j d low high same = absurd (omega arith)
 apart_list (m ∷ ms) apart zero zero d low high same = refl
 apart_list (m ∷ ms) apart zero (suc j) d low high same = absurd (apart.0 (get_or ms j d) (among_get ms j d (omega arith)) (sym same))

@@ -20,3 +20,4 @@ pub mod Seeing
 pub mod Completing
 pub mod Written
 pub mod Rewriting
+pub mod Trying

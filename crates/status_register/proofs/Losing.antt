@@ -50,7 +50,7 @@ there_of ms m is =
 
 -- ---- who was left out
 
-last_is : (xs : List Member) (m n : Member) → IsAmong (xs ++ m ∷ []) n → IsAmong xs n ⊎ (n ≡ m)
+pub last_is : (xs : List Member) (m n : Member) → IsAmong (xs ++ m ∷ []) n → IsAmong xs n ⊎ (n ≡ m)
 last_is [] m n (inl same) = inr same
 last_is [] m n (inr none) = absurd none
 last_is (x ∷ xs) m n (inl same) = inl (inl same)

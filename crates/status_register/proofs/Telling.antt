@@ -31,7 +31,7 @@ told_both s t P Q R joins p q = λ now holds image was. joins image (p now holds
 abbrev pub SameBytes : ℕ → Image → Image → Type 0
 SameBytes slot x y = (k : ℕ) → y.byte slot k ≡ x.byte slot k
 
-size_known : (o : Option ℕ) → IsSome o → (size : ℕ) × (o ≡ Some size) × (unwrap_or o 0 ≡ size)
+pub size_known : (o : Option ℕ) → IsSome o → (size : ℕ) × (o ≡ Some size) × (unwrap_or o 0 ≡ size)
 size_known (Some n) is = (n, refl, refl)
 size_known None is = absurd (false≢true is)
 

@@ -12,9 +12,9 @@ use status_table::{PstEntry, PstRecord};
 
 /// How many disks of a set are among the members, and how many disks the set has.
 #[derive(Clone, Copy)]
-struct Presence {
-    seen: u8,
-    all: u8,
+pub struct Presence {
+    pub seen: u8,
+    pub all: u8,
 }
 
 /// The birth of a disk by its entry.
@@ -77,7 +77,7 @@ fn count_disk(
 }
 
 /// Counts the disks of a set.
-fn count_set(members: &[Member], entries: &[PstEntry], set: DiskSet) -> Presence
+pub fn count_set(members: &[Member], entries: &[PstEntry], set: DiskSet) -> Presence
     ensures seen { result.seen ≡ seen_of members.now (disks_of entries.now set) }
     ensures all { result.all ≡ length (disks_of entries.now set) }
     ensures few { result.all ≤ 64 }

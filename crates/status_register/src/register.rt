@@ -1,6 +1,6 @@
 //! The record of a group whose epoch was claimed.
 
-ghost use Rattle.std.specs.Prelude.{◌≡◌, ◌≤◌, ◌<◌, ◌+◌, ◌*◌, ◌^◌, [], None, Some, true, length, replicate, set, IsTrue, IfErr, IfOk, OnOk};
+ghost use Rattle.std.specs.Prelude.{◌≡◌, ◌≤◌, ◌<◌, ◌+◌, ◌*◌, ◌^◌, ◌↔◌, [], None, Some, true, length, replicate, set, IsTrue, IfErr, IfOk, OnOk};
 ghost use Rattle.asm_formats.specs.Claim.{claim_spelling};
 ghost use Rattle.asm_formats.specs.Following.{Follows, Holder, disks_of, sets};
 ghost use Rattle.asm_formats.specs.Status.{is_status, status_spelling};
@@ -17,7 +17,7 @@ ghost use Rattle.status_register.specs.Slots.{claim_gate, status_gate};
 ghost use Rattle.status_register.specs.Tallies.{HaveSlots, IsSlotOf};
 
 use crate::claiming::claim_all;
-use crate::holders::is_of_entry;
+use crate::holders::{attached_to, is_of_entry};
 use crate::majorities::missing;
 use crate::members::MemberList;
 use crate::recording::renumbered;
@@ -64,6 +64,17 @@ impl Register {
         ensures { self.new ≡ record self.old { members = set self.old.members member.number (Some member) } }
     {
         self.members[member.number as usize] = Some(member);
+    }
+
+    /// Whether a majority of each set of a record is attached.
+    pub fn reaches(&self, status: &PstRecord) -> bool
+        ensures { IsTrue result ↔ (missing (attached_to self.now.members status.now) (Some status.now) ≡ None) }
+    {
+        let holders = attached_to(&self.members, status);
+        match missing(holders.members(), status) {
+            None => true,
+            Some(_) => false,
+        }
     }
 
     /// Writes the first record of a group on its holders, whose slots are closed: each of them must take it. `Dead` has the slot

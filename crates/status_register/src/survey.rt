@@ -45,6 +45,7 @@ impl Survey {
         requires slots { HaveSlots (B.state bay.old) members.now }
         requires few { length members.now ≤ 64 }
         ensures answer { IsSurveyed id members.now result (B.state bay.old) (B.state bay.new) }
+        ensures surveyed { IfOk result (λ survey. (survey.id ≡ id) × (survey.members ≡ members.now)) }
         ensures attached { KeepsAttached (B.state bay.old) (B.state bay.new) }
         ensures calls { (B.state bay.new).calls ≤ (B.state bay.old).calls + 8 * length members.now }
         ensures runs { Runs (IsSlotOf members.now) Same (B.state bay.old) (B.state bay.new) }

@@ -1,0 +1,84 @@
+-- What tests find out before they call a register.
+use Rattle.std.proofs.Common.{◌≡◌, inl, inr, ⊎_elim, ℕ, ◌+◌, ◌≤◌, Bool, true, List, [], ◌∷◌, length, filter, map, nat_le, nat_lt, Option, Some, refl, sym, ap, subst, ◌∙◌, arith, IsTrue}
+use Rattle.std.specs.Prelude.{◌==◌, ◌&&◌, IsSome, unwrap_or}
+use Rattle.std.specs.List.{list_all}
+use Rattle.std.specs.Option.{ForSome}
+use Rattle.std.proofs.lemmas.Bool.{cond_both, cases_eq, eqb-true, and_parts, leb-true, ltb-true}
+use Rattle.bay.specs.State.{BayState, AttachesOnly}
+use Rattle.asm_placement.specs.Among.{IsAmong}
+use Rattle.asm_formats.specs.Status.{Entry, ascends_from}
+use Rattle.asm_formats.specs.Following.{Holder, disks_of}
+use Rattle.asm_images.proofs.Sharing.{all_among}
+use Rattle.status_register.specs.Places.{HasSlots}
+use Rattle.status_register.specs.Registered.{AreNumbered}
+use Rattle.status_register.specs.Rows.{AreApart}
+use Rattle.status_register.specs.Surveys.{is_there, seen_of}
+use Rattle.status_register.specs.declared.member.Member.{Member}
+use Rattle.status_register.proofs.Holding.{Apart, apart_list}
+use Rattle.status_register.proofs.Telling.{size_known}
+
+-- ---- members
+
+abbrev pub slot_of : Member → ℕ
+slot_of m = m.slot
+
+above_all : (ms : List Member) (least : ℕ) → ascends_from least (map slot_of ms) ≡ true → (m : Member) → IsAmong ms m → least ≤ m.slot
+above_all [] least is m h = absurd h
+above_all (n ∷ ms) least is m (inl same) =
+    let parts = and_parts (nat_le least n.slot) (ascends_from (n.slot + 1) (map slot_of ms)) is in
+    omega (arith, leb-true least n.slot parts.0, ap slot_of same)
+above_all (n ∷ ms) least is m (inr h) =
+    let parts = and_parts (nat_le least n.slot) (ascends_from (n.slot + 1) (map slot_of ms)) is in
+    omega (arith, leb-true least n.slot parts.0, above_all ms (n.slot + 1) parts.1 m h)
+
+ascending_apart : (ms : List Member) (least : ℕ) → ascends_from least (map slot_of ms) ≡ true → Apart ms
+ascending_apart [] least is = tt
+ascending_apart (m ∷ ms) least is =
+    let parts = and_parts (nat_le least m.slot) (ascends_from (m.slot + 1) (map slot_of ms)) is in
+    ((λ n h same. omega (arith, above_all ms (m.slot + 1) parts.1 n h, same)), ascending_apart ms (m.slot + 1) parts.1)
+
+pub apart_by_slots : (ms : List Member) → ascends_from 0 (map slot_of ms) ≡ true → AreApart ms
+apart_by_slots ms is = apart_list ms (ascending_apart ms 0 is)
+
+pub numbered_by_test : (ms : List Member) → list_all (λ (m : Member). nat_lt m.number 64) ms ≡ true → AreNumbered ms
+numbered_by_test ms all m h = ltb-true m.number 64 (all_among (λ (k : Member). nat_lt k.number 64) ms m all h)
+
+-- ---- attached disks
+
+pub long_slot : (t : BayState) (slot size sector : ℕ) → t.attached slot ≡ Some size → (nat_le 40960 size && (sector == 512)) ≡ true → HasSlots t slot sector
+long_slot t slot size sector is long =
+    let parts = and_parts (nat_le 40960 size) (sector == 512) long in
+    record {
+      attached = subst (λ (o : Option ℕ). IsSome o) (sym is) refl;
+      sector_size = inl (eqb-true sector 512 parts.1);
+      long = subst (λ (o : Option ℕ). 40960 ≤ unwrap_or o 0) (sym is) (leb-true 40960 size parts.0);
+    }
+
+pub still_there : (s t : BayState) (slot : ℕ) → AttachesOnly slot s t → ForSome (s.attached slot) (λ size. t.attached slot ≡ Some size) → (k sector : ℕ) → HasSlots s k sector → HasSlots t k sector
+still_there s t slot others has k sector before =
+    let same : t.attached k ≡ s.attached k = elim (cases_eq k slot) [
+      | inl here ↦ let size = size_known (s.attached k) before.attached in
+        ap t.attached here ∙ has size.0 (ap s.attached (sym here) ∙ size.1) ∙ sym size.1
+      | inr other ↦ others.others k other
+    ] in
+    record {
+      attached = subst (λ (o : Option ℕ). IsSome o) (sym same) before.attached;
+      sector_size = before.sector_size;
+      long = subst (λ (o : Option ℕ). 40960 ≤ unwrap_or o 0) (sym same) before.long;
+    }
+
+-- ---- all holders are there
+
+filter_few : (p : Holder → Bool) (xs : List Holder) → length (filter p xs) ≤ length xs
+filter_few p [] = omega arith
+filter_few p (x ∷ xs) = cond_both (p x) (x ∷ filter p xs) (filter p xs) (λ (l : List Holder). length l ≤ length (x ∷ xs)) (λ here. omega (arith, filter_few p xs)) (λ out. omega (arith, filter_few p xs))
+
+all_pass : (p : Holder → Bool) (xs : List Holder) → length (filter p xs) ≡ length xs → (h : Holder) → IsAmong xs h → p h ≡ true
+all_pass p [] same h k = absurd k
+all_pass p (x ∷ xs) same h k = cond_both (p x) (x ∷ filter p xs) (filter p xs) (λ (l : List Holder). length l ≡ length (x ∷ xs) → p h ≡ true)
+    (λ here full. ⊎_elim (λ (one : h ≡ x). ap p one ∙ here) (λ later. all_pass p xs (omega (arith, full)) h later) k)
+    (λ out full. absurd (omega (arith, full, filter_few p xs))) same
+
+pub holders_there : (ms : List Member) (entries : List Entry) (set : ℕ) → seen_of ms (disks_of entries set) ≡ length (disks_of entries set) → (h : Holder) → IsAmong (disks_of entries set) h → IsTrue (is_there ms h)
+unfolding seen_of
+holders_there ms entries set same h among = all_pass (is_there ms) (disks_of entries set) same h among

@@ -1,0 +1,177 @@
+// The calls of a register as tests make them: what they require is tested first.
+ghost use Rattle.std.specs.Prelude.{◌≡◌, ◌≤◌, ◌&&◌, ◌==◌, ℕ, true, length, map, nat_le, nat_lt, IsTrue};
+ghost use Rattle.std.specs.List.{list_all};
+ghost use Rattle.asm_formats.specs.Following.{Holder, disks_of};
+ghost use Rattle.asm_formats.specs.Status.{ascends_from};
+ghost use Rattle.asm_placement.specs.Among.{IsAmong};
+ghost use Rattle.status_register.specs.Keeping.{IsReady};
+ghost use Rattle.status_register.specs.Places.{HasSlots};
+ghost use Rattle.status_register.specs.Registered.{AreNumbered};
+ghost use Rattle.status_register.specs.Rows.{AreApart};
+ghost use Rattle.status_register.specs.Surveys.{is_there};
+ghost use Rattle.status_register.specs.Tallies.{HaveSlots};
+
+use crate::majorities::count_set;
+use crate::{Dead, Member, Register, Survey, SurveyError};
+use bay::Bay;
+use status_table::{PstRecord, is_status, same_sets_follow};
+
+/// What became of a mount that writes one record: what the survey or the claim was refused as, the slot of a dead disk, or how
+/// many disks failed.
+#[derive(Clone, Copy, Debug)]
+pub enum Outcome {
+    Unread(SurveyError),
+    Unclaimed(SurveyError),
+    Dead(u32),
+    Wrote(u8),
+}
+
+/// Whether the slots ascend.
+fn ascend(members: &[Member]) -> bool
+    ensures { result ≡ ascends_from 0 (map (λ m. m.slot) members.now) }
+{
+    let mut least = 0;
+    for member in members {
+        let slot = member.slot as u64;
+        if slot < least {
+            return false;
+        }
+        least = slot + 1;
+    }
+    true
+}
+
+fn are_numbered(members: &[Member]) -> bool
+    ensures { result ≡ list_all (λ m. nat_lt m.number 64) members.now }
+{
+    members.iter().all(|member| member.number < 64)
+}
+
+fn is_long(size: u64, sector: u32) -> bool
+    ensures { result ≡ (nat_le 40960 size && (sector == 512)) }
+{
+    40960 <= size && sector == 512
+}
+
+fn attach<B: Bay>(bay: &mut B, member: Member) -> bool
+    ensures here { result ≡ true → HasSlots (B.state bay.new) member.slot member.sector }
+    ensures others { (slot sector : ℕ) → HasSlots (B.state bay.old) slot sector → HasSlots (B.state bay.new) slot sector }
+{
+    match bay.attach(member.slot, "disk") {
+        Ok(size) => is_long(size, member.sector),
+        Err(_) => false,
+    }
+}
+
+fn attach_all<B: Bay>(bay: &mut B, members: &[Member]) -> bool
+    ensures { result ≡ true → HaveSlots (B.state bay.new) members.now }
+{
+    for member in members {
+        if !attach(bay, *member) {
+            return false;
+        }
+    }
+    true
+}
+
+/// Whether these may be members.
+#[tactic(auto, using(crate::proofs::Trying::apart_by_slots, crate::proofs::Trying::numbered_by_test))]
+fn may_be_members(members: &[Member]) -> bool
+    ensures few { result ≡ true → length members.now ≤ 64 }
+    ensures apart { result ≡ true → AreApart members.now }
+    ensures numbers { result ≡ true → AreNumbered members.now }
+{
+    if !ascend(members) {
+        return false;
+    }
+    if !are_numbered(members) {
+        return false;
+    }
+    members.len() <= 64
+}
+
+/// Whether all holders of a record are among the members.
+#[tactic(auto, using(crate::proofs::Trying::holders_there))]
+fn are_there(members: &[Member], status: &PstRecord) -> bool
+    ensures { result ≡ true → (h : Holder) → IsAmong (disks_of status.now.entries status.now.holders) h → IsTrue (is_there members.now h) }
+{
+    let holders = status.holders;
+    let presence = count_set(members, status.entries(), holders);
+    presence.seen == presence.all
+}
+
+/// The record with another greatest birth, by which tests tell records apart.
+fn with_births(status: &PstRecord, births: u64) -> PstRecord
+    ensures { result ≡ record status.now { births = births } }
+{
+    let mut status = status.copy();
+    status.births = births;
+    status
+}
+
+/// Writes the first record. None where this may not be asked.
+pub fn create<B: Bay>(
+    bay: &mut B,
+    status: &PstRecord,
+    members: &[Member],
+) -> Option<Result<Register, Dead>> {
+    if !may_be_members(members) {
+        return None;
+    }
+    if !is_status(status) {
+        return None;
+    }
+    if !are_there(members, status) {
+        return None;
+    }
+    if !attach_all(bay, members) {
+        return None;
+    }
+    Some(Register::first(bay, status, members))
+}
+
+/// Surveys the members. None where this may not be asked.
+pub fn survey<B: Bay>(bay: &mut B, members: &[Member]) -> Option<Result<Survey, SurveyError>> {
+    if !may_be_members(members) {
+        return None;
+    }
+    if !attach_all(bay, members) {
+        return None;
+    }
+    Some(Survey::read(bay, 7, members))
+}
+
+/// Writes the record with another greatest birth. None where this may not be asked.
+fn write<B: Bay>(register: &mut Register, bay: &mut B, births: u64) -> Option<Outcome>
+    requires { IsReady register.old (B.state bay.old) }
+{
+    let next = with_births(register.value(), births);
+    if !is_status(&next) {
+        return None;
+    }
+    if !register.reaches(&next) {
+        return None;
+    }
+    same_sets_follow();
+    match register.write(bay, &next) {
+        Ok(failed) => Some(Outcome::Wrote(failed.count())),
+        Err(dead) => Some(Outcome::Dead(dead.slot)),
+    }
+}
+
+/// Surveys the members, claims, and writes the record with another greatest birth. None where this may not be asked.
+pub fn mount<B: Bay>(bay: &mut B, members: &[Member], births: u64) -> Option<Outcome> {
+    if !may_be_members(members) {
+        return None;
+    }
+    if !attach_all(bay, members) {
+        return None;
+    }
+    match Survey::read(bay, 7, members) {
+        Err(refusal) => Some(Outcome::Unread(refusal)),
+        Ok(survey) => match survey.claim(bay) {
+            Err(refusal) => Some(Outcome::Unclaimed(refusal)),
+            Ok(mut register) => write(&mut register, bay, births),
+        },
+    }
+}
