@@ -58,7 +58,7 @@ pub still_there : (s t : BayState) (slot : ℕ) → AttachesOnly slot s t → Fo
 still_there s t slot others has k sector before =
     let same : t.attached k ≡ s.attached k = elim (cases_eq k slot) [
       | inl here ↦ let size = size_known (s.attached k) before.attached in
-        ap t.attached here ∙ has size.0 (ap s.attached (sym here) ∙ size.1) ∙ sym size.1
+          ap t.attached here ∙ has size.0 (ap s.attached (sym here) ∙ size.1) ∙ sym size.1
       | inr other ↦ others.others k other
     ] in
     record {

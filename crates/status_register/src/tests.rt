@@ -169,7 +169,8 @@ fn one_failing_holder_is_left_out(rt: HostRuntime) -> Result<(), Fail> {
     for call in 4..72u64 {
         let mut bay = created(rt.alloc(), 0b0111, 0)?;
         let calls = bay.calls();
-        bay.fail_at(calls.saturating_add(call)).map_err(|_| "memory")?;
+        bay.fail_at(calls.saturating_add(call))
+            .map_err(|_| "memory")?;
         let outcome = mount(&mut bay, &members, 9);
         assert!(rt; matches!(outcome, Some(Outcome::Wrote(0 | 1))));
         assert_eq!(rt; births(&mut bay, &members)?, 9);
