@@ -19,4 +19,6 @@ pub use tree::AliasTree;
 pub use writing::node_record;
 
 #[cfg(test)]
+mod edit_tests;
+#[cfg(test)]
 mod tests;
