@@ -6,3 +6,4 @@ pub mod Refusal
 pub mod Rows
 pub mod Causes
 pub mod TreeEdits
+pub mod TemplateEdits

@@ -148,13 +148,8 @@ changed_name g edit = refl
 edited_name : (g h : Group) (edit : e.TreeEdit) → e.edited g edit ≡ Ok h → h.name ≡ g.name
 edited_name g h edit k = ap (λ (x : Group). x.name) (sym (ok_is (e.first_cause (e.edit_causes g edit)) (e.changed g edit) h k).1) ∙ changed_name g edit
 
-template_name : (g : Group) (edit : t.TemplateEdit) → (t.with_template_edit g edit).name ≡ g.name
-template_name g (t.AddTemplate name words) = refl
-template_name g (t.ModifyTemplate name words) = refl
-template_name g (t.DropTemplate name) = refl
-
 templates_name : (g h : Group) (edit : t.TemplateEdit) → t.templates_edited g edit ≡ Ok h → h.name ≡ g.name
-templates_name g h edit k = ap (λ (x : Group). x.name) (sym (ok_is (e.first_cause (t.template_causes g edit)) (t.with_template_edit g edit) h k).1) ∙ template_name g edit
+templates_name g h edit k = ap (λ (x : Group). x.name) (sym (ok_is (e.first_cause (t.template_causes g edit)) (t.with_template_edit g edit) h k).1)
 
 attributes_name : (g h : Group) (name : Bytes) (o : Option Attributes) → t.with_attributes g name o ≡ Ok h → h.name ≡ g.name
 attributes_name g h name None k = cc
@@ -303,9 +298,9 @@ clause_whole below w name (s.AddAlias alias path) lines new whole d = names_whol
 clause_whole below w name (s.RenameAlias old path) lines new whole d = names_whole w name _ new whole d.0
 clause_whole below w name (s.DropAlias path) lines new whole d = names_whole w name _ new whole d.0
 clause_whole below w name (s.DropFile path) lines new whole d = changes_whole w name _ new whole (λ id old changed h. drops_file_name _ old changed h) d.0
-clause_whole below w name (s.AddTemplate template words) lines new whole d = changes_whole w name _ new whole (λ id old changed h. templates_name old changed (t.AddTemplate template words) h) d.0
-clause_whole below w name (s.ModifyTemplate template words) lines new whole d = changes_whole w name _ new whole (λ id old changed h. templates_name old changed (t.ModifyTemplate template words) h) d.0
-clause_whole below w name (s.DropTemplate template) lines new whole d = changes_whole w name _ new whole (λ id old changed h. templates_name old changed (t.DropTemplate template) h) d.0
+clause_whole below w name (s.AddTemplate template words) lines new whole d = changes_whole w name _ new whole (λ id old changed h. templates_name old changed (t.added_by template words) h) d.0
+clause_whole below w name (s.ModifyTemplate template words) lines new whole d = changes_whole w name _ new whole (λ id old changed h. templates_name old changed (t.modified_by template words) h) d.0
+clause_whole below w name (s.DropTemplate template) lines new whole d = changes_whole w name _ new whole (λ id old changed h. templates_name old changed (t.dropped_by template) h) d.0
 clause_whole below w name (s.SetAttribute attribute) lines new whole d =
     changes_whole w name _ new whole (λ id old changed h. attributes_name old changed attribute.name (t.with_attribute old.attributes attribute) h) d.0
 clause_whole below w name (s.Mount force) lines new whole d = mounts_whole w name new whole d.0

@@ -226,9 +226,9 @@ has_files g = not (maps.len g.files == 0)
 
 abbrev pub clause_causes : Below → World → Bytes → s.Clause → List Cause
 clause_causes below w name (s.AddDisks groups rebalance) = in_group w name (λ g. rebalance_causes rebalance ++ add_causes g.name (rows_in below w name) groups)
-clause_causes below w name (s.AddTemplate template words) = template_clause_causes w name (t.AddTemplate template words)
-clause_causes below w name (s.ModifyTemplate template words) = template_clause_causes w name (t.ModifyTemplate template words)
-clause_causes below w name (s.DropTemplate template) = template_clause_causes w name (t.DropTemplate template)
+clause_causes below w name (s.AddTemplate template words) = template_clause_causes w name (t.added_by template words)
+clause_causes below w name (s.ModifyTemplate template words) = template_clause_causes w name (t.modified_by template words)
+clause_causes below w name (s.DropTemplate template) = template_clause_causes w name (t.dropped_by template)
 clause_causes below w name (s.AddDirectory path) = in_group w name (λ g. tree_causes g (edit_of name (s.AddDirectory path)))
 clause_causes below w name (s.DropDirectory path) = in_group w name (λ g. tree_causes g (edit_of name (s.DropDirectory path)))
 clause_causes below w name (s.RenameDirectory old new) = in_group w name (λ g. tree_causes g (edit_of name (s.RenameDirectory old new)))

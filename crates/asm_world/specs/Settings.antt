@@ -1,18 +1,20 @@
 -- Templates and attributes of a group.
-use Rattle.std.specs.Prelude.{ℕ, zero, suc, ◌+◌, ◌-◌, ◌*◌, Bool, true, false, ◌&&◌, ◌||◌, ◌==◌, not, nat_le, List, [], ◌∷◌, length, take, drop, Option, Some, None, is_some, is_none, unwrap_or, Result, Ok, Err, codes, if◌then◌else◌}
+use Rattle.std.specs.Prelude.{ℕ, zero, suc, ◌+◌, ◌-◌, ◌*◌, Bool, true, false, ◌&&◌, ◌||◌, ◌==◌, not, nat_le, List, [], ◌∷◌, length, take, drop, Option, Some, None, unwrap_or, Result, Ok, Err, codes, if◌then◌else◌}
 use Rattle.std.specs.Option.{option_map}
 use Rattle.std.specs.Str.{bytes_eq}
-use Rattle.std.specs.FinMap as maps
 use Rattle.asm_grammar.specs.Bytes.{is_digit, upper, run_of, after_run}
 use Rattle.asm_grammar.specs.Word.{digits_of, number_of, size_of}
 use Rattle.asm_group.specs.declared.GroupKind.{GroupKind}
-use Rattle.asm_group.specs.declared.GroupKind.TheVariants.{External, Normal, High}
+use Rattle.asm_group.specs.declared.GroupKind.TheVariants.{Normal}
+use Rattle.asm_group.specs.declared.Stripe.{Stripe}
 use Rattle.asm_group.specs.declared.Stripe.TheVariants.{Coarse}
-use Rattle.asm_group.specs.Names.{Bytes, folded, is_same_name}
+use Rattle.asm_group.specs.Names.{Bytes, is_same_name}
 use Rattle.asm_group.specs.Shape.{Shape, is_unit_size, is_step, is_sector, is_dir_blocks}
 use Rattle.asm_group.specs.Group.{Template, Attributes, Group}
-use Rattle.asm_group.specs.NewGroup.{usual_copies, usual_attributes}
+use Rattle.asm_group.specs.NewGroup.{usual_attributes}
 use Rattle.asm_group.specs.Refusal as r
+use Rattle.asm_group.specs.TemplateEdits as t
+pub use Rattle.asm_group.specs.TemplateEdits.{TemplateEdit}
 use Rattle.asm_world.specs.Statement as s
 use Rattle.asm_world.specs.Edits.{Causes, first_cause, unless_refused}
 
@@ -23,55 +25,31 @@ copies_of s.Unprotected = 1
 copies_of s.Mirror = 2
 copies_of s.High = 3
 
--- EXTERNAL allows one copy alone, HIGH three alone and NORMAL each number.
-abbrev pub allows_copies : GroupKind → ℕ → Bool
-allows_copies External copies = copies == 1
-allows_copies Normal copies = true
-allows_copies High copies = copies == 3
+abbrev pub copies_in : s.TemplateWords → Option ℕ
+copies_in words = option_map copies_of words.redundancy
 
-abbrev pub said_copies : Group → s.TemplateWords → ℕ
-said_copies g words = unwrap_or (option_map copies_of words.redundancy) (usual_copies g.shape.kind)
+-- COARSE where the words say nothing
+abbrev pub stripe_in : s.TemplateWords → Stripe
+stripe_in words = unwrap_or words.stripe Coarse
 
-abbrev pub is_system_template : Option Template → Bool
-is_system_template None = false
-is_system_template (Some t) = t.system
+-- ADD, MODIFY and DROP TEMPLATE
+abbrev pub added_by : Bytes → s.TemplateWords → TemplateEdit
+added_by name words = t.Add name (copies_in words) (stripe_in words)
+
+abbrev pub modified_by : Bytes → s.TemplateWords → TemplateEdit
+modified_by name words = t.Modify name (copies_in words) (stripe_in words)
+
+abbrev pub dropped_by : Bytes → TemplateEdit
+dropped_by name = t.Drop name
 
 abbrev pub template_at : Group → Bytes → Option Template
-template_at g name = maps.get g.templates (folded name)
-
-abbrev pub with_template : Group → Bytes → Bool → s.TemplateWords → Group
-with_template g name system words = record g {
-  templates = maps.insert g.templates (folded name) (record {
-    name = name;
-    copies = said_copies g words;
-    stripe = unwrap_or words.stripe Coarse;
-    system = system;
-  });
-}
-
-pub data TemplateEdit : Type 0 where
-  AddTemplate : (name : Bytes) (words : s.TemplateWords) → TemplateEdit
-  ModifyTemplate : (name : Bytes) (words : s.TemplateWords) → TemplateEdit
-  DropTemplate : (name : Bytes) → TemplateEdit
+template_at g name = t.template_at g.templates name
 
 abbrev pub template_causes : Group → TemplateEdit → Causes
-template_causes g (AddTemplate name words) =
-    (is_some (template_at g name), r.NameTaken) ∷ (not (allows_copies g.shape.kind (said_copies g words)), r.BadRedundancy)
-    ∷ (nat_le 64 (maps.len g.templates), r.TooMany r.Templates 64) ∷ []
-template_causes g (ModifyTemplate name words) =
-    (is_none (template_at g name), r.NoTemplate) ∷ (not (allows_copies g.shape.kind (said_copies g words)), r.BadRedundancy) ∷ []
-template_causes g (DropTemplate name) =
-    (is_none (template_at g name), r.NoTemplate) ∷ (is_system_template (template_at g name), r.SystemTemplate) ∷ []
-
-abbrev pub spelt_template : Option Template → Bytes → Bytes
-spelt_template None name = name
-spelt_template (Some t) name = t.name
+template_causes g edit = t.template_causes g.shape.kind g.templates edit
 
 abbrev pub with_template_edit : Group → TemplateEdit → Group
-with_template_edit g (AddTemplate name words) = with_template g name false words
-with_template_edit g (ModifyTemplate name words) =
-    with_template g (spelt_template (template_at g name) name) (is_system_template (template_at g name)) words
-with_template_edit g (DropTemplate name) = record g { templates = maps.remove g.templates (folded name) }
+with_template_edit g edit = record g { templates = t.with_template_edit g.shape.kind g.templates edit }
 
 -- The group after the edit, or why it is refused.
 abbrev pub templates_edited : Group → TemplateEdit → Result Group r.Refusal

@@ -170,9 +170,9 @@ DoneClause below w name (s.AddAlias alias path) lines new = ChangesNames w name 
 DoneClause below w name (s.RenameAlias old path) lines new = ChangesNames w name (s.RenameAlias old path) lines new
 DoneClause below w name (s.DropAlias path) lines new = ChangesNames w name (s.DropAlias path) lines new
 DoneClause below w name (s.DropFile path) lines new = Changes w name (λ id old changed. DropsFile (clause_path name path) old changed) new × (lines ≡ [])
-DoneClause below w name (s.AddTemplate template words) lines new = ChangesTemplates w name (t.AddTemplate template words) lines new
-DoneClause below w name (s.ModifyTemplate template words) lines new = ChangesTemplates w name (t.ModifyTemplate template words) lines new
-DoneClause below w name (s.DropTemplate template) lines new = ChangesTemplates w name (t.DropTemplate template) lines new
+DoneClause below w name (s.AddTemplate template words) lines new = ChangesTemplates w name (t.added_by template words) lines new
+DoneClause below w name (s.ModifyTemplate template words) lines new = ChangesTemplates w name (t.modified_by template words) lines new
+DoneClause below w name (s.DropTemplate template) lines new = ChangesTemplates w name (t.dropped_by template) lines new
 DoneClause below w name (s.SetAttribute attribute) lines new = Changes w name (λ id old changed. t.attribute_set old attribute ≡ Ok changed) new × (lines ≡ [])
 DoneClause below w name (s.Mount force) lines new = Mounts w name new × (lines ≡ [])
 DoneClause below w name (s.Dismount force) lines new = IsTrue (is_some (entry_in w name)) × (new ≡ record w { session = without_entry w.session name }) × (lines ≡ [])

@@ -1,8 +1,7 @@
 -- An edit of the list of templates is that of the templates by name.
-use Rattle.std.proofs.Common.{◌≡◌, ℕ, ◌<◌, Bool, true, false, cond, leb, List, [], ◌∷◌, length, Option, Some, None, refl, sym, ap, subst, ◌∙◌, arith, inl, inr, ◌⊎◌}
-use Rattle.std.specs.Prelude.{◌&&◌, not, nat_le, is_some, is_none, Result, Ok, Err, unwrap_or}
+use Rattle.std.proofs.Common.{◌≡◌, ℕ, ◌<◌, Bool, true, false, List, [], ◌∷◌, length, Option, Some, None, refl, sym, ap, subst, ◌∙◌, inl, inr}
+use Rattle.std.specs.Prelude.{not, nat_le, is_some, Ok}
 use Rattle.std.specs.FinMap as maps
-use Rattle.std.specs.Option.{option_map}
 use Rattle.std.specs.List.{list_all}
 use Rattle.std.proofs.lemmas.Bool.{and_from, and_parts, cases_lt, le-leb, lt-ltb, true≢false}
 use Rattle.asm_group.specs.declared.GroupKind.{GroupKind}
@@ -15,9 +14,10 @@ use Rattle.asm_group.specs.Refusal as r
 use Rattle.asm_formats.specs.Items.{is_item, is_redundancy, is_template, names_ascend, templates_item}
 use Rattle.asm_base.specs.declared.refusal.Refusal.{Refusal}
 use Rattle.template_directory.specs.Tables.{has_room, template_named, with_template, without_template}
-use Rattle.template_directory.specs.Edits as e
+use Rattle.asm_group.specs.Causes.{Causes, first_cause, unless_refused}
+use Rattle.asm_group.specs.TemplateEdits as e
 use Rattle.template_directory.specs.Meant.{IsRefusal, are_copies, is_edit, listed_cause, listed_causes, refusal_said}
-use Rattle.template_directory.proofs.Listing.{all_templates, ascends, len_is, named_is_get, up_of, with_allowed, with_is_insert, without_is_remove}
+use Rattle.template_directory.proofs.Listing.{all_templates, ascends, len_is, named_is_get, up_of, with_is_insert, without_is_remove}
 use Rattle.asm_formats.proofs.Codec.{bytes_same}
 use Rattle.asm_base.proofs.Exact.{chosen, some_is}
 
@@ -26,19 +26,19 @@ causes_are kind ts up (e.Add name copies stripe) = rw (named_is_get name ts, len
 causes_are kind ts up (e.Modify name copies stripe) = rw (named_is_get name ts) refl
 causes_are kind ts up (e.Drop name) = rw (named_is_get name ts) refl
 
-cause_is : (kind : GroupKind) (ts : List Template) → is_item (templates_item ts) ≡ true → (edit : e.TemplateEdit) → e.first_cause (e.template_causes kind (templates_by_name ts) edit) ≡ listed_cause kind ts edit
-cause_is kind ts ok edit = ap e.first_cause (causes_are kind ts (ascends ts ok) edit)
+cause_is : (kind : GroupKind) (ts : List Template) → is_item (templates_item ts) ≡ true → (edit : e.TemplateEdit) → first_cause (e.template_causes kind (templates_by_name ts) edit) ≡ listed_cause kind ts edit
+cause_is kind ts ok edit = ap first_cause (causes_are kind ts (ascends ts ok) edit)
 
 -- an edit that is refused
 pub refused_is : (kind : GroupKind) (ts : List Template) (edit : e.TemplateEdit) (cause : Refusal) → is_item (templates_item ts) ≡ true → Some (refusal_said cause) ≡ listed_cause kind ts edit → IsRefusal (e.templates_edited kind (templates_by_name ts) edit) cause
 refused_is kind ts edit cause ok is =
-    inr (ap (λ (o : Option r.Refusal). e.unless_refused o (e.with_template_edit kind (templates_by_name ts) edit)) (cause_is kind ts ok edit ∙ sym is))
+    inr (ap (λ (o : Option r.Refusal). unless_refused o (e.with_template_edit kind (templates_by_name ts) edit)) (cause_is kind ts ok edit ∙ sym is))
 
 -- an edit that isn't refused
 pub done_is : (kind : GroupKind) (ts us : List Template) (edit : e.TemplateEdit) → is_item (templates_item ts) ≡ true → None ≡ listed_cause kind ts edit → templates_by_name us ≡ e.with_template_edit kind (templates_by_name ts) edit
     → e.templates_edited kind (templates_by_name ts) edit ≡ Ok (templates_by_name us)
 done_is kind ts us edit ok is done =
-    ap (λ (o : Option r.Refusal). e.unless_refused o (e.with_template_edit kind (templates_by_name ts) edit)) (cause_is kind ts ok edit ∙ sym is)
+    ap (λ (o : Option r.Refusal). unless_refused o (e.with_template_edit kind (templates_by_name ts) edit)) (cause_is kind ts ok edit ∙ sym is)
     ∙ ap (λ (m : ByName Template). Ok m) (sym done)
 
 -- ---- what an edit leaves
@@ -79,7 +79,7 @@ said_is : (kind : GroupKind) (copies : Option ℕ) → are_copies copies ≡ tru
 said_is kind None are = usual_is kind
 said_is kind (Some n) are = are
 
-first_none : (b : Bool) (cause : r.Refusal) (causes : e.Causes) → e.first_cause ((b, cause) ∷ causes) ≡ None → (b ≡ false) × (e.first_cause causes ≡ None)
+first_none : (b : Bool) (cause : r.Refusal) (causes : Causes) → first_cause ((b, cause) ∷ causes) ≡ None → (b ≡ false) × (first_cause causes ≡ None)
 first_none true cause causes e = absurd cc
 first_none false cause causes e = (refl, e)
 
@@ -93,7 +93,7 @@ record MayPut (t : Template) (ts : List Template) : Type 0 where
 
 add_may : (kind : GroupKind) (ts : List Template) (name : Bytes) (copies : Option ℕ) (stripe : Stripe) → is_edit (e.Add name copies stripe) ≡ true → listed_cause kind ts (e.Add name copies stripe) ≡ None → MayPut (added kind name copies stripe) ts
 add_may kind ts name copies stripe is free =
-    let full : e.Causes = (nat_le 64 (length ts), r.TooMany r.Templates 64) ∷ [] in
+    let full : Causes = (nat_le 64 (length ts), r.TooMany r.Templates 64) ∷ [] in
     let bad : Bool = not (e.allows_copies kind (e.said_copies kind copies)) in
     let a = first_none (is_some (template_named name ts)) r.NameTaken ((bad, r.BadRedundancy) ∷ full) free in
     let b = first_none bad r.BadRedundancy full a.1 in

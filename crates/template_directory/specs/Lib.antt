@@ -1,4 +1,3 @@
 pub mod Tables
 pub mod Readings
-pub mod Edits
 pub mod Meant

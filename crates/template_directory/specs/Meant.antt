@@ -9,7 +9,8 @@ use Rattle.asm_base.specs.declared.refusal.Refusal.{Refusal}
 use Rattle.asm_base.specs.Refusals.{said}
 use Rattle.template_directory.specs.declared.editing.TemplateEdit.{TemplateEdit}
 use Rattle.template_directory.specs.declared.editing.TemplateEdit.TheVariants as code
-use Rattle.template_directory.specs.Edits as e
+use Rattle.asm_group.specs.Causes.{Causes, first_cause}
+use Rattle.asm_group.specs.TemplateEdits as e
 use Rattle.template_directory.specs.Tables.{template_named}
 
 abbrev pub edit_meant : TemplateEdit → e.TemplateEdit
@@ -37,7 +38,7 @@ abbrev pub IsRefusal : Result (ByName Template) r.Refusal → Refusal → Type 0
 IsRefusal edited cause = (refusal_said cause ≡ r.NoMemory) ⊎ (edited ≡ Err (refusal_said cause))
 
 -- the same tests, on the list of the templates
-abbrev pub listed_causes : GroupKind → List Template → e.TemplateEdit → e.Causes
+abbrev pub listed_causes : GroupKind → List Template → e.TemplateEdit → Causes
 listed_causes kind ts (e.Add name copies stripe) =
     (is_some (template_named name ts), r.NameTaken) ∷ (not (e.allows_copies kind (e.said_copies kind copies)), r.BadRedundancy)
     ∷ (nat_le 64 (length ts), r.TooMany r.Templates 64) ∷ []
@@ -48,4 +49,4 @@ listed_causes kind ts (e.Drop name) =
 
 -- the refusal of an edit of this list, or None
 abbrev pub listed_cause : GroupKind → List Template → e.TemplateEdit → Option r.Refusal
-listed_cause kind ts edit = e.first_cause (listed_causes kind ts edit)
+listed_cause kind ts edit = first_cause (listed_causes kind ts edit)

@@ -5,7 +5,7 @@ ghost use Rattle.std.specs.Option.{option_map};
 ghost use Rattle.asm_formats.specs.Items.{is_item, templates_item};
 ghost use Rattle.asm_group.specs.NewGroup.{templates_by_name};
 ghost use Rattle.asm_group.specs.Refusal.{TooMany, Templates};
-ghost use Rattle.template_directory.specs.Edits.{Add, Modify, Drop, allows_copies, said_copies, templates_edited, with_template_edit};
+ghost use Rattle.asm_group.specs.TemplateEdits.{Add, Modify, Drop, allows_copies, said_copies, templates_edited, with_template_edit};
 ghost use Rattle.template_directory.specs.Meant.{IsRefusal, are_copies, edit_meant, is_edit, listed_cause, refusal_said};
 
 use crate::reading::MOST_TEMPLATES;

@@ -1,6 +1,6 @@
 use Rattle.std.proofs.Common.{sym, ap, ◌∙◌}
 use Rattle.asm_group.specs.NewGroup.{templates_by_name}
-use Rattle.template_directory.specs.Edits.{with_template_edit}
+use Rattle.asm_group.specs.TemplateEdits.{with_template_edit}
 use Rattle.template_directory.specs.Meant.{edit_meant}
 use Rattle.template_directory.proofs.table.TemplateTable.apply.Goals as goal
 

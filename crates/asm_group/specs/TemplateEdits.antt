@@ -1,5 +1,5 @@
--- Edits of a group's templates, and the refusals of each in the order in which they are tried.
-use Rattle.std.specs.Prelude.{ℕ, Bool, true, false, ◌==◌, not, nat_le, List, [], ◌∷◌, Option, Some, None, is_some, is_none, unwrap_or, Result, Ok, Err, if◌then◌else◌}
+-- The edits of a group's templates, and the refusals of each in the order in which they are tried.
+use Rattle.std.specs.Prelude.{ℕ, Bool, true, false, ◌==◌, not, nat_le, [], ◌∷◌, Option, Some, None, is_some, is_none, unwrap_or, Result}
 use Rattle.std.specs.FinMap as maps
 use Rattle.asm_group.specs.declared.GroupKind.{GroupKind}
 use Rattle.asm_group.specs.declared.GroupKind.TheVariants.{External, Normal, High}
@@ -8,23 +8,11 @@ use Rattle.asm_group.specs.Names.{Bytes, ByName, folded}
 use Rattle.asm_group.specs.Group.{Template}
 use Rattle.asm_group.specs.NewGroup.{usual_copies}
 use Rattle.asm_group.specs.Refusal as r
+use Rattle.asm_group.specs.Causes.{Causes, first_cause, unless_refused}
 
--- ---- refusals in their order
-
--- a test, and the refusal where it is true
-abbrev pub Causes : Type 0
-Causes = List (Bool × r.Refusal)
-
--- the refusal of the first test that is true
-abbrev pub first_cause : Causes → Option r.Refusal
-first_cause [] = None
-first_cause ((test, cause) ∷ causes) = if test then Some cause else first_cause causes
-
-abbrev pub unless_refused : {A : Type 0} → Option r.Refusal → A → Result A r.Refusal
-unless_refused None value = Ok value
-unless_refused (Some cause) value = Err cause
-
--- ---- templates
+-- what stands at each folded name
+abbrev pub Templates : Type 0
+Templates = ByName Template
 
 -- copies are None where the statement says none
 pub data TemplateEdit : Type 0 where
@@ -38,6 +26,7 @@ allows_copies External copies = copies == 1
 allows_copies Normal copies = true
 allows_copies High copies = copies == 3
 
+-- the copies that are said, or those that the group's kind usually has
 abbrev pub said_copies : GroupKind → Option ℕ → ℕ
 said_copies kind copies = unwrap_or copies (usual_copies kind)
 
@@ -45,14 +34,15 @@ abbrev pub is_system_template : Option Template → Bool
 is_system_template None = false
 is_system_template (Some t) = t.system
 
-abbrev pub template_at : ByName Template → Bytes → Option Template
+abbrev pub template_at : Templates → Bytes → Option Template
 template_at templates name = maps.get templates (folded name)
 
+-- the name as the template that is there spells it
 abbrev pub spelt_template : Option Template → Bytes → Bytes
 spelt_template None name = name
 spelt_template (Some t) name = t.name
 
-abbrev pub template_causes : GroupKind → ByName Template → TemplateEdit → Causes
+abbrev pub template_causes : GroupKind → Templates → TemplateEdit → Causes
 template_causes kind templates (Add name copies stripe) =
     (is_some (template_at templates name), r.NameTaken) ∷ (not (allows_copies kind (said_copies kind copies)), r.BadRedundancy)
     ∷ (nat_le 64 (maps.len templates), r.TooMany r.Templates 64) ∷ []
@@ -61,17 +51,17 @@ template_causes kind templates (Modify name copies stripe) =
 template_causes kind templates (Drop name) =
     (is_none (template_at templates name), r.NoTemplate) ∷ (is_system_template (template_at templates name), r.SystemTemplate) ∷ []
 
-abbrev pub with_template : GroupKind → ByName Template → Bytes → Option ℕ → Stripe → Bool → ByName Template
+abbrev pub with_template : GroupKind → Templates → Bytes → Option ℕ → Stripe → Bool → Templates
 with_template kind templates name copies stripe system =
     maps.insert templates (folded name) (record { name = name; copies = said_copies kind copies; stripe = stripe; system = system })
 
-abbrev pub with_template_edit : GroupKind → ByName Template → TemplateEdit → ByName Template
+abbrev pub with_template_edit : GroupKind → Templates → TemplateEdit → Templates
 with_template_edit kind templates (Add name copies stripe) = with_template kind templates name copies stripe false
 with_template_edit kind templates (Modify name copies stripe) =
     with_template kind templates (spelt_template (template_at templates name) name) copies stripe (is_system_template (template_at templates name))
 with_template_edit kind templates (Drop name) = maps.remove templates (folded name)
 
 -- The templates after the edit, or why it is refused.
-abbrev pub templates_edited : GroupKind → ByName Template → TemplateEdit → Result (ByName Template) r.Refusal
+abbrev pub templates_edited : GroupKind → Templates → TemplateEdit → Result Templates r.Refusal
 templates_edited kind templates edit =
     unless_refused (first_cause (template_causes kind templates edit)) (with_template_edit kind templates edit)
