@@ -21,3 +21,4 @@ pub mod LoadSteps
 pub mod LoadTold
 pub mod LoadAnswers
 pub mod LoadJoins
+pub mod Regions

@@ -7,3 +7,4 @@ pub mod Laws
 pub mod Told
 pub mod Loads
 pub mod Slots
+pub mod StoreLaws

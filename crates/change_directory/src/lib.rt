@@ -19,7 +19,9 @@ pub use change::commit;
 pub use copy::{DirCopy, LogSlot};
 pub use erase::format;
 pub use home::checkpoint;
-pub use laws::{homed_are_at_home, logged_are_due, logged_is_put, logging_is_put};
+pub use laws::{
+    homed_are_at_home, logged_are_due, logged_is_put, logging_is_put, steps_stay_inside,
+};
 pub use loading::{LoadFault, Pages, load};
 
 #[cfg(test)]
