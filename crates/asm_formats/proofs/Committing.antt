@@ -137,12 +137,12 @@ module _ (d : ℕ) (old : Bytes) (k other : ℕ) (may : MayClose d old k other) 
           swapped (inl p) = inr (p.1, p.0)
           swapped (inr p) = inl (p.1, p.0)
 
-      put_decode : logs_decode d new ≡ true
+      pub put_decode : logs_decode d new ≡ true
       put_decode = decode_pair d new k other may.pair
           ∙ and_from (slot_decodes d new other) (slot_decodes d new k) other_decodes_now
           (cond-true (is_open new k) (log_decodes d new k) true holds.gate ∙ log_decoded d new k log small ok holds)
 
-      put_page : (page : ℕ) → page < d → page_at d new page ≡ with_images log.images (page_at d old) page
+      pub put_page : (page : ℕ) → page < d → page_at d new page ≡ with_images log.images (page_at d old) page
       unfolding page_at
       put_page page lt = ap (λ (l : List Log). unwrap_or (image_in l page) (home_page new page)) put_logs ∙ go (image_of log.images page)
         where

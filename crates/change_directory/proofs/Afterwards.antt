@@ -36,7 +36,7 @@ Page = ℕ × Block
 find_image : Bool → Page → List Page → ℕ → Option Bytes
 find_image b q pages n = option_map (λ (i : PageImage). i.1) (cond b (Some (image_of_page q)) (find (λ (i : PageImage). i.0 == n) (map image_of_page pages)))
 
-image_case : (pages : List Page) (n : ℕ)
+pub image_case : (pages : List Page) (n : ℕ)
     → ((p : Page) × IsAmong pages p × (p.0 ≡ n) × (image_of (map image_of_page pages) n ≡ Some p.1.bytes))
     ⊎ ((image_of (map image_of_page pages) n ≡ None) × ((p : Page) → IsAmong pages p → p.0 ≡ n → ⊥))
 unfolding find_image

@@ -22,3 +22,4 @@ pub mod LoadTold
 pub mod LoadAnswers
 pub mod LoadJoins
 pub mod Regions
+pub mod Copies

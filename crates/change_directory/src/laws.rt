@@ -2,7 +2,7 @@
 //! function that does nothing.
 
 ghost use Rattle.change_directory.specs.Laws.{HomedAreAtHome, LoggedAreDue, LoggedIsPut, LoggingIsPut};
-ghost use Rattle.change_directory.specs.StoreLaws.{StepsStayInside};
+ghost use Rattle.change_directory.specs.StoreLaws.{FormattedIsEmpty, HomedSettles, HomingKeeps, LoggedHas, LoggingKeepsOrHas, OpeningHasNoneOrAll, StepsStayInside, UnopenedHomed, UnopenedOpens, UnopenedStays};
 
 /// While a log is put, the disk is as it was, or it is a moment of putting the log into the spare slot.
 pub fn logging_is_put()
@@ -22,6 +22,51 @@ pub fn logged_are_due()
 /// After a commit and its checkpoint each page counts as it stands at home, as the next commit demands.
 pub fn homed_are_at_home()
     ensures { HomedAreAtHome }
+{}
+
+/// While due pages are written home, the content stays, and they stay due.
+pub fn homing_keeps()
+    ensures { HomingKeeps }
+{}
+
+/// Once they are written, each page counts as it stands at home.
+pub fn homed_settles()
+    ensures { HomedSettles }
+{}
+
+/// While a log is put, the content stays, or is that with its pages.
+pub fn logging_keeps_or_has()
+    ensures { LoggingKeepsOrHas }
+{}
+
+/// Once it is put, the copy has its pages, and they are due.
+pub fn logged_has()
+    ensures { LoggedHas }
+{}
+
+/// After a format all pages are zeros.
+pub fn formatted_is_empty()
+    ensures { FormattedIsEmpty }
+{}
+
+/// While pages of a copy without an open log slot are written, it has no content.
+pub fn unopened_stays()
+    ensures { UnopenedStays }
+{}
+
+/// Once they are written, they stand in the place of those before.
+pub fn unopened_homed()
+    ensures { UnopenedHomed }
+{}
+
+/// A commit without pages opens such a copy, with the pages that it has.
+pub fn unopened_opens()
+    ensures { UnopenedOpens }
+{}
+
+/// While that commit is put, there is no content, or that of the pages.
+pub fn opening_has_none_or_all()
+    ensures { OpeningHasNoneOrAll }
 {}
 
 /// The calls on a copy change nothing outside its directory region.

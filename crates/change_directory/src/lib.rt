@@ -20,7 +20,9 @@ pub use copy::{DirCopy, LogSlot};
 pub use erase::format;
 pub use home::checkpoint;
 pub use laws::{
-    homed_are_at_home, logged_are_due, logged_is_put, logging_is_put, steps_stay_inside,
+    formatted_is_empty, homed_are_at_home, homed_settles, homing_keeps, logged_are_due, logged_has,
+    logged_is_put, logging_is_put, logging_keeps_or_has, opening_has_none_or_all,
+    steps_stay_inside, unopened_homed, unopened_opens, unopened_stays,
 };
 pub use loading::{LoadFault, Pages, load};
 
