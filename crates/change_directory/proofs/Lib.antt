@@ -23,3 +23,4 @@ pub mod LoadAnswers
 pub mod LoadJoins
 pub mod Regions
 pub mod Copies
+pub mod Elsewhere

@@ -2,7 +2,7 @@
 //! function that does nothing.
 
 ghost use Rattle.change_directory.specs.Laws.{HomedAreAtHome, LoggedAreDue, LoggedIsPut, LoggingIsPut};
-ghost use Rattle.change_directory.specs.StoreLaws.{FormattedIsEmpty, HomedSettles, HomingKeeps, LoggedHas, LoggingKeepsOrHas, OpeningHasNoneOrAll, StepsStayInside, UnopenedHomed, UnopenedOpens, UnopenedStays};
+ghost use Rattle.change_directory.specs.StoreLaws.{FormattedIsEmpty, HomedSettles, HomingKeeps, LoggedHas, LoggingKeepsOrHas, OpeningHasNoneOrAll, OtherCopyIsSame, RegionIsSame, StepsStayInside, UnopenedHomed, UnopenedOpens, UnopenedStays};
 
 /// While a log is put, the disk is as it was, or it is a moment of putting the log into the spare slot.
 pub fn logging_is_put()
@@ -72,4 +72,14 @@ pub fn opening_has_none_or_all()
 /// The calls on a copy change nothing outside its directory region.
 pub fn steps_stay_inside()
     ensures { StepsStayInside }
+{}
+
+/// A change outside the directory region, on this disk or another, leaves what the copy says.
+pub fn region_is_same()
+    ensures { RegionIsSame }
+{}
+
+/// So does a change of a copy on another disk.
+pub fn other_copy_is_same()
+    ensures { OtherCopyIsSame }
 {}
