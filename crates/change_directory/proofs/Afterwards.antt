@@ -75,7 +75,7 @@ one_page m (x ∷ pages) up p q mine yours e =
 
 -- ---- the pages of a log
 
-same_numbers : (pages : List Page) → map (λ (i : PageImage). i.0) (map image_of_page pages) ≡ map (λ (p : Page). p.0) pages
+pub same_numbers : (pages : List Page) → map (λ (i : PageImage). i.0) (map image_of_page pages) ≡ map (λ (p : Page). p.0) pages
 same_numbers [] = refl
 same_numbers (p ∷ pages) = ap (λ (l : List ℕ). p.0 ∷ l) (same_numbers pages)
 

@@ -24,3 +24,5 @@ pub mod LoadJoins
 pub mod Regions
 pub mod Copies
 pub mod Elsewhere
+pub mod LoadRows
+pub mod Loaded

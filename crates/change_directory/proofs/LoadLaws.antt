@@ -48,12 +48,12 @@ some_in_order true true s t = go (ltb s.log.commit t.log.commit) where
   go true = refl
   go false = refl
 
-some_open : (d : ℕ) (bytes : Bytes) → has_slots (open_slots d bytes) ≡ (is_open bytes (first_log d) || is_open bytes (second_log d))
+pub some_open : (d : ℕ) (bytes : Bytes) → has_slots (open_slots d bytes) ≡ (is_open bytes (first_log d) || is_open bytes (second_log d))
 unfolding open_slots
 some_open d bytes =
     some_in_order (is_open bytes (first_log d)) (is_open bytes (second_log d)) (record { gate = first_log d; log = log_at d bytes (first_log d) }) (record { gate = second_log d; log = log_at d bytes (second_log d) })
 
-none_due : (p n : ℕ) → flat_map (due_page []) (range_with_len p n) ≡ []
+pub none_due : (p n : ℕ) → flat_map (due_page []) (range_with_len p n) ≡ []
 none_due p zero = refl
 none_due p (suc n) = none_due (p + 1) n
 

@@ -2,7 +2,7 @@
 //! function that does nothing.
 
 ghost use Rattle.change_directory.specs.Laws.{HomedAreAtHome, LoggedAreDue, LoggedIsPut, LoggingIsPut};
-ghost use Rattle.change_directory.specs.StoreLaws.{FormattedIsEmpty, HomedSettles, HomingKeeps, LoggedHas, LoggingKeepsOrHas, OpeningHasNoneOrAll, OtherCopyIsSame, RegionIsSame, StepsStayInside, UnopenedHomed, UnopenedOpens, UnopenedStays};
+ghost use Rattle.change_directory.specs.StoreLaws.{DuesStand, FormattedIsEmpty, HomedSettles, HomingKeeps, LoadedIsContent, LoadedIsDue, LoggedHas, LoggingKeepsOrHas, OpeningHasNoneOrAll, OtherCopyIsSame, RegionIsSame, StepsStayInside, UnopenedHomed, UnopenedOpens, UnopenedStays};
 
 /// While a log is put, the disk is as it was, or it is a moment of putting the log into the spare slot.
 pub fn logging_is_put()
@@ -82,4 +82,19 @@ pub fn region_is_same()
 /// So does a change of a copy on another disk.
 pub fn other_copy_is_same()
     ensures { OtherCopyIsSame }
+{}
+
+/// What is loaded of a copy without damage is its content.
+pub fn loaded_is_content()
+    ensures { LoadedIsContent }
+{}
+
+/// The due pages that are loaded stand in the blocks beside them, and are all.
+pub fn dues_stand()
+    ensures { DuesStand }
+{}
+
+/// They are what a checkpoint is asked for.
+pub fn loaded_is_due()
+    ensures { LoadedIsDue }
 {}

@@ -20,8 +20,9 @@ pub use copy::{DirCopy, LogSlot};
 pub use erase::format;
 pub use home::checkpoint;
 pub use laws::{
-    formatted_is_empty, homed_are_at_home, homed_settles, homing_keeps, logged_are_due, logged_has,
-    logged_is_put, logging_is_put, logging_keeps_or_has, opening_has_none_or_all,
+    dues_stand, formatted_is_empty, homed_are_at_home, homed_settles, homing_keeps,
+    loaded_is_content, loaded_is_due, logged_are_due, logged_has, logged_is_put, logging_is_put,
+    logging_keeps_or_has, opening_has_none_or_all, other_copy_is_same, region_is_same,
     steps_stay_inside, unopened_homed, unopened_opens, unopened_stays,
 };
 pub use loading::{LoadFault, Pages, load};
