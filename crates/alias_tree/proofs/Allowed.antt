@@ -1,9 +1,7 @@
 -- What an edit may rest on that isn't refused.
-use Rattle.std.proofs.Common.{◌≡◌, ℕ, suc, arith, ◌<◌, Bool, true, false, eqb, List, [], ◌∷◌, ◌++◌, length, Option, Some, None, refl, sym, ap, subst, ◌∙◌, inl, inr, ◌⊎◌}
-use Rattle.std.specs.Prelude.{is_some, not, ◌||◌, ◌&&◌, IsTrue, nat_lt}
-use Rattle.std.specs.FinMap as maps
+use Rattle.std.proofs.Common.{◌≡◌, ℕ, arith, Bool, true, false, List, [], ◌∷◌, ◌++◌, length, Option, Some, None, refl, sym, ap, ◌∙◌, inl, inr}
+use Rattle.std.specs.Prelude.{is_some, not, ◌||◌}
 use Rattle.std.specs.List.{list_all}
-use Rattle.std.specs.Option.{option_map}
 use Rattle.std.proofs.lemmas.Bool.{and_parts, ne_eqb, true≢false}
 use Rattle.std.proofs.lemmas.Option.{none-some}
 use Rattle.asm_group.specs.declared.NodeKind.{NodeKind}
@@ -14,11 +12,11 @@ use Rattle.asm_group.specs.Refusal.{Refusal}
 use Rattle.asm_group.specs.Refusal as r
 use Rattle.asm_group.specs.Causes.{Causes, first_cause}
 use Rattle.asm_group.specs.TreeEdits.{up, last_part, is_root, is_there, is_dir, is_dir_node, is_dir_entry, entry_at, lacks_parent, new_name_causes}
-use Rattle.asm_formats.specs.Items.{Node, node_item, is_item}
+use Rattle.asm_formats.specs.Items.{Node}
 use Rattle.asm_base.proofs.Exact.{some_is}
-use Rattle.alias_tree.specs.Edits.{HangsAt, are_parts}
 use Rattle.alias_tree.specs.Nodes.{Numbered, node_at, number_of, is_directory, kind_is_directory, IsTable, child}
-use Rattle.alias_tree.specs.Trees.{node_kind, entry_of_node, tree_of, number_by}
+use Rattle.asm_formats.specs.Nodes.{node_kind, entry_of_node}
+use Rattle.alias_tree.specs.Trees.{tree_of, number_by}
 use Rattle.alias_tree.proofs.Keeping.{MayHang}
 use Rattle.alias_tree.proofs.Leading.{shown_node, shows}
 use Rattle.alias_tree.proofs.Ways.{child_found, by_folded, by_last}

@@ -1,12 +1,10 @@
 -- What edits that aren't refused make of the nodes keeps the rule of the table.
-use Rattle.std.proofs.Common.{◌≡◌, ℕ, zero, suc, ◌<◌, ◌^◌, Bool, true, false, cond, eqb, List, [], ◌∷◌, ◌++◌, length, Option, Some, None, refl, sym, ap, subst, ◌∙◌, arith, inl, inr, ◌⊎◌}
-use Rattle.std.specs.Prelude.{is_some, not, ◌||◌, ◌&&◌, IsTrue, nat_lt}
+use Rattle.std.proofs.Common.{◌≡◌, ℕ, ◌<◌, ◌^◌, true, false, cond, List, [], ◌∷◌, ◌++◌, Option, Some, None, refl, sym, ap, subst, ◌∙◌, arith, inl, inr}
+use Rattle.std.specs.Prelude.{is_some, not, ◌||◌, IsTrue}
 use Rattle.std.specs.BTreeMap.{is_at}
-use Rattle.std.specs.FinMap as maps
-use Rattle.std.specs.List.{list_all, list_any}
 use Rattle.std.specs.Option.{option_map, option_and_then}
 use Rattle.std.specs.Ordering.{nat_cmp}
-use Rattle.std.proofs.lemmas.Bool.{and_from, lt-ltb, ne_eqb, true≢false}
+use Rattle.std.proofs.lemmas.Bool.{true≢false}
 use Rattle.std.proofs.lemmas.Option.{none-some}
 use Rattle.asm_group.specs.declared.NodeKind.{NodeKind}
 use Rattle.asm_group.specs.declared.NodeKind.TheVariants.{Directory, System, Alias}
@@ -14,20 +12,21 @@ use Rattle.asm_group.specs.Names.{Bytes, Path, folded, folded_path, is_part}
 use Rattle.asm_group.specs.Group.{TreeEntry}
 use Rattle.asm_group.specs.Refusal as r
 use Rattle.asm_group.specs.Causes.{first_cause}
-use Rattle.asm_group.specs.TreeEdits.{up, last_part, is_root, is_there, is_dir, is_file, is_under, is_dir_entry, is_system_entry, file_at, file_of_node, file_of_entry, entry_at, has_entries, lacks_parent, edit_causes, DropDir, DropAlias, RenameAlias, new_name_causes}
+use Rattle.asm_group.specs.TreeEdits.{up, last_part, is_root, is_there, is_dir, is_file, is_under, is_system_entry, file_of_node, file_of_entry, entry_at, has_entries, lacks_parent, edit_causes, DropDir, DropAlias, RenameAlias, new_name_causes}
 use Rattle.asm_formats.specs.Items.{Node, node_item, is_item}
 use Rattle.asm_base.proofs.Exact.{some_is}
 use Rattle.alias_tree.specs.Edits.{HangsAt, IsLeastFree, IsMoved, are_parts}
 use Rattle.alias_tree.specs.Nodes.{Numbered, node_at, number_of, number_from, with_node, without_node, is_directory, kind_is_directory, IsTable, child}
-use Rattle.alias_tree.specs.Trees.{node_kind, entry_of_node, tree_of, number_by, node_by}
-use Rattle.alias_tree.proofs.Allowed.{no_cause, two_false, three_false, four_false, both_false, not_false, number_is, folded_last, not_root, there_number, dir_node, IsNew, is_new, new_name, last_is_part}
-use Rattle.alias_tree.proofs.Growing.{OneGone, by_pruned, child_pruned, kept_is, keep, same_table}
-use Rattle.alias_tree.proofs.IndexLaws.{either, at_is, at_self, not_at, item_at}
-use Rattle.alias_tree.proofs.Keeping.{at_with, at_without, with_items, without_items, MayHang, Pruned, none_below_new, new_or_was, put_keeps_table, pruned_keeps_table}
+use Rattle.asm_formats.specs.Nodes.{node_kind, entry_of_node}
+use Rattle.alias_tree.specs.Trees.{tree_of, number_by, node_by}
+use Rattle.alias_tree.proofs.Allowed.{two_false, three_false, four_false, both_false, not_false, number_is, not_root, there_number, IsNew, is_new, new_name, last_is_part}
+use Rattle.alias_tree.proofs.Growing.{OneGone, by_pruned, child_pruned, keep, same_table}
+use Rattle.alias_tree.proofs.IndexLaws.{either, at_self, not_at, item_at}
+use Rattle.alias_tree.proofs.Keeping.{at_with, at_without, with_items, without_items, MayHang, put_keeps_table, pruned_keeps_table}
 use Rattle.alias_tree.proofs.Leading.{key_any, shown_node, shows, under_of}
-use Rattle.alias_tree.proofs.Paths.{last_of, up_of}
+use Rattle.alias_tree.proofs.Paths.{last_of}
 use Rattle.alias_tree.proofs.Readings.{number_is_some, file_is_small, hung_item}
-use Rattle.alias_tree.proofs.Ways.{by_folded, by_last, child_at, no_root, tree_has, way, way_leads}
+use Rattle.alias_tree.proofs.Ways.{by_folded, by_last, child_at, no_root, tree_has}
 
 -- ---- numbers and paths
 

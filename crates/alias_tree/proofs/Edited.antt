@@ -1,9 +1,8 @@
 -- The tree of names after each edit is the one that the edit says.
-use Rattle.std.proofs.Common.{◌≡◌, ℕ, ◌<◌, Bool, true, false, cond, List, [], ◌∷◌, ◌++◌, length, Option, Some, None, refl, sym, ap, subst, ◌∙◌, inl, inr, ◌⊎◌}
-use Rattle.std.specs.Prelude.{is_some, not, ◌||◌, ◌&&◌, IsTrue, Result, Ok}
+use Rattle.std.proofs.Common.{◌≡◌, ℕ, true, false, List, Option, Some, None, refl, sym, ap, subst, ◌∙◌}
+use Rattle.std.specs.Prelude.{is_some, not, ◌||◌}
 use Rattle.std.specs.BTreeMap.{is_at}
 use Rattle.std.specs.FinMap as maps
-use Rattle.std.specs.Option.{option_map, option_and_then}
 use Rattle.std.specs.Ordering.{nat_cmp}
 use Rattle.std.proofs.lemmas.Bool.{true≢false}
 use Rattle.std.proofs.lemmas.Option.{none-some}
@@ -11,21 +10,21 @@ use Rattle.asm_group.specs.declared.NodeKind.{NodeKind}
 use Rattle.asm_group.specs.declared.NodeKind.TheVariants.{Directory, System, Alias}
 use Rattle.asm_group.specs.Names.{Bytes, Path, folded, folded_path}
 use Rattle.asm_group.specs.Group.{TreeEntry}
-use Rattle.asm_group.specs.Group as group
 use Rattle.asm_group.specs.Refusal as r
 use Rattle.asm_group.specs.Causes.{first_cause}
 use Rattle.asm_group.specs.TreeEdits as e
 use Rattle.asm_group.specs.TreeEdits.{Tree, last_part, up, is_root, is_there, is_dir, is_file, is_system_entry, file_at, entry_at, lacks_parent, has_alias}
 use Rattle.asm_formats.specs.Items.{Node}
 use Rattle.asm_base.proofs.Exact.{some_is}
-use Rattle.alias_tree.specs.Edits.{HangsAt, IsMoved, PutsNode, PutsAlias, RemovesNode, MovesNode, RemovesNames, is_name_of}
-use Rattle.alias_tree.specs.Nodes.{Numbered, node_at, number_of, with_node, without_node, is_directory, kind_is_directory, IsTable}
-use Rattle.alias_tree.specs.Trees.{node_kind, entry_of_node, tree_of, number_by}
+use Rattle.alias_tree.specs.Edits.{HangsAt, PutsNode, PutsAlias, RemovesNode, MovesNode, RemovesNames, is_name_of}
+use Rattle.alias_tree.specs.Nodes.{Numbered, node_at, with_node, without_node, is_directory, kind_is_directory, IsTable}
+use Rattle.asm_formats.specs.Nodes.{node_kind, entry_of_node}
+use Rattle.alias_tree.specs.Trees.{tree_of, number_by}
 use Rattle.alias_tree.proofs.Allowed.{four_false, both_false, number_is, IsNew, is_new, new_name}
-use Rattle.alias_tree.proofs.Done.{DropsDir, drops_dir, drops_alias, RenamesAlias, renames_alias, named_file, file_leaf, none_below_empty, entry_number, one_gone, gone_table, new_without, hangs_without, again, again_table, hung_may, hung_parent}
+use Rattle.alias_tree.proofs.Done.{drops_dir, drops_alias, renames_alias, named_file, file_leaf, none_below_empty, entry_number, one_gone, gone_table, new_without, hangs_without, again, again_table, hung_may, hung_parent}
 use Rattle.alias_tree.proofs.Growing.{OneGone, by_pruned, kept_is, inserted_tree, removed_tree, unnamed_tree, same_nodes_tree}
-use Rattle.alias_tree.proofs.IndexLaws.{either, at_is, at_self, not_at, item_at}
-use Rattle.alias_tree.proofs.Keeping.{at_with, at_without, Pruned, item_number, none_below_new}
+use Rattle.alias_tree.proofs.IndexLaws.{at_is, at_self, not_at, item_at}
+use Rattle.alias_tree.proofs.Keeping.{at_with, Pruned, item_number, none_below_new}
 use Rattle.alias_tree.proofs.Ways.{by_last, child_at, no_root}
 
 -- ---- a node is put

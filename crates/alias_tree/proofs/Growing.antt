@@ -1,7 +1,6 @@
 -- The tree of names, where nodes come and go below which nothing hangs.
-use Rattle.std.proofs.Common.{◌≡◌, ℕ, ◌<◌, Bool, true, false, cond, eqb, List, [], ◌∷◌, ◌++◌, length, map, Option, Some, None, refl, sym, ap, subst, ◌∙◌, arith, inl, inr, ◌⊎◌}
-use Rattle.std.specs.Prelude.{is_some, not, IsTrue}
-use Rattle.std.specs.Cmp.{Equal-is}
+use Rattle.std.proofs.Common.{◌≡◌, ℕ, Bool, true, false, cond, List, [], ◌∷◌, Option, Some, None, refl, sym, ap, subst, ◌∙◌, inl, inr, ◌⊎◌}
+use Rattle.std.specs.Prelude.{not}
 use Rattle.std.specs.Cmp.Lexicographic.{slice_cmp}
 use Rattle.std.specs.FinMap as maps
 use Rattle.std.specs.BTreeMap.{is_at}
@@ -10,17 +9,18 @@ use Rattle.std.specs.Ordering.{nat_cmp}
 use Rattle.std.specs.declared.cmp.Ordering.TheVariants.{Equal}
 use Rattle.std.proofs.lemmas.Bool.{true≢false}
 use Rattle.std.proofs.lemmas.Option.{none-some}
-use Rattle.asm_group.specs.Names.{Bytes, Path, folded, folded_path}
+use Rattle.asm_group.specs.Names.{Bytes, Path}
 use Rattle.asm_group.specs.Group.{TreeEntry}
 use Rattle.asm_group.specs.TreeEdits.{Tree, names_file, is_entry, without_file}
 use Rattle.asm_formats.specs.Items.{Node}
 use Rattle.asm_base.specs.Tables.{IsItemTable}
 use Rattle.asm_base.proofs.Exact.{some_is}
 use Rattle.alias_tree.specs.Edits.{is_name_of}
-use Rattle.alias_tree.specs.Nodes.{Numbered, item_of, is_before, node_at, with_node, without_node, IsTable, child}
-use Rattle.alias_tree.specs.Trees.{node_kind, entry_of_node, tree_of, number_by, node_by}
+use Rattle.alias_tree.specs.Nodes.{Numbered, item_of, is_before, node_at, IsTable, child}
+use Rattle.asm_formats.specs.Nodes.{node_kind, entry_of_node}
+use Rattle.alias_tree.specs.Trees.{tree_of, number_by, node_by}
 use Rattle.alias_tree.proofs.IndexLaws.{either, at_is, at_self}
-use Rattle.alias_tree.proofs.Keeping.{at_with, at_without, Pruned, was_there, pruned_keeps_table}
+use Rattle.alias_tree.proofs.Keeping.{Pruned, was_there, pruned_keeps_table}
 use Rattle.alias_tree.proofs.Leading.{shows}
 use Rattle.alias_tree.proofs.Ways.{is_key, key_is, key_self, paths_total, child_found, child_at, no_root, way_is, tree_has}
 

@@ -1,6 +1,6 @@
 -- What the tree of names says of all its paths, by the nodes.
-use Rattle.std.proofs.Common.{◌≡◌, ℕ, ◌<◌, Bool, true, false, eqb, List, [], ◌∷◌, ◌++◌, length, map, Option, Some, None, refl, sym, ap, subst, ◌∙◌, arith, inl, inr, ◌⊎◌}
-use Rattle.std.specs.Prelude.{is_some, nat_lt, ◌||◌, ◌&&◌}
+use Rattle.std.proofs.Common.{◌≡◌, ℕ, Bool, true, false, eqb, List, [], ◌∷◌, ◌++◌, length, Option, Some, None, refl, sym, ap, subst, ◌∙◌, arith, inl, inr, ◌⊎◌}
+use Rattle.std.specs.Prelude.{is_some, nat_lt}
 use Rattle.std.specs.FinMap as maps
 use Rattle.std.specs.List.{list_any, AllByRecursion}
 use Rattle.std.specs.List.Sorted.{IsStrictlySortedBy}
@@ -8,17 +8,16 @@ use Rattle.std.specs.Map.{keys_of}
 use Rattle.std.specs.Option.{option_and_then, option_map}
 use Rattle.std.specs.Str.{bytes_eq}
 use Rattle.std.proofs.lemmas.Bool.{and_parts, eqb-true, eq-eqb, lt-ltb, true≢false}
-use Rattle.std.proofs.lemmas.Option.{none-some}
 use Rattle.std.proofs.lemmas.Slice.Eq.{bytes_eq-Decides}
 use Rattle.asm_group.specs.Names.{Bytes, Path, folded, folded_path}
 use Rattle.asm_group.specs.Group.{TreeNode, TreeEntry}
 use Rattle.asm_group.specs.TreeEdits.{Tree, is_under, has_entries, is_entry, leads_to}
 use Rattle.asm_formats.specs.Items.{Node}
 use Rattle.asm_base.specs.Records.{Ascend}
-use Rattle.asm_base.proofs.Exact.{some_is}
-use Rattle.alias_tree.specs.Nodes.{Numbered, is_before, node_at, child, has_parent, is_under as hangs_under, IsTable}
+use Rattle.alias_tree.specs.Nodes.{Numbered, is_before, node_at, has_parent, is_under as hangs_under, IsTable}
 use Rattle.alias_tree.specs.Places.{Place, place_cmp, numbers_under, IsIndex, Member}
-use Rattle.alias_tree.specs.Trees.{node_kind, entry_of_node, tree_of, number_by, node_by}
+use Rattle.asm_formats.specs.Nodes.{node_kind, entry_of_node}
+use Rattle.alias_tree.specs.Trees.{tree_of, number_by}
 use Rattle.alias_tree.proofs.IndexLaws.{either, at_member, member_at}
 use Rattle.alias_tree.proofs.Under.{under_is}
 use Rattle.alias_tree.proofs.Ways.{is_key, key_is, key_self, way, way_leads, child_found, child_at, by_append, by_last, by_step, tree_has}

@@ -1,9 +1,9 @@
 -- The tree of names where a directory has moved.
-use Rattle.std.proofs.Common.{◌≡◌, ℕ, ◌+◌, ◌<◌, Bool, true, false, cond, List, [], ◌∷◌, ◌++◌, length, map, Option, Some, None, refl, sym, ap, subst, ◌∙◌, arith, inl, inr, ◌⊎◌, append_assoc, length-append}
-use Rattle.std.specs.Prelude.{is_some, not, ◌&&◌}
+use Rattle.std.proofs.Common.{◌≡◌, ℕ, ◌+◌, ◌<◌, Bool, true, false, cond, List, [], ◌∷◌, ◌++◌, length, map, Option, Some, None, refl, sym, ap, subst, ◌∙◌, arith, inl, inr, append_assoc, length-append}
+use Rattle.std.specs.Prelude.{is_some, ◌&&◌}
 use Rattle.std.specs.Cmp.Lexicographic.{slice_cmp}
 use Rattle.std.specs.FinMap as maps
-use Rattle.std.specs.Ordering.{nat_cmp, is_lt, eq_by_cmp}
+use Rattle.std.specs.Ordering.{nat_cmp, is_lt}
 use Rattle.std.specs.Cmp.{Equal-is}
 use Rattle.std.specs.BTreeMap.{is_at}
 use Rattle.std.specs.Option.{option_and_then}
@@ -24,15 +24,16 @@ use Rattle.asm_formats.specs.Items.{Node}
 use Rattle.asm_base.proofs.Exact.{some_is}
 use Rattle.alias_tree.specs.Edits.{IsMoved, MovesNode}
 use Rattle.alias_tree.specs.Nodes.{Numbered, node_at, with_node, IsTable, child}
-use Rattle.alias_tree.specs.Trees.{node_kind, entry_of_node, tree_of, number_by}
-use Rattle.alias_tree.proofs.Allowed.{number_is, IsNew}
+use Rattle.asm_formats.specs.Nodes.{node_kind, entry_of_node}
+use Rattle.alias_tree.specs.Trees.{tree_of, number_by}
+use Rattle.alias_tree.proofs.Allowed.{number_is}
 use Rattle.alias_tree.proofs.Done.{hung_parent}
 use Rattle.alias_tree.proofs.Growing.{same_tree}
-use Rattle.alias_tree.proofs.IndexLaws.{either, at_is, at_self, not_at}
+use Rattle.alias_tree.proofs.IndexLaws.{either, at_self, not_at}
 use Rattle.alias_tree.proofs.Keeping.{at_with, new_or_was}
-use Rattle.alias_tree.proofs.Leading.{Among, any_of, shown_node, shows, under_split, under_of}
+use Rattle.alias_tree.proofs.Leading.{Among, shown_node, shows, under_split, under_of}
 use Rattle.alias_tree.proofs.Moving.{RenamesDir, renames_dir}
-use Rattle.alias_tree.proofs.Ways.{is_key, key_is, key_self, key_other, paths_total, way, way_is, way_leads, child_found, child_at, no_root, by_append, by_last, by_step}
+use Rattle.alias_tree.proofs.Ways.{is_key, key_is, key_self, key_other, paths_total, way, way_is, way_leads, child_found, child_at, by_append, by_last, by_step}
 
 abbrev Entries : Type 0
 Entries = List (Path × TreeEntry)

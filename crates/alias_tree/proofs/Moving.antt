@@ -1,31 +1,29 @@
 -- A directory moves with all that lies below it.
-use Rattle.std.proofs.Common.{◌≡◌, ℕ, zero, suc, ◌+◌, ◌<◌, ◌^◌, Bool, true, false, cond, List, [], ◌∷◌, ◌++◌, length, Option, Some, None, refl, sym, ap, subst, ◌∙◌, arith, inl, inr, ◌⊎◌, append_assoc}
-use Rattle.std.specs.Prelude.{is_some, not, ◌||◌, ◌&&◌, IsTrue}
+use Rattle.std.proofs.Common.{◌≡◌, ℕ, zero, suc, ◌+◌, ◌<◌, ◌^◌, Bool, true, false, List, [], ◌∷◌, ◌++◌, length, Some, None, refl, sym, ap, subst, ◌∙◌, arith, inl, inr, ◌⊎◌, append_assoc}
+use Rattle.std.specs.Prelude.{is_some, not, ◌||◌, IsTrue}
 use Rattle.std.specs.BTreeMap.{is_at}
-use Rattle.std.specs.FinMap as maps
 use Rattle.std.specs.Ordering.{nat_cmp}
 use Rattle.std.proofs.lemmas.Bool.{true≢false}
 use Rattle.std.proofs.lemmas.List.{append-nil}
 use Rattle.std.proofs.lemmas.Option.{none-some}
 use Rattle.asm_group.specs.Names.{Bytes, Path, folded, folded_path}
-use Rattle.asm_group.specs.Group.{TreeEntry}
 use Rattle.asm_group.specs.Refusal as r
 use Rattle.asm_group.specs.Causes.{first_cause}
-use Rattle.asm_group.specs.TreeEdits.{Tree, last_part, up, is_root, is_there, is_dir, is_dir_entry, is_under, entry_at, lacks_parent, edit_causes, RenameDir}
+use Rattle.asm_group.specs.TreeEdits.{last_part, up, is_root, is_there, is_dir, is_dir_entry, is_under, entry_at, lacks_parent, edit_causes, RenameDir}
 use Rattle.asm_formats.specs.Items.{Node, node_item, is_item}
 use Rattle.asm_base.specs.Tables.{IsItemTable}
 use Rattle.asm_base.proofs.Exact.{some_is}
-use Rattle.alias_tree.specs.Edits.{HangsAt, IsMoved, MovesNode, are_parts}
-use Rattle.alias_tree.specs.Nodes.{Numbered, item_of, is_before, node_at, number_of, with_node, is_directory, kind_is_directory, reaches_root, IsTable, child}
-use Rattle.alias_tree.specs.Trees.{entry_of_node, tree_of, number_by}
+use Rattle.alias_tree.specs.Edits.{IsMoved, are_parts}
+use Rattle.alias_tree.specs.Nodes.{Numbered, item_of, is_before, node_at, with_node, is_directory, kind_is_directory, reaches_root, IsTable}
+use Rattle.alias_tree.specs.Trees.{tree_of, number_by}
 use Rattle.alias_tree.proofs.Allowed.{three_false, both_false, not_false, number_is, dir_node, IsNew, is_new}
-use Rattle.alias_tree.proofs.Done.{entry_number, hung_may, hung_free, hung_parent, hung_is_item}
+use Rattle.alias_tree.proofs.Done.{hung_may, hung_free, hung_parent, hung_is_item}
 use Rattle.alias_tree.proofs.IndexLaws.{either, at_is, at_self, not_at, item_at}
 use Rattle.alias_tree.proofs.Keeping.{at_with, with_items, new_or_was, MayHang, short_way}
 use Rattle.alias_tree.proofs.Leading.{under_of, shows}
 use Rattle.alias_tree.proofs.Readings.{number_is_some, file_is_small}
 use Rattle.alias_tree.proofs.Rules.{at_root}
-use Rattle.alias_tree.proofs.Ways.{at_zero, at_or_below, reaches_below, reaches_more, way, way_is, child_found, child_at, no_root, by_step, by_last, by_append}
+use Rattle.alias_tree.proofs.Ways.{at_zero, at_or_below, reaches_below, reaches_more, way, way_is, child_found, child_at, no_root, by_step, by_last}
 
 -- ---- what isn't refused
 

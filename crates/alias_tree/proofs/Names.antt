@@ -1,20 +1,18 @@
 -- The names of a file go one by one.
-use Rattle.std.proofs.Common.{◌≡◌, ℕ, suc, ◌<◌, Bool, true, false, cond, List, [], ◌∷◌, length, Option, Some, None, refl, sym, ap, subst, ◌∙◌, arith, inl, inr, ◌⊎◌}
-use Rattle.std.specs.Prelude.{is_some}
+use Rattle.std.proofs.Common.{◌≡◌, ℕ, suc, ◌<◌, true, false, cond, List, length, Option, Some, None, refl, sym, ap, ◌∙◌, arith, inl, inr, ◌⊎◌}
 use Rattle.std.specs.BTreeMap.{is_at}
 use Rattle.std.specs.List.{list_any}
 use Rattle.std.specs.Ordering.{nat_cmp}
 use Rattle.std.proofs.lemmas.Bool.{true≢false}
-use Rattle.std.proofs.lemmas.Option.{none-some}
 use Rattle.asm_group.specs.declared.NodeKind.{NodeKind}
 use Rattle.asm_group.specs.declared.NodeKind.TheVariants.{Directory, System, Alias}
 use Rattle.asm_group.specs.TreeEdits.{names_file}
 use Rattle.asm_formats.specs.Items.{Node}
 use Rattle.alias_tree.specs.Edits.{RemovesNames, is_name_of}
 use Rattle.alias_tree.specs.Nodes.{Numbered, node_at, without_node, is_directory, kind_is_directory, IsTable}
-use Rattle.alias_tree.specs.Trees.{node_kind}
+use Rattle.asm_formats.specs.Nodes.{node_kind}
 use Rattle.alias_tree.proofs.Done.{gone_table, none_below_file}
-use Rattle.alias_tree.proofs.IndexLaws.{either, at_is, at_self, at_member}
+use Rattle.alias_tree.proofs.IndexLaws.{either, at_is, at_member}
 use Rattle.alias_tree.proofs.Keeping.{at_without, length_without}
 use Rattle.alias_tree.proofs.Leading.{any_of, member_among}
 

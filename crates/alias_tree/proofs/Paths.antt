@@ -1,21 +1,16 @@
 -- Paths by their parts, and what the tree has there.
-use Rattle.std.proofs.Common.{◌≡◌, ◌≢◌, ℕ, zero, suc, ◌+◌, ◌-◌, ◌<◌, ◌≤◌, Bool, true, false, eqb, cond, List, [], ◌∷◌, ◌++◌, length, map, take, drop, get_or, Option, Some, None, refl, sym, ap, subst, ◌∙◌, arith, inl, inr, ◌⊎◌, drop-cons, add-one, length-drop}
+use Rattle.std.proofs.Common.{◌≡◌, ℕ, ◌+◌, ◌<◌, ◌≤◌, Bool, true, false, List, [], ◌∷◌, ◌++◌, length, drop, get_or, Option, Some, None, refl, sym, ap, ◌∙◌, arith, drop-cons, add-one, length-drop}
 use Rattle.std.proofs.Math.Seq.{drop-length}
-use Rattle.std.specs.Prelude.{is_some, ◌||◌, ◌&&◌}
-use Rattle.std.specs.FinMap as maps
+use Rattle.std.specs.Prelude.{is_some, ◌&&◌}
 use Rattle.std.specs.List.{list_all}
-use Rattle.std.specs.Option.{option_and_then, option_map, option_copied}
-use Rattle.std.specs.Str.{bytes_eq}
-use Rattle.std.proofs.lemmas.Bool.{true≢false}
-use Rattle.std.proofs.lemmas.Option.{none-some}
-use Rattle.asm_group.specs.Names.{Bytes, Path, folded, folded_path, is_same_name, is_part}
-use Rattle.asm_group.specs.Group.{TreeEntry}
-use Rattle.asm_group.specs.TreeEdits.{up, last_part, is_under, is_there, entry_at}
+use Rattle.std.specs.Option.{option_map}
+use Rattle.asm_group.specs.Names.{Bytes, Path, folded_path, is_same_name, is_part}
+use Rattle.asm_group.specs.TreeEdits.{up, last_part, is_under, entry_at}
 use Rattle.asm_formats.specs.Items.{Node}
-use Rattle.alias_tree.specs.Nodes.{Numbered, node_at, number_of, number_from, IsTable}
-use Rattle.alias_tree.specs.Trees.{entry_of_node, tree_of, number_by, node_by}
-use Rattle.alias_tree.proofs.IndexLaws.{either}
-use Rattle.alias_tree.proofs.Ways.{tree_has, by_folded}
+use Rattle.alias_tree.specs.Nodes.{Numbered, IsTable}
+use Rattle.asm_formats.specs.Nodes.{entry_of_node}
+use Rattle.alias_tree.specs.Trees.{tree_of, node_by}
+use Rattle.alias_tree.proofs.Ways.{tree_has}
 
 -- ---- the last part
 

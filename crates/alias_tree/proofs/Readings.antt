@@ -1,49 +1,21 @@
 -- A node is read exactly from its record.
-use Rattle.std.proofs.Common.{◌≡◌, ℕ, zero, suc, ◌<◌, ◌≤◌, ◌^◌, Bool, true, false, ltb, eqb, cond, List, ◌∷◌, length, Option, Some, None, refl, sym, ap, ◌∙◌, arith, inl, inr, ◌⊎◌, []}
+use Rattle.std.proofs.Common.{◌≡◌, ℕ, ◌<◌, ◌≤◌, ◌^◌, Bool, true, false, ltb, eqb, cond, List, length, Option, Some, None, refl, sym, ap, ◌∙◌, arith, inl, inr, ◌⊎◌}
 use Rattle.std.specs.Prelude.{◌&&◌, IsTrue}
 use Rattle.std.specs.Int.{w32}
 use Rattle.std.specs.Option.{option_map, option_and_then}
 use Rattle.std.proofs.lemmas.Bool.{and_parts, eqb-true, eq-eqb, lt-ltb, ltb-true, true≢false}
 use Rattle.std.proofs.lemmas.Option.{none-some}
-use Rattle.asm_group.specs.declared.NodeKind.{NodeKind}
-use Rattle.asm_group.specs.declared.NodeKind.TheVariants.{Directory, System, Alias}
 use Rattle.asm_group.specs.Names.{is_part}
-use Rattle.asm_formats.specs.Codes.{node_code}
 use Rattle.asm_formats.specs.Items.{Item, file_item, chunk_item, disk_item, rebalance_item, pending_item, templates_item, node_item, settings_item, marks_item, Key, Node, key, is_item}
 use Rattle.asm_formats.specs.Values.{value, node_value, decoded_item}
 use Rattle.asm_base.specs.Records.{all_of}
-use Rattle.asm_base.proofs.Exact.{IsExact, both_exact, as_exact, decoded_exact, fits_exact}
-use Rattle.asm_base.proofs.FieldLaws.{byte_exact}
+use Rattle.asm_base.proofs.Exact.{IsExact, both_exact, as_exact, fits_exact}
+use Rattle.asm_base.proofs.WordLaws.{node_kind_exact}
 use Rattle.asm_base.proofs.Numbers.{number_exact}
 use Rattle.asm_base.proofs.NameLaws.{name_exact, part_is_short, part_of}
 use Rattle.asm_base.proofs.ItemTables.{item_is_decoded, value_is_decoded}
 use Rattle.alias_tree.specs.Nodes.{is_mine}
-use Rattle.alias_tree.specs.Readings.{known_kind, kind_reading, NodeParts, to_node, node_reading, is_node_key}
-
-kind_exact : IsExact (λ k. node_code k ∷ []) (λ k. Unit {0}) kind_reading
-kind_exact = decoded_exact known_kind node_code known one_code fits_code byte_exact where
-  known : (k : NodeKind) → known_kind (node_code k) ≡ Some k
-  known Directory = refl
-  known System = refl
-  known Alias = refl
-
-  one_code : (n : ℕ) (k : NodeKind) → known_kind n ≡ Some k → n ≡ node_code k
-  one_code zero k e = absurd cc
-  one_code (suc zero) Directory e = refl
-  one_code (suc zero) System e = absurd cc
-  one_code (suc zero) Alias e = absurd cc
-  one_code (suc (suc zero)) Directory e = absurd cc
-  one_code (suc (suc zero)) System e = refl
-  one_code (suc (suc zero)) Alias e = absurd cc
-  one_code (suc (suc (suc zero))) Directory e = absurd cc
-  one_code (suc (suc (suc zero))) System e = absurd cc
-  one_code (suc (suc (suc zero))) Alias e = refl
-  one_code (suc (suc (suc (suc n)))) k e = absurd cc
-
-  fits_code : (k : NodeKind) → node_code k < 256
-  fits_code Directory = omega arith
-  fits_code System = omega arith
-  fits_code Alias = omega arith
+use Rattle.alias_tree.specs.Readings.{NodeParts, to_node, node_reading, is_node_key}
 
 record FitsNode (n : Node) : Type 0 where
   parent : n.parent < 2 ^ 32
@@ -56,7 +28,7 @@ of_node n = (n.parent, (n.kind, (n.file, n.name)))
 node_exact : IsExact node_value FitsNode node_reading
 unfolding node_reading of_node
 node_exact =
-    let fields = both_exact (number_exact w32) (both_exact kind_exact (both_exact (number_exact w32) (name_exact 80 (omega arith)))) in
+    let fields = both_exact (number_exact w32) (both_exact node_kind_exact (both_exact (number_exact w32) (name_exact 80 (omega arith)))) in
     fits_exact (λ n f. record { parent = f.0; file = f.1.1.0; name = f.1.1.1 }) (λ n f. (f.parent, (tt, (f.file, f.name))))
     (as_exact to_node of_node (λ p. refl) (λ n. refl) fields)
 

@@ -1,6 +1,5 @@
 -- Each node has one path, and the tree of the nodes has it there.
-use Rattle.std.proofs.Common.{◌≡◌, ℕ, zero, suc, ◌+◌, ◌-◌, ◌<◌, Bool, true, false, eqb, cond, List, [], ◌∷◌, ◌++◌, length, map, Option, Some, None, refl, sym, ap, subst, ◌∙◌, arith, inl, inr, ◌⊎◌, append_assoc}
-use Rattle.std.specs.Prelude.{◌||◌}
+use Rattle.std.proofs.Common.{◌≡◌, ℕ, zero, suc, ◌+◌, ◌-◌, ◌<◌, Bool, true, false, eqb, List, [], ◌∷◌, ◌++◌, length, map, Option, Some, None, refl, sym, ap, subst, ◌∙◌, arith, inl, inr, ◌⊎◌, append_assoc}
 use Rattle.std.specs.Cmp.{IsTotalOrder, Equal-is}
 use Rattle.std.specs.Cmp.Lexicographic.{slice_cmp}
 use Rattle.std.specs.FinMap as maps
@@ -16,7 +15,8 @@ use Rattle.asm_formats.specs.Items.{Node}
 use Rattle.asm_base.proofs.Exact.{some_is}
 use Rattle.alias_tree.specs.Nodes.{Numbered, node_at, reaches_root, child, number_from, IsTable}
 use Rattle.alias_tree.specs.Places.{Member}
-use Rattle.alias_tree.specs.Trees.{entry_of_node, way_to, tree_of, number_by, node_by}
+use Rattle.asm_formats.specs.Nodes.{entry_of_node}
+use Rattle.alias_tree.specs.Trees.{way_to, tree_of, number_by, node_by}
 use Rattle.alias_tree.proofs.Children.{child_some, child_none}
 use Rattle.alias_tree.proofs.IndexLaws.{either, at_member, member_at, item_at}
 use Rattle.alias_tree.proofs.Readings.{number_is_some}

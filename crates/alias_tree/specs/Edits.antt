@@ -1,5 +1,5 @@
 -- What edits of the tree mean, and what each makes of the nodes.
-use Rattle.std.specs.Prelude.{◌≡◌, ◌⊎◌, ℕ, ◌<◌, Bool, true, false, ◌||◌, ◌==◌, List, Option, Some, None, Result, Err, IsTrue, is_some, if◌then◌else◌}
+use Rattle.std.specs.Prelude.{◌≡◌, ◌⊎◌, ℕ, ◌<◌, Bool, true, false, List, Option, Some, None, Result, Err, IsTrue, is_some, if◌then◌else◌}
 use Rattle.std.specs.List.{list_all}
 use Rattle.asm_group.specs.declared.NodeKind.{NodeKind}
 use Rattle.asm_group.specs.declared.NodeKind.TheVariants.{Directory, System, Alias}
@@ -13,7 +13,8 @@ use Rattle.alias_tree.specs.declared.editing.TreeEdit.TheVariants as code
 use Rattle.alias_tree.specs.declared.editing.TreeError.{TreeError}
 use Rattle.alias_tree.specs.declared.editing.TreeError.TheVariants as cause
 use Rattle.alias_tree.specs.Nodes.{Numbered, node_at, number_of, with_node, without_node}
-use Rattle.alias_tree.specs.Trees.{node_kind, tree_of}
+use Rattle.asm_formats.specs.Nodes.{node_kind}
+use Rattle.alias_tree.specs.Trees.{tree_of}
 
 -- ---- the code's edits and refusals
 

@@ -2,23 +2,11 @@
 use Rattle.std.specs.Prelude.{ℕ, zero, suc, List, [], ◌∷◌, ◌++◌, length, map, Option, Some, None}
 use Rattle.std.specs.FinMap as maps
 use Rattle.std.specs.Option.{option_and_then}
-use Rattle.asm_group.specs.declared.NodeKind.{NodeKind}
-use Rattle.asm_group.specs.declared.NodeKind.TheVariants.{Directory, System, Alias}
 use Rattle.asm_group.specs.Names.{Path, folded}
-use Rattle.asm_group.specs.Group.{TreeNode, Dir, TreeEntry}
-use Rattle.asm_group.specs.Group as group
 use Rattle.asm_group.specs.TreeEdits.{Tree}
 use Rattle.asm_formats.specs.Items.{Node}
+use Rattle.asm_formats.specs.Nodes.{entry_of_node}
 use Rattle.alias_tree.specs.Nodes.{Numbered, node_at, child}
-
--- what the group's users see of a node
-abbrev pub node_kind : NodeKind → ℕ → TreeNode
-node_kind Directory file = Dir
-node_kind System file = group.System file
-node_kind Alias file = group.Alias file
-
-abbrev pub entry_of_node : Node → TreeEntry
-entry_of_node node = record { name = node.name; node = node_kind node.kind node.file }
 
 -- the folded names on the way down to a node, of at most so many steps
 unfoldable pub way_to : List Numbered → ℕ → ℕ → Path

@@ -6,7 +6,8 @@ ghost use Rattle.asm_group.specs.Names.{folded_path};
 ghost use Rattle.asm_group.specs.Causes.{first_cause};
 ghost use Rattle.asm_group.specs.TreeEdits.{AddAlias, DropAlias, DropDir, DropFile, RenameAlias, RenameDir, edit_causes, entry_at, file_at, file_of_entry, is_dir, is_dir_entry, is_system_entry, is_there, is_under, lacks_parent, new_name_causes, up};
 ghost use Rattle.alias_tree.specs.Edits.{cause_said};
-ghost use Rattle.alias_tree.specs.Trees.{entry_of_node, tree_of};
+ghost use Rattle.asm_formats.specs.Nodes.{entry_of_node};
+ghost use Rattle.alias_tree.specs.Trees.{tree_of};
 
 use crate::editing::TreeError;
 use crate::node::{Node, named_file};

@@ -2,7 +2,7 @@
 
 ghost use Rattle.std.specs.Prelude.{◌≡◌, true};
 ghost use Rattle.asm_group.specs.TreeEdits.{file_of_node, is_alias_of, names_file};
-ghost use Rattle.alias_tree.specs.Trees.{node_kind};
+ghost use Rattle.asm_formats.specs.Nodes.{node_kind};
 
 use asm_base::{Name, NodeKind};
 use std::marker::Model;

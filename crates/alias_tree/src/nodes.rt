@@ -4,7 +4,7 @@ ghost use Rattle.std.specs.Prelude.{◌≡◌, ◌++◌, [], length, map, IfOk, 
 ghost use Rattle.std.specs.Bool.{OnTrue};
 ghost use Rattle.std.specs.List.{list_all, list_any};
 ghost use Rattle.asm_group.specs.TreeEdits.{is_alias_of, names_file};
-ghost use Rattle.alias_tree.specs.Trees.{node_kind};
+ghost use Rattle.asm_formats.specs.Nodes.{node_kind};
 ghost use Rattle.alias_tree.specs.Edits.{is_name_of};
 ghost use Rattle.std.specs.Option.{option_copied, option_map};
 ghost use Rattle.std.specs.Ordering.{nat_cmp};

@@ -6,10 +6,10 @@ ghost use Rattle.asm_formats.specs.Items.{node_item};
 ghost use Rattle.asm_formats.specs.Values.{decoded_item};
 ghost use Rattle.asm_base.specs.Cursors.{Reads};
 ghost use Rattle.asm_base.specs.Records.{all_of};
-ghost use Rattle.alias_tree.specs.Readings.{is_node_key, kind_reading, node_reading};
+ghost use Rattle.alias_tree.specs.Readings.{is_node_key, node_reading};
 
 use crate::node::Node;
-use asm_base::{Key, NoMemory, NodeKind, Reader, Value, is_at_end, take_name, take_u8, take_u32};
+use asm_base::{Key, NoMemory, Reader, Value, is_at_end, take_name, take_node_kind, take_u32};
 use std::alloc::Global;
 
 /// The node that a record says, or None where it isn't of the formats.
@@ -57,7 +57,7 @@ fn take_node(alloc: Global, from: &mut Reader) -> Result<Option<Node>, NoMemory>
     let Some(parent) = take_u32(from) else {
         return Ok(None);
     };
-    let Some(kind) = take_kind(from) else {
+    let Some(kind) = take_node_kind(from) else {
         return Ok(None);
     };
     let Some(file) = take_u32(from) else {
@@ -72,15 +72,4 @@ fn take_node(alloc: Global, from: &mut Reader) -> Result<Option<Node>, NoMemory>
         file,
         name,
     }))
-}
-
-fn take_kind(from: &mut Reader) -> Option<NodeKind>
-    ensures { Reads from.new result (kind_reading from.old) }
-{
-    match take_u8(from)? {
-        1 => Some(NodeKind::Directory),
-        2 => Some(NodeKind::System),
-        3 => Some(NodeKind::Alias),
-        _ => None,
-    }
 }

@@ -40,7 +40,8 @@ impl Model for AliasTree {
 impl AliasTree {
     ghost use Rattle.std.specs.Prelude.{List as Items};
     ghost use Rattle.alias_tree.specs.Edits.{is_name_of};
-    ghost use Rattle.alias_tree.specs.Trees.{entry_of_node, node_by, node_kind, tree_of};
+    ghost use Rattle.asm_formats.specs.Nodes.{entry_of_node, node_kind};
+    ghost use Rattle.alias_tree.specs.Trees.{node_by, tree_of};
     ghost use Rattle.alias_tree.specs.Nodes.{IsTable, Numbered, are_distinct, child, is_mine, is_under, node_at, number_from, number_of, record_of, with_node, without_node};
 
     /// A tree without names.

@@ -1,14 +1,13 @@
 //! The record of a node.
 
-ghost use Rattle.std.specs.Prelude.{◌≡◌, ◌≤◌, ◌+◌, ◌∷◌, [], IfOk, IsTrue};
+ghost use Rattle.std.specs.Prelude.{◌≡◌, IfOk, IsTrue};
 ghost use Rattle.asm_formats.specs.Items.{is_item, node_item};
 ghost use Rattle.asm_formats.specs.Values.{node_value, value};
-ghost use Rattle.asm_formats.specs.Codes.{node_code};
 ghost use Rattle.asm_base.specs.Cursors.{Puts};
 ghost use Rattle.asm_base.specs.Tables.{item_record};
 
 use crate::node::Node;
-use asm_base::{Block, Key, NoMemory, NodeKind, Value, Writer, put_name, put_u8, put_u32};
+use asm_base::{Block, Key, NoMemory, Value, Writer, put_name, put_node_kind, put_u32};
 use std::alloc::Global;
 
 /// The record of a node of this number.
@@ -47,20 +46,7 @@ fn put_node(to: &mut Writer, number: u32, node: &Node)
     ensures at { to.new.at ≡ 90 }
 {
     put_u32(to, node.parent);
-    put_kind(to, node.kind);
+    put_node_kind(to, node.kind);
     put_u32(to, node.file);
     put_name(to, &node.name, 80);
-}
-
-fn put_kind(to: &mut Writer, kind: NodeKind)
-    requires { to.old.at + 1 ≤ 4096 }
-    ensures puts { Puts to.old to.new (node_code kind ∷ []) }
-    ensures at { to.new.at ≡ to.old.at + 1 }
-{
-    let code = match kind {
-        NodeKind::Directory => 1,
-        NodeKind::System => 2,
-        NodeKind::Alias => 3,
-    };
-    put_u8(to, code);
 }

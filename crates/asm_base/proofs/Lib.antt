@@ -11,3 +11,4 @@ pub mod Lists
 pub mod ItemTables
 pub mod RefusalTexts
 pub mod PathLaws
+pub mod WordLaws

@@ -8,3 +8,4 @@ pub mod Frames
 pub mod Refusals
 pub mod RefusalText
 pub mod Paths
+pub mod Words

@@ -231,7 +231,8 @@ pub fn has_only_zeros(from: &Reader) -> bool
     are_zeros(&from.bytes[from.at as usize..])
 }
 
-pub(crate) fn are_zeros(bytes: &[u8]) -> bool
+/// Whether all bytes are zeros.
+pub fn are_zeros(bytes: &[u8]) -> bool
     ensures { result ≡ list_all (λ b. b == 0) bytes.now }
 {
     bytes.iter().all(|b| *b == 0)

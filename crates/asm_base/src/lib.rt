@@ -12,12 +12,13 @@ mod path;
 mod records;
 mod refusal;
 mod refusal_text;
+mod word;
 
 pub use block::{BLOCK_SIZE, Block};
 pub use cursor::{
-    Reader, Writer, finish, has_only_zeros, is_at_end, put_bytes, put_flag, put_set, put_u8,
-    put_u16, put_u32, put_u64, put_zeros, take_fixed, take_flag, take_set, take_u8, take_u16,
-    take_u32, take_u64,
+    Reader, Writer, are_zeros, finish, has_only_zeros, is_at_end, put_bytes, put_flag, put_set,
+    put_u8, put_u16, put_u32, put_u64, put_zeros, take_fixed, take_flag, take_set, take_u8,
+    take_u16, take_u32, take_u64,
 };
 pub use disk_set::DiskSet;
 pub use frame::{decode_record, encode_record};
@@ -26,11 +27,16 @@ pub use kinds::{
     Shape, Span, Stripe,
 };
 pub use list::{List, Text};
-pub use name::{Name, put_name, put_text, take_name, take_text};
+pub use name::{
+    Name, folded_byte, is_name, is_part, put_name, put_text, take_name, take_text, text_in,
+};
 pub use path::Path;
 pub use records::{Change, Key, Records, Value};
 pub use refusal::{DiskRef, Limited, Refusal};
 pub use refusal_text::no_memory_line;
+pub use word::{
+    put_node_kind, put_pending_kind, put_stripe, take_node_kind, take_pending_kind, take_stripe,
+};
 
 #[cfg(test)]
 mod tests;

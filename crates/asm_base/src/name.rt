@@ -99,8 +99,10 @@ fn are_name_bytes(bytes: &[u8]) -> bool
     bytes.iter().all(|b| is_name_byte(*b))
 }
 
+/// Whether bytes are a name of a group, a disk or a template: a letter first, no `-` or `.`, and
+/// at most 30 bytes.
 #[tactic(auto, unfolding(asm_group::specs::Names::is_name))]
-fn is_name(bytes: &[u8]) -> bool
+pub fn is_name(bytes: &[u8]) -> bool
     ensures { result ≡ is_name bytes.now }
 {
     match bytes {
@@ -119,8 +121,9 @@ fn are_part_bytes(bytes: &[u8]) -> bool
         .all(|b| is_name_byte(*b) || *b == b'-' || *b == b'.')
 }
 
+/// Whether bytes are a part of a path of at most `longest` bytes.
 #[tactic(auto, unfolding(asm_group::specs::Names::is_part))]
-fn is_part(bytes: &[u8], longest: u8) -> bool
+pub fn is_part(bytes: &[u8], longest: u8) -> bool
     ensures { result ≡ is_part longest bytes.now }
 {
     are_part_bytes(bytes)
@@ -129,7 +132,8 @@ fn is_part(bytes: &[u8], longest: u8) -> bool
         && bytes != b".".as_slice()
 }
 
-fn folded_byte(b: u8) -> u8
+/// The byte with a capital letter made small.
+pub fn folded_byte(b: u8) -> u8
     ensures { result ≡ folded_byte b }
 {
     if b.is_ascii_uppercase() { b + 32 } else { b }
@@ -206,8 +210,9 @@ pub fn take_name(alloc: Global, from: &mut Reader, width: u8) -> Result<Option<N
     Ok(Some(Name { bytes }))
 }
 
-/// The text in a field.
-fn text_in(bytes: &[u8], width: u8) -> Option<&[u8]>
+/// The text in a field of a width: its length, its bytes, and zeros up to the width. None where the
+/// field is short, or isn't a spelling of one.
+pub fn text_in(bytes: &[u8], width: u8) -> Option<&[u8]>
     ensures { option_copied result ≡ text_in width bytes.now }
 {
     let (len, rest) = bytes.split_first()?;

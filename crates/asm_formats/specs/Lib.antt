@@ -25,3 +25,4 @@ pub mod Writing
 pub mod PageLaws
 pub mod Among
 pub mod Damage
+pub mod Nodes

@@ -29,7 +29,8 @@ use Rattle.asm_placement.specs.Tables.{marks_in, is_extent}
 use Rattle.asm_placement.specs.Placed.{placed}
 use Rattle.asm_placement.specs.Partners.{partners, are_partners}
 use Rattle.asm_images.specs.Tables.{templates_of, settings_of, info_of}
-use Rattle.asm_images.specs.Tree.{node_at_path, entry_of_node}
+use Rattle.asm_formats.specs.Nodes.{entry_of_node}
+use Rattle.asm_images.specs.Tree.{node_at_path}
 use Rattle.asm_images.specs.Describing.{SameFile}
 use Rattle.asm_images.specs.Created.{created_group, only_header, only_entry, first_record, first_items, first_content, first_metadata, CreatedIsSound, CreatedIsStanding}
 

@@ -15,7 +15,8 @@ use Rattle.asm_placement.specs.Partners.{HasPartners}
 use Rattle.asm_formats.specs.Status.{Status, Entry}
 use Rattle.asm_formats.specs.Items.{Item, rebalance_item, pending_item, FileHead, DiskInfo, Pending, Settings}
 use Rattle.asm_images.specs.Tables.{info_of, pending_of, templates_of, settings_of}
-use Rattle.asm_images.specs.Tree.{node_at_path, entry_of_node, KeepsTreeRules}
+use Rattle.asm_formats.specs.Nodes.{entry_of_node}
+use Rattle.asm_images.specs.Tree.{node_at_path, KeepsTreeRules}
 
 -- ---- the layout in a group of a shape
 

@@ -4,8 +4,6 @@ use Rattle.std.specs.Str.{bytes_eq}
 use Rattle.asm_group.specs.declared.NodeKind.{NodeKind}
 use Rattle.asm_group.specs.declared.NodeKind.TheVariants.{Directory, System, Alias}
 use Rattle.asm_group.specs.Names.{Bytes, Path, folded}
-use Rattle.asm_group.specs.Group.{TreeNode, Dir, TreeEntry}
-use Rattle.asm_group.specs.Group as group
 use Rattle.asm_formats.specs.Items.{Item, node_item, FileHead, Node}
 use Rattle.asm_placement.specs.Tables.{first_said, if_is, head_of}
 use Rattle.asm_images.specs.Tables.{node_of}
@@ -50,15 +48,6 @@ reaches_root items (suc steps) n = (n == 0) || up (λ m. reaches_root items step
     up : (ℕ → Bool) → Option Node → Bool
     up go None = false
     up go (Some node) = go node.parent
-
--- what the group's users see of a node
-abbrev pub node_kind : NodeKind → ℕ → TreeNode
-node_kind Directory file = Dir
-node_kind System file = group.System file
-node_kind Alias file = group.Alias file
-
-abbrev pub entry_of_node : Node → TreeEntry
-entry_of_node node = record { name = node.name; node = node_kind node.kind node.file }
 
 -- ---- rules
 

@@ -2,13 +2,13 @@
 use Rattle.std.proofs.Common.{◌≡◌, ℕ, zero, suc, ◌+◌, ◌-◌, ◌<◌, ◌≤◌, Bool, true, false, cond, leb, List, [], ◌∷◌, length, Option, Some, None, refl, sym, ap, ◌∙◌, arith}
 use Rattle.std.specs.Prelude.{◌&&◌}
 use Rattle.std.specs.Option.{option_and_then, option_map}
-use Rattle.asm_group.specs.Names.{Bytes, folded, is_name}
+use Rattle.asm_group.specs.Names.{Bytes, folded}
 use Rattle.asm_group.specs.declared.Stripe.{Stripe}
 use Rattle.asm_group.specs.Group.{Template}
 use Rattle.asm_formats.specs.Items.{precedes}
-use Rattle.asm_base.specs.Readings.{Reading, both, byte_reading, flag_reading, repeated, counted, tested}
-use Rattle.directory_page.specs.Checks.{Check, in_turn, passed}
-use Rattle.directory_page.specs.Values.{ascend_after, each_after, copies_reading, named_reading, stripe_reading, template_name_reading, template_reading, template_rest_check, templates_check, templates_reading, TemplateParts, to_template}
+use Rattle.asm_base.specs.Readings.{both, byte_reading, flag_reading, repeated}
+use Rattle.asm_base.specs.Words.{stripe_reading}
+use Rattle.directory_page.specs.Values.{ascend_after, each_after, copies_reading, named_reading, template_name_reading, template_reading, template_rest_check, templates_check, templates_reading, TemplateParts, to_template}
 use Rattle.directory_page.proofs.Passing.{Passing, both_pass, read_passes}
 
 -- ---- the loop

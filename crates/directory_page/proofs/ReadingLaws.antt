@@ -1,35 +1,30 @@
 -- The value of a record of each kind passes its check just where it is decoded.
-use Rattle.std.proofs.Common.{◌≡◌, ◌≢◌, ℕ, zero, suc, ◌+◌, ◌-◌, ◌^◌, ◌<◌, ◌≤◌, Bool, true, false, cond, eqb, leb, ltb, List, [], ◌∷◌, ◌++◌, length, replicate, Option, Some, None, refl, sym, ap, subst, ◌∙◌, arith, inl, inr, ◌⊎◌}
+use Rattle.std.proofs.Common.{◌≡◌, ◌≢◌, ℕ, suc, ◌+◌, ◌-◌, ◌^◌, ◌<◌, ◌≤◌, Bool, true, false, cond, eqb, leb, ltb, List, [], ◌∷◌, ◌++◌, length, replicate, Option, Some, None, refl, sym, ap, subst, ◌∙◌, arith, inl, inr}
 use Rattle.std.specs.Prelude.{◌&&◌}
 use Rattle.std.specs.Int.{w16, w32, w64}
 use Rattle.std.specs.Str.{bytes_eq}
-use Rattle.std.specs.Option.{is_some, option_and_then, option_map}
+use Rattle.std.specs.Option.{is_some, option_map}
 use Rattle.std.specs.List.{flat_map, list_all, AllByRecursion}
 use Rattle.std.proofs.lemmas.Bool.{and_parts, and_from, eqb-true, eq-eqb, leb-true, le-leb, ltb-true, lt-ltb, cases_eq, ne_eqb, true≢false}
 use Rattle.std.proofs.lemmas.Option.{none-some}
-use Rattle.asm_group.specs.declared.Stripe.{Stripe}
-use Rattle.asm_group.specs.declared.Stripe.TheVariants.{Coarse, Fine}
-use Rattle.asm_group.specs.declared.NodeKind.{NodeKind}
-use Rattle.asm_group.specs.declared.NodeKind.TheVariants.{Directory, System, Alias}
-use Rattle.asm_group.specs.declared.PendingKind.{PendingKind}
-use Rattle.asm_group.specs.declared.PendingKind.TheVariants.{Create, Remove, Grow, Shrink}
 use Rattle.asm_group.specs.Names.{Bytes, is_name, is_part, folded}
 use Rattle.asm_group.specs.Group.{Template}
 use Rattle.asm_formats.specs.Bytes.{number, name_field, spelled_by}
-use Rattle.asm_formats.specs.Codes.{flag, stripe_code, node_code, pending_code}
-use Rattle.asm_formats.specs.Items.{FileHead, Home, Homes, DiskInfo, Pending, Node, Settings, Item, Key, file_item, chunk_item, disk_item, rebalance_item, pending_item, templates_item, node_item, settings_item, marks_item, key, is_same_key, is_item, is_home, is_homes, is_redundancy, is_template, is_text, names_ascend, precedes}
+use Rattle.asm_formats.specs.Items.{FileHead, Home, Homes, DiskInfo, Pending, Node, Settings, Item, Key, file_item, chunk_item, disk_item, rebalance_item, pending_item, templates_item, node_item, settings_item, key, is_same_key, is_item, is_home, is_homes, is_redundancy, is_template, is_text, names_ascend, precedes}
 use Rattle.asm_formats.specs.Values.{value, decoded_item, item_by, file_value, home_fields, disk_value, pending_value, template_fields, node_value, settings_value, file_head_at, homes_at, disk_info_at, pending_at, templates_at, node_at, settings_at}
 use Rattle.asm_formats.proofs.Bodies.{item_codec}
-use Rattle.asm_base.specs.Readings.{Reading, both, as_a, decoded, tested, repeated, byte_reading, flag_reading, number_reading, name_reading, text_reading}
+use Rattle.asm_base.specs.Readings.{Reading, both, byte_reading, number_reading, name_reading, text_reading}
 use Rattle.asm_base.specs.Records.{all_of}
-use Rattle.asm_base.proofs.Exact.{IsBytes, IsExact, Begins, AreFitting, bind_some, test_some, some_is, chosen, both_exact, as_exact, tested_exact, decoded_exact, repeated_exact, fits_exact}
+use Rattle.asm_base.specs.Words.{stripe_reading, node_kind_reading, pending_kind_reading}
+use Rattle.asm_base.proofs.Exact.{IsBytes, IsExact, Begins, AreFitting, bind_some, test_some, some_is, chosen, both_exact, as_exact, tested_exact, repeated_exact, fits_exact}
 use Rattle.std.proofs.lemmas.List.{take_at}
 use Rattle.asm_base.proofs.Numbers.{number_exact, IsBytes-take}
 use Rattle.asm_base.proofs.FieldLaws.{one_byte, byte_exact, flag_exact, counted_exact}
+use Rattle.asm_base.proofs.WordLaws.{stripe_exact, node_kind_exact, pending_kind_exact}
 use Rattle.asm_base.proofs.NameLaws.{name_exact, text_exact, name_is_part, name_is_short}
 use Rattle.asm_base.proofs.Tables.{all_takes, all_again, bytes_are, are_bytes_is}
-use Rattle.directory_page.specs.Checks.{Check, passed, in_turn, times, is_all}
-use Rattle.directory_page.specs.Values.{copies_reading, known_stripe, stripe_reading, named_reading, system_reading, FileParts, to_file, file_reading, file_numbers_check, file_check, home_of, home_reading, chunk_reading, extent_check, chunk_check, DiskParts, to_disk, disk_reading, disk_check, pending_kind, pending_kind_reading, PendingParts, to_pending, pending_reading, pending_check, TemplateParts, to_template, template_reading, ascend_after, templates_reading, templates_check, node_kind, node_kind_reading, NodeParts, to_node, node_reading, node_check, SettingParts, to_settings, settings_reading, settings_check}
+use Rattle.directory_page.specs.Checks.{Check, passed, is_all}
+use Rattle.directory_page.specs.Values.{copies_reading, named_reading, system_reading, FileParts, to_file, file_reading, file_numbers_check, file_check, home_of, home_reading, chunk_reading, extent_check, chunk_check, DiskParts, to_disk, disk_reading, disk_check, PendingParts, to_pending, pending_reading, pending_check, TemplateParts, to_template, template_reading, ascend_after, templates_reading, templates_check, NodeParts, to_node, node_reading, node_check, SettingParts, to_settings, settings_reading, settings_check}
 use Rattle.directory_page.proofs.Passing.{Passing, read_passes, both_pass, as_passes, times_pass, all_passes}
 use Rattle.directory_page.proofs.Ascending.{templates_pass}
 
@@ -74,24 +69,6 @@ value_passes {A} {c} {r} {s} {F} passing law k make at bytes form spelt allowed 
 
 copies_exact : IsExact one_byte (λ n. (n < 256) × (is_redundancy n ≡ true)) copies_reading
 copies_exact = tested_exact is_redundancy byte_exact
-
-stripe_exact : IsExact (λ s. one_byte (stripe_code s)) (λ s. Unit {0}) stripe_reading
-stripe_exact = decoded_exact known_stripe stripe_code known one_code fits_code byte_exact where
-  known : (s : Stripe) → known_stripe (stripe_code s) ≡ Some s
-  known Coarse = refl
-  known Fine = refl
-
-  one_code : (n : ℕ) (s : Stripe) → known_stripe n ≡ Some s → n ≡ stripe_code s
-  one_code zero s e = absurd cc
-  one_code (suc zero) Coarse e = refl
-  one_code (suc zero) Fine e = absurd cc
-  one_code (suc (suc zero)) Coarse e = absurd cc
-  one_code (suc (suc zero)) Fine e = refl
-  one_code (suc (suc (suc n))) s e = absurd cc
-
-  fits_code : (s : Stripe) → stripe_code s < 256
-  fits_code Coarse = omega arith
-  fits_code Fine = omega arith
 
 name_bytes : (n : Bytes) → is_name n ≡ true → IsBytes n
 unfolding name_field
@@ -247,32 +224,6 @@ pub power_passes : (bytes : Bytes) → IsBytes bytes → is_all (passed (number_
 power_passes bytes are =
     value_passes power_passing (number_exact w16) (record { kind = 4; a = 0; b = 0 }) rebalance_item (power_form 0 bytes).0 bytes (power_form 0 bytes).1 power_spelt (λ n fits. (power_allowed n fits, refl)) power_fits are
 
-pending_kind_exact : IsExact (λ k. one_byte (pending_code k)) (λ k. Unit {0}) pending_kind_reading
-pending_kind_exact = decoded_exact pending_kind pending_code known one_code fits_code byte_exact where
-  known : (k : PendingKind) → pending_kind (pending_code k) ≡ Some k
-  known Create = refl
-  known Remove = refl
-  known Grow = refl
-  known Shrink = refl
-
-  coded : Option PendingKind → ℕ
-  coded (Some k) = pending_code k
-  coded None = 0
-
-  one_code : (n : ℕ) (k : PendingKind) → pending_kind n ≡ Some k → n ≡ pending_code k
-  one_code zero k e = absurd cc
-  one_code (suc zero) k e = ap coded e
-  one_code (suc (suc zero)) k e = ap coded e
-  one_code (suc (suc (suc zero))) k e = ap coded e
-  one_code (suc (suc (suc (suc zero)))) k e = ap coded e
-  one_code (suc (suc (suc (suc (suc n))))) k e = absurd cc
-
-  fits_code : (k : PendingKind) → pending_code k < 256
-  fits_code Create = omega arith
-  fits_code Remove = omega arith
-  fits_code Grow = omega arith
-  fits_code Shrink = omega arith
-
 record FitsPending (p : Pending) : Type 0 where
   file : p.file < 2 ^ 32
   kept : p.kept < 2 ^ 64
@@ -311,29 +262,6 @@ pending_passes bytes are =
     value_passes pending_passing pending_exact (record { kind = 4; a = 1; b = 0 }) pending_item (pending_at bytes) bytes (pending_form 1 0 bytes (λ e. omega (arith, e))) pending_spelt (λ p fits. (pending_allowed p fits, refl)) pending_fits are
 
 -- ---- nodes
-
-node_kind_exact : IsExact (λ k. one_byte (node_code k)) (λ k. Unit {0}) node_kind_reading
-node_kind_exact = decoded_exact node_kind node_code known one_code fits_code byte_exact where
-  known : (k : NodeKind) → node_kind (node_code k) ≡ Some k
-  known Directory = refl
-  known System = refl
-  known Alias = refl
-
-  coded : Option NodeKind → ℕ
-  coded (Some k) = node_code k
-  coded None = 0
-
-  one_code : (n : ℕ) (k : NodeKind) → node_kind n ≡ Some k → n ≡ node_code k
-  one_code zero k e = absurd cc
-  one_code (suc zero) k e = ap coded e
-  one_code (suc (suc zero)) k e = ap coded e
-  one_code (suc (suc (suc zero))) k e = ap coded e
-  one_code (suc (suc (suc (suc n)))) k e = absurd cc
-
-  fits_code : (k : NodeKind) → node_code k < 256
-  fits_code Directory = omega arith
-  fits_code System = omega arith
-  fits_code Alias = omega arith
 
 record FitsNode (n : Node) : Type 0 where
   parent : n.parent < 2 ^ 32

@@ -4,16 +4,14 @@ use Rattle.std.specs.Option.{option_and_then, option_map}
 use Rattle.std.specs.List.{list_all}
 use Rattle.std.specs.Int.{w16, w32, w64}
 use Rattle.asm_group.specs.declared.Stripe.{Stripe}
-use Rattle.asm_group.specs.declared.Stripe.TheVariants.{Coarse, Fine}
 use Rattle.asm_group.specs.declared.NodeKind.{NodeKind}
-use Rattle.asm_group.specs.declared.NodeKind.TheVariants.{Directory, System, Alias}
 use Rattle.asm_group.specs.declared.PendingKind.{PendingKind}
-use Rattle.asm_group.specs.declared.PendingKind.TheVariants.{Create, Remove, Grow, Shrink}
 use Rattle.asm_group.specs.Names.{Bytes, is_name, folded}
 use Rattle.asm_group.specs.Group.{Template}
 use Rattle.asm_formats.specs.Sets.{most_disks}
-use Rattle.asm_formats.specs.Items.{FileHead, Home, Homes, DiskInfo, Pending, Node, Settings, Key, chunk_len, is_redundancy, most_templates, precedes}
+use Rattle.asm_formats.specs.Items.{FileHead, Home, Homes, DiskInfo, Pending, Node, Settings, chunk_len, is_redundancy, most_templates, precedes}
 use Rattle.asm_base.specs.Readings.{Reading, both, as_a, decoded, tested, repeated, counted, byte_reading, flag_reading, number_reading, name_reading, text_reading}
+use Rattle.asm_base.specs.Words.{stripe_reading, node_kind_reading, pending_kind_reading}
 use Rattle.directory_page.specs.Checks.{Check, passed, in_turn, times, is_all}
 
 -- ---- fields
@@ -21,15 +19,6 @@ use Rattle.directory_page.specs.Checks.{Check, passed, in_turn, times, is_all}
 -- one to three copies
 abbrev pub copies_reading : Reading ℕ
 copies_reading = tested is_redundancy byte_reading
-
-abbrev pub known_stripe : ℕ → Option Stripe
-known_stripe zero = None
-known_stripe (suc zero) = Some Coarse
-known_stripe (suc (suc zero)) = Some Fine
-known_stripe (suc (suc (suc n))) = None
-
-abbrev pub stripe_reading : Reading Stripe
-stripe_reading = decoded known_stripe byte_reading
 
 -- the name of a disk, a failure group or a template
 abbrev pub named_reading : Reading Bytes
@@ -94,17 +83,6 @@ disk_check = in_turn (passed (number_reading w64)) (in_turn (passed named_readin
 
 -- ---- operations
 
-abbrev pub pending_kind : ℕ → Option PendingKind
-pending_kind zero = None
-pending_kind (suc zero) = Some Create
-pending_kind (suc (suc zero)) = Some Remove
-pending_kind (suc (suc (suc zero))) = Some Grow
-pending_kind (suc (suc (suc (suc zero)))) = Some Shrink
-pending_kind (suc (suc (suc (suc (suc n))))) = None
-
-abbrev pub pending_kind_reading : Reading PendingKind
-pending_kind_reading = decoded pending_kind byte_reading
-
 abbrev pub PendingParts : Type 0
 PendingParts = PendingKind × (ℕ × ℕ)
 
@@ -155,16 +133,6 @@ abbrev pub templates_check : Check
 templates_check bytes = option_and_then (λ n. if nat_le n.0 most_templates then each_after [] n.0 n.1 else None) (byte_reading bytes)
 
 -- ---- nodes
-
-abbrev pub node_kind : ℕ → Option NodeKind
-node_kind zero = None
-node_kind (suc zero) = Some Directory
-node_kind (suc (suc zero)) = Some System
-node_kind (suc (suc (suc zero))) = Some Alias
-node_kind (suc (suc (suc (suc n)))) = None
-
-abbrev pub node_kind_reading : Reading NodeKind
-node_kind_reading = decoded node_kind byte_reading
 
 abbrev pub NodeParts : Type 0
 NodeParts = ℕ × (NodeKind × (ℕ × Bytes))

@@ -1,9 +1,12 @@
 // Fields that stand for a word or a small number.
 ghost use Rattle.asm_base.specs.Readings.{flag_reading};
+ghost use Rattle.asm_base.specs.Words.{stripe_reading, node_kind_reading, pending_kind_reading};
 ghost use Rattle.directory_page.specs.Checks.{Passes, passed};
-ghost use Rattle.directory_page.specs.Values.{copies_reading, stripe_reading, system_reading, home_reading, pending_kind_reading, node_kind_reading};
+ghost use Rattle.directory_page.specs.Values.{copies_reading, system_reading, home_reading};
 
-use asm_base::{Reader, take_flag, take_u8, take_u32};
+use asm_base::{
+    Reader, take_flag, take_node_kind, take_pending_kind, take_stripe, take_u8, take_u32,
+};
 
 /// Passes over a number of copies: 1 to 3.
 pub(crate) fn pass_copies(from: &mut Reader) -> Option<()>
@@ -21,10 +24,8 @@ pub(crate) fn pass_copies(from: &mut Reader) -> Option<()>
 pub(crate) fn pass_stripe(from: &mut Reader) -> Option<()>
     ensures { Passes from.new result (passed stripe_reading from.old) }
 {
-    match take_u8(from)? {
-        1 | 2 => Some(()),
-        _ => None,
-    }
+    take_stripe(from)?;
+    Some(())
 }
 
 /// Passes over yes or no: 1 or 0.
@@ -61,18 +62,14 @@ pub(crate) fn pass_home(from: &mut Reader) -> Option<()>
 pub(crate) fn pass_pending_kind(from: &mut Reader) -> Option<()>
     ensures { Passes from.new result (passed pending_kind_reading from.old) }
 {
-    match take_u8(from)? {
-        1 | 2 | 3 | 4 => Some(()),
-        _ => None,
-    }
+    take_pending_kind(from)?;
+    Some(())
 }
 
 /// Passes over the kind of a node: 1 directory, 2 system name, 3 alias.
 pub(crate) fn pass_node_kind(from: &mut Reader) -> Option<()>
     ensures { Passes from.new result (passed node_kind_reading from.old) }
 {
-    match take_u8(from)? {
-        1 | 2 | 3 => Some(()),
-        _ => None,
-    }
+    take_node_kind(from)?;
+    Some(())
 }

@@ -7,9 +7,8 @@ ghost use Rattle.asm_base.specs.Cursors.{Reads};
 ghost use Rattle.asm_base.specs.Frames.{head_reading};
 ghost use Rattle.directory_page.specs.Frames.{is_framed, value_in};
 
-use crate::text::are_zeros;
 use crate::values::is_value;
-use asm_base::{Block, Key, Reader, take_fixed, take_u16, take_u32};
+use asm_base::{Block, Key, Reader, are_zeros, take_fixed, take_u16, take_u32};
 
 /// The most bytes in a value.
 const MOST_VALUE: usize = 4064;

@@ -1,5 +1,5 @@
 -- The head of a file is read from its one spelling alone.
-use Rattle.std.proofs.Common.{◌≡◌, ℕ, zero, suc, ◌^◌, ◌<◌, ◌≤◌, Bool, true, false, leb, ltb, eqb, cond, List, [], ◌∷◌, ◌++◌, length, map, Option, Some, None, refl, sym, ap, subst, ◌∙◌, arith}
+use Rattle.std.proofs.Common.{◌≡◌, ℕ, ◌^◌, ◌<◌, ◌≤◌, Bool, true, false, leb, ltb, eqb, cond, List, [], ◌++◌, length, map, Option, Some, None, refl, sym, ap, subst, ◌∙◌, arith}
 use Rattle.std.specs.Prelude.{◌&&◌}
 use Rattle.std.specs.Int.{w32, w64}
 use Rattle.std.specs.Option.{option_map}
@@ -10,43 +10,21 @@ use Rattle.std.specs.FinMap.{nat_cmp-IsAntisymmetric}
 use Rattle.std.specs.Ordering.{nat_cmp}
 use Rattle.std.specs.declared.cmp.Ordering.TheVariants.{Equal}
 use Rattle.std.proofs.lemmas.Bool.{and_parts, eqb-true, le-leb, leb-true, ltb-true, lt-ltb, true≢false}
-use Rattle.asm_group.specs.declared.Stripe.{Stripe}
-use Rattle.asm_group.specs.declared.Stripe.TheVariants.{Coarse, Fine}
 use Rattle.asm_group.specs.Names.{is_part}
 use Rattle.asm_formats.specs.Bytes.{number}
-use Rattle.asm_formats.specs.Codes.{stripe_code}
 use Rattle.asm_formats.specs.Items.{FileHead, Item, Key, file_item, chunk_item, disk_item, rebalance_item, pending_item, templates_item, node_item, settings_item, marks_item, key, is_item, is_redundancy}
 use Rattle.asm_formats.specs.Values.{value, file_value, decoded_item}
 use Rattle.asm_base.specs.Records.{Entry, all_of, ends_below, of_kinds, read_from}
 use Rattle.asm_base.specs.Tables.{entry_of_record}
-use Rattle.asm_base.proofs.Exact.{IsExact, some_is, both_exact, as_exact, decoded_exact, fits_exact}
+use Rattle.asm_base.proofs.Exact.{IsExact, some_is, both_exact, as_exact, fits_exact}
 use Rattle.asm_base.proofs.Numbers.{number_exact}
 use Rattle.asm_base.proofs.FieldLaws.{byte_exact}
+use Rattle.asm_base.proofs.WordLaws.{stripe_exact}
 use Rattle.asm_base.proofs.NameLaws.{name_exact, part_is, part_is_short, part_of}
 use Rattle.asm_base.proofs.ItemTables.{IsEntry, entry_is_read, entry_taken, is_entry_item, items_again, items_found, put_keeps, removed_keeps, value_is_decoded}
 use Rattle.file_directory.specs.Files.{File, IsTable, add, entry_of, is_before, is_mine, item_of, record_of, with_head, without_file}
 use Rattle.file_directory.specs.declared.reading.Numbers.{Numbers}
-use Rattle.file_directory.specs.Readings.{known_stripe, stripe_reading, NumberParts, to_numbers, numbers_reading, HeadParts, to_head, head_reading, is_right, right_head}
-
--- ---- the stripe
-
-stripe_exact : IsExact (λ s. stripe_code s ∷ []) (λ s. Unit {0}) stripe_reading
-stripe_exact = decoded_exact known_stripe stripe_code known one_code fits_code byte_exact where
-  known : (s : Stripe) → known_stripe (stripe_code s) ≡ Some s
-  known Coarse = refl
-  known Fine = refl
-
-  one_code : (n : ℕ) (s : Stripe) → known_stripe n ≡ Some s → n ≡ stripe_code s
-  one_code zero s e = absurd cc
-  one_code (suc zero) Coarse e = refl
-  one_code (suc zero) Fine e = absurd cc
-  one_code (suc (suc zero)) Coarse e = absurd cc
-  one_code (suc (suc zero)) Fine e = refl
-  one_code (suc (suc (suc n))) s e = absurd cc
-
-  fits_code : (s : Stripe) → stripe_code s < 256
-  fits_code Coarse = omega arith
-  fits_code Fine = omega arith
+use Rattle.file_directory.specs.Readings.{NumberParts, to_numbers, numbers_reading, HeadParts, to_head, head_reading, is_right, right_head}
 
 -- ---- the fields
 

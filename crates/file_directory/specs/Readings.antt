@@ -1,22 +1,13 @@
 -- The reading of a file's head, field by field, and what is tested then.
-use Rattle.std.specs.Prelude.{ℕ, zero, suc, Bool, ◌&&◌, nat_lt, Option, Some, None, if◌then◌else◌}
+use Rattle.std.specs.Prelude.{ℕ, Bool, ◌&&◌, nat_lt, Option, Some, None, if◌then◌else◌}
 use Rattle.std.specs.Option.{option_and_then}
 use Rattle.std.specs.Int.{w32, w64}
 use Rattle.asm_group.specs.declared.Stripe.{Stripe}
-use Rattle.asm_group.specs.declared.Stripe.TheVariants.{Coarse, Fine}
 use Rattle.asm_group.specs.Names.{Bytes}
 use Rattle.asm_formats.specs.Items.{FileHead, is_redundancy}
 use Rattle.file_directory.specs.declared.reading.Numbers.{Numbers}
-use Rattle.asm_base.specs.Readings.{Reading, both, as_a, decoded, byte_reading, number_reading, name_reading}
-
-abbrev pub known_stripe : ℕ → Option Stripe
-known_stripe zero = None
-known_stripe (suc zero) = Some Coarse
-known_stripe (suc (suc zero)) = Some Fine
-known_stripe (suc (suc (suc n))) = None
-
-abbrev pub stripe_reading : Reading Stripe
-stripe_reading = decoded known_stripe byte_reading
+use Rattle.asm_base.specs.Readings.{Reading, both, as_a, byte_reading, number_reading, name_reading}
+use Rattle.asm_base.specs.Words.{stripe_reading}
 
 abbrev pub NumberParts : Type 0
 NumberParts = ℕ × (ℕ × (ℕ × ℕ))

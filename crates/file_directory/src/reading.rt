@@ -7,11 +7,11 @@ ghost use Rattle.asm_base.specs.Cursors.{Reads};
 ghost use Rattle.asm_base.specs.Records.{all_of};
 ghost use Rattle.asm_base.specs.Tables.{entry_of_record};
 ghost use Rattle.file_directory.specs.Files.{entry_of, is_mine};
-ghost use Rattle.file_directory.specs.Readings.{stripe_reading, numbers_reading, head_reading, is_right, right_head};
+ghost use Rattle.file_directory.specs.Readings.{numbers_reading, head_reading, is_right, right_head};
 
 use crate::head::FileHead;
 use asm_base::{
-    Key, NoMemory, Reader, Stripe, Value, is_at_end, take_name, take_u8, take_u32, take_u64,
+    Key, NoMemory, Reader, Value, is_at_end, take_name, take_stripe, take_u8, take_u32, take_u64,
 };
 use std::alloc::Global;
 
@@ -105,16 +105,6 @@ fn take_head(alloc: Global, from: &mut Reader) -> Result<Option<FileHead>, NoMem
         system: numbers.system,
         alias: numbers.alias,
     }))
-}
-
-fn take_stripe(from: &mut Reader) -> Option<Stripe>
-    ensures { Reads from.new result (stripe_reading from.old) }
-{
-    match take_u8(from)? {
-        1 => Some(Stripe::Coarse),
-        2 => Some(Stripe::Fine),
-        _ => None,
-    }
 }
 
 #[tactic(auto, unfolding(crate::specs::Readings::numbers_reading))]

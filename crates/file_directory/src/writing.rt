@@ -1,14 +1,15 @@
 //! The value of a file's record.
 
-ghost use Rattle.std.specs.Prelude.{◌≡◌, ◌≤◌, ◌+◌, ◌∷◌, [], length, IfOk, IsTrue};
+ghost use Rattle.std.specs.Prelude.{◌≡◌, ◌≤◌, length, IfOk, IsTrue};
 ghost use Rattle.asm_formats.specs.Items.{file_item, is_item};
 ghost use Rattle.asm_formats.specs.Values.{file_value};
-ghost use Rattle.asm_formats.specs.Codes.{stripe_code};
 ghost use Rattle.asm_base.specs.Cursors.{Puts};
 ghost use Rattle.file_directory.specs.Files.{record_of};
 
 use crate::head::FileHead;
-use asm_base::{Block, Key, NoMemory, Stripe, Value, Writer, put_name, put_u8, put_u32, put_u64};
+use asm_base::{
+    Block, Key, NoMemory, Value, Writer, put_name, put_stripe, put_u8, put_u32, put_u64,
+};
 use std::alloc::Global;
 
 /// The kind of the records of files and their chunks.
@@ -48,16 +49,4 @@ fn put_head(to: &mut Writer, head: &FileHead)
     put_u64(to, head.incarnation);
     put_u32(to, head.system);
     put_u32(to, head.alias);
-}
-
-fn put_stripe(to: &mut Writer, stripe: Stripe)
-    requires { to.old.at + 1 ≤ 4096 }
-    ensures puts { Puts to.old to.new (stripe_code stripe ∷ []) }
-    ensures at { to.new.at ≡ to.old.at + 1 }
-{
-    let code = match stripe {
-        Stripe::Coarse => 1,
-        Stripe::Fine => 2,
-    };
-    put_u8(to, code);
 }

@@ -22,7 +22,8 @@ use Rattle.asm_formats.specs.Following.{sets_of, disks_of}
 use Rattle.asm_formats.specs.Metadata.{Metadata}
 use Rattle.asm_formats.specs.Content.{Content}
 use Rattle.asm_images.specs.Tables.{node_of, templates_of, settings_of, info_of}
-use Rattle.asm_images.specs.Tree.{node_at_path, entry_of_node}
+use Rattle.asm_formats.specs.Nodes.{entry_of_node}
+use Rattle.asm_images.specs.Tree.{node_at_path}
 use Rattle.asm_images.specs.Members.{Image, Member, within, statuses, all_members}
 use Rattle.asm_images.specs.Register.{Fits, HoldsOne, greatest, is_enough, status, status_by}
 use Rattle.asm_images.specs.Directories.{newest, directories, copies}

@@ -1,51 +1,21 @@
 -- The values of the records of operations are read exactly.
-use Rattle.std.proofs.Common.{◌≡◌, ℕ, zero, suc, ◌^◌, ◌<◌, Bool, true, cond, ltb, List, [], ◌∷◌, ◌++◌, Option, Some, None, refl, sym, ap, ◌∙◌, arith, inl, inr, ◌⊎◌}
-use Rattle.std.specs.Prelude.{◌&&◌}
+use Rattle.std.proofs.Common.{◌≡◌, ℕ, zero, suc, ◌^◌, ◌<◌, true, cond, ltb, List, Option, Some, None, refl, sym, ap, ◌∙◌, arith, inl, inr, ◌⊎◌}
 use Rattle.std.specs.Int.{w16, w32, w64}
 use Rattle.std.specs.Option.{option_and_then, option_map}
 use Rattle.std.proofs.lemmas.Bool.{and_parts, ltb-true, lt-ltb}
-use Rattle.asm_group.specs.declared.PendingKind.{PendingKind}
-use Rattle.asm_group.specs.declared.PendingKind.TheVariants.{Create, Remove, Grow, Shrink}
 use Rattle.asm_formats.specs.Bytes.{number}
-use Rattle.asm_formats.specs.Codes.{pending_code}
 use Rattle.asm_formats.specs.Items.{Item, file_item, chunk_item, disk_item, rebalance_item, pending_item, templates_item, node_item, settings_item, marks_item, Key, key, is_item, Pending as PendingOperation}
 use Rattle.asm_formats.specs.Values.{value, pending_value, decoded_item}
-use Rattle.asm_base.specs.Readings.{Reading, byte_reading, decoded, number_reading}
-use Rattle.asm_base.specs.Records.{Entry, all_of}
+use Rattle.asm_base.specs.Readings.{number_reading}
+use Rattle.asm_base.specs.Records.{all_of}
 use Rattle.asm_base.specs.Tables.{entry_of_record}
-use Rattle.asm_base.proofs.Exact.{IsExact, some_is, both_exact, as_exact, decoded_exact, fits_exact}
+use Rattle.asm_base.proofs.Exact.{IsExact, some_is, both_exact, as_exact, fits_exact}
 use Rattle.asm_base.proofs.Numbers.{number_exact}
-use Rattle.asm_base.proofs.FieldLaws.{one_byte, byte_exact}
+use Rattle.asm_base.proofs.WordLaws.{pending_kind_exact}
 use Rattle.asm_base.proofs.ItemTables.{IsEntry, entry_is_read, item_is_decoded, value_is_decoded}
 use Rattle.operations_directory.specs.declared.reading.Operation.{Operation}
 use Rattle.operations_directory.specs.declared.reading.Operation.TheVariants.{Rebalance, Pending}
-use Rattle.operations_directory.specs.Readings.{item_of, operation_of, kind_of, PendingParts, to_pending, pending_reading, read_operation}
-
-kind_exact : IsExact (λ k. one_byte (pending_code k)) (λ k. Unit {0}) (decoded kind_of byte_reading)
-kind_exact = decoded_exact kind_of pending_code known one_code fits_code byte_exact where
-  known : (k : PendingKind) → kind_of (pending_code k) ≡ Some k
-  known Create = refl
-  known Remove = refl
-  known Grow = refl
-  known Shrink = refl
-
-  coded : Option PendingKind → ℕ
-  coded (Some k) = pending_code k
-  coded None = 0
-
-  one_code : (n : ℕ) (k : PendingKind) → kind_of n ≡ Some k → n ≡ pending_code k
-  one_code zero k e = absurd cc
-  one_code (suc zero) k e = ap coded e
-  one_code (suc (suc zero)) k e = ap coded e
-  one_code (suc (suc (suc zero))) k e = ap coded e
-  one_code (suc (suc (suc (suc zero)))) k e = ap coded e
-  one_code (suc (suc (suc (suc (suc n))))) k e = absurd cc
-
-  fits_code : (k : PendingKind) → pending_code k < 256
-  fits_code Create = omega arith
-  fits_code Remove = omega arith
-  fits_code Grow = omega arith
-  fits_code Shrink = omega arith
+use Rattle.operations_directory.specs.Readings.{item_of, operation_of, PendingParts, to_pending, pending_reading, read_operation}
 
 record FitsPending (p : PendingOperation) : Type 0 where
   file : p.file < 2 ^ 32
@@ -57,7 +27,7 @@ of_pending p = (p.kind, (p.file, p.kept))
 pending_exact : IsExact pending_value FitsPending pending_reading
 unfolding pending_reading of_pending
 pending_exact =
-    let fields = both_exact kind_exact (both_exact (number_exact w32) (number_exact w64)) in
+    let fields = both_exact pending_kind_exact (both_exact (number_exact w32) (number_exact w64)) in
     fits_exact (λ p f. record { file = f.1.0; kept = f.1.1 }) (λ p f. (tt, (f.file, f.kept))) (as_exact to_pending of_pending (λ a. refl) (λ b. refl) fields)
 
 -- ---- what is read is the item

@@ -3,9 +3,9 @@ use Rattle.std.specs.Prelude.{ℕ, zero, suc, ◌||◌, List, Option, Some, None
 use Rattle.std.specs.Int.{w16, w32, w64}
 use Rattle.std.specs.Option.{is_some, option_and_then, option_map}
 use Rattle.asm_group.specs.declared.PendingKind.{PendingKind}
-use Rattle.asm_group.specs.declared.PendingKind.TheVariants.{Create, Remove, Grow, Shrink}
 use Rattle.asm_formats.specs.Items.{Item, Pending as PendingOperation, pending_item, rebalance_item}
-use Rattle.asm_base.specs.Readings.{Reading, as_a, both, byte_reading, decoded, number_reading}
+use Rattle.asm_base.specs.Readings.{Reading, as_a, both, number_reading}
+use Rattle.asm_base.specs.Words.{pending_kind_reading}
 use Rattle.asm_base.specs.Records.{Entry, all_of}
 use Rattle.asm_base.specs.Tables.{entry_of_record}
 use Rattle.operations_directory.specs.declared.reading.Operation.{Operation}
@@ -24,14 +24,6 @@ operation_of _ = None
 
 -- ---- values
 
-abbrev pub kind_of : ℕ → Option PendingKind
-kind_of zero = None
-kind_of (suc zero) = Some Create
-kind_of (suc (suc zero)) = Some Remove
-kind_of (suc (suc (suc zero))) = Some Grow
-kind_of (suc (suc (suc (suc zero)))) = Some Shrink
-kind_of (suc (suc (suc (suc (suc n))))) = None
-
 abbrev pub PendingParts : Type 0
 PendingParts = PendingKind × (ℕ × ℕ)
 
@@ -39,7 +31,7 @@ abbrev pub to_pending : PendingParts → PendingOperation
 to_pending (kind, (file, kept)) = record { kind = kind; file = file; kept = kept }
 
 unfoldable pub pending_reading : Reading PendingOperation
-pending_reading = as_a to_pending (both (decoded kind_of byte_reading) (both (number_reading w32) (number_reading w64)))
+pending_reading = as_a to_pending (both pending_kind_reading (both (number_reading w32) (number_reading w64)))
 
 -- the value of the record of two numbers
 abbrev pub read_operation : ℕ → ℕ → List ℕ → Option Operation

@@ -9,7 +9,7 @@ ghost use Rattle.asm_base.specs.Tables.{entry_of_record};
 ghost use Rattle.operations_directory.specs.Readings.{operation_of, pending_reading, read_operation};
 
 use crate::pending::Pending;
-use asm_base::{Key, PendingKind, Reader, is_at_end, take_u8, take_u16, take_u32, take_u64};
+use asm_base::{Key, Reader, is_at_end, take_pending_kind, take_u16, take_u32, take_u64};
 
 /// What one record says.
 #[derive(Clone, Copy)]
@@ -63,15 +63,8 @@ fn pending_of(bytes: &[u8]) -> Option<Pending>
 fn take_pending(from: &mut Reader) -> Option<Pending>
     ensures { Reads from.new result (pending_reading from.old) }
 {
-    let kind = match take_u8(from)? {
-        1 => PendingKind::Create,
-        2 => PendingKind::Remove,
-        3 => PendingKind::Grow,
-        4 => PendingKind::Shrink,
-        _ => return None,
-    };
     Some(Pending {
-        kind,
+        kind: take_pending_kind(from)?,
         file: take_u32(from)?,
         kept: take_u64(from)?,
     })

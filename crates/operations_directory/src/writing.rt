@@ -1,16 +1,13 @@
 //! The records of operations, written.
 
-ghost use Rattle.std.specs.Prelude.{◌≡◌, ◌≤◌, ◌+◌, ◌∷◌, [], IfOk};
-ghost use Rattle.asm_formats.specs.Codes.{pending_code};
+ghost use Rattle.std.specs.Prelude.{◌≡◌, IfOk};
 ghost use Rattle.asm_formats.specs.Items.{rebalance_item, pending_item};
 ghost use Rattle.asm_formats.specs.Values.{value, pending_value};
 ghost use Rattle.asm_base.specs.Cursors.{Puts};
 ghost use Rattle.asm_base.specs.Tables.{item_record};
 
 use crate::pending::Pending;
-use asm_base::{
-    Block, Key, NoMemory, PendingKind, Value, Writer, put_u8, put_u16, put_u32, put_u64,
-};
+use asm_base::{Block, Key, NoMemory, Value, Writer, put_pending_kind, put_u16, put_u32, put_u64};
 use std::alloc::Global;
 
 /// The kind of the records of operations.
@@ -72,21 +69,7 @@ fn put_pending(to: &mut Writer, op: &Pending)
     ensures at { to.new.at ≡ 13 }
 {
     let op = *op;
-    put_kind(to, op.kind);
+    put_pending_kind(to, op.kind);
     put_u32(to, op.file);
     put_u64(to, op.kept);
-}
-
-fn put_kind(to: &mut Writer, kind: PendingKind)
-    requires { to.old.at + 1 ≤ 4096 }
-    ensures puts { Puts to.old to.new (pending_code kind ∷ []) }
-    ensures at { to.new.at ≡ to.old.at + 1 }
-{
-    let code = match kind {
-        PendingKind::Create => 1,
-        PendingKind::Remove => 2,
-        PendingKind::Grow => 3,
-        PendingKind::Shrink => 4,
-    };
-    put_u8(to, code);
 }

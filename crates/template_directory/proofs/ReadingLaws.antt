@@ -1,51 +1,27 @@
 -- Templates and settings are read from their one spelling alone.
-use Rattle.std.proofs.Common.{◌≡◌, ℕ, zero, suc, ◌^◌, ◌<◌, ◌≤◌, Bool, true, false, leb, ltb, eqb, cond, List, [], ◌∷◌, ◌++◌, length, Option, Some, None, refl, sym, ap, subst, ◌∙◌, append_assoc, arith}
+use Rattle.std.proofs.Common.{◌≡◌, ℕ, ◌^◌, ◌<◌, ◌≤◌, true, false, leb, ltb, eqb, cond, List, [], ◌∷◌, length, Option, Some, None, refl, sym, ap, subst, ◌∙◌, arith}
 use Rattle.std.specs.Prelude.{◌&&◌}
 use Rattle.std.specs.Int.{w64}
 use Rattle.std.specs.List.{flat_map, list_all, AllByRecursion}
 use Rattle.std.specs.Option.{option_and_then, option_map}
 use Rattle.std.specs.Prelude.{IfSome}
 use Rattle.std.proofs.lemmas.Bool.{and_parts, and_from, eqb-true, leb-true, le-leb, ltb-true, lt-ltb, true≢false}
-use Rattle.asm_group.specs.declared.Stripe.{Stripe}
-use Rattle.asm_group.specs.declared.Stripe.TheVariants.{Coarse, Fine}
 use Rattle.asm_group.specs.Names.{is_name, is_part}
 use Rattle.asm_group.specs.Group.{Template}
-use Rattle.asm_formats.specs.Bytes.{number, name_field}
-use Rattle.asm_formats.specs.Codes.{flag, stripe_code}
-use Rattle.asm_formats.specs.Items.{Settings, Item, Key, file_item, chunk_item, disk_item, rebalance_item, pending_item, templates_item, node_item, settings_item, marks_item, key, is_same_key, is_item, is_redundancy, is_template, is_text, names_ascend, most_templates}
+use Rattle.asm_formats.specs.Items.{Settings, Item, Key, file_item, chunk_item, disk_item, rebalance_item, pending_item, templates_item, node_item, settings_item, marks_item, key, is_same_key, is_item, is_redundancy, is_template, is_text, names_ascend}
 use Rattle.asm_formats.specs.Values.{value, template_fields, settings_value, decoded_item}
 use Rattle.asm_formats.proofs.Bodies.{item_codec}
-use Rattle.asm_base.specs.Readings.{Reading, both}
 use Rattle.asm_base.specs.Records.{Entry, all_of, are_bytes}
 use Rattle.asm_base.specs.Tables.{entry_of_record, item_record}
-use Rattle.asm_base.proofs.Exact.{IsBytes, IsExact, bind_some, some_is, both_exact, as_exact, decoded_exact, fits_exact}
+use Rattle.asm_base.proofs.Exact.{IsBytes, IsExact, bind_some, some_is, both_exact, as_exact, fits_exact}
 use Rattle.asm_base.proofs.Numbers.{number_exact}
 use Rattle.asm_base.proofs.FieldLaws.{byte_exact, flag_exact, counted_exact}
+use Rattle.asm_base.proofs.WordLaws.{stripe_exact}
 use Rattle.asm_base.proofs.NameLaws.{name_exact, text_exact, name_is_part}
 use Rattle.asm_base.proofs.Tables.{bytes_are, are_bytes_is}
 use Rattle.asm_base.proofs.ItemTables.{value_is_decoded}
 use Rattle.template_directory.specs.Tables.{Table, IsTable, records_of, settings_said, table_of, templates_said}
-use Rattle.template_directory.specs.Readings.{known_stripe, stripe_reading, TemplateParts, to_template, template_reading, templates_reading, are_right, right_templates, SettingParts, to_settings, settings_reading}
-
--- ---- the stripe
-
-stripe_exact : IsExact (λ s. stripe_code s ∷ []) (λ s. Unit {0}) stripe_reading
-stripe_exact = decoded_exact known_stripe stripe_code known one_code fits_code byte_exact where
-  known : (s : Stripe) → known_stripe (stripe_code s) ≡ Some s
-  known Coarse = refl
-  known Fine = refl
-
-  one_code : (n : ℕ) (s : Stripe) → known_stripe n ≡ Some s → n ≡ stripe_code s
-  one_code zero s e = absurd cc
-  one_code (suc zero) Coarse e = refl
-  one_code (suc zero) Fine e = absurd cc
-  one_code (suc (suc zero)) Coarse e = absurd cc
-  one_code (suc (suc zero)) Fine e = refl
-  one_code (suc (suc (suc n))) s e = absurd cc
-
-  fits_code : (s : Stripe) → stripe_code s < 256
-  fits_code Coarse = omega arith
-  fits_code Fine = omega arith
+use Rattle.template_directory.specs.Readings.{TemplateParts, to_template, template_reading, templates_reading, are_right, right_templates, SettingParts, to_settings, settings_reading}
 
 -- ---- templates
 

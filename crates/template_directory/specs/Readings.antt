@@ -1,23 +1,14 @@
 -- The reading of the records of templates and of settings, field by field, and what is tested then.
-use Rattle.std.specs.Prelude.{ℕ, zero, suc, Bool, ◌&&◌, List, Option, Some, None, if◌then◌else◌}
+use Rattle.std.specs.Prelude.{ℕ, Bool, ◌&&◌, List, Option, Some, None, if◌then◌else◌}
 use Rattle.std.specs.Option.{option_and_then}
 use Rattle.std.specs.List.{list_all}
 use Rattle.std.specs.Int.{w64}
 use Rattle.asm_group.specs.declared.Stripe.{Stripe}
-use Rattle.asm_group.specs.declared.Stripe.TheVariants.{Coarse, Fine}
 use Rattle.asm_group.specs.Names.{Bytes}
 use Rattle.asm_group.specs.Group.{Template}
 use Rattle.asm_formats.specs.Items.{Settings, is_template, names_ascend, most_templates}
-use Rattle.asm_base.specs.Readings.{Reading, both, as_a, decoded, counted, byte_reading, flag_reading, number_reading, name_reading, text_reading}
-
-abbrev pub known_stripe : ℕ → Option Stripe
-known_stripe zero = None
-known_stripe (suc zero) = Some Coarse
-known_stripe (suc (suc zero)) = Some Fine
-known_stripe (suc (suc (suc n))) = None
-
-abbrev pub stripe_reading : Reading Stripe
-stripe_reading = decoded known_stripe byte_reading
+use Rattle.asm_base.specs.Readings.{Reading, both, as_a, counted, byte_reading, flag_reading, number_reading, name_reading, text_reading}
+use Rattle.asm_base.specs.Words.{stripe_reading}
 
 -- ---- templates
 

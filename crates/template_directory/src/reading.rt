@@ -9,12 +9,12 @@ ghost use Rattle.asm_base.specs.Readings.{repeated};
 ghost use Rattle.asm_base.specs.Records.{all_of};
 ghost use Rattle.asm_base.specs.Tables.{entry_of_record};
 ghost use Rattle.template_directory.specs.Tables.{templates_said, settings_said};
-ghost use Rattle.template_directory.specs.Readings.{stripe_reading, template_reading, templates_reading, are_right, right_templates, settings_reading};
+ghost use Rattle.template_directory.specs.Readings.{template_reading, templates_reading, are_right, right_templates, settings_reading};
 
 use crate::settings::Settings;
 use crate::template::Template;
 use asm_base::{
-    Key, List, NoMemory, Reader, Stripe, Value, is_at_end, take_flag, take_name, take_text,
+    Key, List, NoMemory, Reader, Value, is_at_end, take_flag, take_name, take_stripe, take_text,
     take_u8, take_u64,
 };
 use std::alloc::Global;
@@ -209,16 +209,6 @@ fn take_template(alloc: Global, from: &mut Reader) -> Result<Option<Template>, N
         stripe,
         system,
     }))
-}
-
-fn take_stripe(from: &mut Reader) -> Option<Stripe>
-    ensures { Reads from.new result (stripe_reading from.old) }
-{
-    match take_u8(from)? {
-        1 => Some(Stripe::Coarse),
-        2 => Some(Stripe::Fine),
-        _ => None,
-    }
 }
 
 #[tactic(auto, unfolding(crate::specs::Readings::settings_reading))]

@@ -1,16 +1,15 @@
 //! The values of the records of templates and of settings.
 
-ghost use Rattle.std.specs.Prelude.{◌≡◌, ◌≤◌, ◌+◌, ◌*◌, ◌∷◌, [], length, flat_map, IfOk, IsTrue, true};
+ghost use Rattle.std.specs.Prelude.{◌≡◌, ◌≤◌, ◌+◌, ◌*◌, ◌∷◌, length, flat_map, IfOk, IsTrue, true};
 ghost use Rattle.asm_formats.specs.Items.{is_item, is_template, templates_item, settings_item};
 ghost use Rattle.asm_formats.specs.Values.{value, template_fields, settings_value};
-ghost use Rattle.asm_formats.specs.Codes.{stripe_code};
 ghost use Rattle.asm_base.specs.Cursors.{Puts};
 ghost use Rattle.std.specs.List.{list_all};
 
 use crate::settings::Settings;
 use crate::template::Template;
 use asm_base::{
-    Block, NoMemory, Stripe, Value, Writer, put_flag, put_name, put_text, put_u8, put_u64,
+    Block, NoMemory, Value, Writer, put_flag, put_name, put_stripe, put_text, put_u8, put_u64,
 };
 use std::alloc::Global;
 
@@ -68,18 +67,6 @@ fn put_template(to: &mut Writer, template: &Template)
     put_u8(to, template.copies);
     put_stripe(to, template.stripe);
     put_flag(to, template.system);
-}
-
-fn put_stripe(to: &mut Writer, stripe: Stripe)
-    requires { to.old.at + 1 ≤ 4096 }
-    ensures puts { Puts to.old to.new (stripe_code stripe ∷ []) }
-    ensures at { to.new.at ≡ to.old.at + 1 }
-{
-    let code = match stripe {
-        Stripe::Coarse => 1,
-        Stripe::Fine => 2,
-    };
-    put_u8(to, code);
 }
 
 fn put_settings(to: &mut Writer, settings: &Settings)

@@ -2,7 +2,7 @@ use Rattle.std.proofs.Common.{◌≡◌}
 use Rattle.std.specs.List.{list_any}
 use Rattle.asm_group.specs.TreeEdits.{is_alias_of}
 use Rattle.alias_tree.specs.Nodes.{Numbered}
-use Rattle.alias_tree.specs.Trees.{node_kind}
+use Rattle.asm_formats.specs.Nodes.{node_kind}
 use Rattle.alias_tree.proofs.nodes.Nodes.has_alias.Given as goal
 
 abbrev pub invariant-loop-node : goal.invariant-loop-node

@@ -2,7 +2,7 @@ use Rattle.std.proofs.Common.{◌≡◌, Some}
 use Rattle.std.specs.List.{list_any, AllByRecursion}
 use Rattle.asm_group.specs.TreeEdits.{names_file}
 use Rattle.alias_tree.specs.Nodes.{Numbered, node_at}
-use Rattle.alias_tree.specs.Trees.{node_kind}
+use Rattle.asm_formats.specs.Nodes.{node_kind}
 use Rattle.alias_tree.proofs.nodes.Nodes.name_of.Given as goal
 
 abbrev pub invariant-loop-number : goal.invariant-loop-number
