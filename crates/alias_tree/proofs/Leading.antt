@@ -85,7 +85,7 @@ pub member_among : (nodes : List Numbered) (x : Numbered) → Member x nodes →
 member_among [] x m = m
 member_among (y ∷ nodes) x m = elim m [ inl e ↦ inl e | inr later ↦ inr (member_among nodes x later) ]
 
-among_member : (nodes : List Numbered) (x : Numbered) → Among x nodes → Member x nodes
+pub among_member : (nodes : List Numbered) (x : Numbered) → Among x nodes → Member x nodes
 among_member [] x m = m
 among_member (y ∷ nodes) x m = elim m [ inl e ↦ inl e | inr later ↦ inr (among_member nodes x later) ]
 

@@ -17,3 +17,4 @@ pub mod Moving
 pub mod Moved
 pub mod EditLaws
 pub mod Names
+pub mod FileLaws

@@ -3,3 +3,4 @@ pub mod Readings
 pub mod Places
 pub mod Trees
 pub mod Edits
+pub mod FileNames

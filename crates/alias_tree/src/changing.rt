@@ -3,7 +3,7 @@
 ghost use Rattle.std.specs.Prelude.{◌≡◌, ◌<◌, ◌^◌, IfOk, IfSome, IsTrue, OnErr, OnOk, None, false, is_some, true};
 ghost use Rattle.asm_group.specs.Causes.{first_cause};
 ghost use Rattle.asm_group.specs.TreeEdits.{AddAlias, DropAlias, DropDir, RenameAlias, RenameDir, edit_causes, entry_at, lacks_parent, new_name_causes};
-ghost use Rattle.alias_tree.specs.Edits.{HangsAt, IsLeastFree, IsMoved, MovesNode, PutsAlias, PutsNode, RemovesNames, RemovesNode, are_parts};
+ghost use Rattle.alias_tree.specs.Edits.{HangsAt, IsMoved, MovesNode, PutsAlias, PutsNode, RemovesNames, RemovesNode, are_parts};
 ghost use Rattle.alias_tree.specs.Trees.{tree_of};
 
 use crate::causes::above;
@@ -59,18 +59,6 @@ impl AliasTree {
             file,
             name: last.copy()?,
         })
-    }
-
-    /// The least number from 1 that no node has.
-    fn free_number(&self) -> Option<u32>
-        ensures least { IfSome result (IsLeastFree self.now) }
-        ensures small { IfSome result (λ n. n < 2 ^ 32) }
-    {
-        let mut number = 1;
-        while self.get(number).is_some() {
-            number = number.checked_add(1)?;
-        }
-        Some(number)
     }
 
     pub(crate) fn drop_dir(&mut self, path: &Path)

@@ -91,8 +91,8 @@ fn is_part(name: &Name) -> bool
 
 impl AliasTree {
     /// Edits the tree. The refusals are tried in the order of `TreeError`, but for NoMemory, which comes last. After
-    /// an `Err` the tree is as it was. A path costs a look-up for each of its parts. A new node looks for the least
-    /// free number from 1 on, and AddAlias and DropFile look through all names for those of the file.
+    /// an `Err` the tree is as it was. A path costs a look-up for each of its parts, a row of new nodes one for each,
+    /// and AddAlias and DropFile one for each name of the file, whatever other names there are.
     #[tactic(auto, using(crate::proofs::EditLaws::edited_is, crate::proofs::EditLaws::refused_is))]
     pub fn edit(&mut self, edit: &TreeEdit) -> Result<(), TreeError>
         requires { IsTrue (is_edit (edit_meant edit.now)) }

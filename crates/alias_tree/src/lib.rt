@@ -5,7 +5,9 @@
 mod causes;
 mod changing;
 mod editing;
+mod files;
 mod index;
+
 mod node;
 mod nodes;
 mod places;

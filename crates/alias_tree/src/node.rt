@@ -1,7 +1,7 @@
 //! A node of the tree.
 
-ghost use Rattle.std.specs.Prelude.{◌≡◌, true};
-ghost use Rattle.asm_group.specs.TreeEdits.{file_of_node, is_alias_of, names_file};
+ghost use Rattle.std.specs.Prelude.{◌≡◌};
+ghost use Rattle.asm_group.specs.TreeEdits.{file_of_node};
 ghost use Rattle.asm_formats.specs.Nodes.{node_kind};
 
 use asm_base::{Name, NodeKind};
@@ -35,27 +35,5 @@ pub(crate) fn named_file(node: &Node) -> Option<u32>
         NodeKind::Directory => None,
         NodeKind::System => Some(node.file),
         NodeKind::Alias => Some(node.file),
-    }
-}
-
-/// Whether it is a name of the file.
-pub(crate) fn is_name_of(node: &Node, file: u32) -> bool
-    ensures { result ≡ names_file file (node_kind node.now.kind node.now.file) }
-{
-    match node.kind {
-        NodeKind::Directory => false,
-        NodeKind::System => node.file == file,
-        NodeKind::Alias => node.file == file,
-    }
-}
-
-/// Whether it is a user alias of the file.
-pub(crate) fn is_alias_of(node: &Node, file: u32) -> bool
-    ensures { result ≡ is_alias_of file (node_kind node.now.kind node.now.file) }
-{
-    match node.kind {
-        NodeKind::Directory => false,
-        NodeKind::System => false,
-        NodeKind::Alias => node.file == file,
     }
 }

@@ -1,18 +1,21 @@
 //! The nodes by number.
 
-ghost use Rattle.std.specs.Prelude.{◌≡◌, ◌++◌, [], length, map, IfOk, IfSome, OnErr, OnOk, Some, None, if◌then◌else◌, is_some, ◌==◌, IsTrue, true};
+ghost use Rattle.std.specs.Prelude.{◌≡◌, ◌<◌, ◌^◌, ◌++◌, [], length, map, IfOk, IfSome, OnErr, OnOk, Some, None, if◌then◌else◌, is_some, ◌==◌, IsTrue, true};
 ghost use Rattle.std.specs.Bool.{OnTrue};
 ghost use Rattle.std.specs.List.{list_all, list_any};
 ghost use Rattle.asm_group.specs.TreeEdits.{is_alias_of, names_file};
 ghost use Rattle.asm_formats.specs.Nodes.{node_kind};
-ghost use Rattle.alias_tree.specs.Edits.{is_name_of};
+ghost use Rattle.alias_tree.specs.Edits.{IsLeastFree, is_name_of};
+ghost use Rattle.alias_tree.specs.FileNames.{IsLow, name_of_node};
+ghost use Rattle.alias_tree.specs.Nodes.{node_at};
 ghost use Rattle.std.specs.Option.{option_copied, option_map};
 ghost use Rattle.std.specs.Ordering.{nat_cmp};
 ghost use Rattle.std.specs.BTreeMap.{is_at};
 ghost use Rattle.asm_base.specs.Records.{Ascend, add_item, ends_below, of_kinds, read_from};
 ghost use Rattle.asm_base.specs.Tables.{IsItemTable, entry_of_record};
 
-use crate::node::{Node, is_alias_of, is_name_of};
+use crate::files::{FileName, FileNames, name_by_kind};
+use crate::node::Node;
 use crate::reading::read_node;
 use crate::writing::node_record;
 use asm_base::{Change, Key, NoMemory, NodeKind, Records, Value};
@@ -28,6 +31,10 @@ const KIND: u16 = 6;
 #[derive(Drop)]
 pub(crate) struct Nodes {
     map: BTreeMap<u32, Node>,
+    /// The nodes that are names of files.
+    names: FileNames,
+    /// No number from 1 to below this one is free.
+    low: u32,
 }
 
 impl Model for Nodes {
@@ -36,18 +43,24 @@ impl Model for Nodes {
 
     ghost Value = { Items (ℕ × FormatNode) };
 
+    ghost use Rattle.alias_tree.specs.FileNames.{IsFileIndex, IsLow};
+
     ghost view = { λ n. n.map.entries };
+
+    ghost invariant = { λ n. IsFileIndex n.map.entries n.names × IsLow n.map.entries n.low };
 }
 
 impl Nodes {
     ghost use Rattle.std.specs.Prelude.{List as Items, ℕ};
-    ghost use Rattle.alias_tree.specs.Nodes.{Numbered, entry_of, is_before, is_mine, is_right, item_of, node_at, parent_is_right, reaches_root, record_of, with_node, without_node};
+    ghost use Rattle.alias_tree.specs.Nodes.{Numbered, entry_of, is_before, is_mine, is_right, item_of, parent_is_right, reaches_root, record_of, with_node, without_node};
 
     pub(crate) fn new(alloc: Global) -> Nodes
         ensures { result ≡ [] }
     {
         Nodes {
             map: BTreeMap::new(alloc),
+            names: FileNames::new(alloc),
+            low: 1,
         }
     }
 
@@ -69,9 +82,18 @@ impl Nodes {
         ensures at { OnOk result ((n : ℕ) → node_at self.new n ≡ (if is_at (nat_cmp number) n then Some node else node_at self.old n)) }
         ensures err { OnErr result (self.new ≡ self.old) }
     {
+        let before = name_at(&self.map, number);
+        let after = name_by_kind(number, node.file, node.kind);
+        self.names.put(after)?;
         match self.map.insert(number, node) {
-            Ok(_) => Ok(()),
-            Err(_) => Err(NoMemory),
+            Ok(_) => {
+                self.names.forget(before, after);
+                Ok(())
+            }
+            Err(_) => {
+                self.names.forget(after, before);
+                Err(NoMemory)
+            }
         }
     }
 
@@ -80,34 +102,39 @@ impl Nodes {
         ensures after { self.new ≡ without_node self.old number }
         ensures at { (n : ℕ) → node_at self.new n ≡ (if is_at (nat_cmp number) n then None else node_at self.old n) }
     {
+        let gone = name_at(&self.map, number);
+        self.names.forget(gone, None);
+        self.low = self.low.min(number.max(1));
         self.map.remove(&number).is_some()
+    }
+
+    /// The least number from 1 that no node has. It is looked for from the last one on that was found, or from the least
+    /// that was taken away since.
+    pub(crate) fn free_number(&mut self) -> Option<u32>
+        ensures least { IfSome result (IsLeastFree self.old) }
+        ensures small { IfSome result (λ n. n < 2 ^ 32) }
+        ensures same { self.new ≡ self.old }
+    {
+        let free = first_free(&self.map, self.low)?;
+        self.low = free;
+        Some(free)
     }
 
     /// Whether a node is a user alias of the file.
     pub(crate) fn has_alias(&self, file: u32) -> bool
+        requires { IsItemTable is_before item_of self.now }
         ensures { result ≡ list_any (λ x. is_alias_of file (node_kind x.1.kind x.1.file)) self.now }
     {
-        for (_, node) in self.map.iter() {
-            if is_alias_of(node, file) {
-                return true;
-            }
-        }
-        false
+        self.names.has_alias(file)
     }
 
-    /// The first node that is a name of the file.
-    #[tactic(auto, using(crate::proofs::Leading::all_at))]
+    /// The first node that is a name of the file, an alias after the others.
     pub(crate) fn name_of(&self, file: u32) -> Option<u32>
-        requires { Ascend is_before self.now }
+        requires { IsItemTable is_before item_of self.now }
         ensures there { is_some result ≡ list_any (λ x. names_file file (node_kind x.1.kind x.1.file)) self.now }
         ensures named { IfSome result (λ n. is_name_of file (node_at self.now n) ≡ true) }
     {
-        for (number, node) in self.map.iter() {
-            if is_name_of(node, file) {
-                return Some(*number);
-            }
-        }
-        None
+        self.names.first(file)
     }
 
     /// Puts the records of the nodes into a change. After an `Err` some of them may stand there.
@@ -215,4 +242,25 @@ impl Nodes {
         }
         at == 0
     }
+}
+
+/// The name of a file that the node of this number is.
+fn name_at(map: &BTreeMap<u32, Node>, number: u32) -> Option<FileName>
+    ensures { result ≡ name_of_node number (node_at map.now.entries number) }
+{
+    let node = map.get(&number)?;
+    name_by_kind(number, node.file, node.kind)
+}
+
+/// The least number that no node has, which isn't below `low`.
+fn first_free(map: &BTreeMap<u32, Node>, low: u32) -> Option<u32>
+    requires { IsLow map.now.entries low }
+    ensures least { IfSome result (IsLeastFree map.now.entries) }
+    ensures small { IfSome result (λ n. n < 2 ^ 32) }
+{
+    let mut number = low;
+    while map.get(&number).is_some() {
+        number = number.checked_add(1)?;
+    }
+    Some(number)
 }

@@ -1,6 +1,6 @@
 //! The tree of names.
 
-ghost use Rattle.std.specs.Prelude.{◌≡◌, ◌≤◌, ◌++◌, [], length, map, IfOk, IfSome, OnErr, OnOk, Some, None, is_some, true, ℕ, ◌==◌};
+ghost use Rattle.std.specs.Prelude.{◌≡◌, ◌≤◌, ◌<◌, ◌^◌, ◌++◌, [], length, map, IfOk, IfSome, OnErr, OnOk, Some, None, is_some, true, ℕ, ◌==◌};
 ghost use Rattle.std.specs.List.{list_any};
 ghost use Rattle.std.specs.Option.{option_copied, option_map};
 ghost use Rattle.asm_group.specs.Names.{folded, folded_path};
@@ -39,7 +39,7 @@ impl Model for AliasTree {
 
 impl AliasTree {
     ghost use Rattle.std.specs.Prelude.{List as Items};
-    ghost use Rattle.alias_tree.specs.Edits.{is_name_of};
+    ghost use Rattle.alias_tree.specs.Edits.{IsLeastFree, is_name_of};
     ghost use Rattle.asm_formats.specs.Nodes.{entry_of_node, node_kind};
     ghost use Rattle.alias_tree.specs.Trees.{node_by, tree_of};
     ghost use Rattle.alias_tree.specs.Nodes.{IsTable, Numbered, are_distinct, child, is_mine, is_under, node_at, number_from, number_of, record_of, with_node, without_node};
@@ -176,6 +176,15 @@ impl AliasTree {
         ensures table { IsTable self.now }
     {
         self.nodes.name_of(file)
+    }
+
+    /// The least number from 1 that no node has.
+    pub(crate) fn free_number(&mut self) -> Option<u32>
+        ensures least { IfSome result (IsLeastFree self.old) }
+        ensures small { IfSome result (λ n. n < 2 ^ 32) }
+        ensures same { self.new ≡ self.old }
+    {
+        self.nodes.free_number()
     }
 
     /// Whether a name stands for the file.
