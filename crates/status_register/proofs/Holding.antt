@@ -28,7 +28,7 @@ pub holders_none : (places : List (Option Member)) (r : Status) → holders_belo
 unfolding holders_below
 holders_none places r = refl
 
-abbrev held_test : Status → ℕ → Member → Bool
+abbrev pub held_test : Status → ℕ → Member → Bool
 held_test r d m = (has_bit r.holders d || has_bit r.next_holders d) && ((m.number == d) && is_of r.entries m)
 
 pub holder_few : (r : Status) (d : ℕ) (o : Option Member) → length (holder_in r d o) ≤ 1
@@ -42,7 +42,7 @@ pub record IsHeld (places : List (Option Member)) (r : Status) (d : ℕ) (m : Me
   pub entry : is_of r.entries m ≡ true
   pub bit : (has_bit r.holders d || has_bit r.next_holders d) ≡ true
 
-held_in : (places : List (Option Member)) (r : Status) (d : ℕ) (o : Option Member) (m : Member) → get_or places d None ≡ o → IsAmong (holder_in r d o) m → IsHeld places r d m
+pub held_in : (places : List (Option Member)) (r : Status) (d : ℕ) (o : Option Member) (m : Member) → get_or places d None ≡ o → IsAmong (holder_in r d o) m → IsHeld places r d m
 held_in places r d None m is h = absurd h
 held_in places r d (Some n) m is h = cond_both (held_test r d n) (n ∷ []) [] (λ (l : List Member). IsAmong l m → IsHeld places r d m)
     (λ yes k. let same : m ≡ n = ⊎_elim (λ e. e) (λ none. absurd none) k in
@@ -100,7 +100,7 @@ apart_front r d None rest differ apart = apart
 apart_front r d (Some m) rest differ apart = cond_both (held_test r d m) (m ∷ []) [] (λ (l : List Member). ((k n : Member) → IsAmong l k → IsAmong rest n → n.slot ≢ k.slot) → Apart (l ++ rest))
     (λ yes far. ((λ n h. far m n (inl refl) h), apart)) (λ no far. apart) differ
 
-below_apart : (places : List (Option Member)) (r : Status) (n : ℕ) → SlotsDiffer places → Apart (holders_below places r n)
+pub below_apart : (places : List (Option Member)) (r : Status) (n : ℕ) → SlotsDiffer places → Apart (holders_below places r n)
 unfolding holders_below
 below_apart places r zero differ = tt
 below_apart places r (suc d) differ = apart_front r d (get_or places d None) (holders_below places r d)

@@ -20,4 +20,5 @@ pub mod Seeing
 pub mod Completing
 pub mod Written
 pub mod Rewriting
+pub mod Ordering
 pub mod Trying

@@ -1,15 +1,13 @@
 -- What is said of a record as it is written, in the words of the one that was given.
 use Rattle.std.proofs.Common.{◌≡◌, ℕ, ◌+◌, ◌*◌, ◌≤◌, List, length, Option, Some, None, Result, subst, ◌∙◌}
 use Rattle.bay.specs.State.{BayState}
-use Rattle.bay.specs.Moments.{Runs}
 use Rattle.asm_formats.specs.Status.{Status, status_spelling}
 use Rattle.asm_formats.specs.Following.{sets}
 use Rattle.status_register.specs.Holders.{attached_to, numbered}
 use Rattle.status_register.specs.Registered.{Registered}
-use Rattle.status_register.specs.Rows.{PutsRow}
+use Rattle.status_register.specs.Rows.{RunsInOrder}
 use Rattle.status_register.specs.Slots.{status_gate}
 use Rattle.status_register.specs.Surveys.{missing, shortfall}
-use Rattle.status_register.specs.Tallies.{IsSlotOf}
 use Rattle.status_register.specs.Writes.{IsWriteAnswer}
 use Rattle.status_register.specs.declared.member.Member.{Member}
 use Rattle.status_register.specs.declared.error.Dead.{Dead}
@@ -28,8 +26,8 @@ module _ (s t : BayState) (old : Registered) (next status : Status) (places : Li
   pub same_answer : (answer : Result ℕ Dead) → IsWriteAnswer (attached_to places status) status answer s t → IsWriteAnswer (attached_to old.members next) (numbered old next) answer s t
   same_answer answer so = subst (λ (r : Status). IsWriteAnswer (attached_to old.members next) r answer s t) is (subst (λ (l : List Member). IsWriteAnswer l status answer s t) same_list so)
 
-  pub same_runs : Runs (IsSlotOf (attached_to places status)) (PutsRow (status_gate id) (attached_to places status) (status_spelling status)) s t
-      → Runs (IsSlotOf (attached_to old.members next)) (PutsRow (status_gate old.id) (attached_to old.members next) (status_spelling (numbered old next))) s t
-  same_runs run = subst (λ (k : ℕ). Runs (IsSlotOf (attached_to old.members next)) (PutsRow (status_gate k) (attached_to old.members next) (status_spelling (numbered old next))) s t) id_is
-      (subst (λ (r : Status). Runs (IsSlotOf (attached_to old.members next)) (PutsRow (status_gate id) (attached_to old.members next) (status_spelling r)) s t) is
-      (subst (λ (l : List Member). Runs (IsSlotOf l) (PutsRow (status_gate id) l (status_spelling status)) s t) same_list run))
+  pub same_runs : RunsInOrder (status_gate id) (attached_to places status) (status_spelling status) s t
+      → RunsInOrder (status_gate old.id) (attached_to old.members next) (status_spelling (numbered old next)) s t
+  same_runs run = subst (λ (k : ℕ). RunsInOrder (status_gate k) (attached_to old.members next) (status_spelling (numbered old next)) s t) id_is
+      (subst (λ (r : Status). RunsInOrder (status_gate id) (attached_to old.members next) (status_spelling r) s t) is
+      (subst (λ (l : List Member). RunsInOrder (status_gate id) l (status_spelling status) s t) same_list run))

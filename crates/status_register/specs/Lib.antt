@@ -11,5 +11,6 @@ pub mod Rows
 pub mod Registered
 pub mod SurveyLaws
 pub mod Holders
+pub mod OrderLaws
 pub mod Writes
 pub mod Keeping

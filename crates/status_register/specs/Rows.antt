@@ -3,16 +3,31 @@ use Rattle.std.specs.Prelude.{◌≡◌, ◌⊎◌, ℕ, ◌<◌, List, [], ◌�
 use Rattle.bay.specs.Image.{Image, Same}
 use Rattle.bay.specs.State.{BayState}
 use Rattle.bay.specs.Counts.{Rose}
-use Rattle.bay.specs.Moments.{Ends}
+use Rattle.bay.specs.Moments.{Ends, Runs}
 use Rattle.asm_placement.specs.Among.{IsAmong}
 use Rattle.asm_images.specs.Bridge.{shown}
 use Rattle.status_register.specs.Slots.{MayPutNext, PutsNext}
+use Rattle.status_register.specs.Tallies.{IsSlotOf}
 use Rattle.status_register.specs.declared.member.Member.{Member}
 
 -- some puts of a body on disks of these members, each whole or in part
 pub data PutsRow (gate_of : ℕ → Image → ℕ) (ms : List Member) (body : List ℕ) : Image → Image → Type 0 where
   no_put : (x y : Image) → Same x y → PutsRow gate_of ms body x y
   one_put : (x y z : Image) (m : Member) → IsAmong ms m → PutsRow gate_of ms body x y → MayPutNext gate_of m.slot body y z → PutsRow gate_of ms body x z
+
+-- the put of a body on a member's disk was tried: the disk shows the body, or the slot failed and has it in part
+abbrev pub IsTried : (ℕ → Image → ℕ) → List ℕ → (ℕ → Type 0) → Member → Image → Image → Type 0
+IsTried gate_of body failed m old new = PutsNext gate_of m.slot body old new ⊎ (failed m.slot × MayPutNext gate_of m.slot body old new)
+
+-- A body is put on the disks of these members in their order: the put of the first is on its way, or it was tried and those of the others are on their way.
+abbrev pub PutsInOrder : (ℕ → Image → ℕ) → List ℕ → (ℕ → Type 0) → List Member → Image → Image → Type 0
+PutsInOrder gate_of body failed [] old new = Same old new
+PutsInOrder gate_of body failed (m ∷ ms) old new =
+    MayPutNext gate_of m.slot body old new ⊎ ((between : Image) × IsTried gate_of body failed m old between × PutsInOrder gate_of body failed ms between new)
+
+-- the same of calls, at each moment: a slot failed only where its count rose
+abbrev pub RunsInOrder : (ℕ → Image → ℕ) → List Member → List ℕ → BayState → BayState → Type 0
+RunsInOrder gate_of ms body s t = Runs (IsSlotOf ms) (PutsInOrder gate_of body (λ slot. Rose (s.faults slot) (t.faults slot)) ms) s t
 
 -- one of the two slots of a disk shows the body
 abbrev pub HasBody : ℕ → ℕ → List ℕ → ℕ → Image → Type 0

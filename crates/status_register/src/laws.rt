@@ -1,4 +1,5 @@
 // What a survey finds, in the words of the members of an image. Each function has an empty body: its contract is the law.
+ghost use Rattle.status_register.specs.OrderLaws.{AttachedDisksDescend, GreaterNumbersFirst, OrderedPutsAreARow};
 ghost use Rattle.status_register.specs.SurveyLaws.{ClaimedRecordBegins, ShownClaimIsSeen, StoredRecordCompletes, StoredRecordsFit, SurveyedEpochIsAbove, SurveyedRecordCounts};
 
 /// The record that a survey gives is the one that was last completed, or one begun after it.
@@ -29,4 +30,19 @@ pub fn claimed_record_begins()
 /// Once the last record stands on members that are enough for it, it is the one that was last completed, and no other counts.
 pub fn stored_record_completes()
     ensures { StoredRecordCompletes }
+{}
+
+/// The attached disks of a record's sets are in the order of their numbers, from the greatest down.
+pub fn attached_disks_descend()
+    ensures { AttachedDisksDescend }
+{}
+
+/// While a record is put on them in this order, a disk is as it was, or each one of a greater number shows the record or failed.
+pub fn greater_numbers_first()
+    ensures { GreaterNumbersFirst }
+{}
+
+/// Puts in the order of the members are a row of puts, of which the other laws speak.
+pub fn ordered_puts_are_a_row()
+    ensures { OrderedPutsAreARow }
 {}

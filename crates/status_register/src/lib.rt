@@ -22,8 +22,9 @@ mod writing;
 
 pub use error::{Dead, SurveyError};
 pub use laws::{
-    claimed_record_begins, shown_claim_is_seen, stored_record_completes, stored_records_fit,
-    surveyed_epoch_is_above, surveyed_record_counts,
+    attached_disks_descend, claimed_record_begins, greater_numbers_first, ordered_puts_are_a_row,
+    shown_claim_is_seen, stored_record_completes, stored_records_fit, surveyed_epoch_is_above,
+    surveyed_record_counts,
 };
 pub use member::Member;
 pub use register::Register;

@@ -5,10 +5,10 @@ ghost use Rattle.bay.specs.State.{KeepsAttached, IsSlot};
 ghost use Rattle.bay.specs.Counts.{Rose};
 ghost use Rattle.bay.specs.Moments.{Runs, Ends};
 ghost use Rattle.status_register.specs.Places.{HasSlots};
-ghost use Rattle.status_register.specs.Rows.{AreApart, HaveBody, PutsRow, Takes};
+ghost use Rattle.status_register.specs.Rows.{AreApart, HaveBody, RunsInOrder, Takes};
 ghost use Rattle.status_register.specs.Slots.{MayPutNext, status_gate};
 ghost use Rattle.status_register.specs.Surveys.{AreRead};
-ghost use Rattle.status_register.specs.Tallies.{HaveSlots, IsSlotOf};
+ghost use Rattle.status_register.specs.Tallies.{HaveSlots};
 
 use crate::Member;
 use crate::members::MemberList;
@@ -51,7 +51,7 @@ fn record_one<B: Bay>(
     }
 }
 
-/// Puts the body of a record on the members, past faults, and gives those that took it.
+/// Puts the body of a record on the members in their order, past faults, and gives those that took it.
 pub fn record_all<B: Bay>(bay: &mut B, id: u64, members: &[Member], body: &Block) -> MemberList
     requires slots { HaveSlots (B.state bay.old) members.now }
     requires few { length members.now ≤ 64 }
@@ -60,7 +60,7 @@ pub fn record_all<B: Bay>(bay: &mut B, id: u64, members: &[Member], body: &Block
     ensures done { Ends (HaveBody 6 8 body.now.bytes result) (B.state bay.old) (B.state bay.new) }
     ensures attached { KeepsAttached (B.state bay.old) (B.state bay.new) }
     ensures calls { (B.state bay.new).calls ≤ (B.state bay.old).calls + 13 * length members.now }
-    ensures runs { Runs (IsSlotOf members.now) (PutsRow (status_gate id) members.now body.now.bytes) (B.state bay.old) (B.state bay.new) }
+    ensures runs { RunsInOrder (status_gate id) members.now body.now.bytes (B.state bay.old) (B.state bay.new) }
 {
     let mut took = MemberList::empty();
     for member in members {

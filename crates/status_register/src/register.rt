@@ -12,7 +12,7 @@ ghost use Rattle.status_register.specs.Keeping.{IsReady, KeepsFromFirst, KeepsWr
 ghost use Rattle.status_register.specs.Surveys.{is_there, missing};
 ghost use Rattle.status_register.specs.Writes.{FailedAlone, HoldersShow, IsDeadOf, IsWriteAnswer, ShowBut, after_write, first_holders, first_register};
 ghost use Rattle.status_register.specs.Registered.{AreNumbered, IsClaimAnswer, KeepsHistory, all_placed, next_epoch};
-ghost use Rattle.status_register.specs.Rows.{AreApart, PutsRow};
+ghost use Rattle.status_register.specs.Rows.{AreApart, PutsRow, RunsInOrder};
 ghost use Rattle.status_register.specs.Slots.{claim_gate, status_gate};
 ghost use Rattle.status_register.specs.Tallies.{HaveSlots, IsSlotOf};
 
@@ -95,7 +95,7 @@ impl Register {
         ensures cause { IfErr result (λ dead. IsDeadOf members.now dead.slot (B.state bay.old) (B.state bay.new)) }
         ensures attached { KeepsAttached (B.state bay.old) (B.state bay.new) }
         ensures calls { (B.state bay.new).calls ≤ (B.state bay.old).calls + 13 * length (first_holders value.now members.now) }
-        ensures runs { Runs (IsSlotOf (first_holders value.now members.now)) (PutsRow (status_gate value.now.id) (first_holders value.now members.now) (status_spelling value.now)) (B.state bay.old) (B.state bay.new) }
+        ensures runs { RunsInOrder (status_gate value.now.id) (first_holders value.now members.now) (status_spelling value.now) (B.state bay.old) (B.state bay.new) }
         ensures history { KeepsFromFirst value.now members.now result (B.state bay.old) (B.state bay.new) }
     {
         let places = by_number(members, value.entries());
@@ -130,7 +130,7 @@ impl Register {
         ensures register { self.new ≡ after_write self.old next.now result }
         ensures attached { KeepsAttached (B.state bay.old) (B.state bay.new) }
         ensures calls { (B.state bay.new).calls ≤ (B.state bay.old).calls + 13 * length (attached_to self.old.members next.now) }
-        ensures runs { Runs (IsSlotOf (attached_to self.old.members next.now)) (PutsRow (status_gate self.old.id) (attached_to self.old.members next.now) (status_spelling (numbered self.old next.now))) (B.state bay.old) (B.state bay.new) }
+        ensures runs { RunsInOrder (status_gate self.old.id) (attached_to self.old.members next.now) (status_spelling (numbered self.old next.now)) (B.state bay.old) (B.state bay.new) }
         ensures history { KeepsWritten self.old next.now result self.new (B.state bay.old) (B.state bay.new) }
     {
         let turn = self.turn.saturating_add(1);

@@ -2,12 +2,12 @@
 ghost use Rattle.std.specs.Prelude.{◌≡◌, ◌≤◌, ◌+◌, ◌*◌, length, true, IsTrue, None, Some, OnOk, IfErr};
 ghost use Rattle.asm_formats.specs.Status.{is_status, status_spelling};
 ghost use Rattle.bay.specs.State.{KeepsAttached};
-ghost use Rattle.bay.specs.Moments.{Runs, Ends};
+ghost use Rattle.bay.specs.Moments.{Ends};
 ghost use Rattle.status_register.specs.Holders.{AreHolders, HoldSlots, SlotsDiffer, attached_to};
-ghost use Rattle.status_register.specs.Rows.{AreApart, HaveBody, PutsRow};
+ghost use Rattle.status_register.specs.Rows.{AreApart, HaveBody, RunsInOrder};
 ghost use Rattle.status_register.specs.Slots.{status_gate};
 ghost use Rattle.status_register.specs.Surveys.{missing};
-ghost use Rattle.status_register.specs.Tallies.{HaveSlots, IsSlotOf};
+ghost use Rattle.status_register.specs.Tallies.{HaveSlots};
 ghost use Rattle.status_register.specs.Writes.{IsDeadOf, IsWriteAnswer};
 
 use crate::holders::attached_to;
@@ -44,7 +44,7 @@ pub fn write_on_majorities<B: Bay>(
     ensures answer { IsWriteAnswer holders.now status.now result (B.state bay.old) (B.state bay.new) }
     ensures attached { KeepsAttached (B.state bay.old) (B.state bay.new) }
     ensures calls { (B.state bay.new).calls ≤ (B.state bay.old).calls + 13 * length holders.now }
-    ensures runs { Runs (IsSlotOf holders.now) (PutsRow (status_gate id) holders.now (status_spelling status.now)) (B.state bay.old) (B.state bay.new) }
+    ensures runs { RunsInOrder (status_gate id) holders.now (status_spelling status.now) (B.state bay.old) (B.state bay.new) }
 {
     let body = body_of(status);
     let took = record_all(bay, id, holders, &body);
@@ -69,7 +69,7 @@ pub fn write_on_all<B: Bay>(
     ensures cause { IfErr result (λ dead. IsDeadOf holders.now dead.slot (B.state bay.old) (B.state bay.new)) }
     ensures attached { KeepsAttached (B.state bay.old) (B.state bay.new) }
     ensures calls { (B.state bay.new).calls ≤ (B.state bay.old).calls + 13 * length holders.now }
-    ensures runs { Runs (IsSlotOf holders.now) (PutsRow (status_gate id) holders.now (status_spelling status.now)) (B.state bay.old) (B.state bay.new) }
+    ensures runs { RunsInOrder (status_gate id) holders.now (status_spelling status.now) (B.state bay.old) (B.state bay.new) }
 {
     let body = body_of(status);
     let took = record_all(bay, id, holders, &body);
@@ -94,7 +94,7 @@ pub fn write_record<B: Bay>(
     ensures answer { IsWriteAnswer (attached_to places.now status.now) status.now result (B.state bay.old) (B.state bay.new) }
     ensures attached { KeepsAttached (B.state bay.old) (B.state bay.new) }
     ensures calls { (B.state bay.new).calls ≤ (B.state bay.old).calls + 13 * length (attached_to places.now status.now) }
-    ensures runs { Runs (IsSlotOf (attached_to places.now status.now)) (PutsRow (status_gate id) (attached_to places.now status.now) (status_spelling status.now)) (B.state bay.old) (B.state bay.new) }
+    ensures runs { RunsInOrder (status_gate id) (attached_to places.now status.now) (status_spelling status.now) (B.state bay.old) (B.state bay.new) }
 {
     let holders = attached_to(places, status);
     write_on_majorities(bay, id, holders.members(), status)
@@ -114,7 +114,7 @@ pub fn write_first<B: Bay>(
     ensures cause { IfErr result (λ dead. IsDeadOf (attached_to places.now status.now) dead.slot (B.state bay.old) (B.state bay.new)) }
     ensures attached { KeepsAttached (B.state bay.old) (B.state bay.new) }
     ensures calls { (B.state bay.new).calls ≤ (B.state bay.old).calls + 13 * length (attached_to places.now status.now) }
-    ensures runs { Runs (IsSlotOf (attached_to places.now status.now)) (PutsRow (status_gate status.now.id) (attached_to places.now status.now) (status_spelling status.now)) (B.state bay.old) (B.state bay.new) }
+    ensures runs { RunsInOrder (status_gate status.now.id) (attached_to places.now status.now) (status_spelling status.now) (B.state bay.old) (B.state bay.new) }
 {
     let holders = attached_to(places, status);
     write_on_all(bay, status.id, holders.members(), status)

@@ -1,15 +1,17 @@
 use Rattle.std.proofs.Common.{[], List, length, take, get_or, refl, sym, ap, subst, arith}
 use Rattle.std.proofs.lemmas.List.{take_more, take_all}
-use Rattle.bay.proofs.Calls.{goes_on, stops, on_more, started, attached-trans}
+use Rattle.bay.proofs.Calls.{on_more, started, attached-trans}
 use Rattle.bay.proofs.Images.{same-refl}
-use Rattle.bay.specs.Moments.{Ends}
-use Rattle.status_register.specs.Rows.{HaveBody, no_put}
+use Rattle.bay.specs.Moments.{Ends, Runs}
+use Rattle.status_register.specs.Rows.{HaveBody, PutsInOrder}
 use Rattle.status_register.specs.Slots.{status_gate}
 use Rattle.status_register.specs.Surveys.{AreRead, none_yet}
 use Rattle.status_register.specs.declared.member.Member.{Member}
+use Rattle.status_register.specs.Tallies.{IsSlotOf}
 use Rattle.status_register.proofs.Filling.{still_slots}
+use Rattle.status_register.proofs.Ordering.{AreTried, none_tried, run_on, tried_on}
 use Rattle.status_register.proofs.Tallying.{RoseAt, among_get}
-use Rattle.status_register.proofs.Taking.{none_have, takes_few, takes_kept, takes_more, kept_among, earlier_slot, row_more, status_gate_either}
+use Rattle.status_register.proofs.Taking.{none_have, takes_few, takes_kept, takes_more, kept_among, earlier_slot, status_gate_either}
 use Rattle.status_register.proofs.recording.record_all.Goals as goal
 
 pub loop-member-init : goal.loop-member-init
@@ -21,7 +23,8 @@ loop-member-init g c =
       done = subst (λ (l : List Member). Ends (HaveBody 6 8 c.args.body.now.bytes l) s s) (sym c.empty-took.ensures) (none_have s 6 8 c.args.body.now.bytes);
       attached = record { same = λ slot. refl };
       calls = omega arith;
-      runs = started (λ x. no_put x x (same-refl x));
+      tried = none_tried s;
+      runs = started same-refl;
     }
 
 pub record_one-took-requires-clause-slots : goal.record_one-took-requires-clause-slots
@@ -46,17 +49,27 @@ loop-member-preserved g c =
     let old = c.loop-member.took in
     let new = c.record_one-took.result in
     let takes = c.record_one-took.ensures.takes in
+    let front = take_more ms i none c.loop-member-test.true in
     record {
       few = omega (arith, c.loop-member.invariant.few, takes_few t u gate member body old new takes);
-      took = subst (λ (l : List Member). AreRead (RoseAt s u) l new) (sym (take_more ms i none c.loop-member-test.true)) (takes_kept s t u first next gate member body old new takes (take i ms) c.loop-member.invariant.took);
+      took = subst (λ (l : List Member). AreRead (RoseAt s u) l new) (sym front) (takes_kept s t u first next gate member body old new takes (take i ms) c.loop-member.invariant.took);
       done = takes_more gate 6 8 (status_gate_either c.args.id) body member old
           (λ n h. earlier_slot ms i none n c.requires.apart c.loop-member-test.true (kept_among (RoseAt s t) (take i ms) old c.loop-member.invariant.took n h)) new takes next c.loop-member.invariant.done;
       attached = attached-trans c.loop-member.invariant.attached c.record_one-took.ensures.attached;
       calls = omega (arith, c.loop-member.invariant.calls, c.record_one-took.ensures.calls);
-      runs = goes_on (row_more gate ms body member among) first (stops first) (on_more (λ slot is. (member, among, is)) next);
+      tried = subst (λ (l : List Member). Ends (AreTried gate body (RoseAt s u) l) s u) (sym front) (tried_on c.args.id body s t u first member next old new takes (take i ms) c.loop-member.invariant.tried);
+      runs = subst (λ (l : List Member). Runs (IsSlotOf ms) (PutsInOrder gate body (RoseAt s u) l) s u) (sym front)
+          (run_on c.args.id body s t u member (take i ms) first (on_more (λ slot is. (member, among, is)) next) next c.loop-member.invariant.tried);
     }
 
 pub returns-clause-took : goal.returns-clause-took
 returns-clause-took g c =
     subst (λ (l : List Member). AreRead (RoseAt (g.B.Bay.state c.args.bay.now) (g.B.Bay.state c.loop-member.bay)) l c.loop-member.took)
     (take_all c.loop-member.member-index c.args.members.now c.loop-member-test.false) c.loop-member.invariant.took
+
+pub returns-clause-runs : goal.returns-clause-runs
+returns-clause-runs g c =
+    let s = g.B.Bay.state c.args.bay.now in
+    let t = g.B.Bay.state c.loop-member.bay in
+    subst (λ (l : List Member). Runs (IsSlotOf c.args.members.now) (PutsInOrder (status_gate c.args.id) c.args.body.now.bytes (RoseAt s t) l) s t)
+    (take_all c.loop-member.member-index c.args.members.now c.loop-member-test.false) c.loop-member.invariant.runs

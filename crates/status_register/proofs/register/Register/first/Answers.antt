@@ -1,14 +1,14 @@
 use Rattle.std.proofs.Common.{◌≡◌, ◌∙◌, List, Option, Some, None, [], false, sym, ap, subst, replicate}
-use Rattle.bay.specs.Moments.{Ends, Runs}
+use Rattle.bay.specs.Moments.{Ends}
 use Rattle.asm_formats.specs.Status.{Entry, status_spelling}
 use Rattle.status_register.specs.Holders.{attached_to, HoldSlots, SlotsDiffer}
 use Rattle.status_register.specs.Keeping.{Keeps}
 use Rattle.status_register.specs.Registered.{Registered, all_placed}
-use Rattle.status_register.specs.Rows.{HaveBody, PutsRow}
+use Rattle.status_register.specs.Rows.{HaveBody, RunsInOrder}
 use Rattle.status_register.specs.Slots.{status_gate}
-use Rattle.status_register.specs.Tallies.{IsSlotOf}
-use Rattle.status_register.specs.Writes.{IsDeadOf, first_register}
+use Rattle.status_register.specs.Writes.{IsDeadOf, first_holders, first_register}
 use Rattle.status_register.specs.declared.member.Member.{Member}
+use Rattle.status_register.proofs.Ordering.{row_runs}
 use Rattle.status_register.proofs.Placing.{places_hold, places_differ, places_ready, first_slot, holders_show}
 use Rattle.status_register.proofs.Written.{first_fits, first_completed}
 use Rattle.status_register.proofs.register.Register.first.Goals as goal
@@ -46,7 +46,7 @@ returns-in-Err-clause-runs g c =
     let ms = c.args.members.now in
     let places = c.by_number-places.ensures.places ∙ ap (λ (es : List Entry). all_placed es (replicate 64 None) ms) c.entries.ensures.entries in
     let t = g.B.Bay.state c.write_first.new.bay in
-    subst (λ (l : List (Option Member)). Runs (IsSlotOf (attached_to l r)) (PutsRow (status_gate r.id) (attached_to l r) (status_spelling r)) s t) places c.write_first.ensures.runs
+    subst (λ (l : List (Option Member)). RunsInOrder (status_gate r.id) (attached_to l r) (status_spelling r) s t) places c.write_first.ensures.runs
 
 pub returns-in-Err-clause-history : goal.returns-in-Err-clause-history
 returns-in-Err-clause-history g c =
@@ -55,7 +55,7 @@ returns-in-Err-clause-history g c =
     let ms = c.args.members.now in
     let places = c.by_number-places.ensures.places ∙ ap (λ (es : List Entry). all_placed es (replicate 64 None) ms) c.entries.ensures.entries in
     let t = g.B.Bay.state c.write_first.new.bay in
-    let run = subst (λ (l : List (Option Member)). Runs (IsSlotOf (attached_to l r)) (PutsRow (status_gate r.id) (attached_to l r) (status_spelling r)) s t) places c.write_first.ensures.runs in
+    let run = row_runs (status_gate r.id) (first_holders r ms) (status_spelling r) s t (subst (λ (l : List (Option Member)). RunsInOrder (status_gate r.id) (attached_to l r) (status_spelling r) s t) places c.write_first.ensures.runs) in
     λ slots enough before. record { moments = first_fits s t (g.met.B.Bay.sound c.args.bay.now) r c.requires.status ms c.requires.numbers c.requires.slots run slots before; after = tt }
 
 pub returns-in-Ok-clause-ready : goal.returns-in-Ok-clause-ready
@@ -84,7 +84,7 @@ returns-in-Ok-clause-history g c =
     let ms = c.args.members.now in
     let places = c.by_number-places.ensures.places ∙ ap (λ (es : List Entry). all_placed es (replicate 64 None) ms) c.entries.ensures.entries in
     let t = g.B.Bay.state c.write_first.new.bay in
-    let run = subst (λ (l : List (Option Member)). Runs (IsSlotOf (attached_to l r)) (PutsRow (status_gate r.id) (attached_to l r) (status_spelling r)) s t) places c.write_first.ensures.runs in
+    let run = row_runs (status_gate r.id) (first_holders r ms) (status_spelling r) s t (subst (λ (l : List (Option Member)). RunsInOrder (status_gate r.id) (attached_to l r) (status_spelling r) s t) places c.write_first.ensures.runs) in
     let done = subst (λ (l : List (Option Member)). Ends (HaveBody 6 8 (status_spelling r) (attached_to l r)) s t) places c.in-Ok.ensures.done in
     let made : Registered = record { id = c.value.inside.id; members = c.by_number-places.result; value = c.copy.result; epoch = c.value.inside.epoch; turn = c.value.inside.turn; is_fresh = false } in
     let made_is : made ≡ first_register r ms = λ i. record { id = (c.value.view_is i).id; members = places i; value = c.copy.ensures i; epoch = (c.value.view_is i).epoch; turn = (c.value.view_is i).turn; is_fresh = false } in

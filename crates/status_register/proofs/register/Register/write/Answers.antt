@@ -1,13 +1,15 @@
 use Rattle.std.proofs.Common.{◌≡◌, ◌∙◌, Ok, Err, IsTrue, List, Option, false, sym, ap, subst}
-use Rattle.asm_formats.specs.Status.{Status, is_status}
+use Rattle.asm_formats.specs.Status.{Status, is_status, status_spelling}
 use Rattle.status_register.specs.Holders.{HoldSlots, attached_to, next_turn, numbered}
 use Rattle.status_register.specs.Keeping.{KeepsOn}
 use Rattle.status_register.specs.Registered.{Registered}
+use Rattle.status_register.specs.Slots.{status_gate}
 use Rattle.status_register.specs.Writes.{after_write}
 use Rattle.status_register.specs.declared.member.Member.{Member}
 use Rattle.status_register.proofs.Answered.{show_but}
 use Rattle.status_register.proofs.Holding.{are_holders}
 use Rattle.status_register.proofs.Losing.{failed_alone}
+use Rattle.status_register.proofs.Ordering.{row_runs}
 use Rattle.status_register.proofs.Rewriting.{same_majority, same_calls, same_answer, same_runs}
 use Rattle.status_register.proofs.Written.{written}
 use Rattle.status_register.proofs.register.Register.write.Goals as goal
@@ -83,7 +85,7 @@ returns-in-Err-clause-history g c =
     let is : status ≡ numbered old next = c.renumbered-status.ensures.value ∙ (λ i. record next { epoch = (c.self.view_is i).epoch; turn = turn i }) in
     let t = g.B.Bay.state c.write_record.new.bay in
     let answer = same_answer s t old next status places c.self.inside.id there is id_is (Err c.in-Err.dead) c.in-Err.ensures.answer in
-    let run = same_runs s t old next status places c.self.inside.id there is id_is c.write_record.ensures.runs in
+    let run = row_runs (status_gate old.id) (attached_to old.members next) (status_spelling (numbered old next)) s t (same_runs s t old next status places c.self.inside.id there is id_is c.write_record.ensures.runs) in
     let allowed = subst (λ (r : Status). IsTrue (is_status r)) is (c.renumbered-status.ensures.kept c.requires.status) in
     let made : Registered = record { id = c.self.inside.id; members = c.self.inside.members; value = c.self.inside.value; epoch = c.self.inside.epoch; turn = c.saturating_add-turn.result; is_fresh = c.self.inside.is_fresh } in
     let made_is : made ≡ after_write old next (Err c.in-Err.dead) = λ i. record (c.self.view_is i) { turn = turn i } in
@@ -175,7 +177,7 @@ returns-in-Ok-clause-history g c =
     let is : status ≡ numbered old next = c.renumbered-status.ensures.value ∙ (λ i. record next { epoch = (c.self.view_is i).epoch; turn = turn i }) in
     let t = g.B.Bay.state c.write_record.new.bay in
     let answer = same_answer s t old next status places c.self.inside.id there is id_is (Ok c.in-Ok.failed) c.in-Ok.ensures.answer in
-    let run = same_runs s t old next status places c.self.inside.id there is id_is c.write_record.ensures.runs in
+    let run = row_runs (status_gate old.id) (attached_to old.members next) (status_spelling (numbered old next)) s t (same_runs s t old next status places c.self.inside.id there is id_is c.write_record.ensures.runs) in
     let allowed = subst (λ (r : Status). IsTrue (is_status r)) is (c.renumbered-status.ensures.kept c.requires.status) in
     let made : Registered = record { id = c.self.inside.id; members = c.self.inside.members; value = status; epoch = c.self.inside.epoch; turn = c.saturating_add-turn.result; is_fresh = false } in
     let made_is : made ≡ after_write old next (Ok c.in-Ok.failed) = λ i. record (c.self.view_is i) { value = is i; turn = turn i; is_fresh = false } in
