@@ -16,7 +16,7 @@ use Rattle.asm_group.specs.TreeEdits.{is_alias_of, names_file}
 use Rattle.asm_formats.specs.Items.{Node}
 use Rattle.asm_base.specs.Tables.{IsItemTable}
 use Rattle.alias_tree.specs.Nodes.{Numbered, node_at, is_before, item_of}
-use Rattle.alias_tree.specs.Trees.{node_kind}
+use Rattle.asm_formats.specs.Nodes.{node_kind}
 use Rattle.alias_tree.specs.FileNames.{FileName, name_cmp, is_same_name, has_name, is_it, forgotten, name_by_kind, name_of_node, IsFileIndex, IsLow}
 use Rattle.alias_tree.proofs.IndexLaws.{either, at_is, at_self, not_at, at_member, item_at, member_at}
 use Rattle.alias_tree.proofs.Leading.{same_bool, any_some, any_of, among_member, member_among}
