@@ -77,8 +77,10 @@ impl Register {
         }
     }
 
-    /// Writes the first record of a group on its holders, whose slots are closed: each of them must take it. `Dead` has the slot
-    /// of one that failed. At each moment the disks fit the history in which the record is begun, and in the end it is completed.
+    /// Writes the first record of a group on the disks of its sets among the members, whose slots are closed, from the greatest
+    /// disk number down and past faults: each of them must take it. `Dead` has the slot of one that failed. At each moment a disk
+    /// has something of the record only where each one of a greater number shows it or failed in this call, and the disks fit the
+    /// history in which the record is begun. In the end it is completed.
     pub fn first<B: Bay>(
         bay: &mut B,
         value: &PstRecord,
@@ -115,7 +117,8 @@ impl Register {
     /// Writes the record under the next number, on all attached disks of its sets, in any mode, from the greatest disk number down
     /// and past faults. Gives the set of those that failed. `Dead` comes where fewer than a majority of a set took the record,
     /// with the slot of a disk of this set that failed; then the number is used up, and the record that holds is the one before.
-    /// At each moment the disks fit the history in which the record is begun, and once a set is given it is completed.
+    /// At each moment a disk has something of the record only where each one of a greater number shows it or failed in this call,
+    /// and the disks fit the history in which the record is begun. Once a set is given it is completed.
     pub fn write<B: Bay>(&mut self, bay: &mut B, next: &PstRecord) -> Result<DiskSet, Dead>
         requires status { IsTrue (is_status next.now) }
         requires group { next.now.id ≡ self.old.value.id }

@@ -28,7 +28,7 @@ fn body_of(status: &PstRecord) -> Block
     body
 }
 
-/// Writes a record on the disks, past faults. A majority of each of its sets must take it; gives the set of those that failed.
+/// Writes a record on the disks in their order, past faults. A majority of each of its sets must take it; gives the set of those that failed.
 pub fn write_on_majorities<B: Bay>(
     bay: &mut B,
     id: u64,
@@ -54,7 +54,7 @@ pub fn write_on_majorities<B: Bay>(
     }
 }
 
-/// Writes a record on the disks. Each of them must take it.
+/// Writes a record on the disks in their order. Each of them must take it.
 pub fn write_on_all<B: Bay>(
     bay: &mut B,
     id: u64,
