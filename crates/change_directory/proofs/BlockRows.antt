@@ -1,16 +1,14 @@
 -- Blocks that stand one behind the other.
-use Rattle.std.proofs.Common.{◌≡◌, ℕ, zero, suc, ◌+◌, ◌*◌, ◌<◌, ◌≤◌, List, [], ◌∷◌, ◌++◌, length, map, take, drop, get_or, refl, sym, ap, ◌∙◌, append_assoc, arith, length-append}
+use Rattle.std.proofs.Common.{◌≡◌, ℕ, zero, suc, ◌+◌, ◌*◌, ◌<◌, ◌≤◌, List, [], ◌∷◌, ◌++◌, length, take, drop, get_or, refl, sym, ap, ◌∙◌, arith}
 use Rattle.std.specs.Prelude.{zip}
 use Rattle.std.proofs.lemmas.List.{take_at, drop_at, drop-drop, take_more}
 use Rattle.bay.specs.Image.{Image, window}
 use Rattle.bay.proofs.Images.{length-window, window-same}
 use Rattle.asm_group.specs.Names.{Bytes}
 use Rattle.asm_formats.specs.Bytes.{block}
-use Rattle.asm_formats.specs.Logs.{PageImage, blocks_from}
+use Rattle.asm_formats.specs.Logs.{blocks_from}
 use Rattle.asm_images.specs.Bridge.{disk_bytes}
 use Rattle.asm_images.proofs.Bridges.{bytes_are_listed}
-use Rattle.asm_base.specs.declared.block.Block.{Block}
-use Rattle.change_directory.specs.Logs.{image_of_page}
 use Rattle.change_directory.specs.Slots.{cut, blocks_at}
 use Rattle.change_directory.proofs.Windows.{window-append}
 

@@ -1,19 +1,18 @@
 -- What a checkpoint, a commit and a copy made anew do to the pages that count.
-use Rattle.std.proofs.Common.{◌≡◌, ◌⊎◌, inl, inr, ⊎_elim, ℕ, zero, suc, ◌+◌, ◌*◌, ◌<◌, ◌≤◌, Bool, true, false, List, [], ◌∷◌, length, map, replicate, refl, sym, ap, subst, ◌∙◌, Option, Some, None, arith, ◌==◌}
-use Rattle.std.specs.Prelude.{IsTrue}
+use Rattle.std.proofs.Common.{◌≡◌, ◌⊎◌, inl, inr, ⊎_elim, ℕ, zero, suc, ◌+◌, ◌*◌, ◌<◌, ◌≤◌, true, false, List, [], ◌∷◌, length, map, replicate, refl, sym, ap, ◌∙◌, Option, Some, None, arith, ◌==◌}
 use Rattle.std.specs.List.{range_with_len}
 use Rattle.std.specs.Option.{unwrap_or}
 use Rattle.std.proofs.lemmas.Bool.{le-leb, false≢true}
 use Rattle.std.proofs.lemmas.Option.{none-some}
-use Rattle.bay.specs.Image.{Image, Same, ChangesOnly, window}
-use Rattle.bay.proofs.Images.{window-same, same-refl, changes-same}
+use Rattle.bay.specs.Image.{Image, ChangesOnly, window}
+use Rattle.bay.proofs.Images.{window-same}
 use Rattle.asm_base.specs.declared.block.Block.{Block}
 use Rattle.asm_group.specs.Names.{Bytes}
 use Rattle.asm_formats.specs.Among.{IsAmong}
-use Rattle.asm_formats.specs.Bytes.{block_size, block, is_open}
+use Rattle.asm_formats.specs.Bytes.{block_size, is_open}
 use Rattle.asm_formats.specs.Regions.{region_start, region_end, has_region}
-use Rattle.asm_formats.specs.Content.{Content, records_in}
-use Rattle.asm_formats.specs.Logs.{Log, PageImage, log_head_at, log_at, open_logs, logs_decode, image_of, image_in}
+use Rattle.asm_formats.specs.Content.{records_in}
+use Rattle.asm_formats.specs.Logs.{Log, PageImage, log_head_at, log_at, open_logs, image_of, image_in}
 use Rattle.asm_formats.specs.Pages.{home_page, page_at, with_images, committed}
 use Rattle.asm_formats.specs.LogSlots.{IsLogPut}
 use Rattle.asm_formats.specs.Commits.{HoldsLog}
@@ -26,10 +25,10 @@ use Rattle.asm_images.proofs.Bridges.{bytes_are_listed}
 use Rattle.change_directory.specs.declared.copy.DirCopy.{DirCopy}
 use Rattle.change_directory.specs.declared.copy.LogSlot.{LogSlot}
 use Rattle.change_directory.specs.declared.copy.LogSlot.TheVariants.{First, Second}
-use Rattle.change_directory.specs.Places.{gate_of, other_of, HomesAt}
+use Rattle.change_directory.specs.Places.{gate_of, other_of}
 use Rattle.change_directory.specs.Logs.{is_open_at, number_at, spare_in, image_of_page, log_of, are_pages}
 use Rattle.change_directory.specs.Changes.{disk, content_in, IsAtHome, DecodesIn, IsAbove, MayLog, HasLogged}
-use Rattle.change_directory.specs.Homes.{HomesOf, HasHomed, AreDue}
+use Rattle.change_directory.specs.Homes.{HomesOf, HasHomed}
 use Rattle.change_directory.specs.Formatting.{AreShut, HasFormatted}
 use Rattle.change_directory.specs.Laws.{IsReady, ArePut}
 use Rattle.change_directory.specs.StoreLaws.{IsShaped, HasRegion, counted, zero_page, content_with, HasPages, HasContent, HasDue, IsUnopened}

@@ -1,5 +1,5 @@
 -- What a copy says rests on the bytes of its directory region alone.
-use Rattle.std.proofs.Common.{◌≡◌, ◌≢◌, inl, inr, ⊎_elim, ℕ, zero, suc, ◌+◌, ◌*◌, ◌<◌, ◌≤◌, Bool, true, false, cond, List, length, find, refl, sym, ap, ◌∙◌, Option, Some, None, arith, ◌==◌}
+use Rattle.std.proofs.Common.{◌≡◌, ◌≢◌, inl, inr, ⊎_elim, ℕ, zero, suc, ◌+◌, ◌*◌, ◌<◌, ◌≤◌, Bool, cond, List, length, find, refl, sym, ap, ◌∙◌, Option, Some, None, arith, ◌==◌}
 use Rattle.std.specs.Prelude.{◌&&◌, ◌||◌, not}
 use Rattle.std.specs.List.{range_with_len}
 use Rattle.std.specs.Option.{is_some, option_map, option_or}
@@ -7,11 +7,10 @@ use Rattle.bay.specs.Image.{Image, ChangesOnly}
 use Rattle.bay.proofs.Images.{window-same}
 use Rattle.asm_base.specs.declared.block.Block.{Block}
 use Rattle.asm_group.specs.Names.{Bytes}
-use Rattle.asm_formats.specs.Among.{IsAmong}
 use Rattle.asm_formats.specs.Bytes.{block_size, block, is_open}
 use Rattle.asm_formats.specs.Regions.{region_start, region_end, first_log, second_log, log_blocks, page_home, has_region}
 use Rattle.asm_formats.specs.Content.{is_page}
-use Rattle.asm_formats.specs.Logs.{Log, LogHead, log_head_at, decoded_log_head, open_logs, logs_decode, image_in}
+use Rattle.asm_formats.specs.Logs.{Log, LogHead, log_head_at, decoded_log_head, open_logs, image_in}
 use Rattle.asm_formats.specs.Pages.{home_page}
 use Rattle.asm_formats.specs.Damage.{is_bad_page, head_damage, log_damage, directory_damage}
 use Rattle.asm_formats.proofs.Among.{cond_same}
@@ -26,7 +25,7 @@ use Rattle.change_directory.specs.declared.copy.LogSlot.TheVariants.{First, Seco
 use Rattle.change_directory.specs.Places.{gate_of}
 use Rattle.change_directory.specs.Logs.{is_open_at, number_at}
 use Rattle.change_directory.specs.Changes.{disk, content_in, IsAtHome, DecodesIn}
-use Rattle.change_directory.specs.StoreLaws.{IsShaped, HasRegion, RegionOf, counted, HasPages, HasContent, HasDue, IsUnopened, SameRegion, SameCopy}
+use Rattle.change_directory.specs.StoreLaws.{IsShaped, HasRegion, RegionOf, counted, HasPages, HasDue, SameRegion, SameCopy}
 use Rattle.change_directory.proofs.Copies.{still_above}
 use Rattle.change_directory.proofs.Spares.{gate_listed, slot_inside}
 

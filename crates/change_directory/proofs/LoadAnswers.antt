@@ -1,5 +1,5 @@
 -- What a refusal says, in other words.
-use Rattle.std.proofs.Common.{◌≡◌, ℕ, Option, Some, None}
+use Rattle.std.proofs.Common.{ℕ, Option, Some, None}
 use Rattle.std.specs.Prelude.{Result, Ok, Err, IfErr, IfSome}
 use Rattle.change_directory.specs.declared.loading.LoadFault.{LoadFault}
 use Rattle.change_directory.specs.Loads.{damaged_block}

@@ -1,6 +1,6 @@
 -- What is loaded is the copy's content, and what is refused its damage.
-use Rattle.std.proofs.Common.{◌≡◌, ℕ, zero, suc, ◌+◌, ◌*◌, ◌<◌, ◌≤◌, Bool, true, false, cond, ltb, List, [], ◌∷◌, ◌++◌, length, map, find, Option, Some, None, refl, sym, ap, subst, ◌∙◌, arith}
-use Rattle.std.specs.Prelude.{◌&&◌, ◌||◌}
+use Rattle.std.proofs.Common.{◌≡◌, ℕ, zero, suc, ◌+◌, ◌*◌, ◌≤◌, Bool, true, false, cond, ltb, List, [], ◌∷◌, ◌++◌, length, find, Option, Some, None, refl, sym, ap, ◌∙◌, arith}
+use Rattle.std.specs.Prelude.{◌||◌}
 use Rattle.std.specs.List.{flat_map, range_with_len}
 use Rattle.std.specs.Option.{is_some, option_map, option_or}
 use Rattle.std.proofs.lemmas.Bool.{le-leb}
@@ -8,7 +8,7 @@ use Rattle.bay.specs.Image.{Image}
 use Rattle.asm_group.specs.Names.{Bytes}
 use Rattle.asm_formats.specs.Bytes.{block_size, is_open}
 use Rattle.asm_formats.specs.Regions.{first_log, second_log, has_region, page_home, region_end}
-use Rattle.asm_formats.specs.Logs.{Log, PageImage, blocks_from, in_log, log_at, newest_first, open_logs}
+use Rattle.asm_formats.specs.Logs.{blocks_from, log_at, newest_first, open_logs}
 use Rattle.asm_formats.specs.Damage.{directory_damage, is_bad_page, log_damage}
 use Rattle.asm_images.proofs.Bridges.{bytes_are_listed}
 use Rattle.change_directory.specs.declared.copy.DirCopy.{DirCopy}
@@ -17,8 +17,8 @@ use Rattle.change_directory.specs.declared.loading.Pages.{Pages}
 use Rattle.change_directory.specs.declared.open_log.OpenLog.{OpenLog}
 use Rattle.change_directory.specs.declared.open_log.OpenLogs.{OpenLogs}
 use Rattle.change_directory.specs.Changes.{disk}
-use Rattle.change_directory.specs.Loads.{IsLoaded, OpenSlot, commit_of, due_page, filled_page, filled_pages, newest_slots, open_slots, slot_in}
-use Rattle.change_directory.specs.Slots.{ArePages, IsLogRead, all_due, all_filled, all_slots, damage_of, damaged_page, first_bad, has_slots, homes_in, logs_of, number_in, open_homes, slots_of, blocks_at}
+use Rattle.change_directory.specs.Loads.{IsLoaded, OpenSlot, commit_of, due_page, filled_page, filled_pages, newest_slots, open_slots}
+use Rattle.change_directory.specs.Slots.{ArePages, IsLogRead, all_due, all_filled, all_slots, damage_of, damaged_page, first_bad, has_slots, homes_in, logs_of, number_in, open_homes, slots_of}
 use Rattle.change_directory.proofs.BlockRows.{blocks_listed}
 use Rattle.change_directory.proofs.PageRows.{filled_all, due_all, bad_all}
 use Rattle.change_directory.proofs.Telling.{IsSized}

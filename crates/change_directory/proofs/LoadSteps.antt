@@ -1,22 +1,17 @@
 -- What is told of the pages after one read more.
-use Rattle.std.proofs.Common.{◌≡◌, ℕ, ◌+◌, ◌-◌, ◌*◌, ◌<◌, ◌≤◌, Bool, true, false, cond, List, [], ◌++◌, length, map, Option, Some, None, refl, sym, ap, subst, ◌∙◌, arith}
-use Rattle.std.specs.Prelude.{zip}
-use Rattle.std.specs.Option.{ForSome, is_some, option_map}
+use Rattle.std.proofs.Common.{◌≡◌, ℕ, ◌+◌, ◌-◌, ◌*◌, ◌≤◌, Bool, true, false, cond, List, [], ◌++◌, length, map, Some, sym, ap, subst, ◌∙◌, arith}
+use Rattle.std.specs.Option.{ForSome, is_some}
 use Rattle.bay.specs.Image.{Image, Same, window}
 use Rattle.bay.specs.State.{BayState}
 use Rattle.bay.specs.Moments.{Runs}
 use Rattle.asm_group.specs.Names.{Bytes}
-use Rattle.asm_formats.specs.Regions.{page_home}
-use Rattle.asm_formats.specs.Logs.{PageImage}
 use Rattle.change_directory.specs.declared.copy.DirCopy.{DirCopy}
-use Rattle.change_directory.specs.declared.copy.LogSlot.{LogSlot}
 use Rattle.change_directory.specs.declared.loading.Pages.{Pages}
 use Rattle.change_directory.specs.declared.open_log.OpenLogs.{OpenLogs}
-use Rattle.change_directory.specs.Places.{gate_of}
 use Rattle.change_directory.specs.Logs.{image_of_page}
 use Rattle.change_directory.specs.Told.{Told}
 use Rattle.change_directory.specs.Loads.{OpenSlot}
-use Rattle.change_directory.specs.Slots.{ArePages, AreTaken, IsPageDamage, all_due, all_filled, all_slots, blocks_at, cut, damaged_page, first_bad, homes_in, images_in, number_in, open_homes}
+use Rattle.change_directory.specs.Slots.{ArePages, AreTaken, IsPageDamage, all_due, all_filled, all_slots, blocks_at, cut, damaged_page, first_bad, homes_in, number_in, open_homes}
 use Rattle.change_directory.proofs.BlockRows.{blocks_len, blocks_more, blocks_same, cut_window}
 use Rattle.change_directory.proofs.PageRows.{damage_behind, damage_front, taken_more, taken_none}
 use Rattle.change_directory.proofs.Telling.{told_before, told_both, told_later}

@@ -1,5 +1,5 @@
 -- What is told of a log slot while it is read.
-use Rattle.std.proofs.Common.{◌≡◌, ℕ, ◌+◌, ◌*◌, ◌≤◌, Bool, true, false, cond, List, length, map, Option, Some, None, refl, sym, ap, subst, ◌∙◌, arith}
+use Rattle.std.proofs.Common.{◌≡◌, ℕ, ◌+◌, ◌*◌, Bool, true, false, cond, List, length, Some, None, ap, ◌∙◌}
 use Rattle.std.specs.Prelude.{zip, ◌==◌}
 use Rattle.std.specs.Option.{ForSome}
 use Rattle.bay.specs.Image.{Image, Same, window}
@@ -15,14 +15,13 @@ use Rattle.change_directory.specs.declared.copy.DirCopy.{DirCopy}
 use Rattle.change_directory.specs.declared.copy.LogSlot.{LogSlot}
 use Rattle.change_directory.specs.declared.open_log.OpenLog.{OpenLog}
 use Rattle.change_directory.specs.Places.{IsCopy, gate_of, log_place}
-use Rattle.change_directory.specs.Logs.{image_of_page, is_open_at}
-use Rattle.change_directory.specs.Changes.{disk}
+use Rattle.change_directory.specs.Logs.{is_open_at}
 use Rattle.change_directory.specs.Told.{Told}
-use Rattle.change_directory.specs.Slots.{IsLogRead, IsRestRead, blocks_at, cut, head_in, images_in}
+use Rattle.change_directory.specs.Slots.{IsLogRead, IsRestRead, cut, head_in, images_in}
 use Rattle.change_directory.proofs.Runs.{same_disk}
 use Rattle.change_directory.proofs.LoadSteps.{read_blocks}
 use Rattle.change_directory.proofs.SlotLaws.{log_is_read, log_is_shut}
-use Rattle.change_directory.proofs.Telling.{IsSized, told_before, told_both, told_later, told_sized}
+use Rattle.change_directory.proofs.Telling.{told_before, told_both, told_later, told_sized}
 
 module _ (copy : DirCopy) (log : LogSlot) (s m t : BayState) {early late : ℕ → Type 0} (run : Runs early Same s m) (next : Runs late Same m t) (place : Place) (place_is : place ≡ log_place copy log 65) where
   -- the gate, as it was found

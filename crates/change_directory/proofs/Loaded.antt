@@ -1,6 +1,6 @@
 -- What is loaded of a copy without damage is its content.
-use Rattle.std.proofs.Common.{◌≡◌, ◌⊎◌, inl, inr, ⊎_elim, ℕ, ◌+◌, ◌*◌, ◌<◌, ◌≤◌, Bool, true, false, cond, List, [], ◌∷◌, length, map, find, replicate, refl, sym, ap, subst, ◌∙◌, Option, Some, None, arith}
-use Rattle.std.specs.Prelude.{◌&&◌, ◌||◌, not, nat_lt, IsTrue}
+use Rattle.std.proofs.Common.{◌≡◌, ◌⊎◌, inl, inr, ⊎_elim, ℕ, ◌*◌, ◌<◌, ◌≤◌, Bool, true, false, List, [], ◌∷◌, length, map, find, replicate, refl, sym, ap, subst, ◌∙◌, Option, Some, None, arith}
+use Rattle.std.specs.Prelude.{◌&&◌, ◌||◌, not, nat_lt}
 use Rattle.std.specs.List.{flat_map, range_with_len, list_all}
 use Rattle.std.specs.Option.{option_map, option_or, unwrap_or}
 use Rattle.std.proofs.lemmas.Bool.{cases_Bool, cond-true, le-leb, lt-ltb, and_from, false≢true}
@@ -11,13 +11,13 @@ use Rattle.asm_group.specs.Names.{Bytes}
 use Rattle.asm_formats.specs.Among.{IsAmong}
 use Rattle.asm_formats.specs.Bytes.{block_size, block, is_open}
 use Rattle.asm_formats.specs.Regions.{region_end, first_log, second_log, has_region, page_home}
-use Rattle.asm_formats.specs.Content.{Content, is_page, is_empty_page, records_in}
+use Rattle.asm_formats.specs.Content.{is_page, is_empty_page, records_in}
 use Rattle.asm_formats.specs.Items.{Item}
 use Rattle.asm_formats.specs.Status.{ascends_from}
 use Rattle.asm_formats.specs.Logs.{Log, PageImage, log_at, open_logs, logs_decode, image_of, image_in}
 use Rattle.asm_formats.specs.Pages.{home_page, page_at, pages_of, content_by, copy_content}
 use Rattle.asm_formats.specs.Damage.{is_bad_page, log_damage, directory_damage}
-use Rattle.asm_formats.proofs.Among.{all_among, among_map}
+use Rattle.asm_formats.proofs.Among.{among_map}
 use Rattle.asm_formats.proofs.Damaging.{whole_pages}
 use Rattle.asm_images.proofs.Bridges.{bytes_are_listed}
 use Rattle.change_directory.specs.declared.copy.DirCopy.{DirCopy}
@@ -25,14 +25,14 @@ use Rattle.change_directory.specs.declared.copy.LogSlot.{LogSlot}
 use Rattle.change_directory.specs.declared.copy.LogSlot.TheVariants.{First, Second}
 use Rattle.change_directory.specs.declared.loading.Pages.{Pages}
 use Rattle.change_directory.specs.Places.{gate_of}
-use Rattle.change_directory.specs.Logs.{is_open_at, number_at, image_of_page, bytes_of_page, are_pages}
-use Rattle.change_directory.specs.Changes.{disk, content_in, DecodesIn}
+use Rattle.change_directory.specs.Logs.{is_open_at, number_at, image_of_page, are_pages}
+use Rattle.change_directory.specs.Changes.{disk, content_in}
 use Rattle.change_directory.specs.Formatting.{AreShut}
 use Rattle.change_directory.specs.Loads.{IsLoaded, OpenSlot, commit_of, counted_block, due_page, filled_page, filled_pages, open_slots}
 use Rattle.change_directory.specs.Slots.{has_slots, logs_of}
-use Rattle.change_directory.specs.StoreLaws.{IsShaped, HasRegion, HasOpen, counted, shown_by, zero_page, content_with, HasPages, HasContent, HasDue, IsReadAs, StandAt, due_images}
+use Rattle.change_directory.specs.StoreLaws.{IsShaped, HasRegion, HasOpen, counted, shown_by, HasContent, HasDue, IsReadAs, StandAt, due_images}
 use Rattle.change_directory.proofs.Afterwards.{same_numbers}
-use Rattle.change_directory.proofs.Copies.{content_same, shut_decodes, unopened}
+use Rattle.change_directory.proofs.Copies.{content_same, shut_decodes}
 use Rattle.change_directory.proofs.LoadLaws.{logs_are_open, none_due, some_open}
 use Rattle.change_directory.proofs.LoadRows.{map_among, has_image, shown_row, rows_ascend, all_rows, all_by_images, dues_ascend, due_is, is_due, image_stands, most_open}
 use Rattle.change_directory.proofs.Losing.{shut_none}

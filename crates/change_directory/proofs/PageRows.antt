@@ -1,5 +1,5 @@
 -- Pages that are taken up one behind the other.
-use Rattle.std.proofs.Common.{◌≡◌, ℕ, zero, suc, ◌+◌, ◌-◌, ◌*◌, ◌<◌, ◌≤◌, Bool, true, false, cond, List, [], ◌∷◌, ◌++◌, length, map, take, drop, find, Option, Some, None, refl, sym, ap, subst, ◌∙◌, append_assoc, arith}
+use Rattle.std.proofs.Common.{◌≡◌, ℕ, zero, suc, ◌+◌, ◌-◌, ◌*◌, ◌<◌, Bool, true, false, cond, List, [], ◌∷◌, ◌++◌, length, map, take, drop, find, Option, Some, None, refl, sym, ap, subst, ◌∙◌, append_assoc, arith}
 use Rattle.std.specs.Prelude.{◌&&◌, not}
 use Rattle.std.specs.List.{flat_map, range_with_len}
 use Rattle.std.specs.Option.{is_some, option_map, option_to_list, unwrap_or}
@@ -9,7 +9,7 @@ use Rattle.asm_formats.specs.Bytes.{block}
 use Rattle.asm_formats.specs.Regions.{page_home}
 use Rattle.asm_formats.specs.Content.{is_page}
 use Rattle.asm_formats.specs.Logs.{Log, PageImage, blocks_from, image_in, open_logs}
-use Rattle.asm_formats.specs.Pages.{home_page, page_at}
+use Rattle.asm_formats.specs.Pages.{page_at}
 use Rattle.asm_formats.specs.Damage.{is_bad_page}
 use Rattle.change_directory.specs.declared.loading.Pages.{Pages}
 use Rattle.change_directory.specs.Logs.{image_of_page}

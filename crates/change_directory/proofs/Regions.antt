@@ -1,23 +1,22 @@
 -- The calls on a copy change nothing outside its directory region.
-use Rattle.std.proofs.Common.{◌≡◌, ◌⊎◌, inl, inr, ℕ, ◌+◌, ◌*◌, ◌<◌, ◌≤◌, List, length, arith, ap}
+use Rattle.std.proofs.Common.{◌≡◌, ◌⊎◌, inl, inr, ℕ, ◌+◌, ◌<◌, ◌≤◌, List, length, arith}
 use Rattle.std.specs.Prelude.{IsTrue}
 use Rattle.std.proofs.lemmas.List.{length-map}
-use Rattle.bay.specs.Image.{Image, Same, Range, ChangesOnly}
+use Rattle.bay.specs.Image.{Image, ChangesOnly}
 use Rattle.bay.proofs.Images.{changes-within, changes-same}
 use Rattle.gate_slot.specs.Slot.{GateOf, PlaceOf}
 use Rattle.asm_base.specs.declared.block.Block.{Block}
-use Rattle.asm_formats.specs.Bytes.{block_size}
-use Rattle.asm_formats.specs.Regions.{region_start, region_end}
+use Rattle.asm_formats.specs.Regions.{region_start}
 use Rattle.asm_formats.specs.Logs.{Log, PageImage, head_of}
 use Rattle.asm_formats.proofs.LogReading.{log_head_len}
 use Rattle.change_directory.specs.declared.copy.DirCopy.{DirCopy}
 use Rattle.change_directory.specs.declared.copy.LogSlot.{LogSlot}
 use Rattle.change_directory.specs.declared.copy.LogSlot.TheVariants.{First, Second}
-use Rattle.change_directory.specs.Places.{gate_of, other_of, log_place, HomesAt}
+use Rattle.change_directory.specs.Places.{gate_of, log_place, HomesAt}
 use Rattle.change_directory.specs.Logs.{image_of_page, log_of, are_pages, spare_in}
 use Rattle.change_directory.specs.Changes.{MayLog, HasLogged}
-use Rattle.change_directory.specs.Homes.{HomesOf, HasHomed}
-use Rattle.change_directory.specs.Formatting.{LogGatesOf, FormatOf, MayShut, spare_closing, other_closing, MayFormat, HasFormatted}
+use Rattle.change_directory.specs.Homes.{HomesOf}
+use Rattle.change_directory.specs.Formatting.{LogGatesOf, FormatOf, spare_closing, other_closing, MayFormat}
 use Rattle.change_directory.specs.Laws.{ArePut}
 use Rattle.change_directory.specs.StoreLaws.{IsShaped, RegionOf, StepsStayInside}
 use Rattle.change_directory.proofs.Keeping.{in_homes}

@@ -1,15 +1,14 @@
 -- A log slot is read as it stands.
-use Rattle.std.proofs.Common.{◌≡◌, ℕ, suc, ◌+◌, ◌*◌, ◌<◌, ◌≤◌, Bool, true, false, cond, List, [], ◌∷◌, length, map, find, Option, Some, None, refl, sym, ap, subst, ◌∙◌, arith}
+use Rattle.std.proofs.Common.{◌≡◌, ℕ, ◌+◌, ◌*◌, ◌≤◌, Bool, true, false, cond, List, [], ◌∷◌, length, map, find, Option, Some, None, refl, sym, ap, ◌∙◌, arith}
 use Rattle.std.specs.Prelude.{zip, not, ◌==◌}
 use Rattle.std.specs.List.{position_from, range_with_len}
-use Rattle.std.specs.Option.{option_map, option_or}
+use Rattle.std.specs.Option.{option_or}
 use Rattle.bay.specs.Image.{Image, window}
 use Rattle.asm_group.specs.Names.{Bytes}
-use Rattle.asm_formats.specs.Bytes.{block, block_size, is_open}
-use Rattle.asm_formats.specs.Regions.{region_end}
+use Rattle.asm_formats.specs.Bytes.{block, is_open}
 use Rattle.asm_formats.specs.Content.{is_page}
 use Rattle.asm_formats.specs.Logs.{LogHead, PageImage, blocks_from, decoded_log_head, image_in, image_of, images_at, log_at, log_head_at}
-use Rattle.asm_formats.specs.Damage.{head_damage, log_damage}
+use Rattle.asm_formats.specs.Damage.{head_damage}
 use Rattle.asm_images.proofs.Bridges.{bytes_are_listed}
 use Rattle.change_directory.specs.declared.copy.DirCopy.{DirCopy}
 use Rattle.change_directory.specs.declared.copy.LogSlot.{LogSlot}
@@ -17,8 +16,8 @@ use Rattle.change_directory.specs.declared.open_log.OpenLog.{OpenLog}
 use Rattle.change_directory.specs.Places.{gate_of}
 use Rattle.change_directory.specs.Logs.{image_of_page, is_open_at}
 use Rattle.change_directory.specs.Changes.{disk}
-use Rattle.change_directory.specs.Loads.{OpenSlot, counted_block, image_block, slot_in}
-use Rattle.change_directory.specs.Slots.{IsLogRead, IsRestRead, bad_image, blocks_at, head_in, images_in, logs_of, place_in, slot_of, slots_of}
+use Rattle.change_directory.specs.Loads.{OpenSlot, counted_block, image_block}
+use Rattle.change_directory.specs.Slots.{IsLogRead, IsRestRead, bad_image, head_in, images_in, logs_of, place_in, slot_of, slots_of}
 use Rattle.change_directory.proofs.HeadLaws.{pages_of}
 use Rattle.change_directory.proofs.BlockRows.{blocks_listed}
 use Rattle.change_directory.proofs.Spares.{gate_listed, slot_inside}

@@ -5,7 +5,6 @@ use Rattle.std.specs.Str.{bytes_eq}
 use Rattle.std.specs.Option.{is_some, option_map, unwrap_or}
 use Rattle.bay.specs.Image.{Image, window}
 use Rattle.asm_group.specs.Names.{Bytes}
-use Rattle.asm_base.specs.declared.block.Block.{Block}
 use Rattle.asm_formats.specs.Bytes.{block_size}
 use Rattle.asm_formats.specs.Regions.{page_home, region_start}
 use Rattle.asm_formats.specs.Status.{ascends_from}

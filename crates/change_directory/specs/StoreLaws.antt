@@ -1,5 +1,5 @@
 -- What a store of several copies needs to know of one of them, image by image, so that it never opens a log slot itself.
-use Rattle.std.specs.Prelude.{◌≡◌, ◌≢◌, ◌⊎◌, ℕ, ◌+◌, ◌-◌, ◌*◌, ◌<◌, ◌≤◌, true, not, List, [], map, replicate, Option, Some, None, IsTrue}
+use Rattle.std.specs.Prelude.{◌≡◌, ◌≢◌, ◌⊎◌, ℕ, ◌-◌, ◌*◌, ◌<◌, ◌≤◌, true, not, List, [], map, replicate, Option, Some, None, IsTrue}
 use Rattle.std.specs.List.{list_all, range_with_len}
 use Rattle.bay.specs.Image.{Image, Range, ChangesOnly}
 use Rattle.asm_group.specs.Names.{Bytes}

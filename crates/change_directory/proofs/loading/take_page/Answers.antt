@@ -1,4 +1,4 @@
-use Rattle.std.proofs.Common.{ℕ, sym, ap, ◌∙◌, subst, Some, ◌≡◌}
+use Rattle.std.proofs.Common.{sym, ap, ◌∙◌, Some}
 use Rattle.std.proofs.lemmas.Result.{on_ok_weaker}
 use Rattle.change_directory.specs.Slots.{all_slots}
 use Rattle.change_directory.proofs.Runs.{on_ok_both}

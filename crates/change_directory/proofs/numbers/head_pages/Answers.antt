@@ -1,4 +1,4 @@
-use Rattle.std.proofs.Common.{◌≡◌, ◌<◌, ◌≤◌, ℕ, Bool, true, false, cond, Some, None, List, sym, ap, subst, ◌∙◌, arith}
+use Rattle.std.proofs.Common.{◌<◌, ℕ, true, false, ap, subst, ◌∙◌}
 use Rattle.change_directory.specs.Slots.{is_head_of}
 use Rattle.change_directory.proofs.HeadLaws.{head_decides, too_many}
 use Rattle.change_directory.proofs.numbers.head_pages.Goals as goal

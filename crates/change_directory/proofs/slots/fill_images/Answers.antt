@@ -1,4 +1,4 @@
-use Rattle.std.proofs.Common.{◌≡◌, ◌+◌, ◌*◌, ◌≤◌, ℕ, List, length, take, ap, arith}
+use Rattle.std.proofs.Common.{◌≡◌, ◌+◌, ◌*◌, ◌≤◌, ℕ, length, ap, arith}
 use Rattle.std.proofs.lemmas.List.{length-take-le}
 use Rattle.change_directory.proofs.Spares.{slot_inside}
 use Rattle.change_directory.proofs.LoadTold.{images_told}

@@ -1,10 +1,9 @@
-use Rattle.std.proofs.Common.{◌≡◌, ◌+◌, ℕ, List, Option, map, sym, ap, ◌∙◌}
+use Rattle.std.proofs.Common.{◌+◌, ℕ, List, Option, map, sym, ap, ◌∙◌}
 use Rattle.asm_base.specs.declared.block.Block.{Block}
 use Rattle.change_directory.specs.declared.open_log.OpenLog.{OpenLog}
-use Rattle.asm_formats.specs.Logs.{image_in, image_of}
 use Rattle.change_directory.specs.Logs.{image_of_page}
 use Rattle.change_directory.specs.Loads.{counted_block}
-use Rattle.change_directory.specs.Slots.{logs_of, place_in, slots_of}
+use Rattle.change_directory.specs.Slots.{place_in, slots_of}
 use Rattle.change_directory.proofs.SlotLaws.{block_is_place}
 use Rattle.change_directory.proofs.slots.image_in_slot.Goals as goal
 

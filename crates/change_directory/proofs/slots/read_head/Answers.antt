@@ -1,4 +1,4 @@
-use Rattle.std.proofs.Common.{ℕ, ◌+◌, ◌*◌, sym, ap, arith}
+use Rattle.std.proofs.Common.{ℕ, ◌+◌, ◌*◌, sym, ap}
 use Rattle.std.proofs.lemmas.List.{length-replicate}
 use Rattle.bay.proofs.Calls.{goes_on, stops}
 use Rattle.bay.proofs.Images.{same-trans}

@@ -1,4 +1,3 @@
-use Rattle.std.proofs.Common.{◌≡◌, Some, None}
 use Rattle.bay.proofs.Calls.{goes_on, stops}
 use Rattle.bay.proofs.Images.{same-trans}
 use Rattle.change_directory.proofs.LoadTold.{log_told, none_told}

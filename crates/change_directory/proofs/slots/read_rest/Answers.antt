@@ -1,4 +1,4 @@
-use Rattle.std.proofs.Common.{◌≡◌, ◌+◌, ◌≤◌, ℕ, Some, length, map, ap, ◌∙◌, arith}
+use Rattle.std.proofs.Common.{◌≡◌, ◌+◌, ◌≤◌, Some, length, map, ap, ◌∙◌, arith}
 use Rattle.asm_formats.specs.Logs.{decoded_log_head}
 use Rattle.change_directory.specs.Logs.{image_of_page}
 use Rattle.change_directory.specs.Slots.{bad_image}
