@@ -76,7 +76,7 @@ body_damage_is_exact = record { none = none_damaged; some = all_whole }
 
 -- ---- searches
 
-pub find_none : {A : Type 0} (t : A → Bool) (xs : List A) → find t xs ≡ None → (x : A) → IsAmong xs x → t x ≡ false
+find_none : {A : Type 0} (t : A → Bool) (xs : List A) → find t xs ≡ None → (x : A) → IsAmong xs x → t x ≡ false
 find_none t [] e x h = absurd h
 find_none {A} t (y ∷ xs) e x h = go (t y) refl e (λ found l. find_none t xs found x l) h
   where
@@ -103,12 +103,12 @@ all_pass t (y ∷ xs) e =
     let p = and_parts (t y) (list_all t xs) e in
     cond-false (not (t y)) (Some y) (find (λ x. not (t x)) xs) (ap not p.0) ∙ all_pass t xs p.1
 
-pub among_range : (k n j : ℕ) → IsAmong (range_with_len k n) j → (k ≤ j) × (j < k + n)
+among_range : (k n j : ℕ) → IsAmong (range_with_len k n) j → (k ≤ j) × (j < k + n)
 among_range k zero j h = absurd h
 among_range k (suc n) j (inl e) = (omega (arith, e), omega (arith, e))
 among_range k (suc n) j (inr h) = let p = among_range (k + 1) n j h in (omega (arith, p.0), omega (arith, p.1))
 
-pub range_among : (k n j : ℕ) → k ≤ j → j < k + n → IsAmong (range_with_len k n) j
+range_among : (k n j : ℕ) → k ≤ j → j < k + n → IsAmong (range_with_len k n) j
 range_among k zero j low high = absurd (omega (arith, low, high))
 range_among k (suc n) j low high = ⊎_elim (λ e. inl e) (λ lt. inr (range_among (k + 1) n j (omega (arith, lt)) (omega (arith, high)))) (first j k low)
   where
@@ -234,7 +234,7 @@ module _ (d : ℕ) (bytes : Bytes) where
       go false true e = absurd (omega (arith, ap (λ (l : List Log). length l) e))
       go false false e = refl
 
-  pub shut_parts : (is_open bytes a || is_open bytes b) ≡ false → (is_open bytes a ≡ false) × (is_open bytes b ≡ false)
+  shut_parts : (is_open bytes a || is_open bytes b) ≡ false → (is_open bytes a ≡ false) × (is_open bytes b ≡ false)
   shut_parts = go (is_open bytes a) (is_open bytes b)
     where
       go : (o p : Bool) → (o || p) ≡ false → (o ≡ false) × (p ≡ false)

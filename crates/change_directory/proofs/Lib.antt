@@ -26,3 +26,4 @@ pub mod Copies
 pub mod Elsewhere
 pub mod LoadRows
 pub mod Loaded
+pub mod Formats

@@ -76,7 +76,7 @@ module _ (copy : DirCopy) (short : copy.sector ≤ 4096) (some : 0 < copy.sector
     stays_shut y z shut step = ap (λ (b : ℕ). b == 165) (step.byte copy.slot (gate_of copy log * block_size) (λ inside. gates_apart copy log (gate_of copy log * block_size) short some inside refl)) ∙ shut
 
     -- the spare slot's gate isn't one of the other slot's bytes
-    apart : (k : ℕ) → PlaceOf (place_of (other_of log)) copy.slot copy.slot k → GateOf (place_of log) copy.slot copy.slot k → ⊥
+    pub apart : (k : ℕ) → PlaceOf (place_of (other_of log)) copy.slot copy.slot k → GateOf (place_of log) copy.slot copy.slot k → ⊥
     apart k inside gate = go log inside gate
       where
         go : (l : LogSlot) → PlaceOf (place_of (other_of l)) copy.slot copy.slot k → GateOf (place_of l) copy.slot copy.slot k → ⊥

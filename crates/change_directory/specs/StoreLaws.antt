@@ -17,7 +17,7 @@ use Rattle.change_directory.specs.declared.loading.Pages.{Pages}
 use Rattle.change_directory.specs.Logs.{is_open_at, number_at, image_of_page, bytes_of_page, are_pages}
 use Rattle.change_directory.specs.Changes.{disk, content_in, IsAtHome, DecodesIn, IsAbove, MayLog, HasLogged}
 use Rattle.change_directory.specs.Homes.{HomesOf, HasHomed, AreDue}
-use Rattle.change_directory.specs.Formatting.{AreShut, MayFormat, HasFormatted}
+use Rattle.change_directory.specs.Formatting.{AreShut, MayFormat, HasFormatted, MayLoseContent}
 use Rattle.change_directory.specs.Laws.{ArePut}
 use Rattle.change_directory.specs.Loads.{IsLoaded}
 
@@ -154,6 +154,11 @@ pub record IsUnopened (copy : DirCopy) (page : ℕ → Bytes) (x : Image) : Type
   pub none : content_in copy x ≡ None
   pub home : IsAtHome copy x
   pub pages : (number : ℕ) → HasPages copy number page x
+
+-- While a copy whose pages count as they stand at home is formatted, its content stays, or is gone.
+abbrev pub FormattingLoses : Type 0
+FormattingLoses =
+    (copy : DirCopy) (x y : Image) → IsShaped copy → HasRegion copy x → DecodesIn copy x → IsAtHome copy x → MayFormat copy x y → MayLoseContent copy x y
 
 -- After a format all pages are zeros.
 abbrev pub FormattedIsEmpty : Type 0

@@ -2,7 +2,7 @@
 //! function that does nothing.
 
 ghost use Rattle.change_directory.specs.Laws.{HomedAreAtHome, LoggedAreDue, LoggedIsPut, LoggingIsPut};
-ghost use Rattle.change_directory.specs.StoreLaws.{DuesStand, FormattedIsEmpty, HomedSettles, HomingKeeps, LoadedIsContent, LoadedIsDue, LoggedHas, LoggingKeepsOrHas, OpeningHasNoneOrAll, OtherCopyIsSame, RegionIsSame, StepsStayInside, UnopenedHomed, UnopenedOpens, UnopenedStays};
+ghost use Rattle.change_directory.specs.StoreLaws.{DuesStand, FormattedIsEmpty, FormattingLoses, HomedSettles, HomingKeeps, LoadedIsContent, LoadedIsDue, LoggedHas, LoggingKeepsOrHas, OpeningHasNoneOrAll, OtherCopyIsSame, RegionIsSame, StepsStayInside, UnopenedHomed, UnopenedOpens, UnopenedStays};
 
 /// While a log is put, the disk is as it was, or it is a moment of putting the log into the spare slot.
 pub fn logging_is_put()
@@ -42,6 +42,11 @@ pub fn logging_keeps_or_has()
 /// Once it is put, the copy has its pages, and they are due.
 pub fn logged_has()
     ensures { LoggedHas }
+{}
+
+/// While a copy whose pages count as they stand at home is formatted, its content stays, or is gone.
+pub fn formatting_loses()
+    ensures { FormattingLoses }
 {}
 
 /// After a format all pages are zeros.
