@@ -1,20 +1,20 @@
 -- The content while a copy is formatted, from image to image.
-use Rattle.std.proofs.Common.{◌≡◌, ◌⊎◌, inl, inr, ⊎_elim, ℕ, ◌+◌, ◌*◌, ◌<◌, ◌≤◌, Bool, true, false, cond, refl, sym, ap, ◌∙◌, Some, None, arith, ◌==◌}
+use Rattle.std.proofs.Common.{◌≡◌, ◌⊎◌, inl, inr, ⊎_elim, ℕ, ◌*◌, ◌≤◌, Bool, true, false, cond, refl, sym, ap, ◌∙◌, Some, None, arith, ◌==◌}
 use Rattle.std.specs.Prelude.{nat_lt, nat_le}
-use Rattle.std.proofs.lemmas.Bool.{cases_Bool, cases_lt, cond-true, cond-false, lt-ltb, le-leb, ltb-true, leb-true, false≢true}
+use Rattle.std.proofs.lemmas.Bool.{cases_Bool, cond-true, cond-false, lt-ltb, le-leb, ltb-true, leb-true, false≢true}
 use Rattle.bay.specs.Image.{Image, ChangesOnly}
 use Rattle.gate_slot.specs.declared.place.Place.{Place}
 use Rattle.gate_slot.specs.Slot.{GateOf, MayClose, shown, body_in}
 use Rattle.gate_slot.proofs.Steps.{shown-elsewhere}
 use Rattle.asm_formats.specs.Bytes.{block_size}
-use Rattle.asm_formats.specs.Regions.{region_end, second_log}
+use Rattle.asm_formats.specs.Regions.{second_log}
 use Rattle.change_directory.specs.declared.copy.DirCopy.{DirCopy}
 use Rattle.change_directory.specs.declared.copy.LogSlot.{LogSlot}
 use Rattle.change_directory.specs.declared.copy.LogSlot.TheVariants.{First, Second}
 use Rattle.change_directory.specs.Places.{gate_of, other_of, log_place}
 use Rattle.change_directory.specs.Logs.{is_open_at, spare_in}
-use Rattle.change_directory.specs.Changes.{content_in, IsAtHome, DecodesIn}
-use Rattle.change_directory.specs.Formatting.{LogGatesOf, MayShut, spare_closing, other_closing, MayFormat, MayLoseContent}
+use Rattle.change_directory.specs.Changes.{IsAtHome, DecodesIn}
+use Rattle.change_directory.specs.Formatting.{LogGatesOf, spare_closing, other_closing, MayFormat, MayLoseContent}
 use Rattle.change_directory.specs.StoreLaws.{IsShaped, HasRegion}
 use Rattle.change_directory.proofs.Losing.{shut_none, open_keeps, spare_keeps}
 use Rattle.change_directory.proofs.Regions.{short_sector, some_sector}
