@@ -22,10 +22,3 @@ pub use statement::{
     Statement, TemplateWords,
 };
 pub use writing::write_statement;
-
-#[cfg(test)]
-mod refusals;
-#[cfg(test)]
-mod rewriting;
-#[cfg(test)]
-mod tests;

@@ -1,6 +1,7 @@
 // One text for each form of each statement, which is read, written, and read again.
-use crate::{Clause, Statement, TemplateWords, read_statement, write_statement};
+use crate::readings::statement;
 use asm_base::{List, Name};
+use group_sql::{Clause, Statement, TemplateWords, write_statement};
 use std::alloc::Global;
 use std::test::*;
 
@@ -145,7 +146,7 @@ fn written(alloc: Global, statement: &Statement) -> Option<Vec<u8>> {
 
 // The canonical text of what a text says. None where it is refused or there is no memory.
 fn rewritten(alloc: Global, text: &[u8]) -> Option<Vec<u8>> {
-    let statement = read_statement(alloc, text).ok()?;
+    let statement = statement(alloc, text)?;
     written(alloc, &statement)
 }
 

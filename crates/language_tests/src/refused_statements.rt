@@ -1,6 +1,5 @@
 // Texts at the limits of the language, and where those beyond are refused.
-use crate::{ReadError, next_command, read_statement};
-use std::alloc::Global;
+use crate::readings::{command, is_read, refused_at};
 use std::test::*;
 
 /// A text that is no statement, and how many of its bytes begin one.
@@ -126,17 +125,6 @@ const READ: [&[u8]; 11] = [
     b"ALTER DISKGROUP g OFFLINE DISK d DROP AFTER 307445734561825860M;",
 ];
 
-fn refused_at(alloc: Global, text: &[u8]) -> Option<u64> {
-    match read_statement(alloc, text) {
-        Err(ReadError::Syntax { at }) => Some(at),
-        _ => None,
-    }
-}
-
-fn is_read(alloc: Global, text: &[u8]) -> bool {
-    read_statement(alloc, text).is_ok()
-}
-
 #[test]
 fn other_texts_are_refused_at_their_place(rt: HostRuntime) -> Result<(), Fail> {
     for row in REFUSED {
@@ -155,10 +143,7 @@ fn texts_at_the_limits_are_read(rt: HostRuntime) -> Result<(), Fail> {
 
 #[test]
 fn comment_lines_are_skipped_between_commands(rt: HostRuntime) -> Result<(), Fail> {
-    let Some(found) = next_command(b"-- a;\n \t-- b\r\nDROP DISKGROUP g;\n") else {
-        return Err(Fail::from("none"));
-    };
-    assert_eq!(rt; found.at, 14);
-    assert_eq!(rt; found.len, 17);
+    let found = command(b"-- a;\n \t-- b\r\nDROP DISKGROUP g;\n");
+    assert_eq!(rt; found, Some((14, 17)));
     Ok(())
 }

@@ -1,0 +1,11 @@
+//! Tests of the two languages, DISKGROUP statements and asmcmd lines: texts that are read, refused at a place, and written, and reports.
+#![tactic(auto)]
+
+#[cfg(test)]
+mod readings;
+#[cfg(test)]
+mod refused_statements;
+#[cfg(test)]
+mod rewriting;
+#[cfg(test)]
+mod statements;
