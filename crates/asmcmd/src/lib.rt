@@ -21,8 +21,3 @@ pub use listings::{du_text, find_text, ls_text};
 pub use rows::{AttrRow, DiskRow, GroupRow, LsRow, TemplateRow};
 pub use runs::read_text;
 pub use verb::{ReadError, Verb};
-
-#[cfg(test)]
-mod report_tests;
-#[cfg(test)]
-mod tests;

@@ -6,6 +6,10 @@ mod readings;
 #[cfg(test)]
 mod refused_statements;
 #[cfg(test)]
+mod reports;
+#[cfg(test)]
 mod rewriting;
 #[cfg(test)]
 mod statements;
+#[cfg(test)]
+mod verbs;

@@ -1,5 +1,6 @@
-use super::*;
+// Lines of asmcmd that are read or refused, and short reports.
 use asm_base::{List, Text};
+use asmcmd::{LsRow, ReadError, check_text, du_text, ls_text, read_line, read_text};
 use std::alloc::Global;
 use std::test::*;
 

@@ -1,6 +1,9 @@
 // The texts of reports, of which each is made once.
-use super::*;
 use asm_base::{List, Path, Text};
+use asmcmd::{
+    AttrRow, DiskRow, GroupRow, TemplateRow, find_text, lsattr_text, lsdg_text, lsdsk_text,
+    lstmpl_text,
+};
 use std::alloc::Global;
 use std::test::*;
 
