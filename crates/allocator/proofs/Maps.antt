@@ -1,11 +1,11 @@
 -- The words and the map that they stand for.
-use Rattle.std.proofs.Common.{◌≡◌, ℕ, ◌+◌, ◌-◌, ◌*◌, ◌/◌, ◌%◌, ◌^◌, ◌<◌, ◌≤◌, Bool, true, false, cond, leb, ltb, List, ◌++◌, length, take, drop, replicate, get_or, refl, sym, ap, ◌∙◌, subst, arith, inl, inr, ◌⊎◌, min, Option, Some, None, max}
+use Rattle.std.proofs.Common.{◌≡◌, ℕ, zero, suc, ◌+◌, ◌-◌, ◌*◌, ◌/◌, ◌%◌, ◌^◌, ◌<◌, ◌≤◌, Bool, true, false, cond, leb, ltb, List, ◌∷◌, ◌++◌, length, map, take, drop, replicate, get_or, refl, sym, ap, ◌∙◌, subst, arith, inl, inr, ◌⊎◌, min, Option, Some, None, max}
 use Rattle.std.specs.Prelude.{not, ◌&&◌, IsTrue, ◌↔◌, MatchOption, count_by, is_some}
 use Rattle.std.proofs.lemmas.Nat.{div_below}
 use Rattle.std.proofs.lemmas.Nat.Bits.{bit_at-zero}
 use Rattle.std.specs.Bool.{OnTrue, OnFalse}
-use Rattle.std.specs.List.{sum_by}
-use Rattle.std.proofs.lemmas.List.Sums.{sum_by-append, sum_by-take-drop, count_by-le-length}
+use Rattle.std.specs.List.{sum_by, range_with_len}
+use Rattle.std.proofs.lemmas.List.Sums.{sum_by-append, sum_by-cons, sum_by-take-drop, count_by-le-length}
 use Rattle.std.proofs.lemmas.List.Folds.{sum_by-replicate}
 use Rattle.std.proofs.lemmas.Bool.{cases_lt, true≢false, le-leb, ltb-true, lt-leb, lt-ltb, le-ltb}
 use Rattle.std.proofs.lemmas.List.{length-take, length-drop, length-append, length-replicate, get_or_append_left, get_or-append_right, get_or-take, get_or-drop, get_or-replicate, same_lists, drop-drop, get_or_default, get_or_past}
@@ -346,3 +346,27 @@ none_up_to m n at some run lowest =
                 ap (λ (b : Bool). leb m.first k && ltb k m.units && not b) (used ∙ set) ∙ and_false (leb m.first k && ltb k m.units)
           ]),
     )
+
+-- ---- how many units are used
+
+-- of a range that reaches below the first user unit
+few_used : (test : ℕ → Bool) (first n a : ℕ) → a ≤ first → ((k : ℕ) → k < first → test k ≡ false) → count_by (λ used. used) (map test (range_with_len a n)) ≤ a + n - first
+few_used test first zero a low none = omega arith
+few_used test first (suc n) a low none =
+    let rest : List Bool = map test (range_with_len (a + 1) n) in
+    let more : count_by (λ used. used) (test a ∷ rest) ≡ one (test a) + count_by (λ used. used) rest = sum_by-cons one (test a) rest in
+    elim (cases_lt a first) [
+      | inl below ↦
+          let counts_not : one (test a) ≡ 0 = ap one (none a below) in
+          let later : count_by (λ used. used) rest ≤ a + 1 + n - first = few_used test first n (a + 1) (omega arith) none in
+          omega (arith, more, counts_not, later)
+      | inr from ↦
+          let all : count_by (λ used. used) (test a ∷ rest) ≤ length (test a ∷ rest) = count_by-le-length (λ used. used) (test a ∷ rest) in
+          let long : length rest ≡ n = length-map-range_with_len test (a + 1) n in
+          omega arith
+    ]
+
+pub used_few : (first units : ℕ) (words : List ℕ) → used_of (map_from first units words) ≤ units - first
+used_few first units words =
+    let few : used_of (map_from first units words) ≤ 0 + units - first = few_used (λ k. leb first k && is_set words k) first units 0 (omega arith) (λ k below. rw (lt-leb first k below) refl) in
+    omega arith

@@ -165,7 +165,8 @@ impl Units {
 
     /// The number of user units that are used.
     pub fn used(&self) -> u32
-        ensures { result ≡ used_of self.now }
+        ensures value { result ≡ used_of self.now }
+        ensures few { used_of self.now ≤ total_of self.now }
     {
         self.used
     }

@@ -12,7 +12,7 @@ use Rattle.asm_placement.specs.Space as space
 use Rattle.asm_placement.specs.Space.{has_room}
 use Rattle.asm_placement.specs.Choices as choices
 use Rattle.asm_placement.specs.Choices.{home_on, staying_disk, kept_disks, holds_copy, is_partner_of_first, is_eligible, replacement, replacement_on}
-use Rattle.partnership.specs.Candidates.{Candidate, candidates, tried_first, home_of, lies_on, lies_in_group, is_partner_of_kept, may_take, may_take_at, chosen_copy}
+use Rattle.partnership.specs.Candidates.{Candidate, candidates, tried_first, home_of, lies_on, lies_in_group, is_partner_of_kept, is_within, is_allowed, may_take, may_take_of, may_take_at, chosen_copy_of}
 use Rattle.partnership.specs.UnitsOf.{AreUnitsOf, AreHomesOf, held, kept, kept_from, is_eligible_at}
 use Rattle.partnership.proofs.Turns.{filter_both}
 use Rattle.partnership.proofs.Placement.{as_candidate, may_have, candidates_are, among_map, tried_map}
@@ -69,40 +69,53 @@ pub eligible_is : (es : List Entry) (replaced : ℕ) (hs : Homes) (kept_homes ho
 eligible_is es replaced hs kept_homes holders None are = refl
 eligible_is es replaced hs kept_homes holders (Some e) are = rw (are.kept_is, are.holders_are) (may_take_is es replaced hs e)
 
-target_first : (t a b c r : Bool) → (t && r && (t && a && b && c)) ≡ (t && a && b && c && r && true)
-target_first true a b c true = by (a && b && c)
+target_first : (t a b c r x : Bool) → (t && r && (x && (t && a && b && c))) ≡ (t && a && b && c && r && x)
+target_first true a b c true true = by (a && b && c)
   where
-    by : (x : Bool) → x ≡ (x && true && true)
+    by : (y : Bool) → y ≡ (y && true && true)
     by true = refl
     by false = refl
-target_first true a b c false = by (a && b && c)
+target_first true a b c true false = by (a && b && c)
   where
-    by : (x : Bool) → false ≡ (x && false && true)
+    by : (y : Bool) → false ≡ (y && true && false)
     by true = refl
     by false = refl
-target_first false a b c r = refl
+target_first true a b c false x = by (a && b && c)
+  where
+    by : (y : Bool) → false ≡ (y && false && x)
+    by true = refl
+    by false = refl
+target_first false a b c r x = refl
 
 -- disks that may take the copy and have room
-takers : (s : Shape) (items : List Item) (n : ℕ) (es : List Entry) (replaced : ℕ) (hs : Homes)
-    → filter (may_take es (kept es replaced hs) (held hs)) (filter (may_have s items n) es) ≡ filter (λ (e : Entry). is_eligible es replaced hs e && has_room s items n e && true) es
+takers : (s : Shape) (items : List Item) (n : ℕ) (es : List Entry) (on : Option ℕ) (replaced : ℕ) (hs : Homes)
+    → filter (may_take_of on es (kept es replaced hs) (held hs)) (filter (may_have s items n) es) ≡ filter (λ (e : Entry). is_eligible es replaced hs e && has_room s items n e && is_allowed on e) es
 unfolding is_eligible
-takers s items n es replaced hs =
-    filter_both (may_take es (kept es replaced hs) (held hs)) (may_have s items n) es
-    ∙ filter_agree (λ (e : Entry). may_have s items n e && may_take es (kept es replaced hs) (held hs) e) (λ (e : Entry). is_eligible es replaced hs e && has_room s items n e && true)
-    (λ e. ap (λ (b : Bool). may_have s items n e && b) (may_take_is es replaced hs e)
-    ∙ target_first (is_target e) (not (holds_copy hs e.number)) (list_all (λ (k : Entry). not (eqb k.failgroup e.failgroup)) (kept_disks es replaced hs)) (is_partner_of_first (kept_disks es replaced hs) e) (has_room s items n e)) es
+takers s items n es on replaced hs =
+    filter_both (may_take_of on es (kept es replaced hs) (held hs)) (may_have s items n) es
+    ∙ filter_agree (λ (e : Entry). may_have s items n e && may_take_of on es (kept es replaced hs) (held hs) e) (λ (e : Entry). is_eligible es replaced hs e && has_room s items n e && is_allowed on e)
+    (λ e. ap (λ (b : Bool). may_have s items n e && (is_allowed on e && b)) (may_take_is es replaced hs e)
+    ∙ target_first (is_target e) (not (holds_copy hs e.number)) (list_all (λ (k : Entry). not (eqb k.failgroup e.failgroup)) (kept_disks es replaced hs)) (is_partner_of_first (kept_disks es replaced hs) e) (has_room s items n e) (is_allowed on e)) es
 
 home_map : (s : Shape) (items : List Item) (n : ℕ) (o : Option Entry) → option_and_then home_of (option_map (as_candidate s items n) o) ≡ option_and_then (home_on s items n) o
 home_map s items n None = refl
 home_map s items n (Some e) = refl
 
--- the home that is chosen for a copy is that of the placement
-pub copy_is : (s : Shape) (items : List Item) (es : List Entry) (ms : List UnitMap) (n replaced : ℕ) (hs : Homes) (kept_homes holders : List Home) → 0 < n → AreUnitsOf s items es ms → AreHomesOf es replaced hs kept_homes holders
-    → chosen_copy es kept_homes holders (candidates n es ms) ≡ replacement s es items n replaced hs
-unfolding replacement
-copy_is s items es ms n replaced hs kept_homes holders some units are =
-    let test = may_take es (kept es replaced hs) (held hs) in
+-- the home that is chosen for a copy is that of the placement, among the disks that are allowed
+copy_of_is : (s : Shape) (items : List Item) (es : List Entry) (ms : List UnitMap) (on : Option ℕ) (n replaced : ℕ) (hs : Homes) (kept_homes holders : List Home) → 0 < n → AreUnitsOf s items es ms → AreHomesOf es replaced hs kept_homes holders
+    → chosen_copy_of on es kept_homes holders (candidates n es ms) ≡ replacement_on (is_allowed on) s es items n replaced hs
+copy_of_is s items es ms on n replaced hs kept_homes holders some units are =
+    let test = may_take_of on es (kept es replaced hs) (held hs) in
     rw (are.kept_is, are.holders_are, candidates_are s items n es ms some units)
-    (ap (λ (cs : List Candidate). option_and_then home_of (tried_first cs)) (among_map s items n test (filter (may_have s items n) es) ∙ ap (map (as_candidate s items n)) (takers s items n es replaced hs))
-    ∙ ap (option_and_then home_of) (tried_map s items n (filter (λ (e : Entry). is_eligible es replaced hs e && has_room s items n e && true) es))
-    ∙ home_map s items n (space.tried_first s items (filter (λ (e : Entry). is_eligible es replaced hs e && has_room s items n e && true) es)))
+    (ap (λ (cs : List Candidate). option_and_then home_of (tried_first cs)) (among_map s items n test (filter (may_have s items n) es) ∙ ap (map (as_candidate s items n)) (takers s items n es on replaced hs))
+    ∙ ap (option_and_then home_of) (tried_map s items n (filter (λ (e : Entry). is_eligible es replaced hs e && has_room s items n e && is_allowed on e) es))
+    ∙ home_map s items n (space.tried_first s items (filter (λ (e : Entry). is_eligible es replaced hs e && has_room s items n e && is_allowed on e) es)))
+
+pub copy_is : (s : Shape) (items : List Item) (es : List Entry) (ms : List UnitMap) (n replaced : ℕ) (hs : Homes) (kept_homes holders : List Home) → 0 < n → AreUnitsOf s items es ms → AreHomesOf es replaced hs kept_homes holders
+    → chosen_copy_of None es kept_homes holders (candidates n es ms) ≡ replacement s es items n replaced hs
+unfolding replacement
+copy_is s items es ms n replaced hs kept_homes holders some units are = copy_of_is s items es ms None n replaced hs kept_homes holders some units are
+
+pub copy_on_is : (s : Shape) (items : List Item) (es : List Entry) (ms : List UnitMap) (set n replaced : ℕ) (hs : Homes) (kept_homes holders : List Home) → 0 < n → AreUnitsOf s items es ms → AreHomesOf es replaced hs kept_homes holders
+    → chosen_copy_of (Some set) es kept_homes holders (candidates n es ms) ≡ replacement_on (is_within set) s es items n replaced hs
+copy_on_is s items es ms set n replaced hs kept_homes holders some units are = copy_of_is s items es ms (Some set) n replaced hs kept_homes holders some units are

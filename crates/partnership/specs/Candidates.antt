@@ -147,9 +147,21 @@ abbrev pub may_take_at : List Entry → List Home → List Home → Option Entry
 may_take_at es kept holders None = false
 may_take_at es kept holders (Some e) = may_take es kept holders e
 
+-- the disk is of the set, where one is given
+abbrev pub is_allowed : Option ℕ → Entry → Bool
+is_allowed None e = true
+is_allowed (Some set) e = is_within set e
+
+abbrev pub may_take_of : Option ℕ → List Entry → List Home → List Home → Entry → Bool
+may_take_of on es kept holders e = is_allowed on e && may_take es kept holders e
+
 abbrev pub home_of : Candidate → Option Home
 home_of c = c.home
 
 -- the home of the copy: on the first of the disks that may take it
 abbrev pub chosen_copy : List Entry → List Home → List Home → List Candidate → Option Home
 chosen_copy es kept holders cs = option_and_then home_of (tried_first (among (may_take es kept holders) cs))
+
+-- the same on a disk of the set, where one is given
+abbrev pub chosen_copy_of : Option ℕ → List Entry → List Home → List Home → List Candidate → Option Home
+chosen_copy_of on es kept holders cs = option_and_then home_of (tried_first (among (may_take_of on es kept holders) cs))

@@ -9,7 +9,7 @@ mod replacement;
 
 pub use homes::choose_homes;
 pub use partner_table::partners;
-pub use replacement::{choose_copy, eligible};
+pub use replacement::{choose_copy, choose_copy_on, eligible, entry_of};
 
 #[cfg(test)]
 mod tests;

@@ -1,18 +1,18 @@
 //! Where a copy goes in place of one of an extent's copies.
 
-ghost use Rattle.std.specs.Prelude.{◌≡◌, ℕ, ◌<◌, ◌==◌, List, length};
+ghost use Rattle.std.specs.Prelude.{◌≡◌, ℕ, ◌<◌, ◌==◌, List, Some, length};
 ghost use Rattle.std.specs.List.{list_any};
 ghost use Rattle.asm_group.specs.Shape.{Shape};
 ghost use Rattle.asm_formats.specs.Items.{Item, Homes};
 ghost use Rattle.asm_formats.specs.Status.{entry_of};
-ghost use Rattle.asm_placement.specs.Choices.{replacement};
-ghost use Rattle.partnership.specs.Candidates.{among, candidates, chosen_copy, has_partner, is_of_group, is_partner_of_kept, lies_in_group, lies_on, may_take, may_take_at, tried_first};
+ghost use Rattle.asm_placement.specs.Choices.{replacement, replacement_on};
+ghost use Rattle.partnership.specs.Candidates.{among, candidates, chosen_copy, chosen_copy_of, has_partner, is_allowed, is_of_group, is_partner_of_kept, is_within, lies_in_group, lies_on, may_take, may_take_at, may_take_of, tried_first};
 ghost use Rattle.partnership.specs.Steps.{candidate_if};
 ghost use Rattle.partnership.specs.UnitsOf.{AreHomesOf, AreUnitsOf, is_eligible_at};
 
 use crate::candidate::{Candidate, candidate_on, home_of, is_target, with_next};
 use allocator::Units;
-use asm_base::Home;
+use asm_base::{DiskSet, Home};
 use status_table::PstEntry;
 
 /// Whether disk d may take a copy of an extent: it is Online and regular, holds none of its copies, shares no failure
@@ -51,20 +51,39 @@ pub fn choose_copy(
     // Where the units are those of a group's records, and the homes those of an extent, the home takes a copy's place.
     ensures placement { (s : Shape) (items : List Item) (replaced : ℕ) (homes : Homes) → AreUnitsOf s items disks.now units.now → AreHomesOf disks.now replaced homes kept.now holders.now → result ≡ replacement s disks.now items n replaced homes }
 {
-    chosen_copy(disks, units, kept, holders, n)
+    chosen_copy_of(disks, units, kept, holders, &None, n)
 }
 
-fn chosen_copy(
+/// The same among the disks of a set alone.
+#[tactic(auto, using(crate::proofs::Kept::copy_on_is))]
+pub fn choose_copy_on(
     disks: &[PstEntry],
     units: &[Units],
     kept: &[Home],
     holders: &[Home],
+    on: DiskSet,
     n: u32,
 ) -> Option<Home>
     requires { 0 < n }
-    ensures { result ≡ chosen_copy disks.now kept.now holders.now (candidates n disks.now units.now) }
+    ensures chosen { result ≡ chosen_copy_of (Some on) disks.now kept.now holders.now (candidates n disks.now units.now) }
+    // Where the units are those of a group's records, and the homes those of an extent, the home takes a copy's place.
+    ensures placement { (s : Shape) (items : List Item) (replaced : ℕ) (homes : Homes) → AreUnitsOf s items disks.now units.now → AreHomesOf disks.now replaced homes kept.now holders.now → result ≡ replacement_on (is_within on) s disks.now items n replaced homes }
 {
-    home_of(first_eligible(disks, units, kept, holders, n))
+    chosen_copy_of(disks, units, kept, holders, &Some(on), n)
+}
+
+fn chosen_copy_of(
+    disks: &[PstEntry],
+    units: &[Units],
+    kept: &[Home],
+    holders: &[Home],
+    on: &Option<DiskSet>,
+    n: u32,
+) -> Option<Home>
+    requires { 0 < n }
+    ensures { result ≡ chosen_copy_of on.now disks.now kept.now holders.now (candidates n disks.now units.now) }
+{
+    home_of(first_eligible(disks, units, kept, holders, on, n))
 }
 
 #[tactic(auto, using(crate::proofs::Turns::tried_from, crate::proofs::Turns::tried_start))]
@@ -73,14 +92,15 @@ fn first_eligible(
     units: &[Units],
     kept: &[Home],
     holders: &[Home],
+    on: &Option<DiskSet>,
     n: u32,
 ) -> Option<Candidate>
     requires { 0 < n }
-    ensures { result ≡ tried_first (among (may_take disks.now kept.now holders.now) (candidates n disks.now units.now)) }
+    ensures { result ≡ tried_first (among (may_take_of on.now disks.now kept.now holders.now) (candidates n disks.now units.now)) }
 {
     let mut best = None;
     for i in (0..disks.len()).rev() {
-        let next = eligible_candidate(disks, kept, holders, &disks[i], units, n);
+        let next = eligible_candidate(disks, kept, holders, on, &disks[i], units, n);
         best = with_next(next, best);
     }
     best
@@ -91,17 +111,28 @@ fn eligible_candidate(
     disks: &[PstEntry],
     kept: &[Home],
     holders: &[Home],
+    on: &Option<DiskSet>,
     disk: &PstEntry,
     units: &[Units],
     n: u32,
 ) -> Option<Candidate>
     requires { 0 < n }
-    ensures { result ≡ candidate_if (may_take disks.now kept.now holders.now) n disk.now units.now }
+    ensures { result ≡ candidate_if (may_take_of on.now disks.now kept.now holders.now) n disk.now units.now }
 {
-    if may_take(disks, kept, holders, disk) {
+    if is_allowed(on, disk) && may_take(disks, kept, holders, disk) {
         candidate_on(disk, units, n)
     } else {
         None
+    }
+}
+
+/// Whether the disk is of the set, where one is given.
+fn is_allowed(on: &Option<DiskSet>, disk: &PstEntry) -> bool
+    ensures { result ≡ is_allowed on.now disk.now }
+{
+    match on {
+        Some(set) => set.has(disk.number),
+        None => true,
     }
 }
 
@@ -156,8 +187,9 @@ fn is_partner_of(disks: &[PstEntry], of: u8, d: u8) -> bool
     }
 }
 
+/// The entry of disk d.
 #[tactic(auto, unfolding(asm_formats::specs::Status::entry_of))]
-fn entry_of(disks: &[PstEntry], d: u8) -> Option<PstEntry>
+pub fn entry_of(disks: &[PstEntry], d: u8) -> Option<PstEntry>
     ensures { result ≡ entry_of disks.now d }
 {
     for disk in disks {
