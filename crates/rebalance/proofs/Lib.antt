@@ -1,0 +1,7 @@
+pub mod Selected
+pub mod FailureGroups
+pub mod Rounds
+pub mod TableSets
+pub mod Sharing
+pub mod HomeLists
+pub mod Verdicts

@@ -1,0 +1,20 @@
+//! The next move of a rebalance, as far as status records, maps of units and the copies of one extent decide it:
+//! where status tables and directory copies go, the shares of the disks, and what an extent lacks. No call takes
+//! memory.
+#![tactic(auto)]
+
+mod choice;
+mod disks;
+mod extent;
+mod groups;
+mod homes;
+mod moves;
+mod shares;
+mod stages;
+mod tables;
+
+pub use extent::Extent;
+pub use moves::{Move, Next};
+pub use shares::Shares;
+pub use stages::{Stage, new_home, said, stages_are_next};
+pub use tables::{directory_target, first_directories, first_holders, status_target};
