@@ -1,15 +1,14 @@
 -- The index of the names by file stays that of the nodes.
-use Rattle.std.proofs.Common.{◌≡◌, ℕ, ◌<◌, ◌≤◌, ◌^◌, Bool, true, false, cond, eqb, Ordering, List, [], ◌∷◌, length, Option, Some, None, refl, sym, ap, subst, ◌∙◌, arith, inl, inr, ◌⊎◌}
-use Rattle.std.specs.Prelude.{IsTrue, IfNone, IfSome, is_some, not, ◌&&◌, ◌||◌}
+use Rattle.std.proofs.Common.{◌≡◌, ℕ, ◌<◌, ◌≤◌, ◌^◌, Bool, true, false, cond, eqb, Ordering, List, [], Option, Some, None, refl, sym, ap, subst, ◌∙◌, arith, inl, inr, ◌⊎◌}
+use Rattle.std.specs.Prelude.{IfNone, IfSome, is_some, not, ◌&&◌, ◌||◌}
 use Rattle.std.specs.Cmp.{IsTotalOrder, Equal-is, bool_cmp_total}
 use Rattle.std.specs.FinMap as maps
 use Rattle.std.specs.BTreeMap.{is_at}
-use Rattle.std.specs.Ordering.{nat_cmp, bool_cmp, ordering_then, is_eq, is_gt}
+use Rattle.std.specs.Ordering.{nat_cmp, bool_cmp, ordering_then}
 use Rattle.std.specs.declared.cmp.Ordering.TheVariants.{Less, Equal, Greater}
 use Rattle.std.specs.List.{list_any}
 use Rattle.std.proofs.lemmas.Bool.{true≢false, eq-eqb, eqb-true}
 use Rattle.std.proofs.lemmas.Cmp.{nat_cmp_total, then_total, on_total, eq_by_cmp_equiv}
-use Rattle.std.proofs.lemmas.Option.{none-some}
 use Rattle.asm_group.specs.declared.NodeKind.{NodeKind}
 use Rattle.asm_group.specs.declared.NodeKind.TheVariants.{Directory, System, Alias}
 use Rattle.asm_group.specs.TreeEdits.{is_alias_of, names_file}
@@ -55,9 +54,6 @@ same_name p q e =
 pub name_self : (p : FileName) → is_same_name p p ≡ true
 name_self p = (eq_by_cmp_equiv name_total).refl p
 
-pub not_name : (p q : FileName) → (p ≡ q → ⊥) → is_same_name p q ≡ false
-not_name p q other = elim (either (is_same_name p q)) [ inl x ↦ absurd (other (same_name p q x)) | inr x ↦ x ]
-
 -- ---- a name goes, unless it is the one that is kept
 
 pub gone_is : (gone : FileName) (kept : Option FileName) (q : FileName) (there : Bool) → is_it kept gone ≡ false → cond (is_same_name gone q) false there ≡ forgotten (Some gone) kept q there
@@ -82,9 +78,6 @@ other_number n o q other = elim (either (is_it (name_of_node n o) q)) [ inl x �
 
 -- ---- the index after a change
 
-pub no_names : IsFileIndex [] []
-no_names = record { same = λ q. refl }
-
 takes_new : (a b : Bool) → cond (b && not a) false (a || b) ≡ a
 takes_new true true = refl
 takes_new true false = refl
@@ -96,10 +89,6 @@ keeps_old true true = refl
 keeps_old true false = refl
 keeps_old false true = refl
 keeps_old false false = refl
-
-goes : (b : Bool) → cond (b && not false) false b ≡ false
-goes true = refl
-goes false = refl
 
 -- what the index says of a name at this number
 had : (nodes : List Numbered) (names : List FileName) (n : ℕ) (q : FileName) → IsFileIndex nodes names → n ≡ q.number → has_name names q ≡ is_it (name_of_node n (node_at nodes n)) q
@@ -142,27 +131,7 @@ put_no_name nodes names between after n node i put gone = record { same = same }
         gone q ∙ rw (other_number n (Some node) q apart) (put q ∙ rw (other_number n (Some node) q apart) (i.same q))
   ]
 
--- a node goes
-pub name_goes : (nodes new : List Numbered) (names after : List FileName) (n : ℕ) → IsFileIndex nodes names
-    → ((m : ℕ) → node_at new m ≡ cond (is_at (nat_cmp n) m) None (node_at nodes m))
-    → ((q : FileName) → has_name after q ≡ forgotten (name_of_node n (node_at nodes n)) None q (has_name names q)) → IsFileIndex new after
-name_goes nodes new names after n i nodes_are gone = record { same = same } where
-  same : (q : FileName) → has_name after q ≡ is_it (name_of_node q.number (node_at new q.number)) q
-  same q = elim (either (is_at (nat_cmp n) q.number)) [
-    | inl hit ↦
-        let at : node_at new q.number ≡ None = nodes_are q.number ∙ rw hit refl in
-        gone q ∙ (ap (λ (there : Bool). forgotten (name_of_node n (node_at nodes n)) None q there) (had nodes names n q i (at_is n q.number hit))
-        ∙ (goes (is_it (name_of_node n (node_at nodes n)) q) ∙ ap (λ (o : Option Node). is_it (name_of_node q.number o) q) (sym at)))
-    | inr miss ↦
-        let apart : n ≡ q.number → ⊥ = λ e. true≢false (sym (subst (λ (m : ℕ). is_at (nat_cmp n) m ≡ true) e (at_self n)) ∙ miss) in
-        let at : node_at new q.number ≡ node_at nodes q.number = nodes_are q.number ∙ rw miss refl in
-        gone q ∙ rw (other_number n (node_at nodes n) q apart) (i.same q ∙ ap (λ (o : Option Node). is_it (name_of_node q.number o) q) (sym at))
-  ]
-
 -- ---- the least number that may be free
-
-pub low_none : (low : ℕ) → low ≡ 1 → IsLow [] low
-low_none low e = record { some = omega arith; taken = λ k some below. absurd (omega arith) }
 
 pub low_put : (nodes new : List Numbered) (low n : ℕ) (node : Node) → IsLow nodes low → ((m : ℕ) → node_at new m ≡ cond (is_at (nat_cmp n) m) (Some node) (node_at nodes m)) → IsLow new low
 low_put nodes new low n node l nodes_are = record {
@@ -171,16 +140,6 @@ low_put nodes new low n node l nodes_are = record {
     | inl hit ↦ let at : node_at new k ≡ Some node = nodes_are k ∙ rw hit refl in rw at refl
     | inr miss ↦ let at : node_at new k ≡ node_at nodes k = nodes_are k ∙ rw miss refl in rw at (l.taken k some below)
   ];
-}
-
-pub low_gone : (nodes new : List Numbered) (low n lower : ℕ) → IsLow nodes low → 0 < lower → lower ≤ low → lower ≤ n ⊎ (n ≡ 0) → ((m : ℕ) → node_at new m ≡ cond (is_at (nat_cmp n) m) None (node_at nodes m)) → IsLow new lower
-low_gone nodes new low n lower l some low_too apart nodes_are = record {
-  some = some;
-  taken = λ k first below.
-    let other : n ≡ k → ⊥ = λ e. elim apart [ inl at ↦ absurd (omega arith) | inr none ↦ absurd (omega arith) ] in
-    let at : node_at new k ≡ node_at nodes k = nodes_are k ∙ rw (not_at n k other) refl in
-    let under : k < low = omega arith in
-    rw at (l.taken k first under);
 }
 
 -- ---- the names of a file
@@ -288,14 +247,18 @@ pub put_keeps : (nodes new : List Numbered) (names between after : List FileName
     → ((m : ℕ) → node_at new m ≡ cond (is_at (nat_cmp n) m) (Some node) (node_at nodes m))
     → ((q : FileName) → has_name between q ≡ (is_it now q || has_name names q))
     → ((q : FileName) → has_name after q ≡ forgotten was now q (has_name between q)) → IsFileIndex new after × IsLow new low
-put_keeps nodes new names between after low n node was now i l was_is now_is nodes_are put gone =
-    (put_name nodes new names between after n node i nodes_are (λ q. put q ∙ ap (λ (o : Option FileName). is_it o q || has_name names q) now_is)
-    (λ q. gone q ∙ (ap (λ (o : Option FileName). forgotten o now q (has_name between q)) was_is ∙ ap (λ (o : Option FileName). forgotten (name_of_node n (node_at nodes n)) o q (has_name between q)) now_is)), low_put nodes new low n node l nodes_are)
+put_keeps nodes new names between after low n node was now i l was_is now_is nodes_are put gone = (
+  put_name nodes new names between after n node i nodes_are (λ q. put q ∙ ap (λ (o : Option FileName). is_it o q || has_name names q) now_is)
+      (λ q. gone q ∙ (ap (λ (o : Option FileName). forgotten o now q (has_name between q)) was_is ∙ ap (λ (o : Option FileName). forgotten (name_of_node n (node_at nodes n)) o q (has_name between q)) now_is)),
+  low_put nodes new low n node l nodes_are,
+)
 
 pub no_put_keeps : (nodes : List Numbered) (names between after : List FileName) (low n : ℕ) (node : Node) (was now : Option FileName) → IsFileIndex nodes names → IsLow nodes low
     → was ≡ name_of_node n (node_at nodes n) → now ≡ name_of_node n (Some node)
     → ((q : FileName) → has_name between q ≡ (is_it now q || has_name names q))
     → ((q : FileName) → has_name after q ≡ forgotten now was q (has_name between q)) → IsFileIndex nodes after × IsLow nodes low
-no_put_keeps nodes names between after low n node was now i l was_is now_is put gone =
-    (put_no_name nodes names between after n node i (λ q. put q ∙ ap (λ (o : Option FileName). is_it o q || has_name names q) now_is)
-    (λ q. gone q ∙ (ap (λ (o : Option FileName). forgotten now o q (has_name between q)) was_is ∙ ap (λ (o : Option FileName). forgotten o (name_of_node n (node_at nodes n)) q (has_name between q)) now_is)), l)
+no_put_keeps nodes names between after low n node was now i l was_is now_is put gone = (
+  put_no_name nodes names between after n node i (λ q. put q ∙ ap (λ (o : Option FileName). is_it o q || has_name names q) now_is)
+      (λ q. gone q ∙ (ap (λ (o : Option FileName). forgotten now o q (has_name between q)) was_is ∙ ap (λ (o : Option FileName). forgotten o (name_of_node n (node_at nodes n)) q (has_name between q)) now_is)),
+  l,
+)

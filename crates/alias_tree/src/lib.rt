@@ -7,7 +7,6 @@ mod changing;
 mod editing;
 mod files;
 mod index;
-
 mod node;
 mod nodes;
 mod places;

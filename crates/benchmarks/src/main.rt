@@ -4,6 +4,7 @@
 
 mod disk;
 mod files;
+mod names;
 mod paths;
 mod records;
 
@@ -24,6 +25,16 @@ fn show(alloc: Global, rt: &HostRuntime) -> io::Result<()> {
     let of_few = percent(many, few);
     println!(rt;
         "finding a path beside 100,000 names of another directory: {of_few} % of the time beside 10"
+    )?;
+    let few = names::adding(alloc, rt, 10)?;
+    let many = names::adding(alloc, rt, 60_000)?;
+    let of_few = percent(many, few);
+    println!(rt; "making 2,000 directories beside 60,000 names: {of_few} % of the time beside 10")?;
+    let few = names::aliases(alloc, rt, 10)?;
+    let many = names::aliases(alloc, rt, 60_000)?;
+    let of_few = percent(many, few);
+    println!(rt;
+        "an alias for a file and the loss of its names, beside 60,000 names: {of_few} % of the time beside 10"
     )?;
     let tenth = files::reading(alloc, rt, 1_000)?;
     let all = files::reading(alloc, rt, 10_000)?;

@@ -14,7 +14,7 @@ const SEARCHES: u32 = 200_000;
 
 /// What a node is, as its record says it.
 #[derive(Clone, Copy)]
-enum Kind {
+pub enum Kind {
     Directory,
     System,
 }
@@ -48,14 +48,14 @@ fn found_often(tree: &AliasTree, path: &Path) -> u32 {
 /// A tree of two directories, of which the first has the one name `x` and the second so many.
 fn tree_beside(alloc: Global, names: u32) -> io::Result<AliasTree> {
     let mut records = Records::new(alloc);
-    let file = node(0, Kind::Directory, b"first");
+    let file = node(0, Kind::Directory, 0, b"first");
     put(alloc, &mut records, NODES, 1, &file)?;
-    let file = node(0, Kind::Directory, b"second");
+    let file = node(0, Kind::Directory, 0, b"second");
     put(alloc, &mut records, NODES, 2, &file)?;
-    let file = node(1, Kind::System, b"x");
+    let file = node(1, Kind::System, 0, b"x");
     put(alloc, &mut records, NODES, 3, &file)?;
     for i in 0..names {
-        let file = node(2, Kind::System, &name_of(i));
+        let file = node(2, Kind::System, 0, &name_of(i));
         put(alloc, &mut records, NODES, i.saturating_add(4), &file)?;
     }
     match AliasTree::from_records(alloc, &records).map_err(out_of_memory)? {
@@ -65,9 +65,12 @@ fn tree_beside(alloc: Global, names: u32) -> io::Result<AliasTree> {
 }
 
 /// The value of a node's record: the parent, the kind, the file and the name in a field of 81 bytes.
-fn node(parent: u8, kind: Kind, name: &[u8]) -> [u8; 90] {
+pub fn node(parent: u8, kind: Kind, file: u32, name: &[u8]) -> [u8; 90] {
     let mut bytes = [0; 90];
     bytes[3] = parent;
+    for (to, from) in bytes[5..9].iter_mut().zip(&file.to_be_bytes()) {
+        *to = *from;
+    }
     bytes[4] = match kind {
         Kind::Directory => 1,
         Kind::System => 2,
