@@ -1,5 +1,5 @@
-//! What a commit does in the words of the format, and what it and its checkpoint leave. Each law is the contract of a
-//! function that does nothing.
+//! What a commit does in the words of the format, what it and its checkpoint leave, and what a store of several copies
+//! needs to know of one. Each law is the contract of a function that does nothing.
 
 ghost use Rattle.change_directory.specs.Laws.{HomedAreAtHome, LoggedAreDue, LoggedIsPut, LoggingIsPut};
 ghost use Rattle.change_directory.specs.StoreLaws.{DuesStand, FormattedIsEmpty, FormattingLoses, HomedSettles, HomingKeeps, LoadedIsContent, LoadedIsDue, LoggedHas, LoggingKeepsOrHas, OpeningHasNoneOrAll, OtherCopyIsSame, RegionIsSame, StepsStayInside, UnopenedHomed, UnopenedOpens, UnopenedStays};
