@@ -32,3 +32,6 @@ by_entry (e ∷ es) all = (all.0.number, by_entry es all.1)
 -- so have those of a record
 pub status_numbered : (r : Status) → IsTrue (is_status r) → AreNumbered r.entries
 status_numbered r ok = All-from_recursion (λ (e : Entry). e.number < 64) r.entries (by_entry r.entries (all_fit r.entries (parts_of r ok).all))
+
+pub entries_numbered : (r : Status) (es : List Entry) → IsTrue (is_status r) → es ≡ r.entries → AreNumbered es
+entries_numbered r es ok is = subst AreNumbered (sym is) (status_numbered r ok)

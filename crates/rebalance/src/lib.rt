@@ -18,3 +18,6 @@ pub use moves::{Move, Next};
 pub use shares::Shares;
 pub use stages::{Stage, new_home, said, stages_are_next};
 pub use tables::{directory_target, first_directories, first_holders, status_target};
+
+#[cfg(test)]
+mod tests;

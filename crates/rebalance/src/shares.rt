@@ -13,7 +13,7 @@ ghost use Rattle.rebalance.specs.Sums.{below_set, is_above_at, is_below_at, is_b
 use crate::disks::Which;
 use allocator::Units;
 use asm_base::DiskSet;
-use status_table::PstEntry;
+use status_table::{PstEntry, PstRecord};
 use std::marker::Model;
 
 /// The used and the user units of the Online regular disks together. The share of a disk is the part of the used ones
@@ -38,15 +38,14 @@ impl Model for Shares {
 }
 
 impl Shares {
-    /// Those of a group with these disks. `units` has the map of disk k at place k.
+    /// Those of a group. `units` has the map of disk k at place k.
     #[tactic(auto, using(crate::proofs::Sharing::sums_placed))]
-    pub fn of(disks: &[PstEntry], units: &[Units]) -> Shares
-        requires { length disks.now ≤ 64 }
-        ensures value { result ≡ sums_at units.now disks.now }
+    pub fn of(status: &PstRecord, units: &[Units]) -> Shares
+        ensures value { result ≡ sums_at units.now status.now.entries }
         // Where the units are those of a group's records, the sums are those of its placement.
-        ensures placement { (s : Shape) (items : List Item) → AreUnitsOf s items disks.now units.now → result ≡ sums_of s items disks.now }
+        ensures placement { (s : Shape) (items : List Item) → AreUnitsOf s items status.now.entries units.now → result ≡ sums_of s items status.now.entries }
     {
-        sums(disks, units)
+        sums(status.entries(), units)
     }
 
     fn none() -> Shares

@@ -1,9 +1,10 @@
 //! What an extent says at each stage of the search for the next move.
 
-ghost use Rattle.std.specs.Prelude.{◌≡◌, ◌<◌, ◌≤◌, List, Some, is_none};
+ghost use Rattle.std.specs.Prelude.{◌≡◌, ◌<◌, ◌≤◌, IsTrue, List};
 ghost use Rattle.std.specs.Option.{option_map};
 ghost use Rattle.asm_group.specs.Shape.{Shape};
 ghost use Rattle.asm_formats.specs.Items.{Item};
+ghost use Rattle.asm_formats.specs.Status.{is_status};
 ghost use Rattle.asm_placement.specs.Copies.{Copy};
 ghost use Rattle.asm_placement.specs.Rebalancing.{first_of};
 ghost use Rattle.partnership.specs.UnitsOf.{AreUnitsOf};
@@ -22,7 +23,7 @@ use crate::shares::Shares;
 use allocator::Units;
 use asm_base::Home;
 use partnership::{choose_copy, choose_copy_on};
-use status_table::PstEntry;
+use status_table::{PstEntry, PstRecord};
 
 /// The stages of the search in which the extents are asked, in their order. Between `Shift` and `Lost` come the moves of
 /// directory copies and of status tables.
@@ -49,8 +50,26 @@ pub fn stages_are_next()
 {}
 
 /// What the first copy of an extent says at a stage, by its number. `units` has the map of disk k at place k.
-#[tactic(auto, using(crate::proofs::Verdicts::said_is))]
+#[tactic(auto, using(crate::proofs::Selected::entries_numbered))]
 pub fn said(
+    status: &PstRecord,
+    units: &[Units],
+    shares: &Shares,
+    extent: &Extent,
+    stage: Stage,
+) -> Option<Next>
+    requires status { IsTrue (is_status status.now) }
+    requires copies { extent.now.copies ≤ 3 }
+    requires long { 0 < extent.now.units }
+    // Where the units, the sums and the extent are those of a group's records, it is what its copies say there.
+    ensures { (s : Shape) (items : List Item) (all : List Copy) → AreUnitsOf s items status.now.entries units.now → shares.now ≡ sums_of s items status.now.entries → IsExtentOf s items all extent.now → option_map next_meant result ≡ first_of (said stage s status.now.entries items all) (copies_of extent.now) }
+{
+    said_on(status.entries(), units, shares, extent, stage)
+}
+
+/// The same on these disks.
+#[tactic(auto, using(crate::proofs::Verdicts::said_is))]
+fn said_on(
     disks: &[PstEntry],
     units: &[Units],
     shares: &Shares,
@@ -60,7 +79,6 @@ pub fn said(
     requires numbers { AreNumbered disks.now }
     requires copies { extent.now.copies ≤ 3 }
     requires long { 0 < extent.now.units }
-    // Where the units, the sums and the extent are those of a group's records, it is what its copies say there.
     ensures { (s : Shape) (items : List Item) (all : List Copy) → AreUnitsOf s items disks.now units.now → shares.now ≡ sums_of s items disks.now → IsExtentOf s items all extent.now → option_map next_meant result ≡ first_of (said stage s disks.now items all) (copies_of extent.now) }
 {
     said_first(disks, units, shares, extent, stage)
