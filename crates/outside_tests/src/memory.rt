@@ -2,8 +2,8 @@
 ghost use Rattle.std.specs.Prelude.{◌+◌, ◌≤◌, length};
 ghost use Rattle.bay.specs.State.{IsOnSectors};
 
-use crate::{MemBay, MemClock, MemHost, MemSink, MemSource};
 use bay::{Bay, Clock, Host, Sink, Source, write_all};
+use bay_mem::{MemBay, MemClock, MemHost, MemSink, MemSource};
 use std::test::Fail;
 
 // Attaches slot 0 and writes there. Two calls.

@@ -1,0 +1,5 @@
+//! Tests of the outside in memory, and of the words of a call.
+#![tactic(auto)]
+
+#[cfg(test)]
+mod memory;
