@@ -5,8 +5,6 @@ mod checks;
 mod help;
 mod parse;
 mod rows;
-#[cfg(test)]
-mod tests;
 mod words;
 
 pub use help::Notice;

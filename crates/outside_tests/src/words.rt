@@ -1,5 +1,5 @@
 // Words that are accepted and refused.
-use crate::{Notice, Words, WordsError, read_words};
+use command_line::{Notice, Words, WordsError, read_words};
 use std::alloc::{AllocError, Global};
 
 // The words of a line, cut at blanks. `''` is the empty word.
