@@ -37,6 +37,3 @@ pub use refusal_text::no_memory_line;
 pub use word::{
     put_node_kind, put_pending_kind, put_stripe, take_node_kind, take_pending_kind, take_stripe,
 };
-
-#[cfg(test)]
-mod tests;

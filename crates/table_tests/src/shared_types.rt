@@ -1,4 +1,7 @@
-use super::*;
+use asm_base::{
+    Block, DiskRef, ExtentId, Key, Limited, List, Mode, Name, Path, Reader, Records, Refusal,
+    Value, Writer, decode_record, encode_record, no_memory_line, put_text, take_name, take_text,
+};
 use std::alloc::Global;
 use std::cmp::Ordering;
 use std::test::*;
@@ -8,6 +11,10 @@ fn name(alloc: Global, bytes: &[u8]) -> Result<Name, Fail> {
         return Err(Fail::from("a part of a path"));
     };
     Ok(name)
+}
+
+fn is_no_part(alloc: Global, bytes: &[u8]) -> bool {
+    matches!(Name::read(alloc, bytes, 80), Ok(None))
 }
 
 #[test]
@@ -20,7 +27,7 @@ fn names(rt: HostRuntime) -> Result<(), Fail> {
     assert!(rt; data.folded_cmp(&name(alloc, b"DATA_1")?) == Ordering::Equal);
     assert!(rt; !data.is_same(&name(alloc, b"datb_1")?));
     assert!(rt; !name(alloc, b"u.256.1")?.is_name());
-    assert!(rt; matches!(Name::read(alloc, b".", 80), Ok(None)));
+    assert!(rt; is_no_part(alloc, b"."));
     Ok(())
 }
 
@@ -199,14 +206,23 @@ fn paths(rt: HostRuntime) -> Result<(), Fail> {
     Ok(())
 }
 
+fn is_no_path(alloc: Global, bytes: &[u8]) -> bool {
+    matches!(Path::read(alloc, bytes), Ok(None))
+}
+
 #[test]
 fn no_paths(rt: HostRuntime) -> Result<(), Fail> {
     let alloc = rt.alloc();
-    assert!(rt; matches!(Path::read(alloc, b"DATA/a"), Ok(None)));
-    assert!(rt; matches!(Path::read(alloc, b"+"), Ok(None)));
-    assert!(rt; matches!(Path::read(alloc, b"+1/a"), Ok(None)));
-    assert!(rt; matches!(Path::read(alloc, b"+DATA/"), Ok(None)));
-    assert!(rt; matches!(Path::read(alloc, b"+DATA/a//b"), Ok(None)));
-    assert!(rt; matches!(Path::read(alloc, b"+DATA/a/."), Ok(None)));
+    let texts: [&[u8]; 6] = [
+        b"DATA/a",
+        b"+",
+        b"+1/a",
+        b"+DATA/",
+        b"+DATA/a//b",
+        b"+DATA/a/.",
+    ];
+    for text in texts {
+        assert!(rt; is_no_path(alloc, text));
+    }
     Ok(())
 }

@@ -1,0 +1,5 @@
+//! Tests of what a disk holds: the shared types, headers, status records, the tables of a group, and where extents and their copies go.
+#![tactic(auto)]
+
+#[cfg(test)]
+mod shared_types;
