@@ -8,6 +8,3 @@ mod writing;
 pub use header::Header;
 pub use reading::{decode, is_header};
 pub use writing::encode;
-
-#[cfg(test)]
-mod tests;

@@ -1,5 +1,5 @@
-use super::*;
 use asm_base::{Block, GroupKind, Name};
+use disk_header::{Header, decode, encode, is_header};
 use std::alloc::Global;
 use std::test::*;
 
