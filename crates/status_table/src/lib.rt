@@ -19,6 +19,3 @@ pub use reading::decode;
 pub use record::{PstEntry, PstRecord};
 pub use rules::is_status;
 pub use writing::encode;
-
-#[cfg(test)]
-mod tests;

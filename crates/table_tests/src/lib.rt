@@ -5,3 +5,5 @@
 mod headers;
 #[cfg(test)]
 mod shared_types;
+#[cfg(test)]
+mod status_records;

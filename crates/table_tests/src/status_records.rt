@@ -1,5 +1,8 @@
-use super::*;
 use asm_base::{Block, DiskSet, Mode};
+use status_table::{
+    Claim, PstEntry, PstRecord, decode, decode_claim, encode, encode_claim, is_status, majority,
+    next_majority,
+};
 use std::test::*;
 
 fn one_disk() -> PstRecord {
