@@ -9,6 +9,3 @@ mod writing;
 pub use head::FileHead;
 pub use table::FileTable;
 pub use writing::record_of;
-
-#[cfg(test)]
-mod tests;

@@ -1,5 +1,5 @@
-use super::*;
 use asm_base::{Change, Key, List, Name, Records, Stripe, Value};
+use file_directory::{FileHead, FileTable, record_of};
 use std::alloc::Global;
 use std::test::*;
 
