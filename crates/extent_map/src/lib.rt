@@ -12,6 +12,3 @@ mod writing;
 pub use counting::may_stand;
 pub use gaps::{an_extent_may_be_appended, extents_have_no_gap, the_last_extent_may_go};
 pub use table::ExtentMap;
-
-#[cfg(test)]
-mod tests;

@@ -1,7 +1,7 @@
 ghost use Rattle.extent_map.specs.Extents.{IsTable};
 
-use super::*;
 use asm_base::{Change, ExtentId, Home, Homes, Key, List, Records, Value};
+use extent_map::{ExtentMap, may_stand};
 use std::alloc::Global;
 use std::test::*;
 
