@@ -18,8 +18,3 @@ pub use editing::{TreeEdit, TreeError};
 pub use node::Node;
 pub use tree::AliasTree;
 pub use writing::node_record;
-
-#[cfg(test)]
-mod edit_tests;
-#[cfg(test)]
-mod tests;

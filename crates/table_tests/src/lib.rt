@@ -8,6 +8,10 @@ mod files;
 #[cfg(test)]
 mod headers;
 #[cfg(test)]
+mod name_edits;
+#[cfg(test)]
+mod names;
+#[cfg(test)]
 mod shared_types;
 #[cfg(test)]
 mod status_records;

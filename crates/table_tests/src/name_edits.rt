@@ -1,4 +1,4 @@
-use super::*;
+use alias_tree::{AliasTree, TreeEdit, TreeError};
 use asm_base::Path;
 use std::alloc::Global;
 use std::test::*;

@@ -1,7 +1,7 @@
 use Rattle.std.proofs.Common.{refl}
 use Rattle.asm_group.specs.declared.NodeKind.TheVariants.{Directory}
 use Rattle.alias_tree.proofs.Single.{one_node, short_part}
-use Rattle.alias_tree.proofs.tests.put_and_found.Goals as goal
+use Rattle.table_tests.proofs.names.put_and_found.Goals as goal
 
 pub put-requires : goal.put-requires
 put-requires g c =

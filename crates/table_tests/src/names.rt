@@ -1,4 +1,4 @@
-use super::*;
+use alias_tree::{AliasTree, Node};
 use asm_base::{
     Block, Change, Key, List, Name, NodeKind, Path, Records, Value, Writer, put_text, put_u8,
     put_u32,
