@@ -15,3 +15,5 @@ mod names;
 mod shared_types;
 #[cfg(test)]
 mod status_records;
+#[cfg(test)]
+mod templates;

@@ -16,6 +16,3 @@ pub use system_templates::system;
 pub use table::TemplateTable;
 pub use template::Template;
 pub use writing::{settings_value, templates_value};
-
-#[cfg(test)]
-mod tests;

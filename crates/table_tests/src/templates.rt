@@ -1,7 +1,7 @@
-use super::*;
 use asm_base::{Change, GroupKind, Key, Limited, List, Name, Records, Refusal, Stripe, Value};
 use std::alloc::Global;
 use std::test::*;
+use template_directory::{Settings, TemplateEdit, TemplateTable, are_allowed, system};
 
 #[test]
 fn system_templates_are_made(rt: HostRuntime) -> Result<(), Fail> {
