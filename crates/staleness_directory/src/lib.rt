@@ -6,6 +6,3 @@ mod table;
 
 pub use marks::Marks;
 pub use table::StaleTable;
-
-#[cfg(test)]
-mod tests;

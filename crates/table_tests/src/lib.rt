@@ -14,6 +14,8 @@ mod names;
 #[cfg(test)]
 mod shared_types;
 #[cfg(test)]
+mod stale_marks;
+#[cfg(test)]
 mod status_records;
 #[cfg(test)]
 mod templates;

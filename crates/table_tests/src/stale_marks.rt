@@ -1,5 +1,5 @@
-use super::*;
 use asm_base::{Change, Key, List, Records, Value};
+use staleness_directory::{Marks, StaleTable};
 use std::alloc::Global;
 use std::test::*;
 
