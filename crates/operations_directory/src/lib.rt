@@ -9,6 +9,3 @@ mod writing;
 pub use asm_base::PendingKind;
 pub use pending::Pending;
 pub use table::OperationTable;
-
-#[cfg(test)]
-mod tests;

@@ -1,5 +1,5 @@
-use super::*;
 use asm_base::{Change, List, Records};
+use operations_directory::{OperationTable, Pending, PendingKind};
 use std::test::*;
 
 /// What is written is read again, also from records of other kinds.
