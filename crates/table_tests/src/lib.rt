@@ -8,6 +8,8 @@ mod files;
 #[cfg(test)]
 mod headers;
 #[cfg(test)]
+mod layouts;
+#[cfg(test)]
 mod name_edits;
 #[cfg(test)]
 mod names;

@@ -1,6 +1,6 @@
-use super::*;
 use asm_base::{Span, Stripe};
 use std::test::*;
+use striping::{Layout, extent_of, extents_for, next_piece, units_of};
 
 const COARSE: Layout = Layout {
     au: 1_048_576,
