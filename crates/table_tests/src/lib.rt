@@ -23,3 +23,5 @@ mod stale_marks;
 mod status_records;
 #[cfg(test)]
 mod templates;
+#[cfg(test)]
+mod units;

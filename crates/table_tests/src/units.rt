@@ -1,4 +1,4 @@
-use super::*;
+use allocator::Units;
 use std::test::*;
 
 #[test]
