@@ -8,6 +8,3 @@ mod text;
 mod values;
 
 pub use page::is_page;
-
-#[cfg(test)]
-mod tests;

@@ -16,6 +16,8 @@ mod names;
 #[cfg(test)]
 mod operations;
 #[cfg(test)]
+mod pages;
+#[cfg(test)]
 mod shared_types;
 #[cfg(test)]
 mod stale_marks;

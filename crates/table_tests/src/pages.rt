@@ -1,6 +1,6 @@
 // Blocks that are pages and blocks that aren't, by the table of the format.
-use crate::is_page;
 use asm_base::Block;
+use directory_page::is_page;
 
 /// The block of the record of a key and a value of so many bytes.
 fn record(kind: u16, a: u32, b: u32, value: &[u8]) -> Block {
