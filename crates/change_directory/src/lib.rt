@@ -26,6 +26,3 @@ pub use laws::{
     region_is_same, steps_stay_inside, unopened_homed, unopened_opens, unopened_stays,
 };
 pub use loading::{LoadFault, Pages, load};
-
-#[cfg(test)]
-mod tests;

@@ -1,7 +1,7 @@
 // What no clause says: that a format and a load succeed where no call fails, what a format leaves, and how many calls it takes.
-use crate::{DirCopy, LoadFault, Pages, format, load};
 use bay::Bay;
 use bay_mem::MemBay;
+use change_directory::{DirCopy, LoadFault, Pages, format, load};
 use std::alloc::Global;
 use std::test::Fail;
 
