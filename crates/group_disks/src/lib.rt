@@ -10,6 +10,3 @@ mod new_group;
 
 pub use create::create_group;
 pub use laws::{formed_is_kept, forming_creates};
-
-#[cfg(test)]
-mod tests;

@@ -1,8 +1,8 @@
 // What no clause says: that a creation succeeds where memory is had, how many calls it takes, and which refusal comes.
-use crate::create_group;
 use asm_base::{Name, Refusal};
 use bay::Bay;
 use bay_mem::MemBay;
+use group_disks::create_group;
 use std::alloc::Global;
 use std::test::*;
 
