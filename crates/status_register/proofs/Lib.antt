@@ -21,4 +21,3 @@ pub mod Completing
 pub mod Written
 pub mod Rewriting
 pub mod Ordering
-pub mod Trying

@@ -29,8 +29,3 @@ pub use laws::{
 pub use member::Member;
 pub use register::Register;
 pub use survey::Survey;
-
-#[cfg(test)]
-mod tests;
-#[cfg(test)]
-mod trials;

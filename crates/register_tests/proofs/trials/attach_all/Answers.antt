@@ -4,7 +4,7 @@ use Rattle.status_register.specs.Places.{HasSlots}
 use Rattle.status_register.specs.Tallies.{HaveSlots}
 use Rattle.status_register.specs.declared.member.Member.{Member}
 use Rattle.status_register.proofs.Losing.{last_is}
-use Rattle.status_register.proofs.trials.attach_all.Goals as goal
+use Rattle.register_tests.proofs.trials.attach_all.Goals as goal
 
 pub loop-member-init : goal.loop-member-init
 loop-member-init g c m h = absurd h

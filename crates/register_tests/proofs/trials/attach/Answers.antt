@@ -1,6 +1,6 @@
 use Rattle.std.proofs.Common.{sym, ◌∙◌}
-use Rattle.status_register.proofs.Trying.{long_slot, still_there}
-use Rattle.status_register.proofs.trials.attach.Goals as goal
+use Rattle.register_tests.proofs.Trying.{long_slot, still_there}
+use Rattle.register_tests.proofs.trials.attach.Goals as goal
 
 pub returns-in-Ok-clause-here : goal.returns-in-Ok-clause-here
 returns-in-Ok-clause-here g c = λ long. long_slot (g.B.Bay.state c.attach.new.self) c.args.member.slot c.in-Ok.size c.args.member.sector c.in-Ok.ensures.attached (sym c.is_long.ensures ∙ long)

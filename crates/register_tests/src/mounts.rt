@@ -1,9 +1,9 @@
 // What no clause says: that calls succeed where no disk fails, and which record wins after a stop.
 use crate::trials::{Outcome, create, mount, survey};
-use crate::{Member, SurveyError};
 use asm_base::{DiskSet, Mode};
 use bay::Bay;
 use bay_mem::MemBay;
+use status_register::{Member, SurveyError};
 use status_table::{PstEntry, PstRecord};
 use std::alloc::Global;
 use std::test::*;

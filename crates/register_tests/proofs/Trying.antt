@@ -1,19 +1,22 @@
 -- What tests find out before they call a register.
-use Rattle.std.proofs.Common.{◌≡◌, inl, inr, ⊎_elim, ℕ, ◌+◌, ◌≤◌, Bool, true, List, [], ◌∷◌, length, filter, map, nat_le, nat_lt, Option, Some, refl, sym, ap, subst, ◌∙◌, arith, IsTrue}
+use Rattle.std.proofs.Common.{◌≡◌, inl, inr, ℕ, ◌+◌, ◌≤◌, ◌<◌, Bool, true, false, List, [], ◌∷◌, map, nat_le, nat_lt, Option, Some, refl, sym, ap, subst, ◌∙◌, arith, IsTrue}
 use Rattle.std.specs.Prelude.{◌==◌, ◌&&◌, IsSome, unwrap_or}
 use Rattle.std.specs.List.{list_all}
 use Rattle.std.specs.Option.{ForSome}
-use Rattle.std.proofs.lemmas.Bool.{cond_both, cases_eq, eqb-true, and_parts, leb-true, ltb-true}
+use Rattle.std.proofs.lemmas.Bool.{cond-true, cond-false, cases_eq, eqb-true, and_parts, leb-true, ltb-true}
+use Rattle.std.proofs.lemmas.List.Folds.{list_all-append}
 use Rattle.bay.specs.State.{BayState, AttachesOnly}
 use Rattle.asm_placement.specs.Among.{IsAmong}
-use Rattle.asm_formats.specs.Status.{Entry, ascends_from}
-use Rattle.asm_formats.specs.Following.{Holder, disks_of}
+use Rattle.asm_formats.specs.Sets.{has_bit}
+use Rattle.asm_formats.specs.Status.{Entry, ascends_from, entry_of}
+use Rattle.asm_formats.specs.Following.{Holder, disks_of, holder_of}
 use Rattle.asm_images.proofs.Sharing.{all_among}
 use Rattle.status_register.specs.Places.{HasSlots}
 use Rattle.status_register.specs.Registered.{AreNumbered}
 use Rattle.status_register.specs.Rows.{AreApart}
-use Rattle.status_register.specs.Surveys.{is_there, seen_of}
+use Rattle.status_register.specs.Counting.{of_disk, disks_from}
 use Rattle.status_register.specs.declared.member.Member.{Member}
+use Rattle.status_register.proofs.Counting.{all_from, none_from, one_from}
 use Rattle.status_register.proofs.Holding.{Apart, apart_list}
 use Rattle.status_register.proofs.Telling.{size_known}
 
@@ -69,16 +72,22 @@ still_there s t slot others has k sector before =
 
 -- ---- all holders are there
 
-filter_few : (p : Holder → Bool) (xs : List Holder) → length (filter p xs) ≤ length xs
-filter_few p [] = omega arith
-filter_few p (x ∷ xs) = cond_both (p x) (x ∷ filter p xs) (filter p xs) (λ (l : List Holder). length l ≤ length (x ∷ xs)) (λ here. omega (arith, filter_few p xs)) (λ out. omega (arith, filter_few p xs))
+module _ (p : Holder → Bool) (entries : List Entry) (set : ℕ) where
+  pub all_in_front : list_all p (disks_from entries set 0) ≡ list_all p (disks_of entries set)
+  all_in_front = ap (list_all p) (all_from entries set)
 
-all_pass : (p : Holder → Bool) (xs : List Holder) → length (filter p xs) ≡ length xs → (h : Holder) → IsAmong xs h → p h ≡ true
-all_pass p [] same h k = absurd k
-all_pass p (x ∷ xs) same h k = cond_both (p x) (x ∷ filter p xs) (filter p xs) (λ (l : List Holder). length l ≡ length (x ∷ xs) → p h ≡ true)
-    (λ here full. ⊎_elim (λ (one : h ≡ x). ap p one ∙ here) (λ later. all_pass p xs (omega (arith, full)) h later) k)
-    (λ out full. absurd (omega (arith, full, filter_few p xs))) same
+  -- a disk that is there, or out of the set, changes nothing
+  pub all_behind : (d : ℕ) → d < 64 → list_all p (of_disk entries set d) ≡ true → list_all p (disks_from entries set (d + 1)) ≡ list_all p (disks_from entries set d)
+  all_behind d lt here =
+      sym (ap (list_all p) (one_from entries set d lt)
+      ∙ list_all-append p (of_disk entries set d) (disks_from entries set (d + 1))
+      ∙ ap (λ (b : Bool). b && list_all p (disks_from entries set (d + 1))) here)
 
-pub holders_there : (ms : List Member) (entries : List Entry) (set : ℕ) → seen_of ms (disks_of entries set) ≡ length (disks_of entries set) → (h : Holder) → IsAmong (disks_of entries set) h → IsTrue (is_there ms h)
-unfolding seen_of
-holders_there ms entries set same h among = all_pass (is_there ms) (disks_of entries set) same h among
+  pub out_of_set : (d : ℕ) → has_bit set d ≡ false → list_all p (of_disk entries set d) ≡ true
+  out_of_set d out = ap (list_all p) (cond-false (has_bit set d) (holder_of d (entry_of entries d)) [] out)
+
+  pub in_set : (d : ℕ) → has_bit set d ≡ true → list_all p (holder_of d (entry_of entries d)) ≡ true → list_all p (of_disk entries set d) ≡ true
+  in_set d yes here = ap (list_all p) (cond-true (has_bit set d) (holder_of d (entry_of entries d)) [] yes) ∙ here
+
+  pub all_held : (d : ℕ) → 64 ≤ d → list_all p (disks_from entries set d) ≡ list_all p (disks_of entries set) → (h : Holder) → IsAmong (disks_of entries set) h → IsTrue (p h)
+  all_held d le same h among = all_among p (disks_of entries set) h (sym same ∙ ap (list_all p) (none_from entries set d le)) among

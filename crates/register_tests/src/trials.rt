@@ -1,9 +1,10 @@
 // The calls of a register as tests make them: what they require is tested first.
 ghost use Rattle.std.specs.Prelude.{◌≡◌, ◌≤◌, ◌&&◌, ◌==◌, ℕ, true, length, map, nat_le, nat_lt, IsTrue};
 ghost use Rattle.std.specs.List.{list_all};
-ghost use Rattle.asm_formats.specs.Following.{Holder, disks_of};
-ghost use Rattle.asm_formats.specs.Status.{ascends_from};
+ghost use Rattle.asm_formats.specs.Following.{Holder, disks_of, holder_of};
+ghost use Rattle.asm_formats.specs.Status.{ascends_from, entry_of};
 ghost use Rattle.asm_placement.specs.Among.{IsAmong};
+ghost use Rattle.status_register.specs.Counting.{of_disk};
 ghost use Rattle.status_register.specs.Keeping.{IsReady};
 ghost use Rattle.status_register.specs.Places.{HasSlots};
 ghost use Rattle.status_register.specs.Registered.{AreNumbered};
@@ -11,10 +12,10 @@ ghost use Rattle.status_register.specs.Rows.{AreApart};
 ghost use Rattle.status_register.specs.Surveys.{is_there};
 ghost use Rattle.status_register.specs.Tallies.{HaveSlots};
 
-use crate::majorities::count_set;
-use crate::{Dead, Member, Register, Survey, SurveyError};
+use asm_base::DiskSet;
 use bay::Bay;
-use status_table::{PstRecord, is_status, same_sets_follow};
+use status_register::{Dead, Member, Register, Survey, SurveyError};
+use status_table::{PstEntry, PstRecord, is_status, same_sets_follow};
 
 /// What became of a mount that writes one record: what the survey or the claim was refused as, the slot of a dead disk, or how
 /// many disks failed.
@@ -90,14 +91,47 @@ fn may_be_members(members: &[Member]) -> bool
     members.len() <= 64
 }
 
+fn is_there(members: &[Member], number: u8, birth: u64) -> bool
+    ensures { result ≡ is_there members.now (number, birth) }
+{
+    members
+        .iter()
+        .any(|member| member.number == number && member.birth == birth)
+}
+
+/// Whether the disk of this number, if it has an entry, is one of the members.
+#[tactic(auto, unfolding(asm_formats::specs::Status::entry_of))]
+fn is_entry_there(members: &[Member], entries: &[PstEntry], disk: u8) -> bool
+    ensures { result ≡ list_all (is_there members.now) (holder_of disk (entry_of entries.now disk)) }
+{
+    match entries.iter().find(|entry| entry.number == disk) {
+        None => true,
+        Some(entry) => is_there(members, disk, entry.birth),
+    }
+}
+
+/// Whether the disk of this number, if it is in the set, is one of the members.
+#[tactic(auto, using(crate::proofs::Trying::out_of_set, crate::proofs::Trying::in_set))]
+fn is_held(members: &[Member], entries: &[PstEntry], set: DiskSet, disk: u8) -> bool
+    ensures { result ≡ list_all (is_there members.now) (of_disk entries.now set disk) }
+{
+    if set.has(disk) {
+        is_entry_there(members, entries, disk)
+    } else {
+        true
+    }
+}
+
 /// Whether all holders of a record are among the members.
-#[tactic(auto, using(crate::proofs::Trying::holders_there))]
 fn are_there(members: &[Member], status: &PstRecord) -> bool
     ensures { result ≡ true → (h : Holder) → IsAmong (disks_of status.now.entries status.now.holders) h → IsTrue (is_there members.now h) }
 {
-    let holders = status.holders;
-    let presence = count_set(members, status.entries(), holders);
-    presence.seen == presence.all
+    for disk in 0..64 {
+        if !is_held(members, status.entries(), status.holders, disk) {
+            return false;
+        }
+    }
+    true
 }
 
 /// The record with another greatest birth, by which tests tell records apart.

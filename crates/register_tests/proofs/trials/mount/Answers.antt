@@ -4,7 +4,7 @@ use Rattle.status_register.specs.Rows.{AreApart}
 use Rattle.status_register.specs.Tallies.{HaveSlots}
 use Rattle.status_register.specs.declared.member.Member.{Member}
 use Rattle.status_register.proofs.Filling.{still_slots}
-use Rattle.status_register.proofs.trials.mount.Goals as goal
+use Rattle.register_tests.proofs.trials.mount.Goals as goal
 
 pub claim-requires-clause-slots : goal.claim-requires-clause-slots
 claim-requires-clause-slots g c = subst (λ (l : List Member). HaveSlots (g.B.Bay.state c.read.new.bay) l) (sym c.in-Ok.ensures.surveyed.1)

@@ -1,7 +1,7 @@
 use Rattle.std.proofs.Common.{◌∙◌, ap}
 use Rattle.asm_formats.specs.Status.{Status}
 use Rattle.asm_formats.specs.Following.{sets}
-use Rattle.status_register.proofs.trials.write.Goals as goal
+use Rattle.register_tests.proofs.trials.write.Goals as goal
 
 pub write-requires-clause-group : goal.write-requires-clause-group
 write-requires-clause-group g c = ap (λ (r : Status). r.id) c.with_births-next.ensures ∙ ap (λ (r : Status). r.id) c.value.ensures
