@@ -4,3 +4,4 @@ pub mod Places
 pub mod Trees
 pub mod Edits
 pub mod FileNames
+pub mod Faults

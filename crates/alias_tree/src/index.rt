@@ -112,7 +112,7 @@ pub(crate) fn places_of(alloc: Global, nodes: &Nodes) -> Result<Option<Places>, 
 }
 
 /// Puts a node's number at its place. `false` where there is another.
-fn add_place(places: &mut Places, number: u32, node: &Node) -> Result<bool, NoMemory>
+pub(crate) fn add_place(places: &mut Places, number: u32, node: &Node) -> Result<bool, NoMemory>
     requires { length node.now.name ≤ 80 }
     ensures added { IfOk result (λ added. OnTrue added ((number_at places.old (place_of node.now) ≡ None) × ((q : Place) → number_at places.new q ≡ (if is_same_place (place_of node.now) q then Some number else number_at places.old q)))) }
     ensures refused { IfOk result (λ added. OnFalse added (is_some (number_at places.old (place_of node.now)) ≡ true)) }

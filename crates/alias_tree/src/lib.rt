@@ -5,6 +5,7 @@
 mod causes;
 mod changing;
 mod editing;
+mod faults;
 mod files;
 mod index;
 mod node;

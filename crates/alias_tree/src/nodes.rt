@@ -1,6 +1,6 @@
 //! The nodes by number.
 
-ghost use Rattle.std.specs.Prelude.{◌≡◌, ◌<◌, ◌^◌, ◌++◌, [], length, map, IfOk, IfSome, OnErr, OnOk, Some, None, if◌then◌else◌, is_some, ◌==◌, IsTrue, true};
+ghost use Rattle.std.specs.Prelude.{◌≡◌, ◌<◌, ◌^◌, ◌++◌, [], length, map, IfOk, IfSome, OnErr, OnOk, Some, None, if◌then◌else◌, is_some, ◌==◌, IsTrue, true, not, find};
 ghost use Rattle.std.specs.Bool.{OnTrue};
 ghost use Rattle.std.specs.List.{list_all, list_any};
 ghost use Rattle.asm_group.specs.TreeEdits.{is_alias_of, names_file};
@@ -211,6 +211,18 @@ impl Nodes {
             }
         }
         true
+    }
+
+    /// The first node of which that doesn't hold.
+    pub(crate) fn first_unrooted(&self) -> Option<u32>
+        ensures { result ≡ option_map (λ x. x.0) (find (λ x. not (is_right self.now x)) self.now) }
+    {
+        for (number, node) in self.map.iter() {
+            if !self.is_right(*number, node) {
+                return Some(*number);
+            }
+        }
+        None
     }
 
     fn is_right(&self, number: u32, node: &Node) -> bool

@@ -13,6 +13,7 @@ use crate::nodes::Nodes;
 use crate::places::{Places, named_place};
 use asm_base::{Change, Name, NoMemory, Path, Records};
 use std::alloc::Global;
+use std::collections::btree_map::Iter;
 use std::marker::Model;
 
 /// The names of a group by the numbers of their nodes. Contracts see it as the list of its nodes in
@@ -60,6 +61,14 @@ impl AliasTree {
         ensures table { IsTable self.now }
     {
         self.nodes.get(key)
+    }
+
+    /// The nodes in the order of their numbers.
+    pub fn iter(&self) -> Iter<'_, u32, Node>
+        ensures nodes { result ≡ self.now }
+        ensures table { IsTable self.now }
+    {
+        self.nodes.iter()
     }
 
     /// Puts a node. Where there is no memory nothing changes.

@@ -8,3 +8,4 @@ mod text;
 mod values;
 
 pub use page::is_page;
+pub use values::is_value;

@@ -23,7 +23,7 @@ const MOST_DISKS: u32 = 64;
 
 /// Whether the value of a record of these three numbers is one of the format.
 #[tactic(auto, using(crate::proofs::DecodingLaws::value_is_decoded))]
-pub(crate) fn is_value(kind: u16, a: u32, b: u32, bytes: &[u8]) -> bool
+pub fn is_value(kind: u16, a: u32, b: u32, bytes: &[u8]) -> bool
     requires { length bytes.now ≤ 4064 }
     ensures { result ≡ is_some (decoded_item (record { kind = kind; a = a; b = b }) bytes.now) }
 {

@@ -38,7 +38,7 @@ same_chunk x y e =
 
 -- ---- chunks and their records
 
-chunk_entry : IsEntry item_of chunked
+pub chunk_entry : IsEntry item_of chunked
 chunk_entry = record { there = there; back = λ x. refl } where
   there : (i : Item) (x : Chunked) → chunked i ≡ Some x → item_of x ≡ i
   there (chunk_item f c homes) x e = ap item_of (sym (some_is ((f, c), homes) x e))

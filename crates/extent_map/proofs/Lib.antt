@@ -4,3 +4,4 @@ pub mod Numbering
 pub mod Lookups
 pub mod Ends
 pub mod FileEnds
+pub mod FoundGaps

@@ -1,6 +1,6 @@
 //! How many extents a file has.
 
-ghost use Rattle.std.specs.Prelude.{◌≡◌, ◌+◌, ℕ, IsTrue};
+ghost use Rattle.std.specs.Prelude.{◌≡◌, ◌≤◌, ◌+◌, ℕ, IsTrue};
 ghost use Rattle.asm_formats.specs.Items.{Homes as FormatHomes, is_home, is_homes};
 ghost use Rattle.extent_map.specs.Extents.{HasCount, IsTable, may_stand, with_extent, without_extent};
 
@@ -22,6 +22,7 @@ impl ExtentMap {
         ensures more { (homes : FormatHomes) → IsTrue (may_stand result homes) → IsTable (with_extent self.now file result homes) }
         // It stays a table without the last one.
         ensures less { (n : ℕ) → n + 1 ≡ result → IsTable (without_extent self.now file n) }
+        ensures few { result ≤ 1099511627520 }
     {
         self.end_of(file)
     }
@@ -30,7 +31,8 @@ impl ExtentMap {
     #[tactic(auto, using(crate::proofs::FileEnds::more_below, crate::proofs::FileEnds::none_above, crate::proofs::FileEnds::no_extent_past, crate::proofs::FileEnds::count_is))]
     fn end_of(&self, file: u32) -> u64
         requires { IsTable self.now }
-        ensures { HasCount self.now file result }
+        ensures count { HasCount self.now file result }
+        ensures few { result ≤ 1099511627520 }
     {
         let mut low = 0;
         let mut high = TOO_MANY_EXTENTS;

@@ -13,6 +13,7 @@ use crate::writing::{KIND, chunk_record};
 use asm_base::{Change, ExtentId, Homes, Key, NoMemory, Records, Value};
 use std::alloc::Global;
 use std::collections::BTreeMap;
+use std::collections::btree_map::Iter;
 use std::marker::Model;
 
 /// The homes of the extents of each file. Contracts see the list of the chunks of 256 extents, in the order of file and
@@ -70,6 +71,13 @@ impl ExtentMap {
     {
         let chunk = self.map.get(&(file, chunk))?;
         Some(chunk.as_slice())
+    }
+
+    /// The chunks in the order of file and number.
+    pub fn iter(&self) -> Iter<'_, (u32, u32), Chunk>
+        ensures { result ≡ self.now }
+    {
+        self.map.iter()
     }
 
     /// Puts the homes of an extent, with its chunk where that isn't there. Where there is no memory the table stays.
@@ -216,7 +224,7 @@ impl ExtentMap {
     }
 
     #[tactic(auto, using(asm_base::proofs::Tables::read_taken, asm_base::proofs::Tables::read_refused), unfolding(asm_base::specs::Records::read_from))]
-    fn read(alloc: Global, records: &Records) -> Result<Option<ExtentMap>, NoMemory>
+    pub(crate) fn read(alloc: Global, records: &Records) -> Result<Option<ExtentMap>, NoMemory>
         ensures { IfOk result (λ read. read ≡ read_from is_chunk add [] records.now) }
     {
         let mut table = ExtentMap::new(alloc);

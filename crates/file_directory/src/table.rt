@@ -12,6 +12,7 @@ use crate::writing::{KIND, record_of};
 use asm_base::{Change, Key, NoMemory, Records, Value};
 use std::alloc::Global;
 use std::collections::BTreeMap;
+use std::collections::btree_map::Iter;
 use std::marker::Model;
 
 /// The heads of files by number. Contracts see the list of the files in the order of their numbers.
@@ -48,6 +49,13 @@ impl FileTable {
         ensures table { IsTable self.now }
     {
         self.map.get(&file)
+    }
+
+    /// The files in the order of their numbers.
+    pub fn iter(&self) -> Iter<'_, u32, FileHead>
+        ensures { result ≡ self.now }
+    {
+        self.map.iter()
     }
 
     /// Gives a file this head. Where there is no memory the table stays.

@@ -10,6 +10,7 @@ use crate::marks::{Marks, marks_of};
 use asm_base::{Change, Key, NoMemory, Records, Value};
 use std::alloc::Global;
 use std::collections::BTreeMap;
+use std::collections::btree_map::Iter;
 use std::marker::Model;
 
 /// The kind of the records of marks.
@@ -45,6 +46,13 @@ impl StaleTable {
         ensures { option_copied result ≡ marks_at self.now key }
     {
         self.map.get(&key)
+    }
+
+    /// The marks of all chunks in the order of file and chunk.
+    pub fn iter(&self) -> Iter<'_, (u32, u32), Marks>
+        ensures { result ≡ self.now }
+    {
+        self.map.iter()
     }
 
     /// Puts the marks of a file's chunk, with 256 bytes below 8. Where there is no memory the table stays.

@@ -1,0 +1,24 @@
+-- Which node breaks the rule of the tree.
+use Rattle.std.specs.Prelude.{◌≡◌, ◌⊎◌, ℕ, List, map, not, find, Option, Some}
+use Rattle.asm_base.specs.Records.{Entry, of_kinds}
+use Rattle.asm_base.specs.Tables.{IsItemTable}
+use Rattle.alias_tree.specs.Nodes.{Numbered, is_before, is_mine, is_right, item_of, record_of}
+use Rattle.alias_tree.specs.Places.{Clash}
+
+-- the first node whose parent is another than the root or a directory, or whose parents don't lead to the root
+pub record IsUnrooted (nodes : List Numbered) (n : ℕ) : Type 0 where
+  pub x : Numbered
+  pub first : find (λ y. not (is_right nodes y)) nodes ≡ Some x
+  pub number : n ≡ x.0
+
+-- a node that has the parent and, when folded, the name of an earlier one
+pub record IsTwin (nodes : List Numbered) (n : ℕ) : Type 0 where
+  pub clash : Clash nodes
+  pub number : n ≡ clash.x.0
+
+-- the records are nodes in order, of which this one breaks the rule
+pub record HasFault (records : List Entry) (n : ℕ) : Type 0 where
+  pub nodes : List Numbered
+  pub items : IsItemTable is_before item_of nodes
+  pub same : of_kinds is_mine records ≡ map record_of nodes
+  pub fault : IsUnrooted nodes n ⊎ IsTwin nodes n

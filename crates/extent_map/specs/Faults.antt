@@ -1,0 +1,17 @@
+-- Which chunk breaks the rule of the extents.
+use Rattle.std.specs.Prelude.{◌≡◌, List, [], ◌∷◌, map, Option, Some, None, if◌then◌else◌}
+use Rattle.asm_base.specs.Records.{Entry, of_kinds}
+use Rattle.asm_base.specs.Tables.{IsItemTable}
+use Rattle.extent_map.specs.Extents.{Chunk, Chunked, is_before, is_chunk, item_of, opened, record_of, stands_at}
+
+-- the first chunk that doesn't stand behind the ones before it
+abbrev pub gap_from : Option Chunk → List Chunked → Option Chunk
+gap_from past [] = None
+gap_from past (x ∷ table) = if stands_at past x then gap_from (opened x) table else Some x.0
+
+-- the records are chunks in order, of which this is the first that doesn't stand behind those before it
+pub record HasGap (records : List Entry) (at : Chunk) : Type 0 where
+  pub table : List Chunked
+  pub items : IsItemTable is_before item_of table
+  pub same : of_kinds is_chunk records ≡ map record_of table
+  pub gap : gap_from None table ≡ Some at
