@@ -70,6 +70,12 @@ impl Nodes {
         self.map.get(&number)
     }
 
+    pub(crate) fn len(&self) -> usize
+        ensures { result ≡ length self.now }
+    {
+        self.map.len()
+    }
+
     /// The nodes in the order of their numbers.
     pub(crate) fn iter(&self) -> Iter<'_, u32, Node>
         ensures { result ≡ self.now }

@@ -71,6 +71,13 @@ impl AliasTree {
         self.nodes.iter()
     }
 
+    /// How many nodes there are.
+    pub fn len(&self) -> usize
+        ensures { result ≡ length self.now }
+    {
+        self.nodes.len()
+    }
+
     /// Puts a node. Where there is no memory nothing changes.
     pub fn put(&mut self, key: u32, item: Node) -> Result<(), NoMemory>
         requires { IsTable (with_node self.old key item) }

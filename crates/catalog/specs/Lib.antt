@@ -1,1 +1,5 @@
 pub mod Disks
+pub mod Tables
+pub mod Rules
+pub mod Placing
+pub mod Faults

@@ -54,6 +54,13 @@ impl DiskTable {
         self.map.get(&disk)
     }
 
+    /// How many disks there are.
+    pub(crate) fn len(&self) -> usize
+        ensures { result ≡ length self.now }
+    {
+        self.map.len()
+    }
+
     #[tactic(auto, using(crate::proofs::DiskLaws::put_keeps_table))]
     fn put(&mut self, disk: u32, info: DiskInfo) -> Result<(), NoMemory>
         requires { IsTrue (is_item (disk_item disk info)) }

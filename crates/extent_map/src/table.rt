@@ -80,6 +80,23 @@ impl ExtentMap {
         self.map.iter()
     }
 
+    /// How many chunks there are.
+    pub fn len(&self) -> usize
+        ensures { result ≡ length self.now }
+    {
+        self.map.len()
+    }
+
+    /// The homes of an extent by any index, or None where it isn't there.
+    pub fn at(&self, file: u32, index: u64) -> Option<&Homes>
+        requires { index / 256 < 2 ^ 32 }
+        ensures { option_copied result ≡ extent_at self.now file index }
+    {
+        let chunk = self.map.get(&(file, (index / 256) as u32))?;
+        let homes = chunk.get((index % 256) as u8);
+        if has_home(homes) { Some(homes) } else { None }
+    }
+
     /// Puts the homes of an extent, with its chunk where that isn't there. Where there is no memory the table stays.
     #[tactic(auto, using(crate::proofs::Laws::put_keeps_table))]
     pub fn put(&mut self, key: ExtentId, item: Homes) -> Result<(), NoMemory>

@@ -58,6 +58,13 @@ impl FileTable {
         self.map.iter()
     }
 
+    /// How many files there are.
+    pub fn len(&self) -> usize
+        ensures { result ≡ length self.now }
+    {
+        self.map.len()
+    }
+
     /// Gives a file this head. Where there is no memory the table stays.
     #[tactic(auto, using(crate::proofs::Laws::put_keeps_table))]
     pub fn put(&mut self, file: u32, head: FileHead) -> Result<(), NoMemory>

@@ -1,6 +1,6 @@
 //! The table of stale marks.
 
-ghost use Rattle.std.specs.Prelude.{◌≡◌, ◌++◌, [], List as Items, map, IfOk, IfSome, IsTrue, OnErr, OnOk, Some, None, if◌then◌else◌};
+ghost use Rattle.std.specs.Prelude.{◌≡◌, ◌++◌, [], List as Items, length, map, IfOk, IfSome, IsTrue, OnErr, OnOk, Some, None, if◌then◌else◌};
 ghost use Rattle.std.specs.Bool.{OnTrue};
 ghost use Rattle.std.specs.Option.{is_some, option_copied};
 ghost use Rattle.asm_formats.specs.Items.{is_item};
@@ -53,6 +53,13 @@ impl StaleTable {
         ensures { result ≡ self.now }
     {
         self.map.iter()
+    }
+
+    /// How many chunks there are.
+    pub fn len(&self) -> usize
+        ensures { result ≡ length self.now }
+    {
+        self.map.len()
     }
 
     /// Puts the marks of a file's chunk, with 256 bytes below 8. Where there is no memory the table stays.

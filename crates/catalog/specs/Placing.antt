@@ -1,0 +1,68 @@
+-- The units of the disks, from the homes that the tables name.
+use Rattle.std.specs.Prelude.{◌≡◌, ℕ, ◌*◌, Bool, true, List, [], ◌∷◌, map, slice_set, Option, Some, None, if◌then◌else◌}
+use Rattle.std.specs.List.{list_all, range_with_len, slice_get}
+use Rattle.std.specs.Option.{option_and_then}
+use Rattle.asm_group.specs.Shape.{Shape}
+use Rattle.asm_formats.specs.Regions.{reserved_units}
+use Rattle.asm_formats.specs.Sets.{most_disks}
+use Rattle.asm_formats.specs.Status as status
+use Rattle.asm_formats.specs.Items.{chunk_len}
+use Rattle.asm_placement.specs.Placed.{Placed, placed_extents}
+use Rattle.allocator.specs.UnitMaps.{UnitMap, is_free, unused, with_run}
+use Rattle.extent_map.specs.Extents.{Chunk, Chunked}
+use Rattle.catalog.specs.Tables.{Catalogued, Tables}
+
+-- ---- one home after the other
+
+-- the n units from at on are free
+abbrev pub is_run_free : UnitMap → ℕ → ℕ → Bool
+is_run_free m at n = list_all (is_free m) (range_with_len at n)
+
+-- the map with a run used, where it is free
+abbrev pub marked : Option UnitMap → ℕ → ℕ → Option UnitMap
+marked None at n = None
+marked (Some m) at n = if is_run_free m at n then Some (with_run m at n true) else None
+
+-- the maps with the units of a home used, where they are free user units of its disk
+abbrev pub after_home : List UnitMap → Placed → Option (List UnitMap)
+after_home ms p = option_and_then (λ m. Some (slice_set ms p.home.disk m)) (marked (slice_get ms p.home.disk) p.home.unit p.len)
+
+-- the same of homes one after the other
+unfoldable pub after_homes : List UnitMap → List Placed → Option (List UnitMap)
+after_homes ms [] = Some ms
+after_homes ms (p ∷ ps) = option_and_then (λ next. after_homes next ps) (after_home ms p)
+
+-- ---- the homes of chunks
+
+-- the homes of a chunk, each with its extent
+abbrev pub homes_of : ℕ → Chunked → List Placed
+homes_of step x = placed_extents step x.0.0 (x.0.1 * chunk_len) x.1
+
+-- the maps with the units of all homes of the chunks used
+unfoldable pub after_chunks : ℕ → List UnitMap → List Chunked → Option (List UnitMap)
+after_chunks step ms [] = Some ms
+after_chunks step ms (x ∷ xs) = option_and_then (λ next. after_chunks step next xs) (after_homes ms (homes_of step x))
+
+-- the first chunk that has a home whose units aren't free
+unfoldable pub misplaced : ℕ → List UnitMap → List Chunked → Option Chunk
+misplaced step ms [] = None
+misplaced step ms (x ∷ xs) = from (λ next. misplaced step next xs) (after_homes ms (homes_of step x))
+  where
+    from : (List UnitMap → Option Chunk) → Option (List UnitMap) → Option Chunk
+    from go None = Some x.0
+    from go (Some next) = go next
+
+-- ---- the disks
+
+-- units of a disk by its entry, and none where it has no entry
+abbrev pub entry_units : Option status.Entry → ℕ
+entry_units None = 0
+entry_units (Some e) = e.units
+
+-- the maps of all disk numbers, with no user unit used
+abbrev pub unused_maps : Shape → List status.Entry → List UnitMap
+unused_maps s entries = map (λ d. unused (reserved_units s) (entry_units (status.entry_of entries d))) (range_with_len 0 most_disks)
+
+-- The used units are, from scratch, those of the homes that the tables name: none is used twice, and all are user units of the entries.
+abbrev pub HasUnits : Shape → List status.Entry → Tables → List UnitMap → Type 0
+HasUnits s entries t ms = after_chunks s.step (unused_maps s entries) t.extents ≡ Some ms
