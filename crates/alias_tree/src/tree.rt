@@ -158,7 +158,7 @@ impl AliasTree {
     }
 
     /// Shows that the nodes keep the rule, and does nothing.
-    pub(crate) fn keeps_rule(&self)
+    pub fn keeps_rule(&self)
         ensures { IsTable self.now }
     {
         let _nodes = &self.nodes;

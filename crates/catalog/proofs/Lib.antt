@@ -1,1 +1,7 @@
 pub mod DiskLaws
+pub mod FaultLaws
+pub mod FileLaws
+pub mod PlacingLaws
+pub mod ReadingLaws
+pub mod StoreLaws
+pub mod UnusedLaws

@@ -1,18 +1,17 @@
 -- Which record of a group's directories is at fault, and when tables are the catalog of some records.
-use Rattle.std.specs.Prelude.{◌≡◌, ◌<◌, ℕ, ◌+◌, not, List, find, Option, Some, None}
+use Rattle.std.specs.Prelude.{◌≡◌, ◌⊎◌, ◌<◌, ◌≤◌, ℕ, ◌+◌, List, Option, Some, None}
+use Rattle.std.specs.List.{AllByRecursion}
 use Rattle.asm_group.specs.Shape.{Shape}
-use Rattle.asm_formats.specs.Among.{IsAmong}
 use Rattle.asm_formats.specs.Items.{Key}
 use Rattle.asm_formats.specs.Status as status
 use Rattle.asm_base.specs.Records.{Entry, record_at}
-use Rattle.file_directory.specs.Files.{File}
 use Rattle.extent_map.specs.Extents.{Chunk, chunk_key}
 use Rattle.extent_map.specs.Faults.{HasGap}
 use Rattle.alias_tree.specs.Faults.{HasFault}
 use Rattle.catalog.specs.declared.error.CatalogError.{CatalogError}
 use Rattle.catalog.specs.declared.error.CatalogError.TheVariants as answer
-use Rattle.catalog.specs.Tables.{AreTables, Catalogued, HasRecords, Tables, is_record}
-use Rattle.catalog.specs.Rules.{KeepsRules, LacksExtent, blocks_used, first_unknown, first_wrong, has_chunk, has_marks, has_names, is_named_back, is_on_disks, is_owned, keeps_copies}
+use Rattle.catalog.specs.Tables.{AreTables, Catalogued, HasRecords, Tables, first_unreadable}
+use Rattle.catalog.specs.Rules.{HasExtents, IsShort, KeepsRules, blocks_used, first_unknown, first_wrong, has_chunk, has_marks, has_names, is_named_back, is_on_disks, is_owned, keeps_copies}
 use Rattle.catalog.specs.Placing.{HasUnits, misplaced, unused_maps}
 
 -- ---- keys
@@ -35,10 +34,36 @@ node_key n = record { kind = 6; a = n; b = 0 }
 abbrev pub settings_key : Key
 settings_key = record { kind = 9; a = 0; b = 0 }
 
+-- the record of this key must be there
+abbrev pub IsNeeded : Key → Type 0
+IsNeeded k = (k ≡ templates_key) ⊎ (k ≡ settings_key)
+
 abbrev pub key_of_marks : Chunk → Key
 key_of_marks at = record { kind = 12; a = at.0; b = at.1 }
 
 -- ---- faults
+
+-- the chunk breaks a rule that doesn't speak of units
+abbrev pub IsChunkFault : Tables → Chunk → Type 0
+IsChunkFault t at =
+    (first_wrong (has_marks t) t.extents ≡ Some at) ⊎ ((first_wrong (is_owned t) t.extents ≡ Some at)
+    ⊎ ((first_wrong (keeps_copies t) t.extents ≡ Some at) ⊎ (first_wrong is_on_disks t.extents ≡ Some at)))
+
+pub record AreChunksRight (t : Tables) : Type 0 where
+  pub marked : first_wrong (has_marks t) t.extents ≡ None
+  pub owned : first_wrong (is_owned t) t.extents ≡ None
+  pub redundancy : first_wrong (keeps_copies t) t.extents ≡ None
+  pub apart : first_wrong is_on_disks t.extents ≡ None
+
+pub record AreNamesRight (t : Tables) : Type 0 where
+  pub chunks : first_wrong (has_chunk t) t.stale ≡ None
+  pub nodes : first_wrong (is_named_back t) t.nodes ≡ None
+  pub names : first_wrong (has_names t) t.files ≡ None
+
+pub record AreSizesRight (s : Shape) (entries : List status.Entry) (t : Tables) : Type 0 where
+  pub extents : AllByRecursion (HasExtents t s) t.files
+  pub infos : first_unknown t entries ≡ None
+  pub room : blocks_used t + 2 ≤ s.dir_blocks
 
 -- what the tables of the records break
 pub data BreaksRule (s : Shape) (entries : List status.Entry) (t : Tables) (k : Key) : Type 0 where
@@ -59,7 +84,7 @@ pub data BreaksRule (s : Shape) (entries : List status.Entry) (t : Tables) (k : 
   -- a file that names a node that isn't there or isn't such a node of the file
   nameless_file : (f : ℕ) → first_wrong (has_names t) t.files ≡ Some f → k ≡ file_key f → BreaksRule s entries t k
   -- a file that has by its size an extent that hasn't all its copies
-  short_file : (x : File) → IsAmong t.files x → LacksExtent t s x → k ≡ file_key x.0 → BreaksRule s entries t k
+  short_file : (f : ℕ) → IsShort t s f → k ≡ file_key f → BreaksRule s entries t k
   -- an entry that has no disk record of its number and birth
   unknown_disk : (d : ℕ) → first_unknown t entries ≡ Some d → k ≡ disk_key d → BreaksRule s entries t k
   -- more records than there is room for
@@ -68,16 +93,22 @@ pub data BreaksRule (s : Shape) (entries : List status.Entry) (t : Tables) (k : 
 -- The record of this key is at fault, or must be there and isn't.
 pub data IsAtFault (content : List Entry) (s : Shape) (entries : List status.Entry) (k : Key) : Type 0 where
   -- a record that isn't of the formats
-  unreadable : (e : Entry) → find (λ e. not (is_record e)) content ≡ Some e → k ≡ e.0 → IsAtFault content s entries k
-  -- the templates and the settings aren't there
-  no_templates : record_at content templates_key ≡ None → k ≡ templates_key → IsAtFault content s entries k
-  no_settings : record_at content settings_key ≡ None → k ≡ settings_key → IsAtFault content s entries k
+  unreadable : first_unreadable content ≡ Some k → IsAtFault content s entries k
+  -- the record of the templates or of the settings isn't there
+  absent : record_at content k ≡ None → IsNeeded k → IsAtFault content s entries k
   -- a chunk that doesn't stand behind the file's others without a gap
   gap : (at : Chunk) → HasGap content at → k ≡ key_of_chunk at → IsAtFault content s entries k
   -- a node whose parents aren't directories up to the root, or that has the place of another
   loose_node : (n : ℕ) → HasFault content n → k ≡ node_key n → IsAtFault content s entries k
   -- the tables of the records break a rule
   broken : (t : Tables) → AreTables t → HasRecords content t → BreaksRule s entries t k → IsAtFault content s entries k
+
+-- a chunk that doesn't stand behind the file's others without a gap, or a node that breaks the rule of the tree
+abbrev pub IsGap : List Entry → Key → Type 0
+IsGap content k = (at : Chunk) × HasGap content at × (k ≡ key_of_chunk at)
+
+abbrev pub IsLoose : List Entry → Key → Type 0
+IsLoose content k = (n : ℕ) × HasFault content n × (k ≡ node_key n)
 
 -- an answer that names a record at fault, or says that memory is wanting
 abbrev pub Names : (Key → Type 0) → CatalogError → Type 0
@@ -93,4 +124,10 @@ pub record IsCatalogOf (content : List Entry) (entries : List status.Entry) (c :
   -- each entry has a disk record of its number and birth
   pub infos : first_unknown c.tables entries ≡ None
   -- the used units are those of the homes that the tables name
+  pub units : HasUnits c.shape entries c.tables c.units
+
+-- The value is a catalog: its tables keep the rules, and its used units are those of the homes that they name, for some entries.
+pub record IsCatalog (c : Catalogued) : Type 0 where
+  pub rules : KeepsRules c.shape c.tables
+  pub entries : List status.Entry
   pub units : HasUnits c.shape entries c.tables c.units

@@ -1,12 +1,12 @@
 -- The units of the disks, from the homes that the tables name.
-use Rattle.std.specs.Prelude.{◌≡◌, ℕ, ◌*◌, Bool, true, List, [], ◌∷◌, map, slice_set, Option, Some, None, if◌then◌else◌}
+use Rattle.std.specs.Prelude.{◌≡◌, ℕ, ◌*◌, ◌==◌, Bool, true, List, find, [], ◌∷◌, map, slice_set, Option, Some, None, if◌then◌else◌}
 use Rattle.std.specs.List.{list_all, range_with_len, slice_get}
 use Rattle.std.specs.Option.{option_and_then}
 use Rattle.asm_group.specs.Shape.{Shape}
 use Rattle.asm_formats.specs.Regions.{reserved_units}
 use Rattle.asm_formats.specs.Sets.{most_disks}
 use Rattle.asm_formats.specs.Status as status
-use Rattle.asm_formats.specs.Items.{chunk_len}
+use Rattle.asm_formats.specs.Items.{Home, chunk_len}
 use Rattle.asm_placement.specs.Placed.{Placed, placed_extents}
 use Rattle.allocator.specs.UnitMaps.{UnitMap, is_free, unused, with_run}
 use Rattle.extent_map.specs.Extents.{Chunk, Chunked}
@@ -24,13 +24,18 @@ marked None at n = None
 marked (Some m) at n = if is_run_free m at n then Some (with_run m at n true) else None
 
 -- the maps with the units of a home used, where they are free user units of its disk
-abbrev pub after_home : List UnitMap → Placed → Option (List UnitMap)
-after_home ms p = option_and_then (λ m. Some (slice_set ms p.home.disk m)) (marked (slice_get ms p.home.disk) p.home.unit p.len)
+abbrev pub home_taken : List UnitMap → Home → ℕ → Option (List UnitMap)
+home_taken ms h len = option_and_then (λ m. Some (slice_set ms h.disk m)) (marked (slice_get ms h.disk) h.unit len)
+
+-- the same of a home that may be absent
+abbrev pub home_placed : List UnitMap → Option Home → ℕ → Option (List UnitMap)
+home_placed ms None len = Some ms
+home_placed ms (Some h) len = home_taken ms h len
 
 -- the same of homes one after the other
 unfoldable pub after_homes : List UnitMap → List Placed → Option (List UnitMap)
 after_homes ms [] = Some ms
-after_homes ms (p ∷ ps) = option_and_then (λ next. after_homes next ps) (after_home ms p)
+after_homes ms (p ∷ ps) = option_and_then (λ next. after_homes next ps) (home_taken ms p.home p.len)
 
 -- ---- the homes of chunks
 
@@ -59,9 +64,12 @@ abbrev pub entry_units : Option status.Entry → ℕ
 entry_units None = 0
 entry_units (Some e) = e.units
 
+abbrev pub disk_units : List status.Entry → ℕ → ℕ
+disk_units entries d = entry_units (find (λ (e : status.Entry). e.number == d) entries)
+
 -- the maps of all disk numbers, with no user unit used
 abbrev pub unused_maps : Shape → List status.Entry → List UnitMap
-unused_maps s entries = map (λ d. unused (reserved_units s) (entry_units (status.entry_of entries d))) (range_with_len 0 most_disks)
+unused_maps s entries = map (λ d. unused (reserved_units s) (disk_units entries d)) (range_with_len 0 most_disks)
 
 -- The used units are, from scratch, those of the homes that the tables name: none is used twice, and all are user units of the entries.
 abbrev pub HasUnits : Shape → List status.Entry → Tables → List UnitMap → Type 0

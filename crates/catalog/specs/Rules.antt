@@ -6,6 +6,7 @@ use Rattle.asm_group.specs.Shape.{Shape}
 use Rattle.asm_group.specs.declared.NodeKind.{NodeKind}
 use Rattle.asm_group.specs.declared.NodeKind.TheVariants.{Directory, System, Alias}
 use Rattle.asm_formats.specs.Items.{DiskInfo, FileHead, Home, Homes, Node, Pending}
+use Rattle.asm_formats.specs.Among.{IsAmong}
 use Rattle.asm_formats.specs.Status as status
 use Rattle.asm_placement.specs.Layout.{has_extent}
 use Rattle.file_directory.specs.Files.{File, head_at, is_file}
@@ -160,3 +161,9 @@ pub record KeepsRules (s : Shape) (t : Tables) : Type 0 where
   pub extents : AllByRecursion (HasExtents t s) t.files
   -- room for the rebalance and the pending operation
   pub room : blocks_used t + 2 ≤ s.dir_blocks
+
+-- the number is that of a file that lacks an extent
+pub record IsShort (t : Tables) (s : Shape) (f : ℕ) : Type 0 where
+  pub head : FileHead
+  pub file : IsAmong t.files (f, head)
+  pub lacks : LacksExtent t s (f, head)

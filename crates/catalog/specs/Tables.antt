@@ -1,6 +1,5 @@
 -- The tables of a group as one value, and the records that they are.
-use Rattle.std.specs.Prelude.{◌≡◌, ℕ, ◌-◌, ◌==◌, ◌&&◌, Bool, true, List, map, Option, Some, None, if◌then◌else◌, is_some}
-use Rattle.std.specs.List.{list_all}
+use Rattle.std.specs.Prelude.{◌≡◌, ℕ, ◌-◌, ◌==◌, ◌&&◌, Bool, not, find, List, map, Option, Some, None, if◌then◌else◌, is_some}
 use Rattle.std.specs.Option.{option_map}
 use Rattle.asm_group.specs.Shape.{Shape}
 use Rattle.asm_formats.specs.Items.{Item, Key, file_item, chunk_item, disk_item, rebalance_item, pending_item, templates_item, node_item, settings_item, marks_item}
@@ -64,9 +63,13 @@ records_of t k = option_map value (item_at t k)
 abbrev pub is_record : Entry → Bool
 is_record e = is_some (decoded_item e.0 e.1)
 
+-- the key of the first record that isn't
+abbrev pub first_unreadable : List Entry → Option Key
+first_unreadable content = option_map (λ (e : Entry). e.0) (find (λ e. not (is_record e)) content)
+
 -- Each record is of the formats, and those of each kind are, in order, those of the table.
 pub record HasRecords (content : List Entry) (t : Tables) : Type 0 where
-  pub all : list_all is_record content ≡ true
+  pub all : first_unreadable content ≡ None
   pub files : of_kinds files.is_mine content ≡ map files.record_of t.files
   pub extents : of_kinds extents.is_chunk content ≡ map extents.record_of t.extents
   pub nodes : of_kinds nodes.is_mine content ≡ map nodes.record_of t.nodes

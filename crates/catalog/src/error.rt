@@ -11,6 +11,11 @@ pub enum CatalogError {
 }
 
 impl From<NoMemory> for CatalogError {
+    ghost use Rattle.std.specs.Prelude.{◌≡◌};
+    ghost use Rattle.catalog.specs.declared.error.CatalogError.TheVariants.{NoMemory as WithoutMemory};
+
+    ghost from_gives = { λ _ e. e ≡ WithoutMemory };
+
     fn from(_: NoMemory) -> CatalogError {
         CatalogError::NoMemory
     }

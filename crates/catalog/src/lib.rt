@@ -1,12 +1,19 @@
 //! The tables of a group as one value, with the rules that hold across them.
 #![tactic(auto)]
 
+mod catalog;
+mod checking;
 mod chunk_rules;
 mod disk_info;
+mod disk_rules;
 mod disks;
 mod error;
+mod file_rules;
 mod name_rules;
 mod parts;
+mod placing;
+mod reading;
 
+pub use catalog::Catalog;
 pub use disk_info::DiskInfo;
 pub use error::CatalogError;

@@ -100,7 +100,7 @@ table_again records read t e fits same =
     e ∙ rw (all, fits.1) refl
 
 -- each chunk of a table has a number with room in its key
-all_numbered : (t : List Chunked) → AllByRecursion (λ x. is_item (item_of x) ≡ true) t → AllByRecursion IsNumbered t
+pub all_numbered : (t : List Chunked) → AllByRecursion (λ x. is_item (item_of x) ≡ true) t → AllByRecursion IsNumbered t
 all_numbered [] all = tt
 all_numbered (x ∷ t) all = (chunk_numbered x.0.0 x.0.1 x.1 all.0, all_numbered t all.1)
 

@@ -1,0 +1,30 @@
+-- A catalog from records.
+use Rattle.std.proofs.Common.{◌≡◌, ℕ, List, Option, Some, None, refl, sym, ap, subst, ◌∙◌}
+use Rattle.asm_group.specs.Shape.{Shape}
+use Rattle.asm_formats.specs.Items.{Key}
+use Rattle.asm_formats.specs.Status as status
+use Rattle.asm_base.specs.Records.{Entry}
+use Rattle.allocator.specs.UnitMaps.{UnitMap}
+use Rattle.catalog.specs.declared.error.CatalogError.{CatalogError}
+use Rattle.catalog.specs.declared.error.CatalogError.TheVariants as answer
+use Rattle.catalog.specs.Tables.{AreTables, Catalogued, HasRecords, Tables}
+use Rattle.catalog.specs.Rules.{KeepsRules, first_unknown}
+use Rattle.catalog.specs.Placing.{HasUnits}
+use Rattle.catalog.specs.Faults.{BreaksRule, IsAtFault, IsCatalog, IsCatalogOf, Names}
+use Rattle.catalog.specs.Faults as fault
+
+pub broken_at : (content : List Entry) (s : Shape) (es : List status.Entry) (t : Tables) (k : Key) → AreTables t → HasRecords content t → BreaksRule s es t k → IsAtFault content s es k
+broken_at content s es t k are has b = fault.broken t are has b
+
+pub names_broken : (content : List Entry) (s : Shape) (es : List status.Entry) (t : Tables) (e : CatalogError) → AreTables t → HasRecords content t → Names (BreaksRule s es t) e → Names (IsAtFault content s es) e
+names_broken content s es t (answer.Damaged k) are has b = fault.broken t are has b
+names_broken content s es t answer.NoMemory are has b = tt
+
+pub catalog_is : (content : List Entry) (es : List status.Entry) (c : Catalogued) → HasRecords content c.tables → KeepsRules c.shape c.tables → first_unknown c.tables es ≡ None → HasUnits c.shape es c.tables c.units → IsCatalogOf content es c
+catalog_is content es c has rules infos units = record { records = has; rules = rules; infos = infos; units = units }
+
+pub invariant_is : (es : List status.Entry) (c : Catalogued) → KeepsRules c.shape c.tables → HasUnits c.shape es c.tables c.units → IsCatalog c
+invariant_is es c rules units = record { rules = rules; entries = es; units = units }
+
+pub names_at : (content : List Entry) (s : Shape) (es : List status.Entry) (e : CatalogError) → ((s : Shape) (es : List status.Entry) → Names (IsAtFault content s es) e) → Names (IsAtFault content s es) e
+names_at content s es e each = each s es

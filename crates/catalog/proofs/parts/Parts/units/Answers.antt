@@ -1,0 +1,12 @@
+use Rattle.std.proofs.Common.{ℕ, List, sym, subst, ap, ◌≡◌, ◌∙◌, Some}
+use Rattle.catalog.proofs.FaultLaws.{misplaced_is}
+use Rattle.catalog.specs.Placing.{misplaced, unused_maps}
+use Rattle.asm_group.specs.Shape.{Shape}
+use Rattle.allocator.specs.UnitMaps.{UnitMap}
+use Rattle.catalog.proofs.parts.Parts.units.Goals as goal
+
+pub returns-in-Some-clause-fault : goal.returns-in-Some-clause-fault
+returns-in-Some-clause-fault c =
+    misplaced_is c.args.shape.now c.args.entries.now c.args.self.now c.in-Some.at c.chunk_key.result
+    (rw (← c.shape.view_is, ← c.self.view_is) (ap (λ (ms : List UnitMap). misplaced c.shape.inside.step ms c.self.inside.extents) (rw c.shape.view_is (sym c.in_ok-units.ensures)) ∙ sym c.in-Some.ensures.fault))
+    c.chunk_key.ensures

@@ -1,0 +1,73 @@
+//! The catalog of a group.
+
+ghost use Rattle.std.specs.Prelude.{◌≡◌, IfErr, IfOk, IsTrue};
+ghost use Rattle.std.specs.List.{list_all};
+ghost use Rattle.asm_group.specs.Shape.{is_shape};
+ghost use Rattle.asm_formats.specs.Status.{is_entry};
+ghost use Rattle.catalog.specs.Faults.{IsAtFault, IsCatalogOf, Names};
+
+use crate::error::CatalogError;
+use crate::parts::Parts;
+use allocator::Units;
+use asm_base::{Records, Shape};
+use status_table::PstRecord;
+use std::alloc::Global;
+use std::marker::Model;
+
+/// All tables of a group as one value: files, extents, names, templates and settings, stale marks, operations, disk
+/// records, and of each disk which units are used. Contracts see the record of the tables' values, the shape and the unit
+/// maps; the rules that hold across them are the type's invariant.
+#[derive(Drop)]
+pub struct Catalog {
+    parts: Parts,
+    shape: Shape,
+    /// The units of disk k at place k.
+    units: Vec<Units>,
+}
+
+impl Model for Catalog {
+    ghost use Rattle.catalog.specs.Tables.{Catalogued};
+    ghost use Rattle.catalog.specs.Faults.{IsCatalog};
+
+    ghost Value = { Catalogued };
+
+    ghost view = { λ c. record { tables = c.parts; shape = c.shape; units = c.units.items } };
+
+    ghost invariant = { λ c. IsCatalog (record { tables = c.parts; shape = c.shape; units = c.units.items }) };
+}
+
+impl Catalog {
+    /// The catalog of a group's records, with the disks of its status record and the shape of its headers. A record of a
+    /// disk without an entry is no fault. Damaged names the key of a record that isn't of the formats or breaks a rule, or
+    /// of one that must be there and isn't. Work and memory go by the number of records and their homes.
+    #[tactic(auto, using(crate::proofs::StoreLaws::names_at, crate::proofs::StoreLaws::broken_at, crate::proofs::StoreLaws::names_broken, crate::proofs::StoreLaws::catalog_is, crate::proofs::StoreLaws::invariant_is))]
+    pub fn from_store(
+        alloc: Global,
+        content: &Records,
+        status: &PstRecord,
+        shape: Shape,
+    ) -> Result<Catalog, CatalogError>
+        requires shape { IsTrue (is_shape shape) }
+        requires entries { IsTrue (list_all is_entry status.now.entries) }
+        // What is given is the catalog of these records.
+        ensures catalog { IfOk result (IsCatalogOf content.now status.now.entries) }
+        ensures shape { IfOk result (λ c. c.shape ≡ shape) }
+        // The record that is named is at fault.
+        ensures fault { IfErr result (Names (IsAtFault content.now shape status.now.entries)) }
+    {
+        let parts = match Parts::from_records(alloc, content) {
+            Ok(parts) => parts,
+            Err(error) => return Err(error),
+        };
+        let entries = status.entries();
+        if let Some(key) = parts.fault(&shape, entries) {
+            return Err(CatalogError::Damaged { key });
+        }
+        let units = parts.units(alloc, &shape, entries)?;
+        Ok(Catalog {
+            parts,
+            shape,
+            units,
+        })
+    }
+}

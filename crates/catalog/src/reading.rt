@@ -1,0 +1,199 @@
+//! The tables of a group, read from its records.
+
+ghost use Rattle.std.specs.Prelude.{◌≡◌, ◌<◌, ◌+◌, ◌^◌, List as Items, map, IfErr, IfOk, IfSome, None, Some};
+ghost use Rattle.std.specs.Option.{is_some};
+ghost use Rattle.asm_group.specs.Shape.{Shape};
+ghost use Rattle.asm_formats.specs.Status.{Entry};
+ghost use Rattle.asm_base.specs.Records.{of_kinds, record_at};
+ghost use Rattle.alias_tree.specs.Nodes as nodes;
+ghost use Rattle.extent_map.specs.Extents as extent_table;
+ghost use Rattle.template_directory.specs.Tables as template_table;
+ghost use Rattle.catalog.specs.Tables.{AreTables, HasRecords, first_unreadable, is_record};
+ghost use Rattle.catalog.specs.Faults.{IsAtFault, IsGap, IsLoose, Names, key_of_chunk, node_key, settings_key, templates_key};
+
+use crate::disks::DiskTable;
+use crate::error::CatalogError;
+use crate::parts::Parts;
+use alias_tree::AliasTree;
+use asm_base::{Key, NoMemory, Records, Value};
+use directory_page::is_value;
+use extent_map::ExtentMap;
+use file_directory::FileTable;
+use operations_directory::OperationTable;
+use staleness_directory::StaleTable;
+use std::alloc::Global;
+use template_directory::TemplateTable;
+
+/// The key of the templates' record.
+const TEMPLATES: Key = Key {
+    kind: 5,
+    a: 0,
+    b: 0,
+};
+
+/// The key of the settings' record.
+pub(crate) const SETTINGS: Key = Key {
+    kind: 9,
+    a: 0,
+    b: 0,
+};
+
+impl Parts {
+    /// The tables whose records these are. It takes time in proportion to the records, times the logarithm of their number.
+    #[tactic(auto, using(crate::proofs::ReadingLaws::unreadable_at, crate::proofs::ReadingLaws::absent_at, crate::proofs::ReadingLaws::gap_at, crate::proofs::ReadingLaws::loose_at))]
+    pub(crate) fn from_records(alloc: Global, content: &Records) -> Result<Parts, CatalogError>
+        ensures records { IfOk result (HasRecords content.now) }
+        ensures tables { IfOk result AreTables }
+        ensures fault { IfErr result (λ e. (s : Shape) (es : Items Entry) → Names (IsAtFault content.now s es) e) }
+    {
+        if let Some(key) = unreadable(content) {
+            return Err(CatalogError::Damaged { key });
+        }
+        if let Some(key) = absent(content) {
+            return Err(CatalogError::Damaged { key });
+        }
+        let extents = read_extents(alloc, content)?;
+        let tree = read_tree(alloc, content)?;
+        read_others(alloc, content, extents, tree)
+    }
+}
+
+/// The tables of which no record can be at fault once each record is of the formats and those of templates and settings
+/// are there.
+fn read_others(
+    alloc: Global,
+    content: &Records,
+    extents: ExtentMap,
+    tree: AliasTree,
+) -> Result<Parts, CatalogError>
+    requires all { first_unreadable content.now ≡ None }
+    requires extents { extent_table.IsTable extents }
+    requires chunks { of_kinds extent_table.is_chunk content.now ≡ map extent_table.record_of extents }
+    requires nodes { of_kinds nodes.is_mine content.now ≡ map nodes.record_of tree }
+    ensures records { IfOk result (HasRecords content.now) }
+    ensures tables { IfOk result AreTables }
+    ensures err { IfErr result (λ e. e ≡ WithoutMemory) }
+{
+    let Some(files) = FileTable::from_records(alloc, content)? else {
+        return Err(CatalogError::NoMemory);
+    };
+    let Some(templates) = TemplateTable::from_records(alloc, content)? else {
+        return Err(CatalogError::NoMemory);
+    };
+    let Some(stale) = StaleTable::from_records(alloc, content)? else {
+        return Err(CatalogError::NoMemory);
+    };
+    let Some(operations) = OperationTable::from_records(content)? else {
+        return Err(CatalogError::NoMemory);
+    };
+    let Some(disks) = DiskTable::from_records(alloc, content)? else {
+        return Err(CatalogError::NoMemory);
+    };
+    tree.keeps_rule();
+    Ok(Parts {
+        files,
+        extents,
+        tree,
+        templates,
+        stale,
+        operations,
+        disks,
+    })
+}
+
+ghost use Rattle.catalog.specs.declared.error.CatalogError.TheVariants.{NoMemory as WithoutMemory};
+
+/// The key of the first record that isn't of the formats.
+fn unreadable(content: &Records) -> Option<Key>
+    ensures { result ≡ first_unreadable content.now }
+{
+    for (key, value) in content.iter() {
+        if !is_record(*key, value) {
+            return Some(*key);
+        }
+    }
+    None
+}
+
+fn is_record(key: Key, value: &Value) -> bool
+    ensures { result ≡ is_record (key, value.now) }
+{
+    is_value(key.kind, key.a, key.b, value.as_bytes())
+}
+
+/// The key of the templates or of the settings, where their record isn't there.
+fn absent(content: &Records) -> Option<Key>
+    ensures { IfSome result (λ k. (record_at content.now k ≡ None) × IsNeeded k) }
+{
+    if content.get(TEMPLATES).is_none() {
+        return Some(TEMPLATES);
+    }
+    if content.get(SETTINGS).is_none() {
+        return Some(SETTINGS);
+    }
+    None
+}
+
+ghost use Rattle.catalog.specs.Faults.{IsNeeded};
+
+fn read_extents(alloc: Global, content: &Records) -> Result<ExtentMap, CatalogError>
+    ensures table { IfOk result extent_table.IsTable }
+    ensures records { IfOk result (λ t. of_kinds extent_table.is_chunk content.now ≡ map extent_table.record_of t) }
+    ensures fault { IfErr result (Names (IsGap content.now)) }
+{
+    if let Some(extents) = ExtentMap::from_records(alloc, content)? {
+        return Ok(extents);
+    }
+    match gap(alloc, content)? {
+        Some(key) => Err(CatalogError::Damaged { key }),
+        None => Err(CatalogError::NoMemory),
+    }
+}
+
+#[tactic(auto, using(crate::proofs::ReadingLaws::gap_numbered))]
+fn gap(alloc: Global, content: &Records) -> Result<Option<Key>, NoMemory>
+    ensures { IfOk result (λ key. IfSome key (IsGap content.now)) }
+{
+    match ExtentMap::gap_in(alloc, content)? {
+        None => Ok(None),
+        Some(at) => Ok(Some(chunk_key(at))),
+    }
+}
+
+/// The key of a chunk's record.
+pub(crate) fn chunk_key(at: (u32, u32)) -> Key
+    requires { at.1 + 1 < 2 ^ 32 }
+    ensures { result ≡ key_of_chunk at }
+{
+    Key {
+        kind: 1,
+        a: at.0,
+        b: at.1 + 1,
+    }
+}
+
+fn read_tree(alloc: Global, content: &Records) -> Result<AliasTree, CatalogError>
+    ensures records { IfOk result (λ t. of_kinds nodes.is_mine content.now ≡ map nodes.record_of t) }
+    ensures fault { IfErr result (Names (IsLoose content.now)) }
+{
+    if let Some(tree) = AliasTree::from_records(alloc, content)? {
+        return Ok(tree);
+    }
+    match AliasTree::fault_in(alloc, content)? {
+        Some(number) => Err(CatalogError::Damaged {
+            key: node_key(number),
+        }),
+        None => Err(CatalogError::NoMemory),
+    }
+}
+
+/// The key of a node's record.
+pub(crate) fn node_key(number: u32) -> Key
+    ensures { result ≡ node_key number }
+{
+    Key {
+        kind: 6,
+        a: number,
+        b: 0,
+    }
+}
