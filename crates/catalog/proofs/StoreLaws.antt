@@ -1,5 +1,5 @@
 -- A catalog from records.
-use Rattle.std.proofs.Common.{◌≡◌, ℕ, List, Option, Some, None, refl, sym, ap, subst, ◌∙◌}
+use Rattle.std.proofs.Common.{◌≡◌, ℕ, ◌+◌, ◌≤◌, List, Option, Some, None, refl, sym, ap, subst, ◌∙◌}
 use Rattle.asm_group.specs.Shape.{Shape}
 use Rattle.asm_formats.specs.Items.{Key}
 use Rattle.asm_formats.specs.Status as status
@@ -8,7 +8,7 @@ use Rattle.allocator.specs.UnitMaps.{UnitMap}
 use Rattle.catalog.specs.declared.error.CatalogError.{CatalogError}
 use Rattle.catalog.specs.declared.error.CatalogError.TheVariants as answer
 use Rattle.catalog.specs.Tables.{AreTables, Catalogued, HasRecords, Tables}
-use Rattle.catalog.specs.Rules.{KeepsRules, first_unknown}
+use Rattle.catalog.specs.Rules.{KeepsRules, blocks_used, first_unknown}
 use Rattle.catalog.specs.Placing.{HasUnits}
 use Rattle.catalog.specs.Faults.{BreaksRule, IsAtFault, IsCatalog, IsCatalogOf, Names}
 use Rattle.catalog.specs.Faults as fault
@@ -28,3 +28,6 @@ invariant_is es c rules units = record { rules = rules; entries = es; units = un
 
 pub names_at : (content : List Entry) (s : Shape) (es : List status.Entry) (e : CatalogError) → ((s : Shape) (es : List status.Entry) → Names (IsAtFault content s es) e) → Names (IsAtFault content s es) e
 names_at content s es e each = each s es
+
+pub has_room : (c : Catalogued) → IsCatalog c → blocks_used c.tables + 2 ≤ c.shape.dir_blocks
+has_room c is = is.rules.room

@@ -1,11 +1,11 @@
 -- The rules that hold across the tables of a group.
-use Rattle.std.specs.Prelude.{◌≡◌, ◌≤◌, ℕ, ◌+◌, Bool, true, false, ◌&&◌, ◌||◌, ◌==◌, not, nat_lt, List, length, get_or, find, Option, Some, None, is_some}
+use Rattle.std.specs.Prelude.{◌≡◌, ◌≤◌, ℕ, ◌+◌, Bool, true, false, ◌&&◌, ◌||◌, ◌==◌, not, nat_lt, ◌/◌, ◌%◌, List, [], length, get_or, slice_index_or, find, Option, Some, None, is_some}
 use Rattle.std.specs.List.{list_all, AllByRecursion}
-use Rattle.std.specs.Option.{option_map}
+use Rattle.std.specs.Option.{option_map, unwrap_or}
 use Rattle.asm_group.specs.Shape.{Shape}
 use Rattle.asm_group.specs.declared.NodeKind.{NodeKind}
 use Rattle.asm_group.specs.declared.NodeKind.TheVariants.{Directory, System, Alias}
-use Rattle.asm_formats.specs.Items.{DiskInfo, FileHead, Home, Homes, Node, Pending}
+use Rattle.asm_formats.specs.Items.{DiskInfo, chunk_len, FileHead, Home, Homes, Node, Pending}
 use Rattle.asm_formats.specs.Among.{IsAmong}
 use Rattle.asm_formats.specs.Status as status
 use Rattle.asm_placement.specs.Layout.{has_extent}
@@ -167,3 +167,7 @@ pub record IsShort (t : Tables) (s : Shape) (f : ℕ) : Type 0 where
   pub head : FileHead
   pub file : IsAmong t.files (f, head)
   pub lacks : LacksExtent t s (f, head)
+
+-- the stale copies of an extent, bit k for copy k; none where its chunk isn't there
+abbrev pub marks_of : Tables → ℕ → ℕ → ℕ
+marks_of t f i = slice_index_or (unwrap_or (marks_at t.stale (f, i / chunk_len)) []) (i % chunk_len) 0

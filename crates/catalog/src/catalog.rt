@@ -19,10 +19,10 @@ use std::marker::Model;
 /// maps; the rules that hold across them are the type's invariant.
 #[derive(Drop)]
 pub struct Catalog {
-    parts: Parts,
-    shape: Shape,
+    pub(crate) parts: Parts,
+    pub(crate) shape: Shape,
     /// The units of disk k at place k.
-    units: Vec<Units>,
+    pub(crate) units: Vec<Units>,
 }
 
 impl Model for Catalog {

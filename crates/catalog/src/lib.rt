@@ -13,6 +13,7 @@ mod name_rules;
 mod parts;
 mod placing;
 mod reading;
+mod reads;
 
 pub use catalog::Catalog;
 pub use disk_info::DiskInfo;
