@@ -5,3 +5,4 @@ pub mod TableSets
 pub mod Sharing
 pub mod HomeLists
 pub mod Verdicts
+pub mod OwnCopies

@@ -2,7 +2,7 @@
 use Rattle.std.proofs.Common.{◌≡◌, ℕ, zero, suc, ◌+◌, ◌-◌, ◌^◌, ◌<◌, ◌≤◌, Bool, true, false, cond, not, eqb, ltb, Option, None, min, List, [], ◌∷◌, ◌++◌, length, map, take, drop, filter, refl, sym, ap, ◌∙◌, arith, max}
 use Rattle.std.specs.Prelude.{◌&&◌, ◌||◌, find, fold, flat_map, bit_or}
 use Rattle.std.specs.List.{list_any, range_with_len}
-use Rattle.std.specs.Option.{option_map}
+use Rattle.std.specs.Option.{option_map, option_or}
 use Rattle.std.specs.Int.{bit_at}
 use Rattle.std.proofs.lemmas.Bool.{ne_eqb, lt-ltb}
 use Rattle.std.proofs.lemmas.Nat.Bits.{bit_at_or, bit_at-zero, same_from_bits}
@@ -12,6 +12,11 @@ use Rattle.asm_formats.specs.Status.{Entry, Status, entry_of}
 use Rattle.asm_placement.specs.Modes.{is_target, leaves, mode_is}
 use Rattle.asm_placement.specs.DiskSets.{is_among, with_bit, set_of, numbers, groups_of, by_group}
 use Rattle.asm_placement.specs.TableDisks.{table_count, table_set, copy_count, directory_set, in_rounds, has_leaving, staying, targets, copies_due, groups_with_copy, directory_target}
+use Rattle.asm_group.specs.Shape.{Shape}
+use Rattle.asm_placement.specs.TableDisks.{status_target}
+use Rattle.asm_placement.specs.Rebalancing.{move, directory, tables, next_directory, next_tables}
+use Rattle.rebalance.specs.declared.moves.Next.{Next as CodeNext}
+use Rattle.rebalance.specs.Moves.{next_meant}
 use Rattle.rebalance.specs.declared.choice.Choice.{Choice}
 use Rattle.rebalance.specs.Rounds.{none_of, with_disk, round}
 
@@ -92,6 +97,13 @@ pub leaving_end : (es : List Entry) (set d : ℕ) → 64 ≤ d → leaving_from 
 leaving_end es set d past so_far =
     let none : 64 - d ≡ 0 = omega arith in
     sym (ap (λ (m : ℕ). list_any (is_leaving es) (filter (has_bit set) (range_with_len d m))) none) ∙ so_far
+
+-- ---- what the tables say
+
+pub table_said : (s : Shape) (kind : GroupKind) (r : Status) (next : Option CodeNext) → option_map next_meant next ≡ option_or (option_map (λ d. move (directory d)) (directory_target kind r)) (option_map (λ to. move (tables to)) (status_target kind r))
+    → s.kind ≡ kind → option_map next_meant next ≡ option_or (next_directory s r) (next_tables s r)
+table_said s kind r next is same =
+    is ∙ ap (λ (k : GroupKind). option_or (option_map (λ d. move (directory d)) (directory_target k r)) (option_map (λ to. move (tables to)) (status_target k r))) (sym same)
 
 -- ---- a directory copy that is due
 

@@ -1,5 +1,5 @@
 -- What copies say, by the records and by an extent's homes and marks.
-use Rattle.std.proofs.Common.{◌≡◌, ℕ, zero, suc, ◌+◌, ◌-◌, ◌<◌, ◌≤◌, Bool, true, false, not, ◌&&◌, ◌||◌, List, [], ◌∷◌, filter, get_or, refl, sym, ap, ◌∙◌, Option, Some, None, arith, add-one, eqb}
+use Rattle.std.proofs.Common.{◌≡◌, ℕ, zero, suc, ◌+◌, ◌-◌, ◌<◌, ◌≤◌, Bool, true, false, not, ◌&&◌, ◌||◌, List, [], ◌∷◌, ◌++◌, filter, get_or, refl, sym, ap, ◌∙◌, Option, Some, None, arith, add-one, eqb}
 use Rattle.std.specs.Prelude.{IsSomeAnd, slice_get}
 use Rattle.std.specs.List.{list_any, AllByRecursion}
 use Rattle.std.specs.Option.{is_some, option_or, option_map, option_and_then}
@@ -81,6 +81,14 @@ said_found says n k (Some next) less is some so_far = sym (said_here says n k (S
 
 pub said_end : (says : ℕ → Option Next) (n k : ℕ) → n ≤ k → IsSaid says n k → None ≡ first_from says 0 n
 said_end says n k past so_far = let none : n - k ≡ 0 = omega arith in sym (ap (first_from says k) none) ∙ so_far
+
+pub first_parts : (says : Copy → Option Next) (xs ys : List Copy) → first_of says (xs ++ ys) ≡ option_or (first_of says xs) (first_of says ys)
+first_parts says [] ys = refl
+first_parts says (x ∷ xs) ys = by (says x) (first_parts says xs ys)
+  where
+    by : (o : Option Next) → first_of says (xs ++ ys) ≡ option_or (first_of says xs) (first_of says ys) → option_or o (first_of says (xs ++ ys)) ≡ option_or (option_or o (first_of says xs)) (first_of says ys)
+    by None later = later
+    by (Some next) later = refl
 
 -- ---- copies, and their numbers
 

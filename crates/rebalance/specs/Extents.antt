@@ -1,15 +1,17 @@
 -- What the copies of one extent lack, by its homes and its marks.
-use Rattle.std.specs.Prelude.{◌≡◌, ℕ, zero, suc, ◌<◌, Bool, false, ◌&&◌, ◌||◌, not, List, filter, if◌then◌else◌, ◌==◌, Option, None}
+use Rattle.std.specs.Prelude.{◌≡◌, ℕ, zero, suc, ◌/◌, ◌%◌, ◌<◌, Bool, true, false, ◌&&◌, ◌||◌, not, List, [], filter, get_or, unwrap_or, IsTrue, if◌then◌else◌, ◌==◌, Option, Some, None}
+use Rattle.std.specs.List.{list_all}
 use Rattle.std.specs.Option.{is_some, option_or}
 use Rattle.asm_group.specs.Shape.{Shape}
 use Rattle.asm_formats.specs.Sets.{has_bit}
 use Rattle.asm_formats.specs.Status.{Entry}
-use Rattle.asm_formats.specs.Items.{Item, Home}
+use Rattle.asm_formats.specs.Items.{Item, FileHead, Home, is_item, chunk_len}
 use Rattle.asm_placement.specs.Layout.{units_of}
-use Rattle.asm_placement.specs.Tables.{is_stale}
+use Rattle.asm_placement.specs.Tables.{head_of, homes_in, is_stale}
 use Rattle.asm_placement.specs.Modes.{serves}
 use Rattle.asm_placement.specs.Choices.{staying_disk}
-use Rattle.asm_placement.specs.Copies.{Copy, home, copies_at, same_extent, is_on}
+use Rattle.asm_placement.specs.Copies.{Copy, home, copies_at, all_copies, has_home, same_extent, is_on}
+use Rattle.asm_placement.specs.Work.{keys_differ}
 use Rattle.rebalance.specs.declared.extent.Extent.{Extent}
 
 abbrev pub copy_of : Extent → ℕ → Copy
@@ -24,6 +26,20 @@ pub record IsExtentOf (s : Shape) (items : List Item) (all : List Copy) (x : Ext
   pub units : x.units ≡ units_of s.step x.id.index
   pub marks : (k : ℕ) → k < x.copies → has_bit x.marks k ≡ is_stale items x.id.file x.id.index k
   pub copies : filter (same_extent (copy_of x 0)) all ≡ copies_of x
+
+-- The extent is one that a file with a head has by the records.
+pub record IsInRecords (items : List Item) (x : Extent) : Type 0 where
+  pub head : FileHead
+  pub has_head : head_of items x.id.file ≡ Some head
+  pub copies : x.copies ≡ head.copies
+  pub homes : x.homes ≡ get_or (unwrap_or (homes_in items x.id.file (x.id.index / chunk_len)) []) (x.id.index % chunk_len) []
+  pub there : has_home x.homes ≡ true
+
+-- where no two records have one key, the copies of such an extent among all are its own
+abbrev pub ExtentsOwnCopies : Type 0
+ExtentsOwnCopies =
+    (items : List Item) (x : Extent) → IsTrue (list_all is_item items) → IsTrue (keys_differ items) → IsInRecords items x
+    → filter (same_extent (copy_of x 0)) (all_copies items) ≡ copies_of x
 
 -- ---- numbers of copies, so many from k on
 

@@ -1,5 +1,5 @@
 -- What each copy says at each stage of the search for the next move.
-use Rattle.std.specs.Prelude.{◌≡◌, ℕ, ◌&&◌, ◌||◌, not, List, if◌then◌else◌, slice_get, unwrap_or, Option, Some, None}
+use Rattle.std.specs.Prelude.{◌≡◌, ℕ, ◌&&◌, ◌||◌, not, List, ◌++◌, if◌then◌else◌, slice_get, unwrap_or, Option, Some, None}
 use Rattle.std.specs.Option.{is_none, option_map, option_or}
 use Rattle.asm_group.specs.Shape.{Shape}
 use Rattle.asm_formats.specs.Status.{Status, Entry}
@@ -36,6 +36,10 @@ StagesAreNext =
     next s r items
     ≡ unwrap_or (option_or (first_said stage.Recopy s r.entries items) (option_or (first_said stage.Fill s r.entries items) (option_or (first_said stage.Shift s r.entries items) (option_or (next_directory s r)
     (option_or (next_tables s r) (option_or (first_said stage.Lost s r.entries items) (option_or (first_said stage.NoSpace s r.entries items) (first_said stage.Balance s r.entries items)))))))) done
+
+-- the first copy of two lists says what the first of the one says, else what the first of the other says
+abbrev pub FirstOfParts : Type 0
+FirstOfParts = (says : Copy → Option Next) (xs ys : List Copy) → first_of says (xs ++ ys) ≡ option_or (first_of says xs) (first_of says ys)
 
 -- ---- the same for copy k of an extent, by its homes and marks, maps of units and sums
 

@@ -16,7 +16,9 @@ mod tables;
 pub use extent::Extent;
 pub use moves::{Move, Next};
 pub use shares::Shares;
-pub use stages::{Stage, new_home, said, stages_are_next};
+pub use stages::{
+    Stage, extents_own_copies, first_of_parts, new_home, said, said_by_tables, stages_are_next,
+};
 pub use tables::{directory_target, first_directories, first_holders, status_target};
 
 #[cfg(test)]

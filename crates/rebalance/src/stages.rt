@@ -1,18 +1,19 @@
 //! What an extent says at each stage of the search for the next move.
 
 ghost use Rattle.std.specs.Prelude.{◌≡◌, ◌<◌, ◌≤◌, IsTrue, List};
-ghost use Rattle.std.specs.Option.{option_map};
+ghost use Rattle.std.specs.Option.{option_map, option_or};
 ghost use Rattle.asm_group.specs.Shape.{Shape};
 ghost use Rattle.asm_formats.specs.Items.{Item};
 ghost use Rattle.asm_formats.specs.Status.{is_status};
 ghost use Rattle.asm_placement.specs.Copies.{Copy};
-ghost use Rattle.asm_placement.specs.Rebalancing.{first_of};
+ghost use Rattle.asm_placement.specs.TableDisks.{directory_target, status_target};
+ghost use Rattle.asm_placement.specs.Rebalancing.{directory, first_of, move, next_directory, next_tables, tables};
 ghost use Rattle.partnership.specs.UnitsOf.{AreUnitsOf};
 ghost use Rattle.rebalance.specs.Selections.{AreNumbered};
 ghost use Rattle.rebalance.specs.Sums.{sums_of};
-ghost use Rattle.rebalance.specs.Extents.{IsExtentOf, copies_of, first_from};
+ghost use Rattle.rebalance.specs.Extents.{ExtentsOwnCopies, IsExtentOf, copies_of, first_from};
 ghost use Rattle.rebalance.specs.Moves.{next_meant};
-ghost use Rattle.rebalance.specs.Stages.{StagesAreNext, balanced_at, balancing_at, filled_at, home_below, home_for, lost_at, recopied_at, said, said_at, shifted_at, without_space_at};
+ghost use Rattle.rebalance.specs.Stages.{FirstOfParts, StagesAreNext, balanced_at, balancing_at, filled_at, home_below, home_for, lost_at, recopied_at, said, said_at, shifted_at, without_space_at};
 
 use crate::extent::{
     Extent, has_other_source, has_source, is_stale_online, wants_fill, wants_shift,
@@ -20,8 +21,9 @@ use crate::extent::{
 use crate::homes::{HomeList, entry_at};
 use crate::moves::{Move, Next};
 use crate::shares::Shares;
+use crate::tables::{directory_target, status_target};
 use allocator::Units;
-use asm_base::Home;
+use asm_base::{GroupKind, Home};
 use partnership::{choose_copy, choose_copy_on};
 use status_table::{PstEntry, PstRecord};
 
@@ -48,6 +50,36 @@ pub enum Stage {
 pub fn stages_are_next()
     ensures { StagesAreNext }
 {}
+
+/// Of all copies of files, those of an extent are its own.
+pub fn extents_own_copies()
+    ensures { ExtentsOwnCopies }
+{}
+
+/// Extents can be asked one after the other.
+pub fn first_of_parts()
+    ensures { FirstOfParts }
+{}
+
+/// The move of a directory copy, or else of the status tables, where one is due.
+#[tactic(auto, using(crate::proofs::TableSets::table_said))]
+pub fn said_by_tables(kind: GroupKind, status: &PstRecord) -> Option<Next>
+    requires { IsTrue (is_status status.now) }
+    ensures { (s : Shape) → s.kind ≡ kind → option_map next_meant result ≡ option_or (next_directory s status.now) (next_tables s status.now) }
+{
+    table_move(kind, status)
+}
+
+fn table_move(kind: GroupKind, status: &PstRecord) -> Option<Next>
+    requires { IsTrue (is_status status.now) }
+    ensures { option_map next_meant result ≡ option_or (option_map (λ d. move (directory d)) (directory_target kind status.now)) (option_map (λ to. move (tables to)) (status_target kind status.now)) }
+{
+    if let Some(to) = directory_target(kind, status) {
+        return Some(Next::Move(Move::Directory { to }));
+    }
+    let to = status_target(kind, status)?;
+    Some(Next::Move(Move::Status { to }))
+}
 
 /// What the first copy of an extent says at a stage, by its number. `units` has the map of disk k at place k.
 #[tactic(auto, using(crate::proofs::Selected::entries_numbered))]

@@ -152,6 +152,8 @@ fn dropped_holder(rt: HostRuntime) {
     let mut status = four(Mode::Dropping, Mode::Online);
     assert!(rt; directory_target(GroupKind::Normal, &status) == Some(3));
     assert!(rt; is_status(&status));
+    let first = said_by_tables(GroupKind::Normal, &status);
+    assert!(rt; first == Some(Next::Move(Move::Directory { to: 3 })));
     let due = Some(DiskSet::from_bits(14));
     assert!(rt; status_target(GroupKind::Normal, &status) == due);
     status.next_holders = DiskSet::from_bits(6);
