@@ -1,5 +1,0 @@
-use Rattle.std.proofs.Common.{length}
-use Rattle.directory_store.proofs.change.+gone_blocks.Given as goal
-
-abbrev pub decreases-gone_blocks : goal.decreases-gone_blocks
-decreases-gone_blocks l = length l.gone.now

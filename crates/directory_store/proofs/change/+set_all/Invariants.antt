@@ -1,5 +1,0 @@
-use Rattle.std.proofs.Common.{vec_len}
-use Rattle.directory_store.proofs.change.+set_all.Given as goal
-
-abbrev pub decreases-set_all : goal.decreases-set_all
-decreases-set_all l = vec_len l.values.now
