@@ -1,0 +1,5 @@
+pub mod Laws
+pub mod Steps
+pub mod Rows
+pub mod Records
+pub mod Storing

@@ -1,0 +1,260 @@
+-- A commit on one copy more.
+use Rattle.std.proofs.Common.{◌≡◌, ◌≢◌, ◌⊎◌, inl, inr, ⊎_elim, ℕ, zero, suc, ◌+◌, ◌-◌, ◌*◌, ◌/◌, ◌%◌, ◌^◌, ◌<◌, ◌≤◌, Bool, true, false, List, [], ◌∷◌, length, map, take, drop, get_or, refl, sym, ap, subst, ◌∙◌, arith}
+use Rattle.std.specs.Prelude.{◌||◌, ◌==◌}
+use Rattle.std.proofs.lemmas.Bool.{true≢false, eq-eqb, eqb-true, ne_eqb}
+use Rattle.std.proofs.lemmas.List.{take_all}
+use Rattle.std.proofs.Math.Nat.{zero-div}
+use Rattle.bay.specs.Image.{Image, ChangesOnly}
+use Rattle.bay.specs.State.{BayState, KeepsAttached, IsSlot}
+use Rattle.bay.specs.Counts.{Rose}
+use Rattle.bay.specs.Moments.{Runs, NowOnly, LeavesOnly}
+use Rattle.bay.proofs.Calls.{stops, on_more, widened, started, attached-trans, leaves_only, leaves_on, leaves_begin, now_only, now_of}
+use Rattle.bay.proofs.Images.{changes-within, changes-same, same-refl}
+use Rattle.asm_group.specs.Names.{Bytes}
+use Rattle.asm_base.specs.declared.block.Block.{Block}
+use Rattle.asm_formats.specs.Among.{IsAmong}
+use Rattle.asm_formats.specs.Pages.{with_images}
+use Rattle.asm_formats.specs.Sets.{has_bit}
+use Rattle.change_directory.specs.declared.copy.DirCopy.{DirCopy}
+use Rattle.change_directory.specs.Changes.{content_in}
+use Rattle.change_directory.specs.Logs.{image_of_page}
+use Rattle.change_directory.specs.StoreLaws.{IsShaped, HasRegion, SameRegion, SameCopy, RegionOf, content_with}
+use Rattle.change_directory.proofs.Usable.{still_copy}
+use Rattle.directory_store.specs.Copies.{AreApart, AreKept, AreNamed, AreSettledBut, FailedAlone, HasEither, HaveEither, IsApartFrom, IsKept, IsNamed, IsSettled, IsSlotOf, RegionsOf, WritesFew, calls_for, due_of}
+use Rattle.directory_store.specs.declared.due.Due.{Due}
+use Rattle.directory_store.proofs.Laws.{region_is_same}
+use Rattle.directory_store.proofs.Steps.{both_run, shaped}
+
+-- ---- claims
+
+-- two claims over the same calls
+pub leaves_both : {P Q R : Image → Type 0} {a b : BayState} → ((x : Image) → P x → Q x → R x) → LeavesOnly a b P → LeavesOnly a b Q → LeavesOnly a b R
+leaves_both {P} {Q} {R} {a} {b} both p q = record {
+  later = p.later;
+  ended = p.ended;
+  each = λ m image low high left. both image (p.each m image low high left) (q.each m image low high left);
+}
+
+pub now_both : {P Q R : Image → Type 0} {a : BayState} → ((x : Image) → P x → Q x → R x) → NowOnly a P → NowOnly a Q → NowOnly a R
+now_both {P} {Q} {R} {a} both p q = record { now = λ image left. both image (p.now image left) (q.now image left) }
+
+-- ---- elsewhere
+
+-- a change of other slots leaves a copy
+pub copy_stays : (copy : DirCopy) (region : ℕ → ℕ → Type 0) (x y : Image) → IsShaped copy → HasRegion copy x → ((k : ℕ) → region copy.slot k → ⊥) → ChangesOnly region x y → SameCopy copy x y
+copy_stays copy region x y shape sized apart step =
+    let same : SameRegion copy x y = record { size = step.size copy.slot; bytes = λ k low high. step.byte copy.slot k (apart k) } in
+    region_is_same copy x y shape sized same
+
+off_region : (copy other : DirCopy) → copy.slot ≢ other.slot → (k : ℕ) → RegionOf other copy.slot k → ⊥
+off_region copy other apart k inside = apart inside.0
+
+off_regions : (copy : DirCopy) (others : List DirCopy) → IsApartFrom copy others → (k : ℕ) → RegionsOf others copy.slot k → ⊥
+off_regions copy others apart k inside = (apart inside.0 inside.1).0 inside.2.0
+
+-- ---- sets
+
+-- a number that isn't in the set with one more isn't in the set
+pub still_out : (n k : ℕ) (b : Bool) → ((k == n) || b) ≡ false → b ≡ false
+still_out n k b out = elim (k == n) as (λ (t : Bool). (t || b) ≡ false → b ≡ false) [ true ↦ λ e. absurd (true≢false e) | false ↦ λ e. e ] out
+
+in_or_one : (n k : ℕ) (t b : Bool) → (t || b) ≡ true → (t ≡ true) ⊎ (b ≡ true)
+in_or_one n k true b e = inl refl
+in_or_one n k false b e = inr e
+
+pub no_bit : (k : ℕ) → has_bit 0 k ≡ false
+unfolding has_bit
+no_bit k = ne_eqb (0 / 2 ^ k % 2) 1 (λ e. omega (arith, e, ap (λ (n : ℕ). n % 2) (zero-div (2 ^ k))))
+
+-- ---- what commits on several copies do
+
+pub record Commits (copies : List DirCopy) (dues : List Due) (number : ℕ) (pages : List (ℕ × Block)) (failed : ℕ) (s t : BayState) : Type 0 where
+  pub attached : KeepsAttached s t
+  pub calls : t.calls ≤ s.calls + calls_for copies dues (length pages)
+  pub written : WritesFew copies dues (length pages) s t
+  pub runs : Runs (IsSlotOf copies) (ChangesOnly (RegionsOf copies)) s t
+  pub moments : (before : ℕ) (page : ℕ → Bytes) → before < number → NowOnly s (AreKept copies dues before page)
+      → LeavesOnly s t (HaveEither copies before number page (with_images (map image_of_page pages) page))
+  pub done : (before : ℕ) (page : ℕ → Bytes) → before < number → NowOnly s (AreKept copies dues before page)
+      → NowOnly t (AreSettledBut copies failed number (with_images (map image_of_page pages) page))
+  pub failed_alone : FailedAlone copies failed s t
+
+-- no copies
+pub no_commits : (dues : List Due) (number : ℕ) (pages : List (ℕ × Block)) (failed : ℕ) (s : BayState) → ((k : ℕ) → k < 64 → has_bit failed k ≡ false) → Commits [] dues number pages failed s s
+no_commits dues number pages failed s none = record {
+  attached = record { same = λ slot. refl };
+  calls = omega arith;
+  written = λ c among. absurd among;
+  runs = started (λ x. changes-same (RegionsOf []) x x (same-refl x));
+  moments = λ before page less now. leaves_begin (record { now = λ x left c among. absurd among });
+  done = λ before page less now. record { now = λ x left c among. absurd among };
+  failed_alone = λ k small is. absurd (true≢false (sym is ∙ none k small));
+}
+
+-- what a commit on one copy does
+pub record CommitsOne (copy : DirCopy) (due : List (ℕ × Block)) (number : ℕ) (pages : List (ℕ × Block)) (s t : BayState) : Type 0 where
+  pub attached : KeepsAttached s t
+  pub calls : t.calls ≤ s.calls + length due + length pages + 14
+  pub written : t.written copy.slot ≤ s.written copy.slot + 2 * copy.sector + (2 * length pages + 1) * 4096 + length due * 4096
+  pub runs : Runs (IsSlot copy.slot) (ChangesOnly (RegionOf copy)) s t
+  pub moments : (before : ℕ) (page : ℕ → Bytes) → before < number → NowOnly s (IsKept copy due before page)
+      → LeavesOnly s t (HasEither copy before number page (with_images (map image_of_page pages) page))
+
+module _ (first : DirCopy) (rest : List DirCopy) (dues : List Due) (number : ℕ) (pages : List (ℕ × Block)) (s t u : BayState)
+    (named : AreNamed (first ∷ rest) dues s) (apart : AreApart (first ∷ rest)) (one : CommitsOne first (due_of dues first.slot) number pages s t) where
+  shape_of : (c : DirCopy) → IsAmong (first ∷ rest) c → IsShaped c
+  shape_of c among = shaped (named c among).copy_is
+
+  -- the rest are kept while the first takes it
+  stays_kept : (before : ℕ) (page : ℕ → Bytes) (x y : Image) → AreKept (first ∷ rest) dues before page x → ChangesOnly (RegionOf first) x y → AreKept rest dues before page y
+  stays_kept before page x y kept step c among =
+      let here = kept c (inr among) in
+      let same = copy_stays c (RegionOf first) x y (shape_of c (inr among)) here.content.pages.sized (off_region c first (λ e. (apart.0 c among).0 (sym e))) step in
+      record { content = same.has_content before page here.content; due_are = same.has_due (due_of dues c.slot) here.due_are }
+
+  pub rest_kept : (before : ℕ) (page : ℕ → Bytes) → NowOnly s (AreKept (first ∷ rest) dues before page) → NowOnly t (AreKept rest dues before page)
+  rest_kept before page now = now_only {P = AreKept (first ∷ rest) dues before page} {Q = AreKept rest dues before page} (stays_kept before page) (stops one.runs) now
+
+  pub first_kept : (before : ℕ) (page : ℕ → Bytes) → NowOnly s (AreKept (first ∷ rest) dues before page) → NowOnly s (IsKept first (due_of dues first.slot) before page)
+  first_kept before page now = record { now = λ x left. now.now x left first (inl refl) }
+
+  pub rest_named : AreNamed rest dues t
+  rest_named c among =
+      let is = named c (inr among) in
+      record { copy_is = still_copy is.copy_is one.attached; number = is.number; due = is.due }
+
+  module _ (failed_rest : ℕ) (others : Commits rest dues number pages failed_rest t u) where
+    pub all_attached : KeepsAttached s u
+    all_attached = attached-trans one.attached others.attached
+
+    pub all_runs : Runs (IsSlotOf (first ∷ rest)) (ChangesOnly (RegionsOf (first ∷ rest))) s u
+    all_runs = both_run
+        (on_more (λ slot is. (first, inl refl, is)) (widened (λ x y h. changes-within (RegionsOf (first ∷ rest)) (RegionOf first) x y (λ slot k inside. (first, inl refl, inside)) h) one.runs))
+        (on_more (λ slot is. (is.0, inr is.1, is.2)) (widened (λ x y h. changes-within (RegionsOf (first ∷ rest)) (RegionsOf rest) x y (λ slot k inside. (inside.0, inr inside.1, inside.2)) h) others.runs))
+
+    pub all_calls : u.calls ≤ s.calls + calls_for (first ∷ rest) dues (length pages)
+    all_calls = omega (arith, one.calls, others.calls)
+
+    pub all_written : WritesFew (first ∷ rest) dues (length pages) s u
+    all_written c (inl same) = subst (λ (d : DirCopy). u.written d.slot ≤ s.written d.slot + 2 * d.sector + (2 * length pages + 1) * 4096 + length (due_of dues d.slot) * 4096) (sym same)
+        (omega (arith, one.written, others.runs.other_written first.slot (λ is. (apart.0 is.0 is.1).0 is.2)))
+    all_written c (inr among) = omega (arith, others.written c among, one.runs.other_written c.slot (λ is. (apart.0 c among).0 (sym is)))
+
+    module _ (before : ℕ) (page : ℕ → Bytes) (less : before < number) (now : NowOnly s (AreKept (first ∷ rest) dues before page)) where
+      first_moments : LeavesOnly s t (HasEither first before number page (with_images (map image_of_page pages) page))
+      first_moments = one.moments before page less (first_kept before page now)
+
+      first_sized : NowOnly t (HasRegion first)
+      first_sized = now_only {P = AreKept (first ∷ rest) dues before page} {Q = HasRegion first}
+          (λ x y kept step. omega (arith, (kept first (inl refl)).content.pages.sized, step.size first.slot)) (stops one.runs) now
+
+      rest_before : LeavesOnly s t (λ x. (c : DirCopy) → IsAmong rest c → content_in c x ≡ content_with c before page)
+      rest_before = leaves_only {P = AreKept (first ∷ rest) dues before page} {Q = λ x. (c : DirCopy) → IsAmong rest c → content_in c x ≡ content_with c before page}
+          (λ x y kept step c among. (stays_kept before page x y kept step c among).content.content) one.runs now
+
+      each_either : (x : Image) → HasEither first before number page (with_images (map image_of_page pages) page) x
+          → HaveEither rest before number page (with_images (map image_of_page pages) page) x → HaveEither (first ∷ rest) before number page (with_images (map image_of_page pages) page) x
+      each_either x here there c (inl same) = subst (λ (d : DirCopy). HasEither d before number page (with_images (map image_of_page pages) page) x) (sym same) here
+      each_either x here there c (inr among) = there c among
+
+      early : LeavesOnly s t (HaveEither (first ∷ rest) before number page (with_images (map image_of_page pages) page))
+      early = leaves_both
+          {P = HasEither first before number page (with_images (map image_of_page pages) page)} {Q = λ x. (c : DirCopy) → IsAmong rest c → content_in c x ≡ content_with c before page}
+          {R = HaveEither (first ∷ rest) before number page (with_images (map image_of_page pages) page)}
+          (λ x here there. each_either x here (λ c among. inl (there c among))) first_moments rest_before
+
+      first_same : (x y : Image) → HasRegion first x → ChangesOnly (RegionsOf rest) x y → SameCopy first x y
+      first_same x y sized step = copy_stays first (RegionsOf rest) x y (shape_of first (inl refl)) sized (off_regions first rest apart.0) step
+
+      first_later : LeavesOnly t u (HasEither first before number page (with_images (map image_of_page pages) page))
+      first_later = leaves_only
+          {P = λ x. HasRegion first x × HasEither first before number page (with_images (map image_of_page pages) page) x}
+          {Q = HasEither first before number page (with_images (map image_of_page pages) page)}
+          (λ x y has step. ⊎_elim (λ old. inl ((first_same x y has.0 step).content ∙ old)) (λ new. inr ((first_same x y has.0 step).content ∙ new)) has.1) others.runs
+          (now_both {P = HasRegion first} {Q = HasEither first before number page (with_images (map image_of_page pages) page)} (λ x a b. (a, b)) first_sized (now_of first_moments))
+
+      pub all_moments : LeavesOnly s u (HaveEither (first ∷ rest) before number page (with_images (map image_of_page pages) page))
+      all_moments = leaves_on early
+          (leaves_both
+          {P = HasEither first before number page (with_images (map image_of_page pages) page)} {Q = HaveEither rest before number page (with_images (map image_of_page pages) page)}
+          {R = HaveEither (first ∷ rest) before number page (with_images (map image_of_page pages) page)}
+          each_either first_later (others.moments before page less (rest_kept before page now)))
+
+      -- the first copy, once it took it
+      pub first_settled : NowOnly t (IsSettled first number (with_images (map image_of_page pages) page)) → NowOnly u (IsSettled first number (with_images (map image_of_page pages) page))
+      first_settled settled = now_only {P = IsSettled first number (with_images (map image_of_page pages) page)} {Q = IsSettled first number (with_images (map image_of_page pages) page)}
+          (λ x y has step. let same = first_same x y has.content.pages.sized step in
+          record { content = same.has_content number (with_images (map image_of_page pages) page) has.content; home = same.at_home has.home }) (stops others.runs) settled
+
+      pub rest_settled : NowOnly u (AreSettledBut rest failed_rest number (with_images (map image_of_page pages) page))
+      rest_settled = others.done before page less (rest_kept before page now)
+
+    later_rose : (c : DirCopy) → Rose (t.faults c.slot) (u.faults c.slot) → Rose (s.faults c.slot) (u.faults c.slot)
+    later_rose c rose = omega (arith, rose, one.runs.faults c.slot)
+
+    rest_failed : FailedAlone (first ∷ rest) failed_rest s u
+    rest_failed k small is =
+        let one_of = others.failed_alone k small is in
+        (one_of.0, inr one_of.1, one_of.2, later_rose one_of.0 one_of.3)
+
+    -- the first copy took it
+    pub one_more : ((before : ℕ) (page : ℕ → Bytes) → before < number → NowOnly s (IsKept first (due_of dues first.slot) before page)
+        → NowOnly t (IsSettled first number (with_images (map image_of_page pages) page)))
+        → Commits (first ∷ rest) dues number pages failed_rest s u
+    one_more taken = record {
+      attached = all_attached;
+      calls = all_calls;
+      written = all_written;
+      runs = all_runs;
+      moments = all_moments;
+      done = λ before page less now. now_both
+          {P = IsSettled first number (with_images (map image_of_page pages) page)} {Q = AreSettledBut rest failed_rest number (with_images (map image_of_page pages) page)}
+          {R = AreSettledBut (first ∷ rest) failed_rest number (with_images (map image_of_page pages) page)}
+          (λ x here there c among out. ⊎_elim (λ (same : c ≡ first). subst (λ (d : DirCopy). IsSettled d number (with_images (map image_of_page pages) page) x) (sym same) here) (λ (inside : IsAmong rest c). there c inside out) among)
+          (first_settled before page less now (taken before page less (first_kept before page now))) (rest_settled before page less now);
+      failed_alone = rest_failed;
+    }
+
+    -- the first copy failed
+    pub one_failed : (failed : ℕ) → ((k : ℕ) → k < 64 → has_bit failed k ≡ ((k == first.number) || has_bit failed_rest k)) → Rose (s.faults first.slot) (t.faults first.slot)
+        → Commits (first ∷ rest) dues number pages failed s u
+    one_failed failed bits rose = record {
+      attached = all_attached;
+      calls = all_calls;
+      written = all_written;
+      runs = all_runs;
+      moments = all_moments;
+      done = λ before page less now. record {
+        now = λ x left c among out. ⊎_elim
+            (λ (same : c ≡ first). absurd (true≢false (sym (set_first c same) ∙ out)))
+            (λ (inside : IsAmong rest c). (rest_settled before page less now).now x left c inside
+            (still_out first.number c.number (has_bit failed_rest c.number) (sym (bits c.number (named c (inr inside)).number) ∙ out))) among;
+      };
+      failed_alone = λ k small is. ⊎_elim
+          (λ (here : (k == first.number) ≡ true). (first, inl refl, sym (same_number k here), omega (arith, rose, others.runs.faults first.slot)))
+          (λ (there : has_bit failed_rest k ≡ true). rest_failed k small there)
+          (in_or_one first.number k (k == first.number) (has_bit failed_rest k) (sym (bits k small) ∙ is));
+    }
+      where
+        set_first : (c : DirCopy) → c ≡ first → has_bit failed c.number ≡ true
+        set_first c same = bits c.number (named c (inl same)).number ∙ ap (λ (b : Bool). b || has_bit failed_rest c.number) (eq-eqb c.number first.number (ap (λ (d : DirCopy). d.number) same))
+
+        same_number : (k : ℕ) → (k == first.number) ≡ true → k ≡ first.number
+        same_number k is = eqb-true k first.number is
+
+-- ---- the first of several copies
+
+pub split_first : {A : Type 0} (xs : List A) (d : A) → 1 ≤ length xs → xs ≡ get_or xs 0 d ∷ take (length xs - 1) (drop 1 xs)
+split_first [] d some = absurd (omega arith)
+split_first (x ∷ xs) d some =
+    let n : ℕ = length (x ∷ xs) - 1 in
+    let all : take n xs ≡ xs = take_all n xs (omega arith) in
+    ap (λ ys. x ∷ ys) (sym all)
+
+pub first_among : {A : Type 0} (xs : List A) (d : A) → 1 ≤ length xs → IsAmong xs (get_or xs 0 d)
+first_among [] d some = absurd (omega arith)
+first_among (x ∷ xs) d some = inl refl
+
+pub some_of : (n : ℕ) → (n == 0) ≡ false → 1 ≤ n
+some_of zero e = absurd (true≢false e)
+some_of (suc n) e = omega arith

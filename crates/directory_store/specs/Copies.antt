@@ -1,0 +1,107 @@
+-- What the copies of a store hold, image by image.
+use Rattle.std.specs.Prelude.{◌≡◌, ◌≢◌, ◌⊎◌, ℕ, ◌+◌, ◌*◌, ◌<◌, ◌≤◌, false, true, List, [], ◌∷◌, length, map, if◌then◌else◌, ◌==◌, IsTrue}
+use Rattle.bay.specs.Image.{Image}
+use Rattle.bay.specs.State.{BayState}
+use Rattle.bay.specs.Counts.{Rose}
+use Rattle.asm_group.specs.Names.{Bytes}
+use Rattle.asm_base.specs.declared.block.Block.{Block}
+use Rattle.asm_formats.specs.Among.{IsAmong}
+use Rattle.asm_formats.specs.Logs.{PageImage}
+use Rattle.asm_formats.specs.Sets.{has_bit}
+use Rattle.change_directory.specs.declared.copy.DirCopy.{DirCopy}
+use Rattle.change_directory.specs.Places.{IsCopy}
+use Rattle.change_directory.specs.Logs.{are_pages}
+use Rattle.change_directory.specs.Changes.{content_in, IsAtHome}
+use Rattle.change_directory.specs.Laws.{ArePut}
+use Rattle.change_directory.specs.StoreLaws.{HasContent, HasDue, RegionOf, content_with}
+use Rattle.directory_store.specs.declared.due.Due.{Due}
+
+-- ---- one copy
+
+-- the copy has these pages as its content, and these are due
+pub record IsKept (copy : DirCopy) (due : List (ℕ × Block)) (number : ℕ) (page : ℕ → Bytes) (x : Image) : Type 0 where
+  pub content : HasContent copy number page x
+  pub due_are : HasDue copy due x
+
+-- the copy has these pages as its content, and each counts as it stands at home
+pub record IsSettled (copy : DirCopy) (number : ℕ) (page : ℕ → Bytes) (x : Image) : Type 0 where
+  pub content : HasContent copy number page x
+  pub home : IsAtHome copy x
+
+-- the content is that before a commit, or that after it
+abbrev pub HasEither : DirCopy → ℕ → ℕ → (ℕ → Bytes) → (ℕ → Bytes) → Image → Type 0
+HasEither copy before next page after x = (content_in copy x ≡ content_with copy before page) ⊎ (content_in copy x ≡ content_with copy next after)
+
+-- ---- several copies
+
+-- no two of the copies have one slot or one disk number
+abbrev pub IsApartFrom : DirCopy → List DirCopy → Type 0
+IsApartFrom copy copies = (c : DirCopy) → IsAmong copies c → (copy.slot ≢ c.slot) × (copy.number ≢ c.number)
+
+abbrev pub AreApart : List DirCopy → Type 0
+AreApart [] = Unit {0}
+AreApart (copy ∷ copies) = IsApartFrom copy copies × AreApart copies
+
+-- the slot is that of one of the copies
+abbrev pub IsSlotOf : List DirCopy → ℕ → Type 0
+IsSlotOf copies slot = (c : DirCopy) × IsAmong copies c × (slot ≡ c.slot)
+
+-- the bytes of the directory regions of the copies
+abbrev pub RegionsOf : List DirCopy → ℕ → ℕ → Type 0
+RegionsOf copies s k = (c : DirCopy) × IsAmong copies c × RegionOf c s k
+
+-- the due pages of the copy on a slot
+abbrev pub due_of : List Due → ℕ → List (ℕ × Block)
+due_of [] slot = []
+due_of (due ∷ dues) slot = if due.slot == slot then due.pages.items else due_of dues slot
+
+-- each copy has these pages as its content, and its due pages are due
+abbrev pub AreKept : List DirCopy → List Due → ℕ → (ℕ → Bytes) → Image → Type 0
+AreKept copies dues number page x = (c : DirCopy) → IsAmong copies c → IsKept c (due_of dues c.slot) number page x
+
+-- each copy has its content before a commit, or that after it
+abbrev pub HaveEither : List DirCopy → ℕ → ℕ → (ℕ → Bytes) → (ℕ → Bytes) → Image → Type 0
+HaveEither copies before next page after x = (c : DirCopy) → IsAmong copies c → HasEither c before next page after x
+
+-- each copy whose disk isn't in the set has these pages as its content, each as it stands at home
+abbrev pub AreSettledBut : List DirCopy → ℕ → ℕ → (ℕ → Bytes) → Image → Type 0
+AreSettledBut copies failed number page x = (c : DirCopy) → IsAmong copies c → has_bit failed c.number ≡ false → IsSettled c number page x
+
+-- a disk is in the set only where it is that of one of the copies and its slot failed
+abbrev pub FailedAlone : List DirCopy → ℕ → BayState → BayState → Type 0
+FailedAlone copies failed s t =
+    (k : ℕ) → k < 64 → has_bit failed k ≡ true → (c : DirCopy) × IsAmong copies c × (c.number ≡ k) × Rose (s.faults c.slot) (t.faults c.slot)
+
+-- ---- the conditions of a commit
+
+-- the copy may take a commit: it is attached, its disk has a number, and its due pages are pages of it
+pub record IsNamed (dues : List Due) (state : BayState) (copy : DirCopy) : Type 0 where
+  pub copy_is : IsCopy state copy
+  pub number : copy.number < 64
+  pub due : IsTrue (are_pages copy.dir_blocks (due_of dues copy.slot))
+
+abbrev pub AreNamed : List DirCopy → List Due → BayState → Type 0
+AreNamed copies dues state = (c : DirCopy) → IsAmong copies c → IsNamed dues state c
+
+-- the pages may be put under the number on each copy
+abbrev pub MayPutOn : List DirCopy → ℕ → List (ℕ × Block) → Type 0
+MayPutOn copies number pages = (c : DirCopy) → IsAmong copies c → ArePut c number pages
+
+-- a smaller number and pages that a claim holds with, now
+pub record Earlier (next : ℕ) (P : ℕ → (ℕ → Bytes) → Type 0) : Type 0 where
+  pub before : ℕ
+  pub page : ℕ → Bytes
+  pub smaller : before < next
+  pub holds : P before page
+
+-- ---- what it costs
+
+-- the most calls that a commit of so many pages makes on the copies
+abbrev pub calls_for : List DirCopy → List Due → ℕ → ℕ
+calls_for [] dues pages = 0
+calls_for (copy ∷ copies) dues pages = length (due_of dues copy.slot) + pages + 14 + calls_for copies dues pages
+
+-- The bytes written to a copy's slot rise by at most two blocks for each page, a block and two sectors, and a block for each page that is due.
+abbrev pub WritesFew : List DirCopy → List Due → ℕ → BayState → BayState → Type 0
+WritesFew copies dues pages s t =
+    (c : DirCopy) → IsAmong copies c → t.written c.slot ≤ s.written c.slot + 2 * c.sector + (2 * pages + 1) * 4096 + length (due_of dues c.slot) * 4096

@@ -1,0 +1,4 @@
+pub mod Contents
+pub mod Copies
+pub mod Stores
+pub mod Answers

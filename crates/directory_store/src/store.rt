@@ -1,0 +1,121 @@
+//! The records of a group on its copies.
+
+ghost use Rattle.std.specs.Prelude.{◌≡◌, ◌≤◌, ◌<◌, ◌+◌, ◌*◌, [], ℕ, length, IfOk, IfErr, OnOk};
+ghost use Rattle.asm_formats.specs.Items.{Key as FormatKey};
+ghost use Rattle.asm_base.specs.Records.{record_at};
+ghost use Rattle.bay.specs.Image.{ChangesOnly};
+ghost use Rattle.bay.specs.State.{KeepsAttached};
+ghost use Rattle.bay.specs.Moments.{Runs, NowOnly, LeavesOnly};
+ghost use Rattle.page_map.specs.Changes.{value_after};
+ghost use Rattle.page_map.specs.Applying.{Applies, IsCause};
+ghost use Rattle.page_map.specs.Tables.{IsTable, SameTable, new_in, room};
+ghost use Rattle.directory_store.specs.Answers.{IsRefusal};
+ghost use Rattle.directory_store.specs.Contents.{ArePutItems};
+ghost use Rattle.directory_store.specs.Copies.{FailedAlone, IsSlotOf, RegionsOf, WritesFew, calls_for};
+ghost use Rattle.directory_store.specs.Stores.{HaveEitherRecords, HaveRecords, Keeps, others};
+
+use crate::StoreError;
+use crate::commit::commit_all;
+use crate::due::Due;
+use asm_base::{Block, Change, DiskSet, Records};
+use bay::Bay;
+use change_directory::DirCopy;
+use page_map::{PageError, PageMap, apply};
+use std::alloc::Global;
+use std::marker::Model;
+
+/// From this commit number on no further one is given.
+const LAST_NUMBER: u64 = 18_446_744_073_709_551_614;
+
+/// The records of a group's directories, and the copies on which they stand.
+#[derive(Drop)]
+pub struct Store {
+    map: PageMap,
+    number: u64,
+    copies: Vec<DirCopy>,
+    due: Vec<Due>,
+}
+
+impl Model for Store {
+    ghost use Rattle.directory_store.specs.Stores.{Stored};
+
+    ghost Value = { Stored };
+
+    ghost view = { λ s. record { table = s.map; number = s.number; copies = s.copies.items; due = s.due.items } };
+}
+
+/// Applies a change to the records in memory, and gives the pages that change.
+fn change_map(
+    alloc: Global,
+    map: &mut PageMap,
+    change: &Change,
+) -> Result<Vec<(u32, Block)>, PageError>
+    ensures applies { IfOk result (λ pages. Applies map.old map.new change.now.put change.now.gone pages.items) }
+    ensures room { OnOk result (new_in map.old change.now.put ≤ room map.old) }
+    ensures cause { IfErr result (IsCause map.old change.now.put) }
+    ensures same { IfErr result (λ e. SameTable map.old map.new) }
+    ensures table { IsTable map.new }
+{
+    let changed = apply(alloc, map, change.put.as_slice(), change.gone.as_slice());
+    // `room` says that each record has a page of its own.
+    let _ = map.room();
+    changed
+}
+
+/// Takes out the copies whose disks are in the set.
+fn keep_taken(copies: &mut Vec<DirCopy>, failed: DiskSet)
+    ensures { copies.new.items ≡ others failed copies.old.items }
+{
+    copies.retain(|copy| !failed.has(copy.number));
+}
+
+impl Store {
+    /// The records by key.
+    pub fn content(&self) -> &Records
+        ensures { result.now ≡ self.now.table.records }
+    {
+        self.map.records()
+    }
+
+    /// Commits a change of at most 64 keys on every copy, past faults, and gives the disk numbers of those that failed. They
+    /// are copies of the store no more. All memory is taken before the first write. Full comes exactly where more records
+    /// are new than there are blocks left, and Gone where all copies failed. At each moment each copy has the records before
+    /// or those after.
+    pub fn commit<B: Bay>(
+        &mut self,
+        alloc: Global,
+        bay: &mut B,
+        change: &Change,
+    ) -> Result<DiskSet, StoreError>
+        requires kept { Keeps self.old (B.state bay.old) }
+        requires few { length change.now.put + length change.now.gone ≤ 64 }
+        requires items { ArePutItems change.now.put }
+        ensures records { OnOk result ((k : FormatKey) → record_at self.new.table.records k ≡ value_after change.now.put change.now.gone k (record_at self.old.table.records k)) }
+        ensures number { OnOk result (self.new.number ≡ self.old.number + 1) }
+        ensures copies { IfOk result (λ failed. self.new.copies ≡ others failed self.old.copies) }
+        ensures room { OnOk result (new_in self.old.table change.now.put ≤ room self.old.table) }
+        ensures refused { IfErr result (IsRefusal self.old change.now.put self.new (B.state bay.old) (B.state bay.new)) }
+        ensures failed { IfOk result (λ failed. FailedAlone self.old.copies failed (B.state bay.old) (B.state bay.new)) }
+        ensures moments { LeavesOnly (B.state bay.old) (B.state bay.new) (HaveEitherRecords self.old self.new) }
+        ensures kept { Keeps self.new (B.state bay.new) }
+        ensures done { NowOnly (B.state bay.new) (HaveRecords self.new) }
+        ensures attached { KeepsAttached (B.state bay.old) (B.state bay.new) }
+        ensures calls { (B.state bay.new).calls ≤ (B.state bay.old).calls + calls_for self.old.copies self.old.due (length change.now.put + length change.now.gone) }
+        ensures written { WritesFew self.old.copies self.old.due (length change.now.put + length change.now.gone) (B.state bay.old) (B.state bay.new) }
+        ensures runs { Runs (IsSlotOf self.old.copies) (ChangesOnly (RegionsOf self.old.copies)) (B.state bay.old) (B.state bay.new) }
+    {
+        if self.copies.is_empty() || self.number >= LAST_NUMBER {
+            return Err(StoreError::NoMemory);
+        }
+        let pages = change_map(alloc, &mut self.map, change)?;
+        self.number += 1;
+        let slot = self.copies[0].slot;
+        let failed = commit_all(bay, &self.copies, &self.due, self.number, &pages);
+        self.due = Vec::new(alloc);
+        keep_taken(&mut self.copies, failed);
+        if self.copies.is_empty() {
+            return Err(StoreError::Gone { slot });
+        }
+        Ok(failed)
+    }
+}
