@@ -16,7 +16,7 @@ use Rattle.change_directory.specs.Homes.{HomesOf, HasHomed}
 use Rattle.change_directory.specs.Laws.{ArePut}
 use Rattle.change_directory.specs.StoreLaws.{IsShaped, HasContent}
 use Rattle.directory_store.specs.Copies.{IsKept, IsSettled, HasEither}
-use Rattle.directory_store.proofs.Laws.{homing_keeps, homed_settles, logging_keeps_or_has, logged_has}
+use Rattle.directory_store.proofs.CopyLaws.{homing_keeps, homed_settles, logging_keeps_or_has, logged_has}
 
 pub shaped : {state : BayState} {copy : DirCopy} → IsCopy state copy → IsShaped copy
 shaped {state} {copy} is = record { sector = is.sector_size; least = is.least; most = is.most }

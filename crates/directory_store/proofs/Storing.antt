@@ -1,13 +1,13 @@
 -- What a commit makes of what a store keeps.
 use Rattle.std.proofs.Common.{◌≡◌, ◌⊎◌, inl, inr, ⊎_elim, ℕ, ◌+◌, ◌-◌, ◌*◌, ◌^◌, ◌<◌, ◌≤◌, Bool, true, false, cond, List, [], ◌∷◌, length, map, refl, sym, ap, subst, ◌∙◌, Option, Some, None, arith}
-use Rattle.std.specs.Prelude.{not, filter, nat_lt, is_some}
+use Rattle.std.specs.Prelude.{not, ◌==◌, filter, nat_lt, is_some}
 use Rattle.std.specs.List.{list_all}
 use Rattle.std.proofs.lemmas.Bool.{true≢false, cond_both}
 use Rattle.bay.specs.Image.{Image}
 use Rattle.bay.specs.State.{BayState, KeepsAttached}
 use Rattle.bay.specs.Counts.{Rose}
-use Rattle.bay.specs.Moments.{NowOnly, LeavesOnly}
-use Rattle.bay.proofs.Calls.{leaves_begin, leaves_less, started}
+use Rattle.bay.specs.Moments.{Runs, NowOnly, LeavesOnly}
+use Rattle.bay.proofs.Calls.{leaves_begin, leaves_less, now_only, started, stops}
 use Rattle.bay.proofs.Images.{same-refl}
 use Rattle.asm_group.specs.Names.{Bytes}
 use Rattle.asm_base.specs.declared.block.Block.{Block}
@@ -20,6 +20,7 @@ use Rattle.asm_formats.proofs.Among.{among_filter, filter_among}
 use Rattle.change_directory.specs.declared.copy.DirCopy.{DirCopy}
 use Rattle.change_directory.specs.Laws.{ArePut}
 use Rattle.change_directory.specs.Logs.{image_of_page}
+use Rattle.change_directory.specs.StoreLaws.{SameRegion}
 use Rattle.change_directory.proofs.Usable.{still_copy, short_sector}
 use Rattle.page_map.specs.Free.{is_free}
 use Rattle.page_map.specs.Tables.{PageTable, IsTable, SameTable, Shows, place_at, block_of}
@@ -27,11 +28,13 @@ use Rattle.page_map.specs.Contents.{AreItems}
 use Rattle.page_map.specs.Applying.{Applies}
 use Rattle.directory_store.specs.Answers.{IsUnchanged, NoCalls}
 use Rattle.directory_store.specs.Contents.{HasRecords, ArePutItems}
-use Rattle.directory_store.specs.Copies.{AreApart, AreKept, AreNamed, AreSettledBut, Earlier, FailedAlone, HaveEither, IsApartFrom, IsKept, MayPutOn, WritesFew, calls_for}
-use Rattle.directory_store.specs.Stores.{Stored, Keeps, HaveRecords, HaveEitherRecords, others}
+use Rattle.directory_store.specs.Copies.{AreApart, AreKept, AreNamed, AreSettledBut, Earlier, FailedAlone, HaveEither, IsApartFrom, IsKept, MayPutOn, WritesFew, calls_for, due_of}
+use Rattle.directory_store.specs.Stores.{Stored, Keeps, HaveRecords, HaveEitherRecords, off, others, without}
 use Rattle.directory_store.specs.declared.due.Due.{Due}
 use Rattle.directory_store.proofs.Records.{items_after, pages_decode, is_head, has_records}
+use Rattle.directory_store.proofs.CopyLaws.{region_is_same}
 use Rattle.directory_store.proofs.Rows.{Commits}
+use Rattle.directory_store.proofs.Steps.{shaped}
 
 -- ---- the copies that are left
 
@@ -224,3 +227,37 @@ pub may_put_on : (old was : Stored) (table : PageTable) (put : List Entry) (gone
     → was ≡ old → Keeps old s → Applies was.table table put gone pages → IsTable table → ArePutItems put → length put + length gone ≤ 64 → was.number < next → next < 2 ^ 64 - 1 → MayPutOn was.copies next pages
 may_put_on old was table put gone pages s next is keeps applies sound puts few less small =
     may_put was table put gone pages s next (subst (λ (o : Stored). Keeps o s) (sym is) keeps) applies sound puts few less small
+
+-- ---- between the calls
+
+pub forgotten_keeps : (store : Stored) (slot : ℕ) (s : BayState) → Keeps store s → Keeps (without slot store) s
+forgotten_keeps store slot s keeps = record {
+  table = keeps.table;
+  items = keeps.items;
+  named = λ c among. keeps.named c (was c among);
+  pages = λ c among. keeps.pages c (was c among);
+  apart = apart_left (λ (c : DirCopy). not (c.slot == slot)) store.copies keeps.apart;
+  page = keeps.page;
+  shows = keeps.shows;
+  now = record { now = λ x left c among. keeps.now.now x left c (was c among) };
+}
+  where
+    was : (c : DirCopy) → IsAmong (off slot store.copies) c → IsAmong store.copies c
+    was c among = among_filter (λ (c : DirCopy). not (c.slot == slot)) store.copies c among
+
+pub keeps_elsewhere : {slots : ℕ → Type 0} {step : Image → Image → Type 0} {s t : BayState} (store : Stored) → ((x y : Image) (c : DirCopy) → IsAmong store.copies c → step x y → SameRegion c x y)
+    → KeepsAttached s t → Runs slots step s t → Keeps store s → Keeps store t
+keeps_elsewhere {slots} {step} {s} {t} store same attached run keeps = record {
+  table = keeps.table;
+  items = keeps.items;
+  named = λ c among. let is = keeps.named c among in record { copy_is = still_copy is.copy_is attached; number = is.number; due = is.due };
+  pages = keeps.pages;
+  apart = keeps.apart;
+  page = keeps.page;
+  shows = keeps.shows;
+  now = now_only {P = AreKept store.copies store.due store.number keeps.page} {Q = AreKept store.copies store.due store.number keeps.page}
+      (λ x y kept here c among.
+      let is = kept c among in
+      let copy = region_is_same c x y (shaped (keeps.named c among).copy_is) is.content.pages.sized (same x y c among here) in
+      record { content = copy.has_content store.number keeps.page is.content; due_are = copy.has_due (due_of store.due c.slot) is.due_are }) (stops run) keeps.now;
+}

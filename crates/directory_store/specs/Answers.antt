@@ -7,11 +7,11 @@ use Rattle.bay.specs.Moments.{Runs}
 use Rattle.asm_formats.specs.Among.{IsAmong}
 use Rattle.asm_base.specs.Records.{Entry}
 use Rattle.change_directory.specs.declared.copy.DirCopy.{DirCopy}
-use Rattle.page_map.specs.Tables.{SameTable, new_in, room}
+use Rattle.page_map.specs.Tables.{PageTable, SameTable, new_in, room}
 use Rattle.page_map.specs.declared.change.PageError.{PageError}
 use Rattle.page_map.specs.declared.change.PageError.TheVariants.{Full as PageFull, NoMemory as PageNoMemory}
-use Rattle.directory_store.specs.Copies.{IsSlotOf}
-use Rattle.directory_store.specs.Stores.{Stored}
+use Rattle.directory_store.specs.Copies.{IsSlotOf, IsFailedSlot}
+use Rattle.directory_store.specs.Stores.{Stored, IsEmpty}
 use Rattle.directory_store.specs.declared.error.StoreError.{StoreError}
 use Rattle.directory_store.specs.declared.error.StoreError.TheVariants.{Full, Gone, NoMemory}
 
@@ -38,3 +38,9 @@ IsRefusal old put new s t NoMemory = IsUnchanged old new s t
 abbrev pub refusal_of : PageError → StoreError
 refusal_of (PageFull need free) = Full need free
 refusal_of PageNoMemory = NoMemory
+
+-- A creation is refused as Full where more records are new than a table of so many pages has room for, and as Gone where a copy on this slot failed. But for Gone no call was made.
+abbrev pub IsFirstRefusal : List DirCopy → ℕ → List Entry → BayState → BayState → StoreError → Type 0
+IsFirstRefusal copies pages put s t (Full need free) = ((table : PageTable) × IsEmpty table pages × (need ≡ new_in table put) × (free ≡ room table) × (free < need)) × NoCalls s t
+IsFirstRefusal copies pages put s t (Gone slot) = IsFailedSlot copies s t slot
+IsFirstRefusal copies pages put s t NoMemory = NoCalls s t

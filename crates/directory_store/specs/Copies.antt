@@ -1,5 +1,5 @@
 -- What the copies of a store hold, image by image.
-use Rattle.std.specs.Prelude.{◌≡◌, ◌≢◌, ◌⊎◌, ℕ, ◌+◌, ◌*◌, ◌<◌, ◌≤◌, false, true, List, [], ◌∷◌, length, map, if◌then◌else◌, ◌==◌, IsTrue}
+use Rattle.std.specs.Prelude.{◌≡◌, ◌≢◌, ◌⊎◌, ℕ, ◌+◌, ◌*◌, ◌<◌, ◌≤◌, false, true, List, [], ◌∷◌, length, map, None, if◌then◌else◌, ◌==◌, IsTrue}
 use Rattle.bay.specs.Image.{Image}
 use Rattle.bay.specs.State.{BayState}
 use Rattle.bay.specs.Counts.{Rose}
@@ -12,6 +12,7 @@ use Rattle.change_directory.specs.declared.copy.DirCopy.{DirCopy}
 use Rattle.change_directory.specs.Places.{IsCopy}
 use Rattle.change_directory.specs.Logs.{are_pages}
 use Rattle.change_directory.specs.Changes.{content_in, IsAtHome}
+use Rattle.change_directory.specs.Formatting.{AreShut}
 use Rattle.change_directory.specs.Laws.{ArePut}
 use Rattle.change_directory.specs.StoreLaws.{HasContent, HasDue, RegionOf, content_with}
 use Rattle.directory_store.specs.declared.due.Due.{Due}
@@ -71,6 +72,37 @@ AreSettledBut copies failed number page x = (c : DirCopy) → IsAmong copies c �
 abbrev pub FailedAlone : List DirCopy → ℕ → BayState → BayState → Type 0
 FailedAlone copies failed s t =
     (k : ℕ) → k < 64 → has_bit failed k ≡ true → (c : DirCopy) × IsAmong copies c × (c.number ≡ k) × Rose (s.faults c.slot) (t.faults c.slot)
+
+-- ---- copies that are made
+
+-- the content stays, is gone, or is that of these pages
+abbrev pub MayBecome : DirCopy → ℕ → (ℕ → Bytes) → Image → Image → Type 0
+MayBecome copy number page old new = (content_in copy new ≡ content_in copy old) ⊎ ((content_in copy new ≡ None) ⊎ (content_in copy new ≡ content_with copy number page))
+
+-- no log slot of the copies is open
+abbrev pub AllAreShut : List DirCopy → Image → Type 0
+AllAreShut copies x = (c : DirCopy) → IsAmong copies c → AreShut c x
+
+-- each copy has no content, or that of these pages
+abbrev pub HaveNoneOr : List DirCopy → ℕ → (ℕ → Bytes) → Image → Type 0
+HaveNoneOr copies number page x = (c : DirCopy) → IsAmong copies c → (content_in c x ≡ None) ⊎ (content_in c x ≡ content_with c number page)
+
+-- each copy has these pages as its content, each as it stands at home
+abbrev pub AreSettled : List DirCopy → ℕ → (ℕ → Bytes) → Image → Type 0
+AreSettled copies number page x = (c : DirCopy) → IsAmong copies c → IsSettled c number page x
+
+-- the pages are pages of each copy
+abbrev pub ArePagesOf : List DirCopy → List (ℕ × Block) → Type 0
+ArePagesOf copies pages = (c : DirCopy) → IsAmong copies c → IsTrue (are_pages c.dir_blocks pages)
+
+-- the pages of the first copy
+abbrev pub first_size : List DirCopy → ℕ
+first_size [] = 0
+first_size (copy ∷ copies) = copy.dir_blocks
+
+-- the slot of a copy that failed
+abbrev pub IsFailedSlot : List DirCopy → BayState → BayState → ℕ → Type 0
+IsFailedSlot copies s t slot = IsSlotOf copies slot × Rose (s.faults slot) (t.faults slot)
 
 -- ---- the conditions of a commit
 

@@ -1,12 +1,16 @@
 -- What a store keeps.
-use Rattle.std.specs.Prelude.{◌≡◌, ◌⊎◌, ℕ, List, true, not, filter}
+use Rattle.std.specs.Prelude.{◌≡◌, ◌⊎◌, ◌==◌, ℕ, List, true, not, filter, None}
 use Rattle.bay.specs.Image.{Image}
 use Rattle.bay.specs.State.{BayState}
 use Rattle.bay.specs.Moments.{NowOnly}
 use Rattle.asm_group.specs.Names.{Bytes}
 use Rattle.asm_formats.specs.Among.{IsAmong}
+use Rattle.asm_base.specs.Records.{Entry, record_at}
+use Rattle.asm_formats.specs.Items.{Key}
 use Rattle.asm_formats.specs.Sets.{has_bit}
 use Rattle.change_directory.specs.declared.copy.DirCopy.{DirCopy}
+use Rattle.change_directory.specs.Changes.{content_in}
+use Rattle.page_map.specs.Changes.{value_after}
 use Rattle.page_map.specs.Tables.{PageTable, IsTable, Shows}
 use Rattle.page_map.specs.Contents.{AreItems}
 use Rattle.directory_store.specs.Contents.{HasRecords}
@@ -42,3 +46,32 @@ HaveEitherRecords old new x = (c : DirCopy) → IsAmong old.copies c → HasReco
 -- the copies whose disks aren't in the set
 abbrev pub others : ℕ → List DirCopy → List DirCopy
 others failed copies = filter (λ (c : DirCopy). not (has_bit failed c.number)) copies
+
+-- the copies on other slots
+abbrev pub off : ℕ → List DirCopy → List DirCopy
+off slot copies = filter (λ (c : DirCopy). not (c.slot == slot)) copies
+
+-- the store without the copies on a slot
+abbrev pub without : ℕ → Stored → Stored
+without slot stored = record stored { copies = off slot stored.copies }
+
+-- ---- a store that is made
+
+-- no records, and so many pages
+pub record IsEmpty (table : PageTable) (pages : ℕ) : Type 0 where
+  pub is_table : IsTable table
+  pub none : (k : Key) → record_at table.records k ≡ None
+  pub units : table.free.units ≡ pages
+
+-- the copies have equally many pages
+abbrev pub HaveOneSize : List DirCopy → Type 0
+HaveOneSize copies = (c d : DirCopy) → IsAmong copies c → IsAmong copies d → c.dir_blocks ≡ d.dir_blocks
+
+-- the records are those that the change puts into nothing
+abbrev pub AreFirst : List Entry → List Key → PageTable → Type 0
+AreFirst put gone table = (k : Key) → record_at table.records k ≡ value_after put gone k None
+
+-- each copy has no content, or these records under commit number 1
+abbrev pub HaveNoneOrFirst : List DirCopy → List Entry → List Key → Image → Type 0
+HaveNoneOrFirst copies put gone x =
+    (c : DirCopy) → IsAmong copies c → (content_in c x ≡ None) ⊎ ((table : PageTable) × AreFirst put gone table × HasRecords table 1 c x)

@@ -1,7 +1,9 @@
 // What a store answers where it fails.
 ghost use Rattle.std.specs.Prelude.{◌≡◌};
 ghost use Rattle.directory_store.specs.Answers.{refusal_of};
+ghost use Rattle.directory_store.specs.declared.error.StoreError.TheVariants.{NoMemory as WithoutMemory};
 
+use asm_base::NoMemory as WantOfMemory;
 use page_map::PageError;
 
 /// Why a change isn't committed.
@@ -23,5 +25,13 @@ impl From<PageError> for StoreError {
             PageError::Full { need, free } => StoreError::Full { need, free },
             PageError::NoMemory => StoreError::NoMemory,
         }
+    }
+}
+
+impl From<WantOfMemory> for StoreError {
+    ghost from_gives = { λ _ s. s ≡ WithoutMemory };
+
+    fn from(_want: WantOfMemory) -> StoreError {
+        StoreError::NoMemory
     }
 }

@@ -5,7 +5,10 @@
 mod commit;
 mod due;
 mod error;
+mod laws;
+mod making;
 mod store;
 
 pub use error::StoreError;
+pub use laws::{forgotten_keep, keeps_elsewhere, kept_have_records};
 pub use store::Store;

@@ -9,15 +9,16 @@ ghost use Rattle.bay.specs.Moments.{Runs, NowOnly, LeavesOnly};
 ghost use Rattle.page_map.specs.Changes.{value_after};
 ghost use Rattle.page_map.specs.Applying.{Applies, IsCause};
 ghost use Rattle.page_map.specs.Tables.{IsTable, SameTable, new_in, room};
-ghost use Rattle.directory_store.specs.Answers.{IsRefusal};
+ghost use Rattle.directory_store.specs.Answers.{IsRefusal, IsFirstRefusal};
 ghost use Rattle.directory_store.specs.Contents.{ArePutItems};
-ghost use Rattle.directory_store.specs.Copies.{FailedAlone, IsSlotOf, RegionsOf, WritesFew, calls_for};
-ghost use Rattle.directory_store.specs.Stores.{HaveEitherRecords, HaveRecords, Keeps, others};
+ghost use Rattle.directory_store.specs.Copies.{AllAreShut, AreApart, AreNamed, FailedAlone, IsSlotOf, RegionsOf, WritesFew, calls_for, first_size};
+ghost use Rattle.directory_store.specs.Stores.{AreFirst, HaveEitherRecords, HaveNoneOrFirst, HaveOneSize, HaveRecords, IsEmpty, Keeps, off, others, without};
 
 use crate::StoreError;
 use crate::commit::commit_all;
 use crate::due::Due;
-use asm_base::{Block, Change, DiskSet, Records};
+use crate::making::make_all;
+use asm_base::{Block, Change, DiskSet, NoMemory, Records};
 use bay::Bay;
 use change_directory::DirCopy;
 use page_map::{PageError, PageMap, apply};
@@ -69,7 +70,69 @@ fn keep_taken(copies: &mut Vec<DirCopy>, failed: DiskSet)
     copies.retain(|copy| !failed.has(copy.number));
 }
 
+/// Takes out the copies on a slot.
+fn keep_off(copies: &mut Vec<DirCopy>, slot: u32)
+    ensures { copies.new.items ≡ off slot copies.old.items }
+{
+    copies.retain(|copy| copy.slot != slot);
+}
+
+/// A map of no records and so many pages.
+fn new_map(alloc: Global, pages: u32) -> Result<PageMap, NoMemory>
+    requires { pages ≤ 16384 }
+    ensures { IfOk result (λ map. IsEmpty map pages) }
+{
+    let map = PageMap::new(alloc, pages)?;
+    // `room` says that each record has a page of its own.
+    let _ = map.room();
+    Ok(map)
+}
+
+/// The same copies once more.
+fn copied(alloc: Global, copies: &[DirCopy]) -> Result<Vec<DirCopy>, NoMemory>
+    ensures { IfOk result (λ list. list.items ≡ copies.now) }
+{
+    Vec::from_slice(alloc, copies).map_err(|_| NoMemory)
+}
+
 impl Store {
+    /// Makes the first records of a group on copies that have no open log slot, under commit number 1. Every copy must take
+    /// them: Gone has the slot of one that failed. Full comes exactly where more records are put than there are blocks, and
+    /// then nothing is written. At each moment each copy has no content, or all the records.
+    pub fn create<B: Bay>(
+        alloc: Global,
+        bay: &mut B,
+        copies: &[DirCopy],
+        first: &Change,
+    ) -> Result<Store, StoreError>
+        requires some { 0 < length copies.now }
+        requires named { AreNamed copies.now [] (B.state bay.old) }
+        requires apart { AreApart copies.now }
+        requires size { HaveOneSize copies.now }
+        requires items { ArePutItems first.now.put }
+        ensures records { IfOk result (λ store. AreFirst first.now.put first.now.gone store.table) }
+        ensures number { IfOk result (λ store. store.number ≡ 1) }
+        ensures copies { IfOk result (λ store. store.copies ≡ copies.now) }
+        ensures refused { IfErr result (IsFirstRefusal copies.now (first_size copies.now) first.now.put (B.state bay.old) (B.state bay.new)) }
+        ensures kept { IfOk result (λ store. Keeps store (B.state bay.new)) }
+        ensures moments { NowOnly (B.state bay.old) (AllAreShut copies.now) → LeavesOnly (B.state bay.old) (B.state bay.new) (HaveNoneOrFirst copies.now first.now.put first.now.gone) }
+        ensures attached { KeepsAttached (B.state bay.old) (B.state bay.new) }
+        ensures runs { Runs (IsSlotOf copies.now) (ChangesOnly (RegionsOf copies.now)) (B.state bay.old) (B.state bay.new) }
+    {
+        let mut map = new_map(alloc, copies[0].dir_blocks)?;
+        let pages = change_map(alloc, &mut map, first)?;
+        let named = copied(alloc, copies)?;
+        match make_all(bay, copies, 1, &pages) {
+            Err(slot) => Err(StoreError::Gone { slot }),
+            Ok(()) => Ok(Store {
+                map,
+                number: 1,
+                copies: named,
+                due: Vec::new(alloc),
+            }),
+        }
+    }
+
     /// The records by key.
     pub fn content(&self) -> &Records
         ensures { result.now ≡ self.now.table.records }
@@ -117,5 +180,12 @@ impl Store {
             return Err(StoreError::Gone { slot });
         }
         Ok(failed)
+    }
+
+    /// Gives up the copies on a slot.
+    pub fn forget(&mut self, slot: u32)
+        ensures { self.new ≡ without slot self.old }
+    {
+        keep_off(&mut self.copies, slot);
     }
 }

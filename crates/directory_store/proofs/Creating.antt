@@ -1,0 +1,91 @@
+-- The first records of a group.
+use Rattle.std.proofs.Common.{◌≡◌, ◌⊎◌, inl, inr, ⊎_elim, ℕ, ◌+◌, ◌-◌, ◌*◌, ◌^◌, ◌<◌, ◌≤◌, false, true, List, [], ◌∷◌, length, get_or, map, refl, sym, ap, subst, ◌∙◌, Option, Some, None, arith}
+use Rattle.std.specs.Prelude.{IsTrue, is_some, nat_lt}
+use Rattle.std.specs.List.{list_all}
+use Rattle.std.proofs.lemmas.Bool.{true≢false, and_from}
+use Rattle.bay.specs.Image.{Image}
+use Rattle.bay.specs.State.{BayState, IsSound, KeepsAttached}
+use Rattle.bay.specs.Moments.{NowOnly, LeavesOnly}
+use Rattle.bay.proofs.Calls.{leaves_begin, leaves_less, started}
+use Rattle.asm_base.specs.declared.block.Block.{Block}
+use Rattle.asm_base.specs.Records.{Entry, record_at}
+use Rattle.asm_formats.specs.Among.{IsAmong}
+use Rattle.asm_formats.specs.Items.{Key}
+use Rattle.asm_formats.specs.Status.{ascends_from}
+use Rattle.change_directory.specs.declared.copy.DirCopy.{DirCopy}
+use Rattle.change_directory.specs.Changes.{content_in}
+use Rattle.change_directory.specs.Logs.{are_pages}
+use Rattle.change_directory.specs.StoreLaws.{IsShaped, HasRegion, shown_by, zero_page}
+use Rattle.change_directory.proofs.Usable.{still_copy}
+use Rattle.page_map.specs.Changes.{value_after}
+use Rattle.page_map.specs.Tables.{PageTable, IsTable, Shows, place_at}
+use Rattle.page_map.specs.Contents.{AreItems}
+use Rattle.page_map.specs.Applying.{Applies}
+use Rattle.directory_store.specs.Contents.{ArePutItems}
+use Rattle.directory_store.specs.Copies.{AllAreShut, AreApart, AreNamed, ArePagesOf, AreSettled, HaveNoneOr, first_size}
+use Rattle.directory_store.specs.Stores.{Stored, Keeps, AreFirst, HaveNoneOrFirst, HaveOneSize, IsEmpty}
+use Rattle.directory_store.proofs.Records.{items_after, has_records}
+use Rattle.directory_store.proofs.Renewing.{sized_now, shut_is}
+use Rattle.directory_store.proofs.Steps.{shaped}
+
+none_some : {A : Type 0} (x : A) → None ≡ Some x → ⊥
+none_some x e = absurd cc
+
+pub first_is_size : (copies : List DirCopy) (d : DirCopy) → 0 < length copies → (get_or copies 0 d).dir_blocks ≡ first_size copies
+first_is_size [] d some = absurd (omega arith)
+first_is_size (c ∷ copies) d some = refl
+
+module _ (copies : List DirCopy) (start table : PageTable) (put : List Entry) (gone : List Key) (pages : List (ℕ × Block)) (d : ℕ)
+    (empty : IsEmpty start d) (applies : Applies start table put gone pages) (sound : IsTable table) (puts : ArePutItems put)
+    (sizes : (c : DirCopy) → IsAmong copies c → c.dir_blocks ≡ d) where
+  pub are_first : AreFirst put gone table
+  are_first k = applies.records k ∙ ap (value_after put gone k) (empty.none k)
+
+  items : AreItems table
+  items = items_after start table put gone puts (λ k v found. absurd (none_some v (sym (empty.none k) ∙ found))) applies.records
+
+  no_places : Shows start zero_page
+  no_places = record {
+    taken = λ k p at. absurd (true≢false (sym (ap is_some at) ∙ sym (empty.is_table.same k) ∙ ap is_some (empty.none k)));
+    free = λ p free. refl;
+  }
+
+  shows : Shows table (shown_by pages)
+  shows = applies.shows zero_page no_places
+
+  units : (c : DirCopy) → IsAmong copies c → c.dir_blocks ≡ table.free.units
+  units c among = sizes c among ∙ sym empty.units ∙ sym applies.units
+
+  pub are_pages_of : ArePagesOf copies pages
+  are_pages_of c among = and_from (ascends_from 0 (map (λ (p : ℕ × Block). p.0) pages)) (list_all (λ (p : ℕ × Block). nat_lt p.0 c.dir_blocks) pages) applies.ascend
+      (subst (λ (n : ℕ). list_all (λ (p : ℕ × Block). nat_lt p.0 n) pages ≡ true) (sym (units c among)) applies.inside)
+
+  module _ (s t : BayState) (named : AreNamed copies [] s) (apart : AreApart copies) where
+    pub first_keeps : KeepsAttached s t → NowOnly t (AreSettled copies 1 (shown_by pages)) → Keeps (record { table = table; number = 1; copies = copies; due = [] }) t
+    first_keeps attached settled = record {
+      table = sound;
+      items = items;
+      named = λ c among. let is = named c among in record { copy_is = still_copy is.copy_is attached; number = is.number; due = refl };
+      pages = units;
+      apart = apart;
+      page = shown_by pages;
+      shows = shows;
+      now = record {
+        now = λ x left c among.
+            let here = settled.now x left c among in
+            record { content = here.content; due_are = record { ascend = refl; due = inr (λ p inside. absurd inside); others = λ p lt none. here.home p lt } };
+      };
+    }
+
+    pub first_moments : LeavesOnly s t (HaveNoneOr copies 1 (shown_by pages)) → LeavesOnly s t (HaveNoneOrFirst copies put gone)
+    first_moments only = leaves_less {P = HaveNoneOr copies 1 (shown_by pages)} {Q = HaveNoneOrFirst copies put gone}
+        (λ x either c among. ⊎_elim (λ none. inl none) (λ has. inr (table, are_first, has_records table 1 c (shown_by pages) x sound shows items (units c among) has)) (either c among)) only
+
+-- while nothing is written, copies without an open log slot have no content
+pub shut_moments : (copies : List DirCopy) (put : List Entry) (gone : List Key) (s : BayState) → IsSound s → AreNamed copies [] s → NowOnly s (AllAreShut copies)
+    → LeavesOnly s s (HaveNoneOrFirst copies put gone)
+shut_moments copies put gone s sound named now = leaves_begin (record {
+  now = λ x left c among.
+      let is = (named c among).copy_is in
+      inl (shut_is c x (shaped is) ((sized_now sound is).now x left) (now.now x left c among)).none;
+})
