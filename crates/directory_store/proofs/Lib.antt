@@ -5,3 +5,4 @@ pub mod Records
 pub mod Storing
 pub mod Renewing
 pub mod Creating
+pub mod Trying

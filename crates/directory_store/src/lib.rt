@@ -12,3 +12,6 @@ mod store;
 pub use error::StoreError;
 pub use laws::{forgotten_keep, keeps_elsewhere, kept_have_records};
 pub use store::Store;
+
+#[cfg(test)]
+mod tests;
