@@ -1,23 +1,17 @@
 -- What a new disk is given is allowed, and each body is a block.
-use Rattle.std.proofs.Common.{◌≡◌, ℕ, ◌-◌, ◌≤◌, ◌^◌, true, List, length, replicate, refl, ◌∙◌, arith}
+use Rattle.std.proofs.Common.{◌≡◌, ◌^◌, true, refl}
 use Rattle.std.specs.Prelude.{nat_le, nat_lt, ◌&&◌}
 use Rattle.std.proofs.lemmas.Bool.{le-leb, lt-ltb}
-use Rattle.std.proofs.lemmas.List.{length-append, length-replicate}
 use Rattle.asm_group.specs.Names.{is_name}
 use Rattle.asm_group.specs.Shape.{is_shape}
 use Rattle.asm_group.specs.NewGroup.{system_templates}
-use Rattle.asm_formats.specs.Bytes.{block_size, whole_block, number}
 use Rattle.asm_formats.specs.Regions.{most_units}
 use Rattle.asm_formats.specs.Sets.{elements, has_bit}
 use Rattle.asm_formats.specs.Header.{is_header}
 use Rattle.asm_formats.specs.Claim.{is_claim}
 use Rattle.asm_formats.specs.Status.{entry_of, is_entry, is_status}
-use Rattle.asm_formats.specs.Items.{Item, is_item}
-use Rattle.asm_formats.specs.Values.{value}
-use Rattle.asm_formats.specs.Records.{most_value, frame_spelling, record_spelling}
-use Rattle.asm_formats.specs.Logs.{is_log_head}
-use Rattle.asm_formats.proofs.Lengths.{len_value}
-use Rattle.group_disks.specs.Planned.{Plan, IsPlan, header_of_plan, claim_of_plan, record_of_plan, disk_of_plan, first_templates, first_settings, first_head}
+use Rattle.asm_formats.specs.Items.{is_item}
+use Rattle.group_disks.specs.Planned.{Plan, IsPlan, header_of_plan, claim_of_plan, record_of_plan, disk_of_plan, first_templates, first_settings}
 
 module _ (plan : Plan) (is : IsPlan plan) where
   id_ok : nat_lt plan.id (2 ^ 64) ≡ true
@@ -49,15 +43,3 @@ templates_ok = refl
 pub settings_ok : is_item first_settings ≡ true
 unfolding is_item
 settings_ok = refl
-
-pub head_ok : (dir_blocks : ℕ) → is_log_head dir_blocks first_head ≡ true
-unfolding is_log_head
-head_ok dir_blocks = refl
-
-whole_len : (fields : List ℕ) → length fields ≤ block_size → length (whole_block fields) ≡ block_size
-unfolding whole_block
-whole_len fields le = length-append fields (replicate (block_size - length fields) 0) ∙ omega (arith, length-replicate {A = ℕ} (block_size - length fields) 0)
-
-pub record_len : (i : Item) → is_item i ≡ true → length (record_spelling i) ≡ block_size
-unfolding frame_spelling number
-record_len i ok = let short : length (value i) ≤ most_value = len_value i ok in whole_len _ (omega (arith, short))

@@ -1,17 +1,15 @@
 -- What a disk says while it is given the parts of a new group, and once it has all of them.
-use Rattle.std.proofs.Common.{◌≡◌, ℕ, ◌+◌, ◌*◌, ◌≤◌, true, false, List, [], ◌∷◌, ◌++◌, length, refl, ap, ◌∙◌, Option, Some, None, arith, lit≤}
+use Rattle.std.proofs.Common.{◌≡◌, ℕ, ◌+◌, ◌≤◌, true, false, List, [], ◌∷◌, ◌++◌, length, ap, ◌∙◌, Option, Some, None, arith}
 use Rattle.std.specs.Prelude.{◌&&◌, nat_le}
 use Rattle.std.proofs.lemmas.Bool.{cond-true, cond-false, and_from, le-leb}
 use Rattle.bay.specs.Image.{Image}
 use Rattle.gate_slot.specs.Slot.{shown}
 use Rattle.mount_states.specs.Places.{slot_at}
-use Rattle.mount_states.specs.Forming.{Parts, HasPages, ShowsAll}
 use Rattle.asm_formats.specs.Bytes.{block, is_open}
 use Rattle.asm_formats.specs.Regions.{least_size}
 use Rattle.asm_formats.specs.Header.{Header, decoded_header}
 use Rattle.asm_formats.specs.Claim.{Claim, decoded_claim}
 use Rattle.asm_formats.specs.Status.{Status, decoded_status}
-use Rattle.asm_formats.specs.Records.{record_spelling}
 use Rattle.asm_formats.specs.Pages.{decodes_in}
 use Rattle.asm_formats.specs.Metadata.{metadata, header_of, content_of, in_slot}
 use Rattle.asm_formats.proofs.HeaderReading.{header_again, claim_again}
@@ -19,18 +17,15 @@ use Rattle.asm_formats.proofs.StatusReading.{status_again}
 use Rattle.asm_formats.proofs.Framing.{claims_by_slot, statuses_by_slot}
 use Rattle.asm_images.specs.Bridge.{disk_bytes}
 use Rattle.asm_images.proofs.Bridges.{bytes_are_listed}
-use Rattle.group_disks.specs.Planned.{Plan, IsPlan, header_of_plan, claim_of_plan, record_of_plan, disk_of_plan, first_templates, first_settings, parts_of_plan}
-use Rattle.group_disks.proofs.FirstBodies.{disk_ok, header_ok, claim_ok, status_ok, templates_ok, settings_ok, record_len}
-use Rattle.group_disks.proofs.FirstGroup.{content_of_plan, metadata_of_plan}
-use Rattle.group_disks.proofs.FirstContent.{HasCopy, content_there}
-use Rattle.group_disks.proofs.Shown.{is_shut, is_shown, first_page, second_page, third_page, later_page}
+use Rattle.group_disks.specs.Planned.{Plan, IsPlan, header_of_plan, claim_of_plan, record_of_plan, content_of_plan, header_body, claim_body, status_body}
+use Rattle.group_disks.specs.Stages.{HasAll}
+use Rattle.group_disks.proofs.FirstBodies.{header_ok, claim_ok, status_ok}
+use Rattle.group_disks.proofs.FirstGroup.{metadata_of_plan}
+use Rattle.group_disks.proofs.Shown.{is_shut, is_shown}
 
 module _ (slot : ℕ) (plan : Plan) (is : IsPlan plan) (image : Image) (long : 26214400 ≤ image.size slot) where
   abbrev bytes : List ℕ
   bytes = disk_bytes image slot
-
-  abbrev parts : Parts
-  parts = parts_of_plan plan
 
   size_is : length bytes ≡ image.size slot
   size_is = (bytes_are_listed image slot).0
@@ -41,9 +36,9 @@ module _ (slot : ℕ) (plan : Plan) (is : IsPlan plan) (image : Image) (long : 2
   slot_shut : {A : Type 0} (decoded : List ℕ → Option A) (k : ℕ) → is_open bytes k ≡ false → in_slot decoded bytes k ≡ []
   slot_shut decoded k out = cond-false (is_open bytes k) (decoded (block bytes (k + 1)) ∷ []) [] out
 
-  pub header_there : shown (slot_at 0 1 512) slot image ≡ Some parts.header → header_of bytes ≡ Some (header_of_plan plan)
+  pub header_there : shown (slot_at 0 1 512) slot image ≡ Some (header_body plan) → header_of bytes ≡ Some (header_of_plan plan)
   header_there shows =
-      let there = is_shown slot image 0 parts.header (omega (arith, long)) shows in
+      let there = is_shown slot image 0 (header_body plan) (omega (arith, long)) shows in
       cond-true (nat_le least_size (length bytes) && is_open bytes 0) (decoded_header (block bytes 1)) None
       (and_from (nat_le least_size (length bytes)) (is_open bytes 0) (le-leb least_size (length bytes) (omega (arith, long, size_is))) there.0)
       ∙ ap decoded_header there.1 ∙ header_again (header_of_plan plan) (header_ok plan is)
@@ -57,50 +52,26 @@ module _ (slot : ℕ) (plan : Plan) (is : IsPlan plan) (image : Image) (long : 2
 
   -- ---- all of them
 
-  module _ (shows : ShowsAll slot 512 1024 (parts_of_plan plan) image) where
+  module _ (has : HasAll slot plan image) where
     claims_there : (metadata bytes).claims ≡ Some (claim_of_plan plan) ∷ []
     claims_there =
-        let p = is_shown slot image 2 parts.claim (omega (arith, long)) shows.claim_slot in
+        let p = is_shown slot image 2 (claim_body plan) (omega (arith, long)) has.shows.claim_slot in
         let here = slot_open decoded_claim 2 p.0 ∙ ap (λ (l : List ℕ). decoded_claim l ∷ []) p.1 ∙ ap (λ (o : Option Claim). o ∷ []) (claim_again (claim_of_plan plan) (claim_ok plan is)) in
-        let there = slot_shut decoded_claim 4 (is_shut slot image 4 (omega (arith, long)) shows.second_claim) in
+        let there = slot_shut decoded_claim 4 (is_shut slot image 4 (omega (arith, long)) has.shows.second_claim) in
         claims_by_slot bytes ∙ (λ i. here i ++ there i)
 
     statuses_there : (metadata bytes).statuses ≡ Some (record_of_plan plan) ∷ []
     statuses_there =
-        let p = is_shown slot image 6 parts.status (omega (arith, long)) shows.status_slot in
+        let p = is_shown slot image 6 (status_body plan) (omega (arith, long)) has.shows.status_slot in
         let here = slot_open decoded_status 6 p.0 ∙ ap (λ (l : List ℕ). decoded_status l ∷ []) p.1 ∙ ap (λ (o : Option Status). o ∷ []) (status_again (record_of_plan plan) (status_ok plan is)) in
-        let there = slot_shut decoded_status 8 (is_shut slot image 8 (omega (arith, long)) shows.second_status) in
+        let there = slot_shut decoded_status 8 (is_shut slot image 8 (omega (arith, long)) has.shows.second_status) in
         statuses_by_slot bytes ∙ (λ i. here i ++ there i)
-
-    has_copy : HasCopy plan 1024 bytes
-    has_copy =
-        let log = is_shown slot image 1034 parts.head (omega (arith, long)) shows.log_slot in
-        let pages : HasPages slot 1024 parts.pages image = shows.directory parts.pages refl in
-        let region : (14 + 2 * 1024) * 4096 ≤ image.size slot = omega (arith, long) in
-        let a : List ℕ = record_spelling (disk_of_plan plan) in
-        let b : List ℕ = record_spelling first_templates in
-        let c : List ℕ = record_spelling first_settings in
-        let len_a = record_len (disk_of_plan plan) (disk_ok plan is) in
-        let len_b = record_len first_templates templates_ok in
-        let len_c = record_len first_settings settings_ok in
-        record {
-          long = lit≤ tt;
-          few = lit≤ tt;
-          region = omega (arith, long, size_is);
-          log_open = log.0;
-          head = log.1;
-          second_shut = is_shut slot image 1100 (omega (arith, long)) shows.second_log;
-          disk = first_page slot image 1024 a b c len_a len_b len_c pages region (lit≤ tt);
-          templates = second_page slot image 1024 a b c len_a len_b len_c pages region (lit≤ tt);
-          settings = third_page slot image 1024 a b c len_a len_b len_c pages region (lit≤ tt);
-          zeros = λ p low high. later_page slot image 1024 a b c len_a len_b len_c pages region (lit≤ tt) p low high;
-        }
 
     pub all_there : metadata bytes ≡ metadata_of_plan plan (image.size slot)
     unfolding metadata
     all_there =
-        let header = header_there shows.header_slot in
-        let content : content_of (header_of bytes) bytes ≡ Some (content_of_plan plan) = ap (λ (o : Option Header). content_of o bytes) header ∙ content_there plan is 1024 bytes has_copy in
+        let header = header_there has.shows.header_slot in
+        let content : content_of (header_of bytes) bytes ≡ Some (content_of_plan plan) = ap (λ (o : Option Header). content_of o bytes) header ∙ has.content in
         λ i. record {
           size = size_is i;
           header = header i;

@@ -31,11 +31,7 @@ use Rattle.asm_images.specs.Stands.{Describes, IsDiskOf, Standing}
 use Rattle.asm_images.specs.Describing.{DescribesGroup, SameFile}
 use Rattle.asm_images.specs.Sound.{IsCovered, SoundBy}
 use Rattle.group_disks.specs.Creating.{made_group}
-use Rattle.group_disks.specs.Planned.{Plan, IsPlan, header_of_plan, claim_of_plan, entry_of_plan, record_of_plan, items_of_plan}
-
--- what the directory of a new group holds
-abbrev pub content_of_plan : Plan → Content
-content_of_plan plan = record { commit = 1; items = Some (items_of_plan plan) }
+use Rattle.group_disks.specs.Planned.{Plan, IsPlan, header_of_plan, claim_of_plan, entry_of_plan, record_of_plan, items_of_plan, content_of_plan}
 
 -- what a disk of so many bytes says that has all its parts
 abbrev pub metadata_of_plan : Plan → ℕ → Metadata

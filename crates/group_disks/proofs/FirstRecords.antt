@@ -1,5 +1,5 @@
 -- The header and the status record of a new group are allowed.
-use Rattle.std.proofs.Common.{◌≡◌, ℕ, Bool, true, false, List, [], ◌∷◌, sym, ap, subst, ◌∙◌}
+use Rattle.std.proofs.Common.{◌≡◌, ℕ, true, false, [], ◌∷◌, sym, subst}
 use Rattle.asm_group.specs.declared.Mode.TheVariants.{Online}
 use Rattle.asm_group.specs.Names.{Bytes}
 use Rattle.asm_formats.specs.Header.{Header, is_header}

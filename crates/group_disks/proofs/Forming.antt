@@ -9,7 +9,7 @@ use Rattle.gate_slot.specs.Slot.{is_open_in, shown, MayClose}
 use Rattle.gate_slot.proofs.Steps.{shown-closed, shown-shut}
 use Rattle.mount_states.specs.Places.{slot_at}
 use Rattle.mount_states.specs.Gates.{MayCloseAll}
-use Rattle.mount_states.specs.Forming.{IsForming, shut, headed, filled, logged, claimed, whole, ShowsAll, MetaOf}
+use Rattle.mount_states.specs.Forming.{MetaOf}
 use Rattle.asm_formats.specs.Bytes.{block_size, is_open, block}
 use Rattle.asm_formats.specs.Regions.{least_size, header_gate}
 use Rattle.asm_formats.specs.Header.{Header, decoded_header}
@@ -22,7 +22,8 @@ use Rattle.asm_images.specs.Bridge.{disk_bytes, ChangesSlot}
 use Rattle.asm_images.specs.Kept.{IsKept}
 use Rattle.asm_images.proofs.Bridges.{range_change}
 use Rattle.group_disks.specs.Creating.{Allows, HasMember, Creates, made_group}
-use Rattle.group_disks.specs.Planned.{Plan, IsPlan, header_of_plan, parts_of_plan, kept_of_plan}
+use Rattle.group_disks.specs.Planned.{Plan, IsPlan, header_of_plan, header_body, kept_of_plan}
+use Rattle.group_disks.specs.Stages.{IsForming, bare, headed, claimed, whole, HasAll}
 use Rattle.group_disks.specs.CreateLaws.{FormingCreates, FormedIsKept}
 use Rattle.group_disks.proofs.Outsiders.{no_member_allows}
 use Rattle.group_disks.proofs.Departing.{shut_header, NamesOther, other_allows, other_member, same_allows, same_member}
@@ -142,23 +143,21 @@ module _ (slot : ℕ) (plan : Plan) (old new : Image) (is : IsPlan plan) (long :
     units_there = omega (arith, long, elsewhere.size slot)
 
     -- with a header and no record
-    unrecorded_creates : shown (slot_at 0 1 512) slot new ≡ Some (parts_of_plan plan).header → shown (slot_at 6 1 512) slot new ≡ None → shown (slot_at 8 1 512) slot new ≡ None
+    unrecorded_creates : shown (slot_at 0 1 512) slot new ≡ Some (header_body plan) → shown (slot_at 6 1 512) slot new ≡ None → shown (slot_at 8 1 512) slot new ≡ None
         → Creates slot plan.id (made_group plan.name) old new
     unrecorded_creates header first second = headed_creates parts_change (header_there slot plan is new space header)
         (λ no. unrecorded_allows plan.id slot old new parts_change no (made_group plan.name ∷ []) (no_statuses slot plan is new space first second))
 
-    stage_creates : IsForming slot 512 1024 (parts_of_plan plan) new → Creates slot plan.id (made_group plan.name) old new
-    stage_creates (shut shows) = headless_creates parts_change (shut_header now (is_shut slot new 0 (omega (arith, space)) shows.header_slot))
-    stage_creates (headed shows) = unrecorded_creates shows.header_slot shows.status_slot shows.second_status
-    stage_creates (filled shows) = unrecorded_creates shows.header_slot shows.status_slot shows.second_status
-    stage_creates (logged shows) = unrecorded_creates shows.header_slot shows.status_slot shows.second_status
-    stage_creates (claimed shows) = unrecorded_creates shows.header_slot shows.status_slot shows.second_status
-    stage_creates (whole shows) = headed_creates parts_change (header_there slot plan is new space shows.header_slot)
-        (λ no. recorded_allows slot plan old new parts_change no (all_there slot plan is new space shows) is units_there)
+    stage_creates : IsForming slot plan new → Creates slot plan.id (made_group plan.name) old new
+    stage_creates (bare shows) = headless_creates parts_change (shut_header now (is_shut slot new 0 (omega (arith, space)) shows.header_slot))
+    stage_creates (headed shows content) = unrecorded_creates shows.header_slot shows.status_slot shows.second_status
+    stage_creates (claimed shows content) = unrecorded_creates shows.header_slot shows.status_slot shows.second_status
+    stage_creates (whole shows content) = headed_creates parts_change (header_there slot plan is new space shows.header_slot)
+        (λ no. recorded_allows slot plan old new parts_change no (all_there slot plan is new space (record { shows = shows; content = content })) is units_there)
 
-    whole_is_kept : ShowsAll slot 512 1024 (parts_of_plan plan) new → (HasMember plan.id old → ⊥) → (slots : ℕ) → slot < slots
+    whole_is_kept : HasAll slot plan new → (HasMember plan.id old → ⊥) → (slots : ℕ) → slot < slots
         → IsKept slots plan.id (made_group plan.name ∷ []) (kept_of_plan slot plan) new
-    whole_is_kept shows lacks slots lt = recorded_is_kept slot plan old new parts_change lacks (all_there slot plan is new space shows) is units_there slots lt
+    whole_is_kept has lacks slots lt = recorded_is_kept slot plan old new parts_change lacks (all_there slot plan is new space has) is units_there slots lt
 
 pub forming_creates : FormingCreates
 forming_creates = λ slot plan old new is long step. ⊎_elim
@@ -167,4 +166,4 @@ forming_creates = λ slot plan old new is long step. ⊎_elim
     step
 
 pub formed_is_kept : FormedIsKept
-formed_is_kept = λ slot slots plan old new is long lacks formed lt. whole_is_kept slot plan old new is long formed.elsewhere formed.shows lacks slots lt
+formed_is_kept = λ slot slots plan old new is long lacks formed lt. whole_is_kept slot plan old new is long formed.elsewhere formed.has_all lacks slots lt

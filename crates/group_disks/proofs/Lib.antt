@@ -3,6 +3,8 @@ pub mod Departing
 pub mod FirstBodies
 pub mod FirstGroup
 pub mod FirstContent
+pub mod FirstCopy
+pub mod Parts
 pub mod Shown
 pub mod FirstMember
 pub mod FirstDisk

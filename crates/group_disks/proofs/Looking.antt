@@ -1,5 +1,5 @@
 -- One look after another.
-use Rattle.std.proofs.Common.{◌≡◌, ◌⊎◌, inl, inr, ⊎_elim, ℕ, ◌+◌, ◌-◌, ◌<◌, ◌≤◌, List, [], ◌∷◌, ◌++◌, length, get_or, Contains, Option, Some, None, refl, sym, ap, subst, ◌∙◌, arith}
+use Rattle.std.proofs.Common.{◌≡◌, ⊎_elim, ℕ, ◌+◌, ◌-◌, ◌<◌, ◌≤◌, List, [], ◌∷◌, ◌++◌, length, get_or, Contains, Option, Some, None, refl, sym, ap, subst, ◌∙◌, arith}
 use Rattle.std.proofs.lemmas.Option.{same_Some, none-some}
 use Rattle.std.proofs.lemmas.Bool.{cases_lt}
 use Rattle.std.proofs.lemmas.List.{get_or_append_left, get_or-append_right, append-nil, length-append}
@@ -15,7 +15,7 @@ use Rattle.group_disks.specs.Found.{counts_of, Told, AreIdsRead, AreAllRead}
 use Rattle.group_disks.specs.Probes.{id_in, IsShown, IsUsable, ids_of}
 use Rattle.group_disks.specs.declared.find.Probe.{Probe}
 use Rattle.group_disks.specs.declared.find.Probe.TheVariants as probe
-use Rattle.group_disks.proofs.Told.{told_later, told_before, same_header, same_id, rose_before, rose_later}
+use Rattle.group_disks.proofs.Told.{told_later, told_before, same_id, rose_before, rose_later}
 
 -- the header of an id
 some_header : (o : Option Header) (id : ℕ) → option_map (λ (h : Header). h.id) o ≡ Some id → (h : Header) × (o ≡ Some h) × (h.id ≡ id)

@@ -1,27 +1,25 @@
 -- A creation at every moment.
-use Rattle.std.proofs.Common.{◌≡◌, ◌≢◌, inl, inr, ℕ, ◌*◌, ◌<◌, ◌≤◌, true, List, [], ◌∷◌, ◌∙◌, length, Contains, All, None, Some, Result, Ok, Err, is_ok, sym, subst, ap, arith}
+use Rattle.std.proofs.Common.{◌≡◌, inl, inr, ℕ, ◌*◌, ◌<◌, ◌≤◌, true, List, ◌∙◌, length, All, None, Some, Result, Ok, Err, is_ok, sym, subst, ap, arith}
 use Rattle.std.specs.Prelude.{OnOk}
-use Rattle.std.specs.Option.{ForSome}
 use Rattle.std.proofs.lemmas.List.Elements.{All-contains}
 use Rattle.bay.specs.Image.{Image, Same}
-use Rattle.bay.specs.State.{BayState, IsSound, IsSlot, KeepsAttached}
+use Rattle.bay.specs.State.{BayState, IsSound, IsSlot}
 use Rattle.bay.specs.Counts.{last_count}
 use Rattle.bay.specs.Moments.{Runs, Ends}
 use Rattle.bay.proofs.Calls.{widened, goes_on, both_done, stops, on_more}
 use Rattle.asm_group.specs.Names.{Bytes}
 use Rattle.asm_group.specs.Group.{Group}
 use Rattle.asm_images.specs.Sound.{Sound}
-use Rattle.asm_images.specs.Bridge.{disks_in}
 use Rattle.asm_formats.specs.Metadata.{header_of}
 use Rattle.asm_images.specs.Members as lists
 use Rattle.asm_images.specs.Members.{all_members}
 use Rattle.asm_placement.specs.Among.{IsAmong}
 use Rattle.asm_images.proofs.Bridges.{same_is_same, same_disk}
-use Rattle.mount_states.specs.Forming.{MayForm, HasFormed}
-use Rattle.group_disks.specs.Creating.{Allows, HasMember, Creates, IsFree, MayCreate, Founds, HasCreated, made_group}
+use Rattle.group_disks.specs.Creating.{HasMember, Creates, IsFree, MayCreate, Founds, HasCreated, made_group}
 use Rattle.asm_images.specs.Kept.{header_in}
 use Rattle.group_disks.specs.Found.{counts_of, Told, AreAllRead, IsAboveAll}
-use Rattle.group_disks.specs.Planned.{Plan, IsPlan, parts_of_plan, kept_of_plan}
+use Rattle.group_disks.specs.Planned.{Plan, IsPlan, kept_of_plan}
+use Rattle.group_disks.specs.Stages.{MayForm, HasFormed}
 use Rattle.group_disks.proofs.Forming.{forming_creates, formed_is_kept}
 use Rattle.group_disks.proofs.Outsiders.{creates_none}
 
@@ -39,7 +37,7 @@ widened_from {slots} {step} {whole} {a} {b} P sound all within run = record {
 }
 
 pub forms_creates : {m t : BayState} (slot size : ℕ) (plan : Plan) → IsSound m → m.attached slot ≡ Some size → IsPlan plan → plan.units * 1048576 ≤ size
-    → Runs (IsSlot slot) (MayForm slot 512 1024 (parts_of_plan plan)) m t → Runs (IsSlot slot) (Creates slot plan.id (made_group plan.name)) m t
+    → Runs (IsSlot slot) (MayForm slot plan) m t → Runs (IsSlot slot) (Creates slot plan.id (made_group plan.name)) m t
 forms_creates {m} {t} slot size plan sound attached is room run =
     widened_from (λ image. image.size slot ≡ size) sound (λ image left. sound.sized slot size image attached left)
     (λ x y sized step. forming_creates slot plan x y is (omega (arith, room, sized)) step) run
@@ -85,13 +83,13 @@ plan_above s t paths n ids p q same len are all below =
 
 -- what is done to such disks as there may be
 pub forms_founds : {m t : BayState} (slot slots size : ℕ) (plan : Plan) → IsSound m → m.attached slot ≡ Some size → IsPlan plan → plan.units * 1048576 ≤ size → slot < slots
-    → Ends (HasFormed slot 512 1024 (parts_of_plan plan)) m t → Ends (Founds slots plan.id (made_group plan.name) (kept_of_plan slot plan)) m t
+    → Ends (HasFormed slot plan) m t → Ends (Founds slots plan.id (made_group plan.name) (kept_of_plan slot plan)) m t
 forms_founds {m} {t} slot slots size plan sound attached is room inside ends = record {
   held = λ image holds. let from = ends.held image holds in (from.0, from.1, founds from.0 image (sound.sized slot size from.0 attached (sound.held from.0 from.1)) from.2);
   now = λ image left. let from = ends.now image left in (from.0, from.1, founds from.0 image (sound.sized slot size from.0 attached from.1) from.2);
 }
   where
-    founds : (x y : Image) → x.size slot ≡ size → HasFormed slot 512 1024 (parts_of_plan plan) x y → Founds slots plan.id (made_group plan.name) (kept_of_plan slot plan) x y
+    founds : (x y : Image) → x.size slot ≡ size → HasFormed slot plan x y → Founds slots plan.id (made_group plan.name) (kept_of_plan slot plan) x y
     founds x y sized formed = record { is_kept = λ none. formed_is_kept slot slots plan x y is (omega (arith, room, sized)) none formed inside }
 
 when_ok : {A E : Type 0} {P : Type 0} (r : Result A E) → OnOk r P → is_ok r ≡ true → P

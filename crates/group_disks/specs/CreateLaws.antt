@@ -1,19 +1,19 @@
 -- That a disk which is given the parts of a new group is a step of the world at every moment.
 use Rattle.std.specs.Prelude.{ℕ, ◌*◌, ◌<◌, ◌≤◌, [], ◌∷◌}
 use Rattle.bay.specs.Image.{Image}
-use Rattle.mount_states.specs.Forming.{MayForm, HasFormed}
 use Rattle.asm_images.specs.Kept.{IsKept}
 use Rattle.group_disks.specs.Creating.{Creates, HasMember, made_group}
-use Rattle.group_disks.specs.Planned.{Plan, IsPlan, parts_of_plan, kept_of_plan}
+use Rattle.group_disks.specs.Planned.{Plan, IsPlan, kept_of_plan}
+use Rattle.group_disks.specs.Stages.{MayForm, HasFormed}
 
 -- While the disk is given its parts, the group is created, or no other group is touched.
 abbrev pub FormingCreates : Type 0
 FormingCreates =
     (slot : ℕ) (plan : Plan) (old new : Image) → IsPlan plan → plan.units * 1048576 ≤ old.size slot
-    → MayForm slot 512 1024 (parts_of_plan plan) old new → Creates slot plan.id (made_group plan.name) old new
+    → MayForm slot plan old new → Creates slot plan.id (made_group plan.name) old new
 
 -- Once it has all of them, the group is there, with its record as the completed one, and with this disk as its only member.
 abbrev pub FormedIsKept : Type 0
 FormedIsKept =
     (slot slots : ℕ) (plan : Plan) (old new : Image) → IsPlan plan → plan.units * 1048576 ≤ old.size slot → (HasMember plan.id old → ⊥)
-    → HasFormed slot 512 1024 (parts_of_plan plan) old new → slot < slots → IsKept slots plan.id (made_group plan.name ∷ []) (kept_of_plan slot plan) new
+    → HasFormed slot plan old new → slot < slots → IsKept slots plan.id (made_group plan.name ∷ []) (kept_of_plan slot plan) new

@@ -1,5 +1,5 @@
 -- What a creation writes on its one disk.
-use Rattle.std.specs.Prelude.{◌≡◌, ◌==◌, ℕ, ◌^◌, ◌<◌, ◌≤◌, true, false, List, [], ◌∷◌, flat_map}
+use Rattle.std.specs.Prelude.{◌≡◌, ◌==◌, ℕ, ◌^◌, ◌<◌, ◌≤◌, true, false, List, [], ◌∷◌, Some}
 use Rattle.asm_group.specs.declared.GroupKind.TheVariants.{External}
 use Rattle.asm_group.specs.declared.Mode.TheVariants.{Online}
 use Rattle.asm_group.specs.Names.{Bytes, is_name}
@@ -9,9 +9,9 @@ use Rattle.asm_formats.specs.Claim.{Claim, claim_spelling}
 use Rattle.asm_formats.specs.Status.{Status, Entry, status_spelling}
 use Rattle.asm_formats.specs.Items.{Item, disk_item, templates_item, settings_item}
 use Rattle.asm_formats.specs.Records.{record_spelling}
-use Rattle.asm_formats.specs.Logs.{LogHead, log_head_spelling}
+use Rattle.asm_formats.specs.Content.{Content}
+use Rattle.asm_formats.specs.Logs.{PageImage}
 use Rattle.asm_formats.specs.Regions.{most_units}
-use Rattle.mount_states.specs.Forming.{Parts}
 use Rattle.asm_images.specs.Kept.{Kept}
 use Rattle.group_disks.specs.Creating.{usual_shape}
 
@@ -76,18 +76,25 @@ first_settings = settings_item (record { incarnation = 1; attributes = usual_att
 abbrev pub items_of_plan : Plan → List Item
 items_of_plan plan = disk_of_plan plan ∷ first_templates ∷ first_settings ∷ []
 
--- commit 1, which has no page images
-abbrev pub first_head : LogHead
-first_head = record { commit = 1; pages = [] }
+-- the content of its copy, under the first commit number
+abbrev pub content_of_plan : Plan → Content
+content_of_plan plan = record { commit = 1; items = Some (items_of_plan plan) }
 
-abbrev pub parts_of_plan : Plan → Parts
-parts_of_plan plan = record {
-  header = header_spelling (header_of_plan plan);
-  head = log_head_spelling first_head;
-  claim = claim_spelling (claim_of_plan plan);
-  status = status_spelling (record_of_plan plan);
-  pages = flat_map record_spelling (items_of_plan plan);
-}
+-- a page for each of them, from page 0 on
+abbrev pub first_images : Plan → List PageImage
+first_images plan =
+    (0, record_spelling (disk_of_plan plan)) ∷ (1, record_spelling first_templates) ∷ (2, record_spelling first_settings) ∷ []
+
+-- ---- the bodies behind the disk's gates
+
+abbrev pub header_body : Plan → Bytes
+header_body plan = header_spelling (header_of_plan plan)
+
+abbrev pub claim_body : Plan → Bytes
+claim_body plan = claim_spelling (claim_of_plan plan)
+
+abbrev pub status_body : Plan → Bytes
+status_body plan = status_spelling (record_of_plan plan)
 
 -- What is kept of the new group: its record is complete, none was begun after it, and its one disk is in this slot.
 abbrev pub kept_of_plan : ℕ → Plan → Kept

@@ -12,20 +12,21 @@ ghost use Rattle.asm_formats.specs.Regions.{most_units};
 ghost use Rattle.group_disks.specs.Found.{counts_of, Told, AreIdsRead, AreAllRead, IsAboveAll, RefusalCause, IsEarly};
 ghost use Rattle.asm_images.specs.Kept.{header_in};
 ghost use Rattle.group_disks.specs.Creating.{Creates, Founds, HasCreated, made_group};
-ghost use Rattle.group_disks.specs.Planned.{IsPlan, parts_of_plan, kept_of_plan};
-ghost use Rattle.group_disks.specs.Ready.{HasRoom, IsFormFault};
+ghost use Rattle.group_disks.specs.Planned.{IsPlan, kept_of_plan};
+ghost use Rattle.group_disks.specs.Ready.{AreBodies, HasRoom, IsFormFault};
 
 use crate::choose::{first_disk_name, next_id, no_disk, usable_units, write_fault};
 use crate::find::{look_at_all, slot_of};
+use crate::give::give_parts;
 use crate::new_group::{Bodies, NewGroup, first_bodies};
 use asm_base::{Name, Refusal};
-use bay::{Bay, Fault};
-use mount_states::form_disk;
+use bay::{Bay, BayError};
 use std::alloc::Global;
 
 /// Creates an EXTERNAL group on the image at a path, which is one of the program's images. The ids in the headers that were
 /// read are put into `ids`. The first part of the answer is the group's id where the creation came to write: at least `floor`,
-/// and above each of these ids. Refusals in their order: NoDisk, DiskTaken, TooSmall, WriteFault; NoMemory at any point.
+/// and above each of these ids. Refusals in their order: NoDisk, DiskTaken, TooSmall, WriteFault; NoMemory at any point, also
+/// once the disk has its new header.
 pub fn create_group<B: Bay>(
     alloc: Global,
     bay: &mut B,
@@ -95,7 +96,7 @@ fn prepare<B: Bay>(
     ensures name { IfOk result (λ ready. ready.group.name ≡ name.now) }
     ensures slot { IfOk result (λ ready. ready.slot < length paths.now) }
     ensures plan { IfOk result (λ ready. IsPlan ready.group) }
-    ensures bodies { IfOk result (λ ready. ready.bodies ≡ parts_of_plan ready.group) }
+    ensures bodies { IfOk result (λ ready. AreBodies ready.bodies ready.group) }
     ensures room { IfOk result (λ ready. HasRoom ready.slot ready.group.units (B.state bay.new)) }
     ensures free { IfOk result (λ ready. Told (counts_of (B.state bay.old)) (counts_of (B.state bay.new)) (λ image. header_in image ready.slot ≡ None)) }
 {
@@ -132,7 +133,7 @@ fn make_ready(
     ensures name { IfOk result (λ ready. ready.group.name ≡ name.now) }
     ensures units { IfOk result (λ ready. ready.group.units ≡ units) }
     ensures plan { IfOk result (λ ready. IsPlan ready.group) }
-    ensures bodies { IfOk result (λ ready. ready.bodies ≡ parts_of_plan ready.group) }
+    ensures bodies { IfOk result (λ ready. AreBodies ready.bodies ready.group) }
     ensures err { IfErr result (λ refusal. said (λ _. []) refusal ≡ NoMemory) }
 {
     let Ok(name) = name.copy() else {
@@ -164,17 +165,18 @@ fn form<B: Bay>(
     bodies: &Bodies,
 ) -> Result<(), Refusal>
     requires plan { IsPlan group.now }
-    requires bodies { bodies.now ≡ parts_of_plan group.now }
+    requires bodies { AreBodies bodies.now group.now }
     requires room { HasRoom slot group.now.units (B.state bay.old) }
     requires among { slot < slots }
     ensures attached { KeepsAttached (B.state bay.old) (B.state bay.new) }
-    ensures calls { (B.state bay.new).calls ≤ (B.state bay.old).calls + 79 }
+    ensures calls { (B.state bay.new).calls ≤ (B.state bay.old).calls + 98 }
     ensures runs { Runs (IsSlot slot) (Creates slot group.now.id (made_group group.now.name)) (B.state bay.old) (B.state bay.new) }
     ensures done { OnOk result (Ends (Founds slots group.now.id (made_group group.now.name) (kept_of_plan slot group.now)) (B.state bay.old) (B.state bay.new)) }
     ensures cause { IfErr result (λ refusal. IsFormFault slot group.now.disk (said (λ _. []) refusal) (counts_of (B.state bay.old)) (counts_of (B.state bay.new))) }
 {
-    match form_disk(bay, slot, 1024, &bodies.parts()) {
+    match give_parts(alloc, bay, slot, group, bodies) {
         Ok(()) => Ok(()),
-        Err(Fault) => Err(write_fault(alloc, &group.disk)),
+        Err(BayError::Fault) => Err(write_fault(alloc, &group.disk)),
+        Err(BayError::NoMemory) => Err(Refusal::NoMemory),
     }
 }

@@ -1,11 +1,13 @@
 // The first pages of a new group's directory: its disk, the system templates and the settings.
-ghost use Rattle.std.specs.Prelude.{◌≡◌, ◌++◌, ◌∷◌, [], IfOk, OnOk, IsTrue, flat_map};
+ghost use Rattle.std.specs.Prelude.{◌≡◌, ◌++◌, ◌∷◌, [], IfOk, OnOk, IsTrue, map};
 ghost use Rattle.asm_group.specs.Names.{is_name};
 ghost use Rattle.asm_formats.specs.Items.{disk_item};
 ghost use Rattle.asm_formats.specs.Values.{value};
-ghost use Rattle.asm_formats.specs.Records.{frame_spelling, record_spelling};
-ghost use Rattle.group_disks.specs.Planned.{first_templates, first_settings};
+ghost use Rattle.asm_formats.specs.Records.{frame_spelling};
+ghost use Rattle.change_directory.specs.Logs.{image_of_page};
+ghost use Rattle.group_disks.specs.Planned.{IsPlan, first_images, first_templates, first_settings};
 
+use crate::new_group::NewGroup;
 use asm_base::{
     Block, GroupKind, Key, Name, NoMemory, Value, Writer, encode_record, put_name, put_u64,
 };
@@ -33,28 +35,33 @@ const SETTINGS: Key = Key {
     b: 0,
 };
 
-/// A page for each of the first records.
-pub fn first_pages(alloc: Global, disk: &Name) -> Result<Vec<u8>, NoMemory>
-    requires { IsTrue (is_name disk.now) }
-    ensures { IfOk result (λ pages. pages.items ≡ flat_map record_spelling (disk_item 0 (record { birth = 1; name = disk.now; failgroup = disk.now }) ∷ first_templates ∷ first_settings ∷ [])) }
+/// A page for each of the first records, by its number.
+pub fn first_pages(alloc: Global, group: &NewGroup) -> Result<Vec<(u32, Block)>, NoMemory>
+    requires { IsPlan group.now }
+    ensures { IfOk result (λ pages. map image_of_page pages.items ≡ first_images group.now) }
 {
     let mut pages = Vec::new(alloc);
-    let value = disk_value(alloc, disk)?;
-    add_record(&mut pages, DISK, &value)?;
+    let value = disk_value(alloc, &group.disk)?;
+    add_record(&mut pages, 0, DISK, &value)?;
     let value = first_templates(alloc)?;
-    add_record(&mut pages, TEMPLATES, &value)?;
+    add_record(&mut pages, 1, TEMPLATES, &value)?;
     let value = first_settings(alloc)?;
-    add_record(&mut pages, SETTINGS, &value)?;
+    add_record(&mut pages, 2, SETTINGS, &value)?;
     Ok(pages)
 }
 
 /// Puts a record's page behind the others.
-fn add_record(pages: &mut Vec<u8>, key: Key, value: &Value) -> Result<(), NoMemory>
-    ensures { OnOk result (pages.new.items ≡ pages.old.items ++ frame_spelling (record { key = key; value = value.now })) }
+fn add_record(
+    pages: &mut Vec<(u32, Block)>,
+    number: u32,
+    key: Key,
+    value: &Value,
+) -> Result<(), NoMemory>
+    ensures { OnOk result (map image_of_page pages.new.items ≡ map image_of_page pages.old.items ++ (number, frame_spelling (record { key = key; value = value.now })) ∷ []) }
 {
     let mut block = Block::zeros();
     encode_record(&key, value, &mut block);
-    pages.extend_from_slice(&block.bytes).map_err(|_| NoMemory)
+    pages.push((number, block)).map_err(|_| NoMemory)
 }
 
 /// The disk has birth 1, and is in a failure group of its own.

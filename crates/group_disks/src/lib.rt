@@ -3,8 +3,10 @@
 
 mod choose;
 mod create;
+mod directory;
 mod find;
 mod first_pages;
+mod give;
 mod laws;
 mod new_group;
 

@@ -1,18 +1,13 @@
-// A new group of one disk, and its first bodies.
-ghost use Rattle.std.specs.Prelude.{◌≡◌, length, IfOk, OnOk, IsTrue, take};
+// A new group of one disk, and the bodies behind its gates.
+ghost use Rattle.std.specs.Prelude.{◌≡◌, IfOk};
 ghost use Rattle.asm_formats.specs.Header.{header_spelling};
 ghost use Rattle.asm_formats.specs.Claim.{claim_spelling};
 ghost use Rattle.asm_formats.specs.Status.{status_spelling};
-ghost use Rattle.asm_formats.specs.Logs.{log_head_spelling};
-ghost use Rattle.mount_states.specs.NewParts.{parts_of};
-ghost use Rattle.group_disks.specs.Planned.{IsPlan, header_of_plan, claim_of_plan, record_of_plan, first_head, parts_of_plan};
+ghost use Rattle.group_disks.specs.Planned.{IsPlan, header_of_plan, record_of_plan};
+ghost use Rattle.group_disks.specs.Ready.{AreBodies};
 
-use crate::first_pages::first_pages;
-use asm_base::{
-    Block, DiskSet, GroupKind, Mode, Name, NoMemory, Writer, finish, put_bytes, put_u32, put_u64,
-};
+use asm_base::{Block, DiskSet, GroupKind, Mode, Name, NoMemory};
 use disk_header::Header;
-use mount_states::NewParts;
 use status_table::{Claim, PstEntry, PstRecord, encode_claim};
 use std::alloc::Global;
 use std::marker::Model;
@@ -38,55 +33,24 @@ impl Model for NewGroup {
     ghost view = { λ g. record { id = g.id; name = g.name; disk = g.disk; units = g.units } };
 }
 
-/// The bodies that the disk is given, and the first pages of its directory. Contracts see them as the parts of a new disk.
+/// The bodies that the disk is given.
 #[derive(Drop)]
 pub struct Bodies {
-    header: Block,
-    head: Block,
-    claim: Block,
-    status: Block,
-    pages: Vec<u8>,
-}
-
-impl Model for Bodies {
-    ghost use Rattle.mount_states.specs.Forming.{Parts};
-
-    ghost Value = { Parts };
-
-    ghost view = { λ b. record { header = b.header.bytes; head = b.head.bytes; claim = b.claim.bytes; status = b.status.bytes; pages = b.pages.items } };
-}
-
-impl Bodies {
-    pub fn parts(&self) -> NewParts<'_>
-        ensures parts { parts_of result ≡ self.now }
-        ensures header { length result.header.now ≡ 4096 }
-        ensures head { length result.head.now ≡ 4096 }
-        ensures claim { length result.claim.now ≡ 4096 }
-        ensures status { length result.status.now ≡ 4096 }
-    {
-        NewParts {
-            header: &self.header.bytes,
-            head: &self.head.bytes,
-            claim: &self.claim.bytes,
-            status: &self.status.bytes,
-            pages: &self.pages,
-        }
-    }
+    pub header: Block,
+    pub claim: Block,
+    pub status: Block,
 }
 
 /// The bodies of a new group's disk.
 pub fn first_bodies(alloc: Global, group: &NewGroup) -> Result<Bodies, NoMemory>
     requires { IsPlan group.now }
-    ensures { IfOk result (λ bodies. bodies ≡ parts_of_plan group.now) }
+    ensures { IfOk result (λ bodies. AreBodies bodies group.now) }
 {
     let header = header_block(alloc, group)?;
-    let pages = first_pages(alloc, &group.disk)?;
     Ok(Bodies {
         header,
-        head: log_head_block(),
         claim: claim_block(group.id),
         status: status_block(group),
-        pages,
     })
 }
 
@@ -112,23 +76,6 @@ fn header_block(alloc: Global, group: &NewGroup) -> Result<Block, NoMemory>
     let mut block = Block::zeros();
     disk_header::encode(&header, &mut block);
     Ok(block)
-}
-
-/// The head of commit 1, which has no page images.
-#[tactic(auto, unfolding(asm_formats::specs::Logs::log_head_spelling))]
-fn log_head_block() -> Block
-    ensures { result.bytes ≡ log_head_spelling first_head }
-{
-    let mut block = Block::zeros();
-    let mut to = Writer {
-        block: &mut block,
-        at: 0,
-    };
-    put_bytes(&mut to, b"ASML");
-    put_u64(&mut to, 1);
-    put_u32(&mut to, 0);
-    finish(&mut to);
-    block
 }
 
 /// The claim of epoch 1.

@@ -1,7 +1,6 @@
-use Rattle.std.proofs.Common.{◌≡◌, ◌++◌, ℕ, List, true, take, ap, subst, sym, ◌∙◌}
+use Rattle.std.proofs.Common.{◌++◌, ℕ, List, take, ap, sym, ◌∙◌}
 use Rattle.std.specs.Prelude.{codes}
 use Rattle.std.proofs.lemmas.Option.{none-some, same_Some}
-use Rattle.asm_group.specs.Names.{is_name}
 use Rattle.group_disks.proofs.Choosing.{first_name, read_name}
 use Rattle.group_disks.proofs.choose.first_disk_name.Goals as goal
 

@@ -1,4 +1,4 @@
-use Rattle.std.proofs.Common.{◌≡◌, ◌≤◌, ◌<◌, ℕ, take, All}
+use Rattle.std.proofs.Common.{◌≤◌, ◌<◌, ℕ, take, All}
 use Rattle.bay.specs.Counts.{last_count}
 use Rattle.group_disks.proofs.choose.next_id.Given as goal
 

@@ -1,4 +1,4 @@
-use Rattle.std.proofs.Common.{◌≡◌, ℕ, Some, None, ◌∙◌}
+use Rattle.std.proofs.Common.{◌≡◌, Some, None, ◌∙◌}
 use Rattle.group_disks.specs.Probes.{id_in}
 use Rattle.group_disks.proofs.Told.{told_before, told_id, told_no_id, same_id}
 use Rattle.group_disks.proofs.find.look.Goals as goal
