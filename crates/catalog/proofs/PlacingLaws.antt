@@ -38,7 +38,7 @@ run_is : (m : UnitMap) (at n : ℕ) → is_run_free m at n ≡ true → IsFreeRu
 run_is m at n e = all_in (is_free m) at n e
 
 no_run : (m : UnitMap) (at n : ℕ) → (IsFreeRun m at n → ⊥) → is_run_free m at n ≡ false
-no_run m at n other = elim (either (is_run_free m at n)) [ | inl is ↦ absurd (other (run_is m at n is)) | inr not ↦ not ]
+no_run m at n other = elim (either (is_run_free m at n)) [ inl is ↦ absurd (other (run_is m at n is)) | inr not ↦ not ]
 
 pub no_disk : (ms : List UnitMap) (h : Home) (len : ℕ) → length ms ≤ h.disk → home_taken ms h len ≡ None
 no_disk ms h len past = rw (slice_get_past ms h.disk past) refl

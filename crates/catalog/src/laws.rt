@@ -10,5 +10,4 @@ ghost use Rattle.catalog.specs.Faults.{IsAtFault, IsCatalogOf};
 /// Where a record is at fault, no value is a catalog of the records.
 pub fn a_fault_leaves_no_catalog()
     ensures { (content : Items Entry) (es : Items StatusEntry) (c : Catalogued) (k : Key) → IsAtFault content c.shape es k → ¬ IsCatalogOf content es c }
-{
-}
+{}

@@ -34,11 +34,7 @@ fn place_all(units: &mut [Units], step: u32, extents: &ExtentMap) -> Option<(u32
 }
 
 /// The same of a vector.
-pub(crate) fn place_in(
-    units: &mut Vec<Units>,
-    step: u32,
-    extents: &ExtentMap,
-) -> Option<(u32, u32)>
+pub(crate) fn place_in(units: &mut Vec<Units>, step: u32, extents: &ExtentMap) -> Option<(u32, u32)>
     ensures fault { result ≡ misplaced step units.old.items extents.now }
     ensures after { IfNone result (after_chunks step units.old.items extents.now ≡ Some units.new.items) }
 {
@@ -68,7 +64,15 @@ fn place_extent(units: &mut [Units], file: u32, index: u64, len: u32, homes: &Ho
     ensures { after_homes units.old (placed_copies file index len homes.now) ≡ (if result then Some units.new else None) }
 {
     let homes = *homes;
-    place_three(units, file, index, len, homes.first, homes.second, homes.third)
+    place_three(
+        units,
+        file,
+        index,
+        len,
+        homes.first,
+        homes.second,
+        homes.third,
+    )
 }
 
 #[tactic(auto, using(crate::proofs::PlacingLaws::first_refused, crate::proofs::PlacingLaws::second_refused, crate::proofs::PlacingLaws::third_is))]

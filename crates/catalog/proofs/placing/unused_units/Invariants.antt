@@ -1,7 +1,6 @@
 use Rattle.std.proofs.Common.{◌≡◌, map}
 use Rattle.std.specs.List.{range_with_len}
 use Rattle.asm_formats.specs.Regions.{reserved_units}
-
 use Rattle.allocator.specs.UnitMaps.{unused}
 use Rattle.catalog.specs.Placing.{disk_units}
 use Rattle.catalog.proofs.placing.unused_units.Given as goal
