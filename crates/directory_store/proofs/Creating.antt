@@ -1,29 +1,26 @@
 -- The first records of a group.
-use Rattle.std.proofs.Common.{◌≡◌, ◌⊎◌, inl, inr, ⊎_elim, ℕ, ◌+◌, ◌-◌, ◌*◌, ◌^◌, ◌<◌, ◌≤◌, false, true, List, [], ◌∷◌, length, get_or, map, refl, sym, ap, subst, ◌∙◌, Option, Some, None, arith}
-use Rattle.std.specs.Prelude.{IsTrue, is_some, nat_lt}
+use Rattle.std.proofs.Common.{◌≡◌, inl, inr, ⊎_elim, ℕ, ◌<◌, true, List, [], ◌∷◌, length, get_or, map, refl, sym, ap, subst, ◌∙◌, Some, None, arith}
+use Rattle.std.specs.Prelude.{is_some, nat_lt}
 use Rattle.std.specs.List.{list_all}
 use Rattle.std.proofs.lemmas.Bool.{true≢false, and_from}
-use Rattle.bay.specs.Image.{Image}
 use Rattle.bay.specs.State.{BayState, IsSound, KeepsAttached}
 use Rattle.bay.specs.Moments.{NowOnly, LeavesOnly}
-use Rattle.bay.proofs.Calls.{leaves_begin, leaves_less, started}
+use Rattle.bay.proofs.Calls.{leaves_begin, leaves_less}
 use Rattle.asm_base.specs.declared.block.Block.{Block}
-use Rattle.asm_base.specs.Records.{Entry, record_at}
+use Rattle.asm_base.specs.Records.{Entry}
 use Rattle.asm_formats.specs.Among.{IsAmong}
 use Rattle.asm_formats.specs.Items.{Key}
 use Rattle.asm_formats.specs.Status.{ascends_from}
 use Rattle.change_directory.specs.declared.copy.DirCopy.{DirCopy}
-use Rattle.change_directory.specs.Changes.{content_in}
-use Rattle.change_directory.specs.Logs.{are_pages}
-use Rattle.change_directory.specs.StoreLaws.{IsShaped, HasRegion, shown_by, zero_page}
+use Rattle.change_directory.specs.StoreLaws.{shown_by, zero_page}
 use Rattle.change_directory.proofs.Usable.{still_copy}
 use Rattle.page_map.specs.Changes.{value_after}
-use Rattle.page_map.specs.Tables.{PageTable, IsTable, Shows, place_at}
+use Rattle.page_map.specs.Tables.{PageTable, IsTable, Shows}
 use Rattle.page_map.specs.Contents.{AreItems}
 use Rattle.page_map.specs.Applying.{Applies}
 use Rattle.directory_store.specs.Contents.{ArePutItems}
 use Rattle.directory_store.specs.Copies.{AllAreShut, AreApart, AreNamed, ArePagesOf, AreSettled, HaveNoneOr, first_size}
-use Rattle.directory_store.specs.Stores.{Stored, Keeps, AreFirst, HaveNoneOrFirst, HaveOneSize, IsEmpty}
+use Rattle.directory_store.specs.Stores.{Keeps, AreFirst, HaveNoneOrFirst, IsEmpty}
 use Rattle.directory_store.proofs.Records.{items_after, has_records}
 use Rattle.directory_store.proofs.Renewing.{sized_now, shut_is}
 use Rattle.directory_store.proofs.Steps.{shaped}

@@ -1,15 +1,15 @@
 -- The records of a change, and the content of the pages that show them.
 use Rattle.std.proofs.Common.{◌≡◌, ◌⊎◌, inl, inr, ⊎_elim, ℕ, ◌+◌, ◌^◌, ◌<◌, ◌≤◌, Bool, true, false, cond, List, [], ◌∷◌, length, map, refl, sym, ap, subst, ◌∙◌, Option, Some, None, arith}
-use Rattle.std.specs.Prelude.{◌&&◌, ◌==◌, nat_le, nat_lt, is_some, unwrap_or}
+use Rattle.std.specs.Prelude.{◌&&◌, nat_le, nat_lt, unwrap_or}
 use Rattle.std.specs.List.{list_all, range_with_len}
-use Rattle.std.proofs.lemmas.Bool.{true≢false, and_parts, and_from, leb-true, ltb-true, le-leb, lt-ltb, eq-eqb, ne_eqb}
+use Rattle.std.proofs.lemmas.Bool.{and_parts, and_from, leb-true, ltb-true, le-leb, lt-ltb, eq-eqb, ne_eqb}
 use Rattle.bay.specs.Image.{Image}
 use Rattle.asm_group.specs.Names.{Bytes}
 use Rattle.asm_base.specs.declared.block.Block.{Block}
 use Rattle.asm_base.specs.Records.{Entry, is_key, record_at}
 use Rattle.asm_formats.specs.Among.{IsAmong}
 use Rattle.asm_formats.specs.Content.{is_page, records_in}
-use Rattle.asm_formats.specs.Items.{Item, Key}
+use Rattle.asm_formats.specs.Items.{Key}
 use Rattle.asm_formats.specs.Logs.{PageImage, head_of, is_log_head, image_of}
 use Rattle.asm_formats.specs.Pages.{with_images}
 use Rattle.asm_formats.specs.Regions.{log_pages}
@@ -24,7 +24,6 @@ use Rattle.change_directory.specs.StoreLaws.{content_with}
 use Rattle.page_map.specs.Changes.{is_gone, last_put, value_after}
 use Rattle.page_map.specs.Tables.{PageTable, IsTable, Shows}
 use Rattle.page_map.specs.Contents.{AreItems, IsItemOf}
-use Rattle.page_map.specs.Applying.{Applies}
 use Rattle.page_map.proofs.Keys.{one_or_other, same_key}
 use Rattle.page_map.proofs.Showing.{shown_is_content}
 use Rattle.directory_store.specs.Contents.{HasRecords, ArePutItems}

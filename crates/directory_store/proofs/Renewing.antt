@@ -1,11 +1,11 @@
 -- The steps by which a copy is made.
-use Rattle.std.proofs.Common.{◌≡◌, ◌⊎◌, inl, inr, ⊎_elim, ℕ, ◌+◌, ◌-◌, ◌*◌, ◌^◌, ◌<◌, ◌≤◌, false, true, List, [], ◌∷◌, map, refl, sym, ap, subst, ◌∙◌, Option, Some, None, arith}
+use Rattle.std.proofs.Common.{◌≡◌, ◌⊎◌, inl, inr, ⊎_elim, ℕ, ◌-◌, ◌*◌, ◌^◌, ◌<◌, ◌≤◌, List, [], ◌∷◌, refl, sym, subst, ◌∙◌, Option, Some, None, arith}
 use Rattle.std.specs.Prelude.{IsTrue, IsSome, IfErr, Result, Ok, Err, unwrap_or}
 use Rattle.std.proofs.lemmas.Bool.{true≢false}
 use Rattle.bay.specs.Image.{Image, ChangesOnly}
 use Rattle.bay.specs.State.{BayState, IsSound, IsSlot, KeepsAttached}
 use Rattle.bay.specs.Moments.{Runs, Ends, NowOnly, LeavesOnly}
-use Rattle.bay.proofs.Calls.{goes_on, stops, widened, on_more, started, leaves_only, leaves_on, leaves_begin, now_only, now_of, attached-trans}
+use Rattle.bay.proofs.Calls.{goes_on, stops, widened, on_more, started, leaves_only, leaves_on, leaves_begin, now_only, attached-trans}
 use Rattle.bay.proofs.Images.{changes-same, same-refl, changes-within}
 use Rattle.asm_group.specs.Names.{Bytes}
 use Rattle.asm_base.specs.declared.block.Block.{Block}
@@ -14,15 +14,14 @@ use Rattle.asm_formats.specs.Pages.{home_page}
 use Rattle.asm_formats.specs.Regions.{region_end}
 use Rattle.asm_formats.specs.Bytes.{block_size}
 use Rattle.change_directory.specs.declared.copy.DirCopy.{DirCopy}
-use Rattle.change_directory.specs.declared.copy.LogSlot.{LogSlot}
 use Rattle.change_directory.specs.Places.{IsCopy}
-use Rattle.change_directory.specs.Changes.{disk, content_in, DecodesIn, IsAtHome, IsAbove, MayLog, HasLogged}
+use Rattle.change_directory.specs.Changes.{disk, content_in, DecodesIn, IsAtHome, MayLog, HasLogged}
 use Rattle.change_directory.specs.Formatting.{AreShut, HasFormatted, MayLoseContent}
-use Rattle.change_directory.specs.Homes.{HomesOf, HasHomed, AreDue, KeepsContent}
+use Rattle.change_directory.specs.Homes.{HasHomed, KeepsContent}
 use Rattle.change_directory.specs.Laws.{ArePut}
-use Rattle.change_directory.specs.Logs.{are_pages, is_open_at}
+use Rattle.change_directory.specs.Logs.{are_pages}
 use Rattle.change_directory.specs.StoreLaws.{IsShaped, HasRegion, IsUnopened, RegionOf, SameCopy, content_with, shown_by, zero_page}
-use Rattle.change_directory.proofs.Copies.{unopened, shut_decodes}
+use Rattle.change_directory.proofs.Copies.{unopened}
 use Rattle.change_directory.proofs.Usable.{short_sector}
 use Rattle.directory_store.specs.Copies.{AllAreShut, AreApart, AreNamed, AreSettled, HaveNoneOr, IsFailedSlot, IsSettled, IsSlotOf, MayBecome, RegionsOf}
 use Rattle.directory_store.proofs.CopyLaws.{formatted_is_empty, unopened_homed, unopened_opens, opening_has_none_or_all}

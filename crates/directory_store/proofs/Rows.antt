@@ -20,7 +20,7 @@ use Rattle.change_directory.specs.Changes.{content_in}
 use Rattle.change_directory.specs.Logs.{image_of_page}
 use Rattle.change_directory.specs.StoreLaws.{IsShaped, HasRegion, SameRegion, SameCopy, RegionOf, content_with}
 use Rattle.change_directory.proofs.Usable.{still_copy}
-use Rattle.directory_store.specs.Copies.{AreApart, AreKept, AreNamed, AreSettledBut, FailedAlone, HasEither, HaveEither, IsApartFrom, IsKept, IsNamed, IsSettled, IsSlotOf, RegionsOf, WritesFew, calls_for, due_of}
+use Rattle.directory_store.specs.Copies.{AreApart, AreKept, AreNamed, AreSettledBut, FailedAlone, HasEither, HaveEither, IsApartFrom, IsKept, IsSettled, IsSlotOf, RegionsOf, WritesFew, calls_for, due_of}
 use Rattle.directory_store.specs.declared.due.Due.{Due}
 use Rattle.directory_store.proofs.CopyLaws.{region_is_same}
 use Rattle.directory_store.proofs.Steps.{both_run, shaped}

@@ -1,8 +1,8 @@
 -- What a commit makes of what a store keeps.
-use Rattle.std.proofs.Common.{◌≡◌, ◌⊎◌, inl, inr, ⊎_elim, ℕ, ◌+◌, ◌-◌, ◌*◌, ◌^◌, ◌<◌, ◌≤◌, Bool, true, false, cond, List, [], ◌∷◌, length, map, refl, sym, ap, subst, ◌∙◌, Option, Some, None, arith}
-use Rattle.std.specs.Prelude.{not, ◌==◌, filter, nat_lt, is_some}
+use Rattle.std.proofs.Common.{◌≡◌, inl, inr, ⊎_elim, ℕ, ◌+◌, ◌-◌, ◌^◌, ◌<◌, ◌≤◌, Bool, true, false, cond, List, [], ◌∷◌, length, map, refl, sym, ap, subst, ◌∙◌, arith}
+use Rattle.std.specs.Prelude.{not, ◌==◌, filter, nat_lt}
 use Rattle.std.specs.List.{list_all}
-use Rattle.std.proofs.lemmas.Bool.{true≢false, cond_both}
+use Rattle.std.proofs.lemmas.Bool.{true≢false}
 use Rattle.bay.specs.Image.{Image}
 use Rattle.bay.specs.State.{BayState, KeepsAttached}
 use Rattle.bay.specs.Counts.{Rose}
@@ -11,24 +11,22 @@ use Rattle.bay.proofs.Calls.{leaves_begin, leaves_less, now_only, started, stops
 use Rattle.bay.proofs.Images.{same-refl}
 use Rattle.asm_group.specs.Names.{Bytes}
 use Rattle.asm_base.specs.declared.block.Block.{Block}
-use Rattle.asm_base.specs.Records.{Entry, is_key, record_at}
+use Rattle.asm_base.specs.Records.{Entry}
 use Rattle.asm_formats.specs.Among.{IsAmong}
 use Rattle.asm_formats.specs.Items.{Key}
 use Rattle.asm_formats.specs.Pages.{with_images}
 use Rattle.asm_formats.specs.Sets.{has_bit}
 use Rattle.asm_formats.proofs.Among.{among_filter, filter_among}
 use Rattle.change_directory.specs.declared.copy.DirCopy.{DirCopy}
-use Rattle.change_directory.specs.Laws.{ArePut}
 use Rattle.change_directory.specs.Logs.{image_of_page}
 use Rattle.change_directory.specs.StoreLaws.{SameRegion}
 use Rattle.change_directory.proofs.Usable.{still_copy, short_sector}
-use Rattle.page_map.specs.Free.{is_free}
-use Rattle.page_map.specs.Tables.{PageTable, IsTable, SameTable, Shows, place_at, block_of}
+use Rattle.page_map.specs.Tables.{PageTable, IsTable, SameTable, Shows, block_of}
 use Rattle.page_map.specs.Contents.{AreItems}
 use Rattle.page_map.specs.Applying.{Applies}
-use Rattle.directory_store.specs.Answers.{IsUnchanged, NoCalls}
-use Rattle.directory_store.specs.Contents.{HasRecords, ArePutItems}
-use Rattle.directory_store.specs.Copies.{AreApart, AreKept, AreNamed, AreSettledBut, Earlier, FailedAlone, HaveEither, IsApartFrom, IsKept, MayPutOn, WritesFew, calls_for, due_of}
+use Rattle.directory_store.specs.Answers.{NoCalls}
+use Rattle.directory_store.specs.Contents.{ArePutItems}
+use Rattle.directory_store.specs.Copies.{AreApart, AreKept, AreNamed, Earlier, FailedAlone, HaveEither, MayPutOn, WritesFew, calls_for, due_of}
 use Rattle.directory_store.specs.Stores.{Stored, Keeps, HaveRecords, HaveEitherRecords, off, others, without}
 use Rattle.directory_store.specs.declared.due.Due.{Due}
 use Rattle.directory_store.proofs.Records.{items_after, pages_decode, is_head, has_records}

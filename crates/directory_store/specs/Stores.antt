@@ -1,5 +1,5 @@
 -- What a store keeps.
-use Rattle.std.specs.Prelude.{◌≡◌, ◌⊎◌, ◌==◌, ℕ, List, true, not, filter, None}
+use Rattle.std.specs.Prelude.{◌≡◌, ◌⊎◌, ◌==◌, ℕ, List, not, filter, None}
 use Rattle.bay.specs.Image.{Image}
 use Rattle.bay.specs.State.{BayState}
 use Rattle.bay.specs.Moments.{NowOnly}

@@ -1,4 +1,4 @@
-use Rattle.std.proofs.Common.{rules, false, ap, ◌∙◌, ◌≡◌, ◌<◌, ◌-◌, ℕ, List, length, map, take, drop, get_or, inr, sym, subst}
+use Rattle.std.proofs.Common.{rules, ap, ◌∙◌, ◌<◌, ◌-◌, ℕ, List, length, map, take, drop, get_or, inr, sym, subst}
 use Rattle.asm_base.specs.declared.block.Block.{Block}
 use Rattle.std.proofs.lemmas.Bool.{true≢false}
 use Rattle.asm_formats.specs.Sets.{has_bit}
@@ -6,11 +6,10 @@ use Rattle.asm_group.specs.Names.{Bytes}
 use Rattle.asm_formats.specs.Pages.{with_images}
 use Rattle.bay.specs.Moments.{NowOnly}
 use Rattle.change_directory.specs.declared.copy.DirCopy.{DirCopy}
-use Rattle.change_directory.specs.Laws.{ArePut}
 use Rattle.change_directory.specs.Logs.{image_of_page, are_pages}
 use Rattle.std.specs.Bool.{IsTrue}
-use Rattle.directory_store.specs.Copies.{AreApart, AreKept, AreNamed, Earlier, IsKept, IsSettled, MayPutOn, due_of}
-use Rattle.directory_store.proofs.Rows.{Commits, CommitsOne, no_commits, first_kept, rest_kept, rest_named, one_more, one_failed, split_first, first_among, no_bit}
+use Rattle.directory_store.specs.Copies.{AreApart, AreKept, AreNamed, Earlier, IsKept, IsSettled, MayPutOn}
+use Rattle.directory_store.proofs.Rows.{Commits, CommitsOne, rest_kept, rest_named, one_more, one_failed, split_first, first_among, no_bit}
 use Rattle.directory_store.proofs.commit.+commit_all.Goals as goal
 
 pub commit_one-taken-requires-clause-copy : goal.commit_one-taken-requires-clause-copy

@@ -1,7 +1,6 @@
-use Rattle.std.proofs.Common.{◌≡◌, ◌∙◌, ℕ, List, [], length, refl, sym, subst}
+use Rattle.std.proofs.Common.{◌≡◌, ◌∙◌, ℕ, List, [], length, sym, subst}
 use Rattle.std.proofs.lemmas.Result.{on_ok_weaker}
 use Rattle.std.proofs.lemmas.Bool.{eqb-true}
-use Rattle.bay.specs.Image.{Image}
 use Rattle.bay.proofs.Calls.{widened, started, leaves_begin}
 use Rattle.bay.proofs.Images.{changes-same, same-refl}
 use Rattle.asm_base.specs.declared.block.Block.{Block}

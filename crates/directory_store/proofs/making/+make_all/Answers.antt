@@ -1,10 +1,8 @@
-use Rattle.std.proofs.Common.{rules, [], ◌∷◌, ◌≡◌, ◌<◌, ◌-◌, ℕ, List, length, take, drop, get_or, inl, inr, refl, sym, subst}
-use Rattle.std.specs.Bool.{IsTrue}
+use Rattle.std.proofs.Common.{rules, [], ◌∷◌, ◌-◌, List, length, take, drop, get_or, inr, sym, subst}
 use Rattle.std.specs.Prelude.{IfErr}
 use Rattle.std.proofs.lemmas.Result.{on_ok_weaker}
 use Rattle.bay.specs.Moments.{NowOnly}
 use Rattle.change_directory.specs.declared.copy.DirCopy.{DirCopy}
-use Rattle.change_directory.specs.Logs.{are_pages}
 use Rattle.change_directory.specs.StoreLaws.{shown_by}
 use Rattle.change_directory.proofs.Usable.{still_copy}
 use Rattle.directory_store.specs.Copies.{AreApart, AreNamed, ArePagesOf, AreSettled, IsFailedSlot}

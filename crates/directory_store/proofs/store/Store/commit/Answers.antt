@@ -1,16 +1,13 @@
-use Rattle.std.proofs.Common.{◌≡◌, ◌∙◌, ◌<◌, ◌+◌, ◌-◌, ◌^◌, ℕ, List, [], length, false, refl, sym, ap, subst, vec_len, arith}
-use Rattle.std.specs.Prelude.{◌==◌}
+use Rattle.std.proofs.Common.{◌≡◌, ◌∙◌, ◌<◌, ◌+◌, ◌-◌, ◌^◌, List, [], refl, sym, ap, subst, vec_len, arith}
 use Rattle.std.proofs.lemmas.Bool.{eqb-true}
-use Rattle.asm_base.specs.declared.block.Block.{Block}
 use Rattle.asm_formats.specs.Among.{IsAmong}
 use Rattle.change_directory.specs.declared.copy.DirCopy.{DirCopy}
-use Rattle.directory_store.specs.Copies.{MayPutOn}
 use Rattle.directory_store.specs.Stores.{Stored, Keeps, HaveRecords, HaveEitherRecords, others}
 use Rattle.bay.specs.Moments.{LeavesOnly, NowOnly}
 use Rattle.directory_store.proofs.Steps.{empty_list}
 use Rattle.directory_store.specs.declared.due.Due.{Due}
 use Rattle.directory_store.proofs.Rows.{Commits, first_among, some_of}
-use Rattle.directory_store.proofs.Storing.{HasCommitted, commits_are, has_committed, kept_have_records, may_put_are, may_put_on, unchanged_keeps, unchanged_moments}
+use Rattle.directory_store.proofs.Storing.{commits_are, has_committed, kept_have_records, may_put_are, may_put_on, unchanged_keeps, unchanged_moments}
 use Rattle.directory_store.proofs.store.Store.commit.Goals as goal
 
 pub returns-then-is_empty-clause-moments : goal.returns-then-is_empty-clause-moments

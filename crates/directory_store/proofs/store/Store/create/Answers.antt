@@ -1,13 +1,11 @@
-use Rattle.std.proofs.Common.{◌≡◌, ◌∙◌, ◌≤◌, ℕ, List, [], get_or, sym, subst, arith}
-use Rattle.std.specs.Bool.{IsTrue}
+use Rattle.std.proofs.Common.{ℕ, List, get_or, sym, subst, arith}
 use Rattle.bay.specs.Moments.{LeavesOnly}
 use Rattle.asm_base.specs.declared.block.Block.{Block}
 use Rattle.asm_formats.specs.Among.{IsAmong}
 use Rattle.change_directory.specs.declared.copy.DirCopy.{DirCopy}
-use Rattle.change_directory.specs.Logs.{are_pages}
 use Rattle.change_directory.specs.StoreLaws.{shown_by}
 use Rattle.directory_store.specs.Copies.{ArePagesOf, AreSettled, HaveNoneOr}
-use Rattle.directory_store.specs.Stores.{Stored, Keeps}
+use Rattle.directory_store.specs.Stores.{Keeps}
 use Rattle.directory_store.specs.declared.due.Due.{Due}
 use Rattle.bay.specs.Moments.{NowOnly}
 use Rattle.directory_store.proofs.Creating.{are_pages_of, first_keeps, first_moments, shut_moments}
