@@ -1,4 +1,4 @@
-//! Tests of what a disk holds: the shared types, headers, status records, the tables of a group, and where extents and their copies go.
+//! Tests of the tables of a group's directories.
 #![tactic(auto)]
 
 #[cfg(test)]
@@ -6,24 +6,12 @@ mod extents;
 #[cfg(test)]
 mod files;
 #[cfg(test)]
-mod headers;
-#[cfg(test)]
-mod layouts;
-#[cfg(test)]
 mod name_edits;
 #[cfg(test)]
 mod names;
 #[cfg(test)]
 mod operations;
 #[cfg(test)]
-mod pages;
-#[cfg(test)]
-mod shared_types;
-#[cfg(test)]
 mod stale_marks;
 #[cfg(test)]
-mod status_records;
-#[cfg(test)]
 mod templates;
-#[cfg(test)]
-mod units;
