@@ -1,8 +1,8 @@
 -- The records of a change, and the content of the pages that show them.
-use Rattle.std.proofs.Common.{◌≡◌, ◌⊎◌, inl, inr, ⊎_elim, ℕ, ◌+◌, ◌^◌, ◌<◌, ◌≤◌, Bool, true, false, cond, List, [], ◌∷◌, length, map, refl, sym, ap, subst, ◌∙◌, Option, Some, None, arith}
+use Rattle.std.proofs.Common.{◌≡◌, ◌⊎◌, inl, inr, ⊎_elim, ℕ, zero, suc, ◌+◌, ◌^◌, ◌<◌, ◌≤◌, Bool, true, false, cond, List, [], ◌∷◌, length, map, refl, sym, ap, subst, ◌∙◌, Option, Some, None, arith}
 use Rattle.std.specs.Prelude.{◌&&◌, nat_le, nat_lt, unwrap_or}
 use Rattle.std.specs.List.{list_all, range_with_len}
-use Rattle.std.proofs.lemmas.Bool.{and_parts, and_from, leb-true, ltb-true, le-leb, lt-ltb, eq-eqb, ne_eqb}
+use Rattle.std.proofs.lemmas.Bool.{and_parts, and_from, leb-true, ltb-true, le-leb, lt-ltb, eq-eqb, ne_eqb, cases_eq}
 use Rattle.bay.specs.Image.{Image}
 use Rattle.asm_group.specs.Names.{Bytes}
 use Rattle.asm_base.specs.declared.block.Block.{Block}
@@ -15,7 +15,6 @@ use Rattle.asm_formats.specs.Pages.{with_images}
 use Rattle.asm_formats.specs.Regions.{log_pages}
 use Rattle.asm_formats.specs.Status.{ascends_from}
 use Rattle.asm_formats.proofs.Among.{all_map, among_map}
-use Rattle.asm_formats.proofs.Damaging.{range_among}
 use Rattle.asm_formats.proofs.RecordLists.{records_of}
 use Rattle.change_directory.specs.declared.copy.DirCopy.{DirCopy}
 use Rattle.change_directory.specs.Logs.{bytes_of_page, image_of_page, log_of}
@@ -27,6 +26,16 @@ use Rattle.page_map.specs.Contents.{AreItems, IsItemOf}
 use Rattle.page_map.proofs.Keys.{one_or_other, same_key}
 use Rattle.page_map.proofs.Showing.{shown_is_content}
 use Rattle.directory_store.specs.Contents.{HasRecords, ArePutItems}
+
+-- ---- the pages of a copy
+
+-- a number from k on and below k + n is one of the n numbers from k on
+in_range : (k n j : ℕ) → k ≤ j → j < k + n → IsAmong (range_with_len k n) j
+in_range k zero j low high = absurd (omega (arith, low, high))
+in_range k (suc n) j low high = ⊎_elim (λ e. inl e) (λ lt. inr (in_range (k + 1) n j (omega (arith, lt)) (omega (arith, high)))) (first j k low)
+  where
+    first : (j k : ℕ) → k ≤ j → (j ≡ k) ⊎ (k < j)
+    first j k le = ⊎_elim (λ e. inl e) (λ differ. inr (omega (arith, le, differ))) (cases_eq j k)
 
 -- ---- the records after a change
 
@@ -96,7 +105,7 @@ shown_page : (t : PageTable) (page : ℕ → Bytes) → IsTable t → Shows t pa
 shown_page t page sound shows items p inside =
     let content = shown_is_content t page sound shows items in
     (records_of (map page (range_with_len 0 t.free.units)) content.0 content.1).decode (page p)
-    (among_map page (range_with_len 0 t.free.units) p (range_among 0 t.free.units p (omega arith) (omega (arith, inside))))
+    (among_map page (range_with_len 0 t.free.units) p (in_range 0 t.free.units p (omega arith) (omega (arith, inside))))
 
 -- the pages that change are pages
 pub pages_decode : (new : PageTable) (page : ℕ → Bytes) (pages : List (ℕ × Block)) → IsTable new → AreItems new → Shows new (with_images (map image_of_page pages) page)

@@ -2,7 +2,7 @@ pub mod Outsiders
 pub mod Departing
 pub mod FirstBodies
 pub mod FirstGroup
-pub mod FirstContent
+pub mod FirstStore
 pub mod FirstCopy
 pub mod Parts
 pub mod Shown

@@ -4,13 +4,13 @@ use Rattle.asm_group.specs.declared.GroupKind.TheVariants.{External}
 use Rattle.asm_group.specs.declared.Mode.TheVariants.{Online}
 use Rattle.asm_group.specs.Names.{Bytes, is_name}
 use Rattle.asm_group.specs.NewGroup.{system_templates, usual_attributes}
+use Rattle.asm_base.specs.Records.{Entry as Keyed}
 use Rattle.asm_formats.specs.Header.{Header, header_spelling}
 use Rattle.asm_formats.specs.Claim.{Claim, claim_spelling}
 use Rattle.asm_formats.specs.Status.{Status, Entry, status_spelling}
-use Rattle.asm_formats.specs.Items.{Item, disk_item, templates_item, settings_item}
-use Rattle.asm_formats.specs.Records.{record_spelling}
+use Rattle.asm_formats.specs.Items.{Item, key, disk_item, templates_item, settings_item}
+use Rattle.asm_formats.specs.Values.{value}
 use Rattle.asm_formats.specs.Content.{Content}
-use Rattle.asm_formats.specs.Logs.{PageImage}
 use Rattle.asm_formats.specs.Regions.{most_units}
 use Rattle.asm_images.specs.Kept.{Kept}
 use Rattle.group_disks.specs.Creating.{usual_shape}
@@ -80,10 +80,10 @@ items_of_plan plan = disk_of_plan plan ∷ first_templates ∷ first_settings �
 abbrev pub content_of_plan : Plan → Content
 content_of_plan plan = record { commit = 1; items = Some (items_of_plan plan) }
 
--- a page for each of them, from page 0 on
-abbrev pub first_images : Plan → List PageImage
-first_images plan =
-    (0, record_spelling (disk_of_plan plan)) ∷ (1, record_spelling first_templates) ∷ (2, record_spelling first_settings) ∷ []
+-- they are put into nothing, each as its key and its value
+abbrev pub first_entries : Plan → List Keyed
+first_entries plan =
+    (key (disk_of_plan plan), value (disk_of_plan plan)) ∷ (key first_templates, value first_templates) ∷ (key first_settings, value first_settings) ∷ []
 
 -- ---- the bodies behind the disk's gates
 

@@ -169,7 +169,6 @@ fn form<B: Bay>(
     requires room { HasRoom slot group.now.units (B.state bay.old) }
     requires among { slot < slots }
     ensures attached { KeepsAttached (B.state bay.old) (B.state bay.new) }
-    ensures calls { (B.state bay.new).calls ≤ (B.state bay.old).calls + 98 }
     ensures runs { Runs (IsSlot slot) (Creates slot group.now.id (made_group group.now.name)) (B.state bay.old) (B.state bay.new) }
     ensures done { OnOk result (Ends (Founds slots group.now.id (made_group group.now.name) (kept_of_plan slot group.now)) (B.state bay.old) (B.state bay.new)) }
     ensures cause { IfErr result (λ refusal. IsFormFault slot group.now.disk (said (λ _. []) refusal) (counts_of (B.state bay.old)) (counts_of (B.state bay.new))) }

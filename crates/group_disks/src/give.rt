@@ -1,5 +1,5 @@
 // The disk of a new group gets its parts: header, directory copy, claim, status record.
-ghost use Rattle.std.specs.Prelude.{◌≤◌, ◌+◌, OnOk, IsErrOf};
+ghost use Rattle.std.specs.Prelude.{OnOk, IsErrOf};
 ghost use Rattle.bay.specs.Image.{ChangesOnly};
 ghost use Rattle.bay.specs.State.{IsSlot, KeepsAttached};
 ghost use Rattle.bay.specs.Counts.{Rose};
@@ -28,7 +28,6 @@ pub fn give_parts<B: Bay>(
     requires bodies { AreBodies bodies.now group.now }
     requires room { HasRoom slot group.now.units (B.state bay.old) }
     ensures attached { KeepsAttached (B.state bay.old) (B.state bay.new) }
-    ensures calls { (B.state bay.new).calls ≤ (B.state bay.old).calls + 98 }
     ensures runs { Runs (IsSlot slot) (MayForm slot group.now) (B.state bay.old) (B.state bay.new) }
     ensures done { OnOk result (Ends (HasFormed slot group.now) (B.state bay.old) (B.state bay.new)) }
     ensures cause { IsErrOf result BayError.Fault → Rose ((B.state bay.old).faults slot) ((B.state bay.new).faults slot) }
@@ -52,7 +51,6 @@ fn give_rest<B: Bay>(
     requires room { HasRoom slot group.now.units (B.state bay.old) }
     requires headed { NowOnly (B.state bay.old) (IsHeaded slot group.now) }
     ensures attached { KeepsAttached (B.state bay.old) (B.state bay.new) }
-    ensures calls { (B.state bay.new).calls ≤ (B.state bay.old).calls + 62 }
     ensures runs { Runs (IsSlot slot) (ChangesOnly (MetaOf slot 1024)) (B.state bay.old) (B.state bay.new) }
     ensures moments { LeavesOnly (B.state bay.old) (B.state bay.new) (IsForming slot group.now) }
     ensures done { OnOk result (NowOnly (B.state bay.new) (HasAll slot group.now)) }

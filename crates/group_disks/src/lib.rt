@@ -5,7 +5,7 @@ mod choose;
 mod create;
 mod directory;
 mod find;
-mod first_pages;
+mod first_change;
 mod give;
 mod laws;
 mod new_group;

@@ -1,15 +1,13 @@
-// The first pages of a new group's directory: its disk, the system templates and the settings.
-ghost use Rattle.std.specs.Prelude.{◌≡◌, ◌++◌, ◌∷◌, [], IfOk, OnOk, IsTrue, map};
+// The first records of a new group's directory: its disk, the system templates and the settings.
+ghost use Rattle.std.specs.Prelude.{◌≡◌, [], IfOk, IsTrue};
 ghost use Rattle.asm_group.specs.Names.{is_name};
 ghost use Rattle.asm_formats.specs.Items.{disk_item};
 ghost use Rattle.asm_formats.specs.Values.{value};
-ghost use Rattle.asm_formats.specs.Records.{frame_spelling};
-ghost use Rattle.change_directory.specs.Logs.{image_of_page};
-ghost use Rattle.group_disks.specs.Planned.{IsPlan, first_images, first_templates, first_settings};
+ghost use Rattle.group_disks.specs.Planned.{IsPlan, first_entries, first_templates, first_settings};
 
 use crate::new_group::NewGroup;
 use asm_base::{
-    Block, GroupKind, Key, Name, NoMemory, Value, Writer, encode_record, put_name, put_u64,
+    Block, Change, GroupKind, Key, List, Name, NoMemory, Value, Writer, put_name, put_u64,
 };
 use std::alloc::Global;
 use template_directory::{Settings, settings_value, system, templates_value};
@@ -35,33 +33,23 @@ const SETTINGS: Key = Key {
     b: 0,
 };
 
-/// A page for each of the first records, by its number.
-pub fn first_pages(alloc: Global, group: &NewGroup) -> Result<Vec<(u32, Block)>, NoMemory>
+/// The first records of a group.
+pub fn first_change(alloc: Global, group: &NewGroup) -> Result<Change, NoMemory>
     requires { IsPlan group.now }
-    ensures { IfOk result (λ pages. map image_of_page pages.items ≡ first_images group.now) }
+    ensures put { IfOk result (λ change. change.put ≡ first_entries group.now) }
+    ensures gone { IfOk result (λ change. change.gone ≡ []) }
 {
-    let mut pages = Vec::new(alloc);
-    let value = disk_value(alloc, &group.disk)?;
-    add_record(&mut pages, 0, DISK, &value)?;
-    let value = first_templates(alloc)?;
-    add_record(&mut pages, 1, TEMPLATES, &value)?;
-    let value = first_settings(alloc)?;
-    add_record(&mut pages, 2, SETTINGS, &value)?;
-    Ok(pages)
-}
-
-/// Puts a record's page behind the others.
-fn add_record(
-    pages: &mut Vec<(u32, Block)>,
-    number: u32,
-    key: Key,
-    value: &Value,
-) -> Result<(), NoMemory>
-    ensures { OnOk result (map image_of_page pages.new.items ≡ map image_of_page pages.old.items ++ (number, frame_spelling (record { key = key; value = value.now })) ∷ []) }
-{
-    let mut block = Block::zeros();
-    encode_record(&key, value, &mut block);
-    pages.push((number, block)).map_err(|_| NoMemory)
+    let disk = disk_value(alloc, &group.disk)?;
+    let templates = first_templates(alloc)?;
+    let settings = first_settings(alloc)?;
+    let mut put = Vec::new(alloc);
+    put.push((DISK, disk)).map_err(|_| NoMemory)?;
+    put.push((TEMPLATES, templates)).map_err(|_| NoMemory)?;
+    put.push((SETTINGS, settings)).map_err(|_| NoMemory)?;
+    Ok(Change {
+        put: List::from_vec(put),
+        gone: List::new(alloc),
+    })
 }
 
 /// The disk has birth 1, and is in a failure group of its own.
