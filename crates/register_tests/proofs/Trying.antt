@@ -1,10 +1,11 @@
 -- What tests find out before they call a register.
-use Rattle.std.proofs.Common.{◌≡◌, inl, inr, ℕ, ◌+◌, ◌≤◌, ◌<◌, Bool, true, false, List, [], ◌∷◌, map, nat_le, nat_lt, Option, Some, refl, sym, ap, subst, ◌∙◌, arith, IsTrue}
+use Rattle.std.proofs.Common.{◌≡◌, inl, inr, ℕ, ◌+◌, ◌≤◌, ◌<◌, Bool, true, false, List, [], ◌∷◌, map, nat_le, nat_lt, Option, Some, None, refl, sym, ap, subst, ◌∙◌, arith, IsTrue}
 use Rattle.std.specs.Prelude.{◌==◌, ◌&&◌, IsSome, unwrap_or}
 use Rattle.std.specs.List.{list_all}
-use Rattle.std.specs.Option.{ForSome}
+use Rattle.std.specs.Option.{ForSome, option_map}
 use Rattle.std.proofs.lemmas.Bool.{cond-true, cond-false, cases_eq, eqb-true, and_parts, leb-true, ltb-true}
 use Rattle.std.proofs.lemmas.List.Folds.{list_all-append}
+use Rattle.std.proofs.lemmas.Option.{none-some, same_Some}
 use Rattle.bay.specs.State.{BayState, AttachesOnly}
 use Rattle.asm_placement.specs.Among.{IsAmong}
 use Rattle.asm_formats.specs.Sets.{has_bit}
@@ -70,6 +71,23 @@ still_there s t slot others has k sector before =
       long = subst (λ (o : Option ℕ). 40960 ≤ unwrap_or o 0) (sym same) before.long;
     }
 
+-- ---- one holder
+
+abbrev pub birth_in : Entry → ℕ
+birth_in e = e.birth
+
+and-true : (b : Bool) → (b && true) ≡ b
+and-true false = refl
+and-true true = refl
+
+pub no_holder : (p : Holder → Bool) (d : ℕ) (e : Option Entry) → option_map birth_in e ≡ None → list_all p (holder_of d e) ≡ true
+no_holder p d None is = refl
+no_holder p d (Some e) is = absurd (none-some e.birth (sym is))
+
+pub one_holder : (p : Holder → Bool) (d : ℕ) (e : Option Entry) (birth : ℕ) → option_map birth_in e ≡ Some birth → list_all p (holder_of d e) ≡ p (d, birth)
+one_holder p d None birth is = absurd (none-some birth is)
+one_holder p d (Some e) birth is = and-true (p (d, e.birth)) ∙ ap (λ (b : ℕ). p (d, b)) (same_Some e.birth birth is)
+
 -- ---- all holders are there
 
 module _ (p : Holder → Bool) (entries : List Entry) (set : ℕ) where
@@ -87,7 +105,7 @@ module _ (p : Holder → Bool) (entries : List Entry) (set : ℕ) where
   out_of_set d out = ap (list_all p) (cond-false (has_bit set d) (holder_of d (entry_of entries d)) [] out)
 
   pub in_set : (d : ℕ) → has_bit set d ≡ true → list_all p (holder_of d (entry_of entries d)) ≡ true → list_all p (of_disk entries set d) ≡ true
-  in_set d yes here = ap (list_all p) (cond-true (has_bit set d) (holder_of d (entry_of entries d)) [] yes) ∙ here
+  in_set d inside here = ap (list_all p) (cond-true (has_bit set d) (holder_of d (entry_of entries d)) [] inside) ∙ here
 
   pub all_held : (d : ℕ) → 64 ≤ d → list_all p (disks_from entries set d) ≡ list_all p (disks_of entries set) → (h : Holder) → IsAmong (disks_of entries set) h → IsTrue (p h)
   all_held d le same h among = all_among p (disks_of entries set) h (sym same ∙ ap (list_all p) (none_from entries set d le)) among

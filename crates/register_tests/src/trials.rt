@@ -1,6 +1,7 @@
 // The calls of a register as tests make them: what they require is tested first.
 ghost use Rattle.std.specs.Prelude.{◌≡◌, ◌≤◌, ◌&&◌, ◌==◌, ℕ, true, length, map, nat_le, nat_lt, IsTrue};
 ghost use Rattle.std.specs.List.{list_all};
+ghost use Rattle.std.specs.Option.{option_map};
 ghost use Rattle.asm_formats.specs.Following.{Holder, disks_of, holder_of};
 ghost use Rattle.asm_formats.specs.Status.{ascends_from, entry_of};
 ghost use Rattle.asm_placement.specs.Among.{IsAmong};
@@ -99,14 +100,26 @@ fn is_there(members: &[Member], number: u8, birth: u64) -> bool
         .any(|member| member.number == number && member.birth == birth)
 }
 
-/// Whether the disk of this number, if it has an entry, is one of the members.
+/// The birth of a disk by its entry.
 #[tactic(auto, unfolding(asm_formats::specs::Status::entry_of))]
+fn birth_of(entries: &[PstEntry], disk: u8) -> Option<u64>
+    ensures { result ≡ option_map (λ e. e.birth) (entry_of entries.now disk) }
+{
+    for entry in entries {
+        if entry.number == disk {
+            return Some(entry.birth);
+        }
+    }
+    None
+}
+
+/// Whether the disk of this number, if it has an entry, is one of the members.
 fn is_entry_there(members: &[Member], entries: &[PstEntry], disk: u8) -> bool
     ensures { result ≡ list_all (is_there members.now) (holder_of disk (entry_of entries.now disk)) }
 {
-    match entries.iter().find(|entry| entry.number == disk) {
+    match birth_of(entries, disk) {
         None => true,
-        Some(entry) => is_there(members, disk, entry.birth),
+        Some(birth) => is_there(members, disk, birth),
     }
 }
 
