@@ -1,16 +1,15 @@
 -- The extents that a file has by its size.
-use Rattle.std.proofs.Common.{◌≡◌, ℕ, ◌<◌, ◌≤◌, Bool, true, false, ltb, List, [], Option, Some, None, refl, subst, sym, ap, ◌∙◌, arith, inl, inr, ◌⊎◌}
-use Rattle.std.specs.Prelude.{◌↔◌, ◌/◌, ◌%◌, IsTrue, get_or, ◌&&◌}
+use Rattle.std.proofs.Common.{◌≡◌, ℕ, ◌<◌, Bool, true, false, List, [], Option, Some, None, refl, subst, sym, arith, inl, inr, ◌⊎◌}
+use Rattle.std.specs.Prelude.{◌↔◌, ◌/◌, ◌%◌, get_or, ◌&&◌}
 use Rattle.std.specs.Option.{option_and_then, unwrap_or}
 use Rattle.std.proofs.lemmas.Bool.{and_parts}
 use Rattle.asm_group.specs.Shape.{Shape, is_shape, is_unit_size, is_step, is_sector, is_dir_blocks}
 use Rattle.asm_formats.specs.Items.{FileHead, Homes, chunk_len}
 use Rattle.std.proofs.Common.{cond}
 use Rattle.asm_placement.specs.Layout.{IsLayout}
-use Rattle.file_directory.specs.Files.{File}
-use Rattle.extent_map.specs.Extents.{Chunked, HasCount, HasExtent, chunk_at, extent_at, has_extent, has_home}
+use Rattle.extent_map.specs.Extents.{Chunked, HasCount, chunk_at, extent_at, has_extent, has_home}
 use Rattle.catalog.specs.Tables.{Tables}
-use Rattle.catalog.specs.Rules.{HasExtents, IsShort, LacksExtent, has_copies, is_due}
+use Rattle.catalog.specs.Rules.{HasExtents, LacksExtent, has_copies, is_due}
 
 shape_layout : (s : Shape) → is_shape s ≡ true → IsLayout s.au s.step
 unfolding is_shape

@@ -1,5 +1,5 @@
 -- Where a record is at fault, there is no catalog of the records.
-use Rattle.std.proofs.Common.{◌≡◌, ℕ, ◌<◌, ◌≤◌, ◌+◌, Bool, true, false, cond, List, [], ◌∷◌, map, Option, Some, None, refl, sym, ap, subst, ◌∙◌, arith, inl, inr, ◌⊎◌}
+use Rattle.std.proofs.Common.{◌≡◌, ℕ, Bool, true, false, List, [], ◌∷◌, Option, Some, None, refl, sym, ap, subst, ◌∙◌, arith, inl, inr}
 use Rattle.std.specs.Prelude.{not, find}
 use Rattle.std.specs.List.{AllByRecursion, list_all}
 use Rattle.std.proofs.lemmas.Bool.{and_parts, true≢false}
@@ -19,7 +19,7 @@ use Rattle.extent_map.specs.Extents as extents
 use Rattle.extent_map.specs.Faults.{HasGap, gap_from}
 use Rattle.extent_map.proofs.Laws as extent_laws
 use Rattle.alias_tree.specs.Nodes as nodes
-use Rattle.alias_tree.specs.Faults.{HasFault, IsTwin, IsUnrooted}
+use Rattle.alias_tree.specs.Faults.{HasFault}
 use Rattle.alias_tree.proofs.Rules as node_laws
 use Rattle.template_directory.specs.Tables as templates
 use Rattle.template_directory.proofs.ReadingLaws as template_laws
@@ -31,7 +31,7 @@ use Rattle.operations_directory.proofs.Laws as operation_laws
 use Rattle.catalog.specs.Disks as disks
 use Rattle.catalog.proofs.DiskLaws as disk_laws
 use Rattle.catalog.specs.Tables.{AreTables, Catalogued, HasRecords, Tables}
-use Rattle.catalog.specs.Rules.{HasExtents, IsShort, KeepsRules, LacksExtent, blocks_used, first_unknown}
+use Rattle.catalog.specs.Rules.{HasExtents, KeepsRules, first_unknown}
 use Rattle.catalog.specs.Placing.{HasUnits, unused_maps}
 use Rattle.catalog.proofs.PlacingLaws.{misplaced_none}
 use Rattle.catalog.specs.Faults.{BreaksRule, IsAtFault, IsCatalogOf, IsNeeded, settings_key, templates_key}

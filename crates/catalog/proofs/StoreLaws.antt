@@ -1,10 +1,9 @@
 -- A catalog from records.
-use Rattle.std.proofs.Common.{◌≡◌, ℕ, ◌+◌, ◌≤◌, List, Option, Some, None, refl, sym, ap, subst, ◌∙◌}
+use Rattle.std.proofs.Common.{◌≡◌, ◌+◌, ◌≤◌, List, None}
 use Rattle.asm_group.specs.Shape.{Shape}
 use Rattle.asm_formats.specs.Items.{Key}
 use Rattle.asm_formats.specs.Status as status
 use Rattle.asm_base.specs.Records.{Entry}
-use Rattle.allocator.specs.UnitMaps.{UnitMap}
 use Rattle.catalog.specs.declared.error.CatalogError.{CatalogError}
 use Rattle.catalog.specs.declared.error.CatalogError.TheVariants as answer
 use Rattle.catalog.specs.Tables.{AreTables, Catalogued, HasRecords, Tables}

@@ -10,7 +10,7 @@ use Rattle.asm_formats.specs.Items.{Home, chunk_len}
 use Rattle.asm_placement.specs.Placed.{Placed, placed_extents}
 use Rattle.allocator.specs.UnitMaps.{UnitMap, is_free, unused, with_run}
 use Rattle.extent_map.specs.Extents.{Chunk, Chunked}
-use Rattle.catalog.specs.Tables.{Catalogued, Tables}
+use Rattle.catalog.specs.Tables.{Tables}
 
 -- ---- one home after the other
 

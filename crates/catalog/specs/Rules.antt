@@ -13,7 +13,7 @@ use Rattle.file_directory.specs.Files.{File, head_at, is_file}
 use Rattle.extent_map.specs.Extents.{Chunked, chunk_at, extent_at}
 use Rattle.alias_tree.specs.Nodes.{Numbered, node_at}
 use Rattle.staleness_directory.specs.Marks.{Marked, marks_at}
-use Rattle.catalog.specs.Disks.{Disk, info_at}
+use Rattle.catalog.specs.Disks.{info_at}
 use Rattle.catalog.specs.Tables.{AreTables, Tables}
 
 -- the key of the first entry that isn't right

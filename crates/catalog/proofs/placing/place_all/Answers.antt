@@ -1,4 +1,4 @@
-use Rattle.catalog.proofs.PlacingLaws.{placed_next, placed_not}
+use Rattle.catalog.proofs.PlacingLaws.{placed_next}
 use Rattle.catalog.proofs.placing.place_all.Goals as goal
 
 pub loop-at-preserved : goal.loop-at-preserved

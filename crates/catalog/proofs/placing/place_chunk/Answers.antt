@@ -1,4 +1,4 @@
-use Rattle.std.proofs.Common.{arith, ◌+◌, ◌≡◌, sym, ◌∙◌, ap}
+use Rattle.std.proofs.Common.{arith}
 use Rattle.catalog.proofs.PlacingLaws.{extent_next, extent_not, extents_end, units_some}
 use Rattle.catalog.proofs.placing.place_chunk.Goals as goal
 

@@ -1,4 +1,3 @@
-use Rattle.std.proofs.Common.{◌≡◌}
 use Rattle.std.specs.List.{AllByRecursion}
 use Rattle.asm_formats.specs.Among.{IsAmong}
 use Rattle.file_directory.specs.Files.{File}

@@ -1,7 +1,6 @@
-use Rattle.std.proofs.Common.{ℕ, List, sym, subst, ap, ◌≡◌, ◌∙◌, Some}
+use Rattle.std.proofs.Common.{List, sym, ap, ◌∙◌}
 use Rattle.catalog.proofs.FaultLaws.{misplaced_is}
-use Rattle.catalog.specs.Placing.{misplaced, unused_maps}
-use Rattle.asm_group.specs.Shape.{Shape}
+use Rattle.catalog.specs.Placing.{misplaced}
 use Rattle.allocator.specs.UnitMaps.{UnitMap}
 use Rattle.catalog.proofs.parts.Parts.units.Goals as goal
 
