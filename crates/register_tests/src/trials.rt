@@ -13,7 +13,6 @@ ghost use Rattle.status_register.specs.Rows.{AreApart};
 ghost use Rattle.status_register.specs.Surveys.{is_there};
 ghost use Rattle.status_register.specs.Tallies.{HaveSlots};
 
-use asm_base::DiskSet;
 use bay::Bay;
 use status_register::{Dead, Member, Register, Survey, SurveyError};
 use status_table::{PstEntry, PstRecord, is_status, same_sets_follow};
@@ -125,11 +124,11 @@ fn is_entry_there(members: &[Member], entries: &[PstEntry], disk: u8) -> bool
 
 /// Whether the disk of this number, if it is in the set, is one of the members.
 #[tactic(auto, using(crate::proofs::Trying::out_of_set, crate::proofs::Trying::in_set))]
-fn is_held(members: &[Member], entries: &[PstEntry], set: DiskSet, disk: u8) -> bool
-    ensures { result ≡ list_all (is_there members.now) (of_disk entries.now set disk) }
+fn is_held(members: &[Member], status: &PstRecord, disk: u8) -> bool
+    ensures { result ≡ list_all (is_there members.now) (of_disk status.now.entries status.now.holders disk) }
 {
-    if set.has(disk) {
-        is_entry_there(members, entries, disk)
+    if status.holders.has(disk) {
+        is_entry_there(members, status.entries(), disk)
     } else {
         true
     }
@@ -140,7 +139,7 @@ fn are_there(members: &[Member], status: &PstRecord) -> bool
     ensures { result ≡ true → (h : Holder) → IsAmong (disks_of status.now.entries status.now.holders) h → IsTrue (is_there members.now h) }
 {
     for disk in 0..64 {
-        if !is_held(members, status.entries(), status.holders, disk) {
+        if !is_held(members, status, disk) {
             return false;
         }
     }
