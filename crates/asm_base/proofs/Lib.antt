@@ -12,3 +12,4 @@ pub mod ItemTables
 pub mod RefusalTexts
 pub mod PathLaws
 pub mod WordLaws
+pub mod Copying
