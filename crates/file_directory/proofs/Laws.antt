@@ -169,6 +169,10 @@ file_is_read k bytes lt mine =
 pub file_is_item : (e : Entry) (x : File) → is_mine e.0 ≡ true → entry_of_record entry_of e ≡ Some x → is_item (item_of x) ≡ true
 file_is_item e x mine read = ((is_entry_item is_entry is_mine).takes e x mine read).1
 
+-- the record of the file that is read is the record
+pub file_of_record : (e : Entry) (x : File) → is_mine e.0 ≡ true → entry_of_record entry_of e ≡ Some x → record_of x ≡ e
+file_of_record e x mine read = ((is_entry_item is_entry is_mine).takes e x mine read).0
+
 same_number : (m n : ℕ) → nat_cmp m n ≡ Equal → m ≡ n
 same_number = nat_cmp-IsAntisymmetric
 

@@ -2,6 +2,8 @@
 
 ghost use Rattle.std.specs.Prelude.{◌≡◌, ◌≤◌, ◌<◌, ◌^◌, ◌++◌, [], ◌==◌, ◌&&◌, ℕ, List as Items, length, map, false, IfOk, IfSome, IfNone, OnErr, OnOk, Some, None, IsTrue, if◌then◌else◌, is_some};
 ghost use Rattle.std.specs.Option.{option_copied};
+ghost use Rattle.std.specs.Ordering.{nat_cmp};
+ghost use Rattle.std.specs.BTreeMap.{is_at};
 ghost use Rattle.asm_formats.specs.Items.{file_item, is_item};
 ghost use Rattle.asm_base.specs.Records.{Ascend, ends_below, of_kinds, read_from};
 ghost use Rattle.file_directory.specs.Files.{is_mine};
@@ -70,6 +72,8 @@ impl FileTable {
     pub fn put(&mut self, file: u32, head: FileHead) -> Result<(), NoMemory>
         requires { IsTrue (is_item (file_item file head)) }
         ensures ok { OnOk result (self.new ≡ with_head self.old file head) }
+        // Other files keep their heads.
+        ensures at { OnOk result ((f : ℕ) → head_at self.new f ≡ (if is_at (nat_cmp file) f then Some head else head_at self.old f)) }
         ensures err { OnErr result (self.new ≡ self.old) }
     {
         match self.map.insert(file, head) {
@@ -83,6 +87,7 @@ impl FileTable {
     pub fn remove(&mut self, file: u32) -> bool
         ensures there { result ≡ is_file self.old file }
         ensures after { self.new ≡ without_file self.old file }
+        ensures at { (f : ℕ) → head_at self.new f ≡ (if is_at (nat_cmp file) f then None else head_at self.old f) }
     {
         self.map.remove(&file).is_some()
     }
@@ -119,6 +124,18 @@ impl FileTable {
             change.put.push(record_of(alloc, *file, head)?)?;
         }
         Ok(())
+    }
+
+    /// An equal table.
+    #[tactic(auto, using(crate::proofs::ChangeLaws::copied))]
+    pub fn copy(&self, alloc: Global) -> Result<FileTable, NoMemory>
+        ensures { IfOk result (λ copy. copy ≡ self.now) }
+    {
+        let mut copy = FileTable::new(alloc);
+        for (file, head) in self.map.iter() {
+            copy.put(*file, head.copy()?)?;
+        }
+        Ok(copy)
     }
 
     /// The table whose records these are, or None where one of its kinds isn't of the format.
