@@ -1,2 +1,3 @@
 pub mod Operations
 pub mod Readings
+pub mod Changing

@@ -1,6 +1,7 @@
 //! The operation that a group has begun and not ended, and its rebalance.
 #![tactic(auto)]
 
+mod changing;
 mod pending;
 mod reading;
 mod table;
