@@ -10,6 +10,7 @@ use Rattle.std.proofs.lemmas.Cmp.{nat_cmp_total, then_total, on_total}
 use Rattle.std.specs.Cmp.{IsTotalOrder}
 use Rattle.asm_formats.specs.Items.{Item, file_item, chunk_item, disk_item, rebalance_item, pending_item, templates_item, node_item, settings_item, marks_item, Key, key, is_item}
 use Rattle.asm_formats.specs.Values.{value, decoded_item}
+use Rattle.asm_formats.proofs.Bodies.{item_codec}
 use Rattle.asm_base.specs.Records.{Entry, of_kinds, read_from, Ascend, ends_below}
 use Rattle.asm_base.specs.Tables.{entry_of_record}
 use Rattle.asm_base.proofs.Exact.{some_is, test_some}
@@ -29,7 +30,7 @@ both_equal Greater p e = absurd cc
 same_number : (n m : ℕ) → nat_cmp n m ≡ Equal → n ≡ m
 same_number n m e = grind (arith, e)
 
-same_chunk : (x y : Chunk) → chunk_cmp x y ≡ Equal → x ≡ y
+pub same_chunk : (x y : Chunk) → chunk_cmp x y ≡ Equal → x ≡ y
 same_chunk x y e =
     let b = both_equal (nat_cmp x.0 y.0) (nat_cmp x.1 y.1) e in
     ap (λ (f : ℕ). (f, x.1)) (same_number x.0 y.0 b.0) ∙ ap (λ (c : ℕ). (y.0, c)) (same_number x.1 y.1 b.1)
@@ -132,6 +133,10 @@ not_marks items k f c at v bytes is read = rw (mine f c k at, entry_read k f c a
 pub not_behind : (items : List Marked) (k : Key) (f c : ℕ) → chunk_key f c ≡ k → (v bytes marks : List ℕ) → bytes ≡ v → option_map (marks_item f c) (Some marks) ≡ decoded_item (chunk_key f c) bytes
     → ends_below is_before items (f, c) ≡ false → cond (is_marks k) (add items (k, v)) (Some items) ≡ None
 not_behind items k f c at v bytes marks is read ends = rw (mine f c k at, entry_read k f c at v bytes (Some marks) is read, ends) refl
+
+-- the marks that are read are those of the record
+pub marks_of_record : (k : Key) (bytes : List ℕ) (f c : ℕ) (marks : List ℕ) → option_map (marks_item f c) (Some marks) ≡ decoded_item k bytes → (value (marks_item f c marks) ≡ bytes) × (is_item (marks_item f c marks) ≡ true)
+marks_of_record k bytes f c marks e = let d = item_codec.decoded k bytes (marks_item f c marks) (sym e) in (sym d.2, d.0)
 
 -- ---- the table
 

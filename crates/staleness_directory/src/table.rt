@@ -2,6 +2,7 @@
 
 ghost use Rattle.std.specs.Prelude.{◌≡◌, ◌++◌, [], List as Items, length, map, IfOk, IfSome, IsTrue, OnErr, OnOk, Some, None, if◌then◌else◌};
 ghost use Rattle.std.specs.Bool.{OnTrue};
+ghost use Rattle.std.specs.BTreeMap.{is_at};
 ghost use Rattle.std.specs.Option.{is_some, option_copied};
 ghost use Rattle.asm_formats.specs.Items.{is_item};
 ghost use Rattle.asm_base.specs.Records.{Ascend, ends_below, of_kinds, read_from};
@@ -31,7 +32,7 @@ impl Model for StaleTable {
 }
 
 impl StaleTable {
-    ghost use Rattle.staleness_directory.specs.Marks.{IsTable, Marked, add, item_of, is_before, is_marks, marks_at, record_of, with_marks, without_marks};
+    ghost use Rattle.staleness_directory.specs.Marks.{Chunk, IsTable, Marked, add, chunk_cmp, item_of, is_before, is_marks, marks_at, record_of, with_marks, without_marks};
 
     pub fn new(alloc: Global) -> StaleTable
         ensures { result ≡ [] }
@@ -67,6 +68,8 @@ impl StaleTable {
     pub fn put(&mut self, key: (u32, u32), item: Marks) -> Result<(), NoMemory>
         requires { IsTrue (is_item (item_of (key, item))) }
         ensures ok { OnOk result (self.new ≡ with_marks self.old key item) }
+        // Other chunks keep their marks.
+        ensures at { OnOk result ((c : Chunk) → marks_at self.new c ≡ (if is_at (chunk_cmp key) c then Some item else marks_at self.old c)) }
         ensures err { OnErr result (self.new ≡ self.old) }
         ensures table { IsTable self.old → IsTable self.new }
     {
@@ -75,6 +78,7 @@ impl StaleTable {
 
     fn insert(&mut self, key: (u32, u32), item: Marks) -> Result<(), NoMemory>
         ensures ok { OnOk result (self.new ≡ with_marks self.old key item) }
+        ensures at { OnOk result ((c : Chunk) → marks_at self.new c ≡ (if is_at (chunk_cmp key) c then Some item else marks_at self.old c)) }
         ensures err { OnErr result (self.new ≡ self.old) }
     {
         match self.map.insert(key, item) {
@@ -88,6 +92,7 @@ impl StaleTable {
     pub fn remove(&mut self, key: (u32, u32)) -> bool
         ensures there { result ≡ is_some (marks_at self.old key) }
         ensures after { self.new ≡ without_marks self.old key }
+        ensures at { (c : Chunk) → marks_at self.new c ≡ (if is_at (chunk_cmp key) c then None else marks_at self.old c) }
         ensures table { IsTable self.old → IsTable self.new }
     {
         self.take_away(key)
@@ -96,6 +101,7 @@ impl StaleTable {
     fn take_away(&mut self, key: (u32, u32)) -> bool
         ensures there { result ≡ is_some (marks_at self.old key) }
         ensures after { self.new ≡ without_marks self.old key }
+        ensures at { (c : Chunk) → marks_at self.new c ≡ (if is_at (chunk_cmp key) c then None else marks_at self.old c) }
     {
         self.map.remove(&key).is_some()
     }
