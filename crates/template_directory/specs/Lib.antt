@@ -1,3 +1,4 @@
 pub mod Tables
 pub mod Readings
 pub mod Meant
+pub mod Changing

@@ -1,6 +1,7 @@
 //! The templates of a group and its settings, as the group's directory holds them.
 #![tactic(auto)]
 
+mod changing;
 mod editing;
 mod reading;
 mod settings;

@@ -3,7 +3,7 @@
 ghost use Rattle.std.specs.Prelude.{◌≡◌, ◌&&◌};
 ghost use Rattle.asm_formats.specs.Items.{is_item, is_text, settings_item};
 
-use asm_base::Text;
+use asm_base::{NoMemory, Text};
 use std::marker::Model;
 
 /// The next incarnation of a file, and the attributes that may be set at any time. Contracts see it as the settings of the
@@ -31,7 +31,7 @@ impl Model for Settings {
 }
 
 impl Settings {
-    ghost use Rattle.std.specs.Prelude.{◌≡◌};
+    ghost use Rattle.std.specs.Prelude.{◌≡◌, IfOk};
     ghost use Rattle.asm_formats.specs.Items.{is_item, settings_item};
     ghost use Rattle.asm_group.specs.NewGroup.{usual_attributes};
 
@@ -46,6 +46,18 @@ impl Settings {
             rdbms: Text::new(alloc),
             advm: Text::new(alloc),
         }
+    }
+
+    pub fn copy(&self) -> Result<Settings, NoMemory>
+        ensures { IfOk result (λ copy. copy ≡ self.now) }
+    {
+        Ok(Settings {
+            incarnation: self.incarnation,
+            repair: self.repair,
+            asm: self.asm.copy()?,
+            rdbms: self.rdbms.copy()?,
+            advm: self.advm.copy()?,
+        })
     }
 
     /// Whether a directory may hold them: each text has at most 30 bytes.

@@ -63,6 +63,13 @@ impl TemplateTable {
         &self.settings
     }
 
+    pub fn set_templates(&mut self, templates: List<Template>)
+        requires { IsTrue (is_item (templates_item templates)) }
+        ensures { self.new ≡ record { templates = templates; settings = self.old.settings } }
+    {
+        self.templates = templates.into_vec();
+    }
+
     pub fn set_settings(&mut self, settings: Settings)
         requires { IsTrue (is_item (settings_item settings)) }
         ensures { self.new ≡ record { templates = self.old.templates; settings = settings } }
@@ -105,6 +112,15 @@ impl TemplateTable {
         ensures after { self.new ≡ record { templates = without_template name.now self.old.templates; settings = self.old.settings } }
     {
         remove_from(&mut self.templates, name)
+    }
+
+    /// An equal table.
+    pub fn copy(&self, alloc: Global) -> Result<TemplateTable, NoMemory>
+        ensures { IfOk result (λ copy. copy ≡ self.now) }
+    {
+        let templates = copies(alloc, self.list())?;
+        let settings = self.settings().copy()?;
+        Ok(TemplateTable::new(templates, settings))
     }
 
     /// Puts the two records into a change. After an `Err` one of them may stand there.
@@ -151,6 +167,17 @@ impl TemplateTable {
         }
         Ok(Some(TemplateTable::new(templates, settings)))
     }
+}
+
+/// The same templates once more.
+fn copies(alloc: Global, templates: &[Template]) -> Result<List<Template>, NoMemory>
+    ensures { IfOk result (λ copies. copies ≡ templates.now) }
+{
+    let mut copies = List::new(alloc);
+    for template in templates {
+        copies.push(template.copy()?)?;
+    }
+    Ok(copies)
 }
 
 /// The key of the one record of a kind.

@@ -1,6 +1,6 @@
 //! A template of files.
 
-use asm_base::{Name, Stripe};
+use asm_base::{Name, NoMemory, Stripe};
 use std::marker::Model;
 
 /// What a file that is made by this template is given. Contracts see it as the template of a group.
@@ -24,8 +24,19 @@ impl Model for Template {
 }
 
 impl Template {
-    ghost use Rattle.std.specs.Prelude.{◌≡◌};
+    ghost use Rattle.std.specs.Prelude.{◌≡◌, IfOk};
     ghost use Rattle.asm_formats.specs.Items.{is_template};
+
+    pub fn copy(&self) -> Result<Template, NoMemory>
+        ensures { IfOk result (λ copy. copy ≡ self.now) }
+    {
+        Ok(Template {
+            name: self.name.copy()?,
+            copies: self.copies,
+            stripe: self.stripe,
+            system: self.system,
+        })
+    }
 
     pub fn name(&self) -> &Name
         ensures { result.now ≡ self.now.name }
