@@ -53,18 +53,18 @@ some_is : {X : Type 0} (x y : X) → Some x ≡ Some y → x ≡ y
 some_is x y e = cc
 
 -- what an added record leaves is a table
-pub added_is_table : (old new : PageTable) (key : Key) (value : List ℕ) (page : ℕ) → IsTable old → place_at old.places key ≡ None → IsLeastFree old.free page
+pub added_is_table : (old new : PageTable) (key : Key) (value : List ℕ) (page : ℕ) → IsTable old → place_at old.places key ≡ None → is_free old.free page ≡ true → page < old.free.units
     → ((k : Key) → record_at new.records k ≡ cond (is_key key k) (Some value) (record_at old.records k))
     → ((k : Key) → place_at new.places k ≡ cond (is_key key k) (Some page) (place_at old.places k))
     → ((p : ℕ) → is_free new.free p ≡ cond (eqb p page) false (is_free old.free p)) → new.free.units ≡ old.free.units
     → IsTable new
-added_is_table old new key value page sound absent least records places free units = record {
+added_is_table old new key value page sound absent was_free within records places free units = record {
   same = λ k. elim (one_or_other (is_key key k)) [
     | inl e ↦ let r : record_at new.records k ≡ Some value = rw e at (records k) in let p : place_at new.places k ≡ Some page = rw e at (places k) in rw (r, p) refl
     | inr e ↦ let r : record_at new.records k ≡ record_at old.records k = rw e at (records k) in let p : place_at new.places k ≡ place_at old.places k = rw e at (places k) in rw (r, p) (sound.same k)
   ];
   inside = λ k q at. elim (here k q at) [
-    | inl h ↦ rw (units, h.1) least.inside
+    | inl h ↦ rw (units, h.1) within
     | inr h ↦ rw units (sound.inside k q h.1)
   ];
   taken = λ k q at. free q ∙ elim (here k q at) [
@@ -74,10 +74,10 @@ added_is_table old new key value page sound absent least records places free uni
   apart = λ j k q first second. elim (here j q first) [
     | inl h ↦ elim (here k q second) [
       | inl i ↦ subst (λ (x : Key). is_key x k ≡ true) h.0 (subst (λ (x : Key). is_key key x ≡ true) i.0 (key_itself key))
-      | inr i ↦ absurd (true≢false (sym least.free ∙ sound.taken k page (subst (λ (n : ℕ). place_at old.places k ≡ Some n) h.1 i.1)))
+      | inr i ↦ absurd (true≢false (sym was_free ∙ sound.taken k page (subst (λ (n : ℕ). place_at old.places k ≡ Some n) h.1 i.1)))
     ]
     | inr h ↦ elim (here k q second) [
-      | inl i ↦ absurd (true≢false (sym least.free ∙ sound.taken j page (subst (λ (n : ℕ). place_at old.places j ≡ Some n) i.1 h.1)))
+      | inl i ↦ absurd (true≢false (sym was_free ∙ sound.taken j page (subst (λ (n : ℕ). place_at old.places j ≡ Some n) i.1 h.1)))
       | inr i ↦ sound.apart j k q h.1 i.1
     ]
   ];
@@ -110,7 +110,7 @@ added_is_table old new key value page sound absent least records places free uni
   ]
 
 pub adds_table : (old new : PageTable) (key : Key) (value : List ℕ) → IsTable old → place_at old.places key ≡ None → Adds old new key value → IsTable new
-adds_table old new key value sound absent adds = added_is_table old new key value adds.page sound absent adds.least adds.records adds.places adds.free adds.units
+adds_table old new key value sound absent adds = added_is_table old new key value adds.page sound absent adds.least.free adds.least.inside adds.records adds.places adds.free adds.units
 
 -- ---- a record less
 

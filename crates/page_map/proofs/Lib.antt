@@ -4,3 +4,4 @@ pub mod Adding
 pub mod Changing
 pub mod Applied
 pub mod Showing
+pub mod Loading

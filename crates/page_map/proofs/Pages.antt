@@ -1,6 +1,6 @@
 -- One page that is taken or given back.
 use Rattle.std.proofs.Common.{◌≡◌, ℕ, ◌+◌, ◌-◌, ◌<◌, ◌≤◌, Bool, true, false, cond, leb, eqb, List, ◌++◌, length, take, drop, replicate, get_or, refl, sym, ap, ◌∙◌, subst, arith, inl, inr, Option, Some, None}
-use Rattle.std.specs.Prelude.{not, ◌&&◌, IfSome, IfNone, MatchOption}
+use Rattle.std.specs.Prelude.{not, ◌&&◌, ◌↔◌, IsTrue, IfSome, IfNone, MatchOption}
 use Rattle.std.proofs.lemmas.Bool.{cases_lt, true≢false, le-leb, lt-leb, lt-ltb, le-ltb, ne_eqb, eq-eqb}
 use Rattle.std.proofs.lemmas.List.{length-take, length-drop, length-append, length-replicate, get_or_append_left, get_or-append_right, get_or-take, get_or-drop, get_or-replicate, get_or_default}
 use Rattle.allocator.specs.Words.{is_within}
@@ -83,6 +83,15 @@ units_taken m n (Some at) e = ap (λ (f : FreeMap). f.units) e
 pub none_taken : (m n : FreeMap) (found : Option ℕ) → n ≡ taken m 1 found → IfNone found (n ≡ m)
 none_taken m n None e = e
 none_taken m n (Some at) e = tt
+
+-- a page that was free is taken
+marked_is : (m n : FreeMap) (at : ℕ) (done : Bool) → is_free m at ≡ true → (IsTrue done ↔ IsFreeRun m at 1) → n ≡ cond done (with_run m at 1 true) m → n ≡ with_run m at 1 true
+marked_is m n at true free is e = e
+marked_is m n at false free is e = absurd (true≢false (sym (is.1 (run_of_one m at free))))
+
+pub marked_free : (m n : FreeMap) (at : ℕ) (done : Bool) → IsFreeMap m → is_free m at ≡ true → (IsTrue done ↔ IsFreeRun m at 1) → n ≡ cond done (with_run m at 1 true) m
+    → (k : ℕ) → is_free n k ≡ cond (eqb k at) false (is_free m k)
+marked_free m n at done sound free is e k = ap (λ (f : FreeMap). is_free f k) (marked_is m n at done free is e) ∙ one_of_run m sound at true (free_inside m at free) k
 
 pub sound_given : (m : FreeMap) → IsFreeMap m → (at : ℕ) → at < m.units → IsFreeMap (with_run m at 1 false)
 sound_given m sound at inside = length_with m sound at false inside

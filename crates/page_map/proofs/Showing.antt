@@ -73,11 +73,11 @@ page_is (Some p) e = (p, refl)
 -- ---- the pages
 
 -- the record that stands on a page
-record Holds (t : PageTable) (page : ℕ → Bytes) (p : ℕ) (i : Item) : Type 0 where
-  is : is_item i ≡ true
-  place : place_at t.places (key i) ≡ Some p
-  record_is : record_at t.records (key i) ≡ Some (value i)
-  block : page p ≡ record_spelling i
+pub record Holds (t : PageTable) (page : ℕ → Bytes) (p : ℕ) (i : Item) : Type 0 where
+  pub is : is_item i ≡ true
+  pub place : place_at t.places (key i) ≡ Some p
+  pub record_is : record_at t.records (key i) ≡ Some (value i)
+  pub block : page p ≡ record_spelling i
 
 module _ (t : PageTable) (page : ℕ → Bytes) (sound : IsTable t) (shows : Shows t page) (items_are : AreItems t) where
   pages : List Bytes
@@ -134,7 +134,7 @@ module _ (t : PageTable) (page : ℕ → Bytes) (sound : IsTable t) (shows : Sho
       subst (λ (x : Bytes). is_page x ≡ true) (sym (nth n.0 inside) ∙ n.2) (decode_at n.0 inside)
 
   -- an item that is read from a page is the one that it holds
-  holds_read : (p : ℕ) (i : Item) → p < t.free.units → page_items (page p) ≡ Some (i ∷ []) → Holds t page p i
+  pub holds_read : (p : ℕ) (i : Item) → p < t.free.units → page_items (page p) ≡ Some (i ∷ []) → Holds t page p i
   holds_read p i inside read = elim (shown p inside) [
     | inl none ↦ absurd (none_list i (page_items (page p)) none read)
     | inr h ↦ subst (λ (j : Item). Holds t page p j) (some_list h.0 i (page_items (page p)) (reads p h.0 h.1) read) h.1

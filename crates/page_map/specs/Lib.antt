@@ -3,3 +3,4 @@ pub mod Changes
 pub mod Tables
 pub mod Applying
 pub mod Contents
+pub mod Loaded

@@ -52,6 +52,15 @@ impl FreePages {
         self.units.take(1)
     }
 
+    /// Takes a page that is free.
+    pub fn mark(&mut self, page: u32)
+        requires { is_free self.old page ≡ true }
+        ensures taken { (k : ℕ) → is_free self.new k ≡ (if k == page then false else is_free self.old k) }
+        ensures count { self.new.units ≡ self.old.units }
+    {
+        self.units.mark(page, 1);
+    }
+
     /// Gives a page back.
     pub fn give(&mut self, page: u32)
         requires inside { page < self.old.units }

@@ -4,10 +4,12 @@
 mod change;
 mod free;
 mod laws;
+mod loaded;
 mod table;
 
 pub use change::{PageError, apply};
 pub use laws::shown_is_content;
+pub use loaded::{LoadedError, from_pages};
 pub use table::PageMap;
 
 #[cfg(test)]

@@ -47,6 +47,7 @@ impl Model for PageMap {
 impl PageMap {
     ghost use Rattle.page_map.specs.Free.{is_free, IsLeastFree};
     ghost use Rattle.page_map.specs.Tables.{IsTable, SameTable, Adds, Removes, room};
+    ghost use Rattle.page_map.specs.Loaded.{AddsAt};
 
     /// No records, and so many pages.
     pub fn new(alloc: Global, pages: u32) -> Result<PageMap, NoMemory>
@@ -108,6 +109,17 @@ impl PageMap {
                 Err(NoMemory)
             }
         }
+    }
+
+    /// Puts a new record on a page that is free.
+    pub(crate) fn add_at(&mut self, key: Key, value: Value, page: u32) -> Result<(), NoMemory>
+        requires absent { place_at self.old.places key ≡ None }
+        requires free { is_free self.old.free page ≡ true }
+        ensures { OnOk result (AddsAt self.old self.new key value page) }
+    {
+        insert_both(&mut self.records, &mut self.places, key, page, value)?;
+        self.free.mark(page);
+        Ok(())
     }
 
     /// Gives a key that is there another value.

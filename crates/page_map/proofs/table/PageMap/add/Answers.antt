@@ -9,7 +9,7 @@ invariant_of-self-in-Ok c =
     let old : PageTable = record { records = c.self.inside.records; places = c.self.inside.places.entries; free = c.self.inside.free } in
     let new : PageTable = record { records = c.insert_both.new.records; places = c.insert_both.new.places.entries; free = c.take.new.self } in
     let absent : place_at old.places c.args.key ≡ None = subst (λ (t : PageTable). place_at t.places c.args.key ≡ None) (sym c.self.view_is) c.requires.absent in
-    added_is_table old new c.args.key c.args.value c.in-Some.page c.self.invariant absent c.in-Some.ensures.least c.in-Ok.ensures.record c.in-Ok.ensures.place c.in-Some.ensures.taken c.in-Some.ensures.count
+    added_is_table old new c.args.key c.args.value c.in-Some.page c.self.invariant absent c.in-Some.ensures.least.free c.in-Some.ensures.least.inside c.in-Ok.ensures.record c.in-Ok.ensures.place c.in-Some.ensures.taken c.in-Some.ensures.count
 
 pub returns-in-Ok-clause-ok : goal.returns-in-Ok-clause-ok
 returns-in-Ok-clause-ok c =
