@@ -17,7 +17,7 @@ use Rattle.change_directory.specs.declared.loading.Pages.{Pages}
 use Rattle.change_directory.specs.declared.open_log.OpenLog.{OpenLog}
 use Rattle.change_directory.specs.declared.open_log.OpenLogs.{OpenLogs}
 use Rattle.change_directory.specs.Changes.{disk}
-use Rattle.change_directory.specs.Loads.{IsLoaded, OpenSlot, commit_of, due_page, filled_page, filled_pages, newest_slots, open_slots}
+use Rattle.change_directory.specs.Loads.{IsLoaded, OpenSlot, number_of, due_page, filled_page, filled_pages, newest_slots, open_slots}
 use Rattle.change_directory.specs.Slots.{ArePages, IsLogRead, all_due, all_filled, all_slots, damage_of, damaged_page, first_bad, has_slots, homes_in, logs_of, number_in, open_homes, slots_of}
 use Rattle.change_directory.proofs.BlockRows.{blocks_listed}
 use Rattle.change_directory.proofs.PageRows.{filled_all, due_all, bad_all}
@@ -90,11 +90,11 @@ module _ (copy : DirCopy) (least : 128 ≤ copy.dir_blocks) (image : Image) (siz
   no_slots [] e = refl
   no_slots (s ∷ slots) e = absurd cc
 
-  number_is : number_in logs.newest ≡ commit_of (all_slots logs)
+  number_is : number_in logs.newest ≡ number_of (all_slots logs)
   number_is = go logs.newest refl where
-    go : (o : Option OpenLog) → logs.newest ≡ o → number_in o ≡ commit_of (all_slots logs)
-    go None e = sym (ap commit_of (no_slots (all_slots logs) (sym newest ∙ ap is_some e)))
-    go (Some log) e = sym (ap (λ (o : Option OpenLog). commit_of (slots_of o ++ slots_of logs.older)) e)
+    go : (o : Option OpenLog) → logs.newest ≡ o → number_in o ≡ number_of (all_slots logs)
+    go None e = sym (ap number_of (no_slots (all_slots logs) (sym newest ∙ ap is_some e)))
+    go (Some log) e = sym (ap (λ (o : Option OpenLog). number_of (slots_of o ++ slots_of logs.older)) e)
 
   filled_is : (slots : List OpenSlot) → has_slots slots ≡ true → flat_map (filled_page d bytes) (range_with_len 0 d) ≡ filled_pages d bytes slots
   filled_is [] e = absurd cc
@@ -103,7 +103,7 @@ module _ (copy : DirCopy) (least : 128 ≤ copy.dir_blocks) (image : Image) (siz
   pub pages_are_loaded : (pages : Pages) → ArePages copy logs pages image → IsLoaded copy pages image
   unfolding all_filled all_due
   pages_are_loaded pages are = record {
-    number = are.number ∙ number_is ∙ ap commit_of slots_are;
+    number = are.number ∙ number_is ∙ ap number_of slots_are;
     blocks = are.blocks ∙ blocks (is_some logs.newest) refl ∙ ap (filled_pages d bytes) slots_are;
     due = are.due ∙ due (is_some logs.newest) refl ∙ ap (λ (ss : List OpenSlot). flat_map (due_page ss) (range_with_len 0 d)) slots_are;
   } where

@@ -28,7 +28,7 @@ use Rattle.change_directory.specs.Places.{gate_of}
 use Rattle.change_directory.specs.Logs.{is_open_at, number_at, image_of_page, are_pages}
 use Rattle.change_directory.specs.Changes.{disk, content_in}
 use Rattle.change_directory.specs.Formatting.{AreShut}
-use Rattle.change_directory.specs.Loads.{IsLoaded, OpenSlot, commit_of, counted_block, due_page, filled_page, filled_pages, open_slots}
+use Rattle.change_directory.specs.Loads.{IsLoaded, OpenSlot, commit_of, number_of, counted_block, due_page, filled_page, filled_pages, open_slots}
 use Rattle.change_directory.specs.Slots.{has_slots, logs_of}
 use Rattle.change_directory.specs.StoreLaws.{IsShaped, HasRegion, HasOpen, counted, shown_by, HasContent, HasDue, IsReadAs, StandAt, due_images}
 use Rattle.change_directory.proofs.Afterwards.{same_numbers}
@@ -115,6 +115,10 @@ module _ (copy : DirCopy) (shaped : IsShaped copy) (pages : Pages) (x : Image) (
     slots_open : has_slots slots ≡ true
     slots_open = some_open d bytes ∙ some_opened opened
 
+    number_is : (ss : List OpenSlot) → has_slots ss ≡ true → number_of ss ≡ Some (commit_of ss)
+    number_is [] e = absurd (false≢true e)
+    number_is (s ∷ ss) e = refl
+
     filled_is : (ss : List OpenSlot) → has_slots ss ≡ true → filled_pages d bytes ss ≡ flat_map (filled_page d bytes) (range_with_len 0 d)
     filled_is [] e = absurd (false≢true e)
     filled_is (s ∷ ss) e = refl
@@ -133,19 +137,18 @@ module _ (copy : DirCopy) (shaped : IsShaped copy) (pages : Pages) (x : Image) (
         cond-true (has_region d (length bytes)) (content_by d bytes (open_logs d bytes)) None region ∙ ap (content_by d bytes) logs
         ∙ ap (λ (o : Option (List Item)). Some (record { commit = s.log.commit; items = o })) (cond-true (logs_decode d bytes) (records_in (pages_of d bytes)) None sound.0)
 
-    lower : (log : LogSlot) → is_open_at copy log x ≡ true → number_at copy log x ≤ pages.number
-    lower log is = omega (arith, number_listed copy shaped.least x sized log, go log (gate log ∙ is), loaded.number)
+    lower : (log : LogSlot) → is_open_at copy log x ≡ true → number_at copy log x ≤ commit_of slots
+    lower log is = omega (arith, number_listed copy shaped.least x sized log, go log (gate log ∙ is))
       where
         go : (l : LogSlot) → is_open bytes (gate_of copy l) ≡ true → (log_at d bytes (gate_of copy l)).commit ≤ commit_of slots
         go First e = (most_open d bytes).0 e
         go Second e = (most_open d bytes).1 e
 
-    pub has_content : HasContent copy pages.number (shown_by pages.blocks.items) x
+    pub has_content : HasContent copy (commit_of slots) (shown_by pages.blocks.items) x
     has_content = record {
       pages = record { sized = sized; decodes = sound.0; pages = shown_is; above = λ n lt log is. omega (arith, lower log is, lt) };
       content = content_is slots refl slots_open
-          ∙ (λ i. Some (record { commit = sym loaded.number i; items = records_in (pages_of d bytes) }))
-          ∙ content_same copy pages.number (page_at d bytes) (shown_by pages.blocks.items) shown_is;
+          ∙ content_same copy (commit_of slots) (page_at d bytes) (shown_by pages.blocks.items) shown_is;
     }
 
   -- ---- the rows
@@ -173,8 +176,8 @@ module _ (copy : DirCopy) (shaped : IsShaped copy) (pages : Pages) (x : Image) (
   loaded_is_content = record {
     decodes = ⊎_elim (λ shut. shut_decodes copy shaped x sized shut) (λ opened. (sound opened).0) shut_or_open;
     either = shut_or_open;
-    shut = λ shut. (shut_none copy shaped.least (short_sector copy shaped) x sized shut, loaded.number ∙ ap commit_of (shut_slots shut), shut_blocks shut, shut_dues shut);
-    opened = λ opened. has_content opened;
+    shut = λ shut. (shut_none copy shaped.least (short_sector copy shaped) x sized shut, loaded.number ∙ ap number_of (shut_slots shut), shut_blocks shut, shut_dues shut);
+    opened = λ opened. (commit_of slots, loaded.number ∙ number_is opened slots (slots_open opened), has_content opened);
     ascend = ascend;
     decode = block_rows (λ (i : PageImage). is_page i.1) (λ opened p lt full. (sound opened).1 p lt);
     filled = block_rows (λ (i : PageImage). not (is_empty_page i.1)) (λ opened p lt full. ap not full);

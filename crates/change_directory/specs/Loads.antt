@@ -51,6 +51,11 @@ abbrev pub commit_of : List OpenSlot → ℕ
 commit_of [] = 0
 commit_of (slot ∷ older) = slot.log.commit
 
+-- the same, where there is one
+abbrev pub number_of : List OpenSlot → Option ℕ
+number_of [] = None
+number_of (slot ∷ older) = Some slot.log.commit
+
 -- a page that counts and isn't zeros
 abbrev pub filled_page : ℕ → Bytes → ℕ → List PageImage
 filled_page dir_blocks bytes page = if is_empty_page (page_at dir_blocks bytes page) then [] else (page, page_at dir_blocks bytes page) ∷ []
@@ -66,7 +71,7 @@ due_page slots page = option_to_list (option_map (λ b. (page, b)) (counted_bloc
 
 -- what was loaded of a copy
 pub record IsLoaded (copy : DirCopy) (pages : Pages) (image : Image) : Type 0 where
-  pub number : pages.number ≡ commit_of (open_slots copy.dir_blocks (disk copy image))
+  pub number : pages.number ≡ number_of (open_slots copy.dir_blocks (disk copy image))
   pub blocks : map image_of_page pages.blocks.items ≡ filled_pages copy.dir_blocks (disk copy image) (open_slots copy.dir_blocks (disk copy image))
   -- ascending
   pub due : pages.due.items ≡ flat_map (due_page (open_slots copy.dir_blocks (disk copy image))) (range_with_len 0 copy.dir_blocks)

@@ -151,9 +151,9 @@ pub record AreTaken (slots : List OpenSlot) (page : ℕ) (homes : List Bytes) (o
   pub takes : Takes (all_filled slots page homes) (all_due slots page homes) old new
   pub sound : first_bad slots page homes ≡ None
 
-abbrev pub number_in : Option OpenLog → ℕ
-number_in None = 0
-number_in (Some log) = log.number
+abbrev pub number_in : Option OpenLog → Option ℕ
+number_in None = None
+number_in (Some log) = Some log.number
 
 -- all pages, where a log slot is open
 abbrev pub open_homes : DirCopy → OpenLogs → Image → List Bytes

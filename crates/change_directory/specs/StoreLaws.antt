@@ -81,8 +81,8 @@ pub record HasDue (copy : DirCopy) (pages : List (ℕ × Block)) (x : Image) : T
 pub record IsReadAs (copy : DirCopy) (pages : Pages) (x : Image) : Type 0 where
   pub decodes : DecodesIn copy x
   pub either : AreShut copy x ⊎ HasOpen copy x
-  pub shut : AreShut copy x → (content_in copy x ≡ None) × (pages.number ≡ 0) × (pages.blocks.items ≡ []) × (pages.due.items ≡ [])
-  pub opened : HasOpen copy x → HasContent copy pages.number (shown_by pages.blocks.items) x
+  pub shut : AreShut copy x → (content_in copy x ≡ None) × (pages.number ≡ None) × (pages.blocks.items ≡ []) × (pages.due.items ≡ [])
+  pub opened : HasOpen copy x → (number : ℕ) × (pages.number ≡ Some number) × HasContent copy number (shown_by pages.blocks.items) x
   -- of the blocks
   pub ascend : IsTrue (are_pages copy.dir_blocks pages.blocks.items)
   pub decode : IsTrue (list_all (λ (p : ℕ × Block). is_page (bytes_of_page p)) pages.blocks.items)

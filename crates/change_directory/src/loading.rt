@@ -32,8 +32,8 @@ const PIECE: usize = 262_144;
 /// What was loaded of a copy.
 #[derive(Drop)]
 pub struct Pages {
-    /// The commit number, and 0 where no log slot is open.
-    pub number: u64,
+    /// The commit number. None where no log slot is open: then there is no content.
+    pub number: Option<u64>,
     /// The pages that aren't zeros, by their numbers, ascending.
     pub blocks: Vec<(u32, Block)>,
     /// The pages of the open log slots, ascending, each with the block of its image that counts. Their checkpoint may have
@@ -106,13 +106,13 @@ fn damage_in(log: &Option<OpenLog>) -> Option<u64>
     }
 }
 
-/// The commit number of the content, and 0 where no log slot is open.
-fn number_of(logs: &OpenLogs) -> u64
+/// The commit number of the content. None where no log slot is open.
+fn number_of(logs: &OpenLogs) -> Option<u64>
     ensures { result ≡ number_in logs.now.newest }
 {
     match &logs.newest {
-        None => 0,
-        Some(log) => log.number,
+        None => None,
+        Some(log) => Some(log.number),
     }
 }
 

@@ -131,7 +131,8 @@ fn loaded(alloc: Global, bay: &mut MemBay) -> Result<(u64, u32, u8, u32, u64), F
     }
     let page = &pages.blocks[0];
     let due = pages.due[0];
-    Ok((pages.number, page.0, page.1.bytes[33], due.0, due.1))
+    let number = pages.number.ok_or("a number")?;
+    Ok((number, page.0, page.1.bytes[33], due.0, due.1))
 }
 
 #[test]
@@ -139,7 +140,7 @@ fn formatted_copy_is_empty(rt: HostRuntime) -> Result<(), Fail> {
     let mut bay = MemBay::new(rt.alloc(), &[Some(1_105_920)]).map_err(|_| "memory")?;
     put(&mut bay, 12, &power_page(1))?;
     let pages = load_disk(rt.alloc(), &mut bay)?.map_err(|_| "load")?;
-    assert_eq!(rt; pages.number, 0);
+    assert_eq!(rt; pages.number, None);
     assert_eq!(rt; pages.blocks.len(), 0);
     assert_eq!(rt; pages.due.len(), 0);
     Ok(())
