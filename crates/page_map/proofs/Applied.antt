@@ -37,14 +37,14 @@ at_is n p = elim (one_or_other (eqb n p)) [
   other Equal e isnt = absurd (true≢false (sym (eq-eqb n p (sym (exact_unsigned p n e))) ∙ isnt))
   other Greater e isnt = refl
 
-image_is : (pages : List (ℕ × Block)) (p : ℕ) → image_of (map image_of_page pages) p ≡ block_at pages p
+pub image_is : (pages : List (ℕ × Block)) (p : ℕ) → image_of (map image_of_page pages) p ≡ block_at pages p
 image_is [] p = refl
 image_is (e ∷ es) p = elim (one_or_other (eqb e.0 p)) [
   | inl here ↦ rw (here, at_is e.0 p, here) refl
   | inr other ↦ rw (other, at_is e.0 p, other) (image_is es p)
 ]
 
-inside_is : (units : ℕ) (pages : List (ℕ × Block)) → ((p : ℕ) → units ≤ p → block_at pages p ≡ None) → list_all (λ (p : ℕ × Block). ltb p.0 units) pages ≡ true
+pub inside_is : (units : ℕ) (pages : List (ℕ × Block)) → ((p : ℕ) → units ≤ p → block_at pages p ≡ None) → list_all (λ (p : ℕ × Block). ltb p.0 units) pages ≡ true
 inside_is units [] outside = refl
 inside_is units (e ∷ es) outside = elim (cases_lt e.0 units) [
   | inl below ↦ rw (lt-ltb e.0 units below) (inside_is units es (λ p past. let h : block_at (e ∷ es) p ≡ None = outside p past in rw (at_is e.0 p, apart e.0 p (λ same. omega arith)) at h))
@@ -56,7 +56,7 @@ inside_is units (e ∷ es) outside = elim (cases_lt e.0 units) [
   some_is_none : (b : Bytes) → Some b ≡ None → ⊥
   some_is_none b e = cc
 
-ascends : (least : ℕ) (pages : List ℕ) → AllByRecursion (λ p. least ≤ p) pages → IsStrictlySortedBy nat_cmp pages → ascends_from least pages ≡ true
+pub ascends : (least : ℕ) (pages : List ℕ) → AllByRecursion (λ p. least ≤ p) pages → IsStrictlySortedBy nat_cmp pages → ascends_from least pages ≡ true
 unfolding IsStrictlySortedBy
 ascends least [] low sorted = refl
 ascends least (p ∷ ps) low sorted = rw (le-leb least p low.0) (ascends (p + 1) ps (above p ps sorted.0) sorted.1) where
@@ -73,7 +73,7 @@ ascends least (p ∷ ps) low sorted = rw (le-leb least p low.0) (ascends (p + 1)
   above x [] h = tt
   above x (y ∷ ys) h = (less x y h.0, above x ys h.1)
 
-all_from_zero : (pages : List ℕ) → AllByRecursion (λ p. 0 ≤ p) pages
+pub all_from_zero : (pages : List ℕ) → AllByRecursion (λ p. 0 ≤ p) pages
 all_from_zero [] = tt
 all_from_zero (p ∷ ps) = (omega arith, all_from_zero ps)
 

@@ -5,3 +5,4 @@ pub mod Changing
 pub mod Applied
 pub mod Showing
 pub mod Loading
+pub mod Listing

@@ -4,3 +4,4 @@ pub mod Tables
 pub mod Applying
 pub mod Contents
 pub mod Loaded
+pub mod Listing

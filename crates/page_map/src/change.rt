@@ -102,7 +102,7 @@ fn count_new(alloc: Global, map: &PageMap, put: &[(Key, Value)]) -> Result<u64, 
 }
 
 /// The block of a record.
-fn record_block(key: Key, value: &Value) -> Block
+pub(crate) fn record_block(key: Key, value: &Value) -> Block
     ensures { result.bytes ≡ block_of key (Some value.now) }
 {
     let mut block = Block::zeros();
@@ -156,9 +156,14 @@ fn put_one(
 }
 
 /// Puts the block of a page.
-fn put_block(pages: &mut BTreeMap<u32, Block>, page: u32, block: Block) -> Result<(), NoMemory>
+pub(crate) fn put_block(
+    pages: &mut BTreeMap<u32, Block>,
+    page: u32,
+    block: Block,
+) -> Result<(), NoMemory>
     ensures blocks { OnOk result ((p : ℕ) → block_at pages.new.entries p ≡ (if p == page then Some block.bytes else block_at pages.old.entries p)) }
     ensures count { OnOk result (length pages.new.entries ≤ length pages.old.entries + 1) }
+    ensures more { OnOk result (block_at pages.old.entries page ≡ None → length pages.new.entries ≡ length pages.old.entries + 1) }
 {
     match pages.insert(page, block) {
         Ok(_) => Ok(()),
@@ -182,7 +187,10 @@ fn blocks(
 }
 
 /// The blocks by their pages.
-fn listed(alloc: Global, pages: BTreeMap<u32, Block>) -> Result<Vec<(u32, Block)>, NoMemory>
+pub(crate) fn listed(
+    alloc: Global,
+    pages: BTreeMap<u32, Block>,
+) -> Result<Vec<(u32, Block)>, NoMemory>
     ensures pages { IfOk result (λ list. list.items ≡ pages.entries) }
     ensures ascend { IfOk result (λ list. IsStrictlySortedBy nat_cmp (map_list page_number list.items)) }
 {

@@ -1,6 +1,7 @@
 //! The directories of a group: records by key, each on a page of its own, and what a change does to both.
 #![tactic(auto)]
 
+mod all_pages;
 mod change;
 mod free;
 mod laws;

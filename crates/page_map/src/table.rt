@@ -10,6 +10,7 @@ use crate::free::FreePages;
 use asm_base::{Key, NoMemory, Records, Value};
 use std::alloc::Global;
 use std::collections::BTreeMap;
+use std::collections::btree_map::Iter;
 use std::marker::Model;
 
 /// The key of the active rebalance.
@@ -46,6 +47,10 @@ impl Model for PageMap {
 
 impl PageMap {
     ghost use Rattle.page_map.specs.Free.{is_free, IsLeastFree};
+    ghost use Rattle.std.specs.List.Sorted.{IsStrictlySortedBy};
+    ghost use Rattle.std.specs.Prelude.{map};
+    ghost use Rattle.asm_base.specs.Records.{key_cmp};
+    ghost use Rattle.page_map.specs.Listing.{key_of_place};
     ghost use Rattle.page_map.specs.Tables.{IsTable, SameTable, Adds, Removes, room};
     ghost use Rattle.page_map.specs.Loaded.{AddsAt};
 
@@ -77,6 +82,15 @@ impl PageMap {
         ensures table { IsTable self.now }
     {
         self.places.get(&key).copied()
+    }
+
+    /// The keys in their order, each with its page.
+    pub(crate) fn places(&self) -> Iter<'_, Key, u32>
+        ensures places { result ≡ self.now.places }
+        ensures ordered { IsStrictlySortedBy key_cmp (map key_of_place self.now.places) }
+        ensures table { IsTable self.now }
+    {
+        self.places.iter()
     }
 
     /// The pages that are left for other records than the active rebalance and the pending operation.
