@@ -1,5 +1,5 @@
 -- What the copies of a store hold, image by image.
-use Rattle.std.specs.Prelude.{◌≡◌, ◌≢◌, ◌⊎◌, ℕ, ◌+◌, ◌*◌, ◌<◌, ◌≤◌, false, true, List, [], ◌∷◌, length, None, if◌then◌else◌, ◌==◌, IsTrue}
+use Rattle.std.specs.Prelude.{◌≡◌, ◌≢◌, ◌⊎◌, ℕ, ◌+◌, ◌*◌, ◌/◌, ◌<◌, ◌≤◌, false, true, List, [], ◌∷◌, length, None, if◌then◌else◌, ◌==◌, IsTrue}
 use Rattle.bay.specs.Image.{Image}
 use Rattle.bay.specs.State.{BayState}
 use Rattle.bay.specs.Counts.{Rose}
@@ -136,3 +136,13 @@ calls_for (copy ∷ copies) dues pages = length (due_of dues copy.slot) + pages 
 abbrev pub WritesFew : List DirCopy → List Due → ℕ → BayState → BayState → Type 0
 WritesFew copies dues pages s t =
     (c : DirCopy) → IsAmong copies c → t.written c.slot ≤ s.written c.slot + 2 * c.sector + (2 * pages + 1) * 4096 + length (due_of dues c.slot) * 4096
+
+-- the most calls that the making of these copies takes, of so many pages
+abbrev pub making_calls : List DirCopy → ℕ → ℕ
+making_calls [] pages = 0
+making_calls (copy ∷ copies) pages = (copy.dir_blocks * 4096) / 262144 + pages + 27 + making_calls copies pages
+
+-- The bytes written to a copy's slot rise by at most all its pages, a block for each page that is put, a block and four sectors.
+abbrev pub WritesAll : List DirCopy → ℕ → BayState → BayState → Type 0
+WritesAll copies pages s t =
+    (c : DirCopy) → IsAmong copies c → t.written c.slot ≤ s.written c.slot + 4 * c.sector + (c.dir_blocks + pages + 1) * 4096

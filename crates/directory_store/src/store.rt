@@ -8,10 +8,10 @@ ghost use Rattle.bay.specs.State.{KeepsAttached};
 ghost use Rattle.bay.specs.Moments.{Runs, NowOnly, LeavesOnly};
 ghost use Rattle.page_map.specs.Changes.{value_after};
 ghost use Rattle.page_map.specs.Applying.{Applies, IsCause};
-ghost use Rattle.page_map.specs.Tables.{IsTable, SameTable, new_in, room};
+ghost use Rattle.page_map.specs.Tables.{IsTable, PageTable, SameTable, new_in, room};
 ghost use Rattle.directory_store.specs.Answers.{IsRefusal, IsFirstRefusal};
 ghost use Rattle.directory_store.specs.Contents.{ArePutItems};
-ghost use Rattle.directory_store.specs.Copies.{AllAreShut, AreApart, AreNamed, FailedAlone, IsSlotOf, RegionsOf, WritesFew, calls_for, first_size};
+ghost use Rattle.directory_store.specs.Copies.{AllAreShut, AreApart, AreNamed, FailedAlone, IsSlotOf, RegionsOf, WritesAll, WritesFew, calls_for, first_size, making_calls};
 ghost use Rattle.directory_store.specs.Stores.{AreFirst, HaveEitherRecords, HaveNoneOrFirst, HaveOneSize, HaveRecords, IsEmpty, Keeps, off, others, without};
 
 use crate::StoreError;
@@ -113,10 +113,13 @@ impl Store {
         ensures records { IfOk result (λ store. AreFirst first.now.put first.now.gone store.table) }
         ensures number { IfOk result (λ store. store.number ≡ 1) }
         ensures copies { IfOk result (λ store. store.copies ≡ copies.now) }
+        ensures room { OnOk result ((table : PageTable) → IsEmpty table (first_size copies.now) → new_in table first.now.put ≤ room table) }
         ensures refused { IfErr result (IsFirstRefusal copies.now (first_size copies.now) first.now.put (B.state bay.old) (B.state bay.new)) }
         ensures kept { IfOk result (λ store. Keeps store (B.state bay.new)) }
         ensures moments { NowOnly (B.state bay.old) (AllAreShut copies.now) → LeavesOnly (B.state bay.old) (B.state bay.new) (HaveNoneOrFirst copies.now first.now.put first.now.gone) }
         ensures attached { KeepsAttached (B.state bay.old) (B.state bay.new) }
+        ensures calls { (B.state bay.new).calls ≤ (B.state bay.old).calls + making_calls copies.now (length first.now.put + length first.now.gone) }
+        ensures written { WritesAll copies.now (length first.now.put + length first.now.gone) (B.state bay.old) (B.state bay.new) }
         ensures runs { Runs (IsSlotOf copies.now) (ChangesOnly (RegionsOf copies.now)) (B.state bay.old) (B.state bay.new) }
     {
         let mut map = new_map(alloc, copies[0].dir_blocks)?;
