@@ -24,7 +24,8 @@ use Rattle.asm_base.specs.Records.{Entry, is_key, record_at}
 use Rattle.page_map.specs.Applying.{image_of_page, page_number}
 use Rattle.page_map.specs.Contents.{AreItems, IsItemOf}
 use Rattle.page_map.specs.Free.{is_free}
-use Rattle.page_map.specs.Loaded.{AddsAt, AreFilled, IsTableOf, IsTwin, IsFirstTwin, IsBlockOf, PutsPage, ReadsItem, HasKey, Stands, Holds, HasNoTable, MakesTwin, TwinCause, shown_by}
+use Rattle.page_map.specs.Listing.{shown_by}
+use Rattle.page_map.specs.Loaded.{AddsAt, AreFilled, IsTableOf, IsTwin, IsFirstTwin, IsBlockOf, PutsPage, ReadsItem, HasKey, Stands, Holds, HasNoTable, MakesTwin, TwinCause}
 use Rattle.page_map.specs.declared.loaded.LoadedError.{LoadedError}
 use Rattle.page_map.specs.declared.loaded.LoadedError.TheVariants.{Twin, NoMemory}
 use Rattle.page_map.specs.Tables.{PageTable, IsTable, Shows, place_at, block_of}

@@ -15,6 +15,7 @@ use Rattle.asm_base.specs.Records.{Entry, is_key, record_at}
 use Rattle.page_map.specs.Applying.{image_of_page, page_number}
 use Rattle.page_map.specs.Contents.{AreItems}
 use Rattle.page_map.specs.Free.{is_free}
+use Rattle.page_map.specs.Listing.{shown_by}
 use Rattle.page_map.specs.Tables.{PageTable, IsTable, Shows, place_at}
 use Rattle.page_map.specs.declared.loaded.LoadedError.{LoadedError}
 use Rattle.page_map.specs.declared.loaded.LoadedError.TheVariants.{Twin, NoMemory}
@@ -27,10 +28,6 @@ pub record AddsAt (old new : PageTable) (key : Key) (value : List ℕ) (page : �
   pub units : new.free.units ≡ old.free.units
 
 -- ---- the pages of a copy
-
--- these pages, and zeros elsewhere
-abbrev pub shown_by : List (ℕ × Block) → ℕ → Bytes
-shown_by blocks = with_images (map image_of_page blocks) (λ page. replicate block_size 0)
 
 -- ascending pages of a copy with so many, each the block of a record
 pub record AreFilled (pages : ℕ) (blocks : List (ℕ × Block)) : Type 0 where
