@@ -18,3 +18,4 @@ pub mod Moved
 pub mod EditLaws
 pub mod Names
 pub mod FileLaws
+pub mod FoundFaults

@@ -18,7 +18,7 @@ use Rattle.asm_base.proofs.Exact.{some_is}
 use Rattle.asm_base.proofs.ItemTables.{IsEntry, entry_is_read, entry_taken, items_found, items_again}
 use Rattle.alias_tree.specs.Nodes.{Numbered, item_of, entry_of, record_of, is_mine, is_before, node_at, with_node, is_directory, reaches_root, IsTable, parent_is_right, is_right}
 use Rattle.alias_tree.specs.Faults.{IsTwin}
-use Rattle.alias_tree.specs.Places.{Place, place_of, is_same_place, number_at, IsIndex, Member, Indexes, SoFar, Clash}
+use Rattle.alias_tree.specs.Places.{Place, place_of, is_same_place, number_at, HasIndex, IsIndex, Member, Indexes, SoFar, Clash}
 use Rattle.alias_tree.proofs.PlaceLaws.{same_is, self_same, one_name, one_place}
 use Rattle.alias_tree.proofs.IndexLaws.{either, not_same, at_member, member_at, first_below, less_apart, tail_up, it_stands}
 
@@ -150,6 +150,9 @@ so_far_twin nodes x left places s some = record { clash = so_far_clash nodes x l
 
 pub so_far_all : (nodes : List Numbered) (places : List (Place × ℕ)) → SoFar nodes [] places → Indexes nodes places
 so_far_all nodes places s = subst (λ (xs : List Numbered). Indexes xs places) (sym (append-nil s.done) ∙ s.split) s.indexes
+
+pub so_far_indexed : (nodes : List Numbered) (places : List (Place × ℕ)) → SoFar nodes [] places → HasIndex nodes
+so_far_indexed nodes places s = record { places = places; indexes = so_far_all nodes places s }
 
 -- ---- the rule
 

@@ -2,7 +2,7 @@
 use Rattle.std.specs.Prelude.{◌≡◌, ◌⊎◌, ℕ, List, map, not, find, Option, Some}
 use Rattle.asm_base.specs.Records.{Entry, of_kinds}
 use Rattle.asm_base.specs.Tables.{IsItemTable}
-use Rattle.alias_tree.specs.Nodes.{Numbered, is_before, is_mine, is_right, item_of, record_of}
+use Rattle.alias_tree.specs.Nodes.{KeepsRule, Numbered, is_before, is_mine, is_right, item_of, record_of}
 use Rattle.alias_tree.specs.Places.{Clash}
 
 -- the first node whose parent is another than the root or a directory, or whose parents don't lead to the root
@@ -22,3 +22,7 @@ pub record HasFault (records : List Entry) (n : ℕ) : Type 0 where
   pub items : IsItemTable is_before item_of nodes
   pub same : of_kinds is_mine records ≡ map record_of nodes
   pub fault : IsUnrooted nodes n ⊎ IsTwin nodes n
+
+-- each table of nodes that has these records keeps the rule of the tree
+abbrev pub IsWithoutFault : List Entry → Type 0
+IsWithoutFault records = (nodes : List Numbered) → IsItemTable is_before item_of nodes → of_kinds is_mine records ≡ map record_of nodes → KeepsRule nodes

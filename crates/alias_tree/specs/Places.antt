@@ -70,6 +70,11 @@ pub record Indexes (nodes : List Numbered) (places : List (Place × ℕ)) : Type
   pub there : (x : Numbered) → Member x nodes → number_at places (place_of x.1) ≡ Some x.0
   pub only : (p : Place) (n : ℕ) → number_at places p ≡ Some n → (node : Node) × Member (n, node) nodes × (place_of node ≡ p)
 
+-- the nodes have an index: no two of them have one place
+pub record HasIndex (nodes : List Numbered) : Type 0 where
+  pub places : List (Place × ℕ)
+  pub indexes : Indexes nodes places
+
 -- the index of the nodes before those that are left
 pub record SoFar (nodes left : List Numbered) (places : List (Place × ℕ)) : Type 0 where
   pub done : List Numbered

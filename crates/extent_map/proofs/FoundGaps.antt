@@ -1,12 +1,29 @@
--- A gap that is found is one of a table that has the records.
-use Rattle.std.proofs.Common.{◌≡◌, List, [], Option, Some, None, sym, ◌∙◌}
+-- A gap that is found is one of a table that has the records, and where none is found each such table keeps the rule.
+use Rattle.std.proofs.Common.{◌≡◌, Bool, true, false, List, [], ◌∷◌, map, Option, Some, None, refl, sym, subst, ◌∙◌}
+use Rattle.std.proofs.lemmas.Option.{none-some}
 use Rattle.asm_base.specs.Records.{Entry, read_from}
-use Rattle.asm_base.proofs.ItemTables.{items_found}
-use Rattle.extent_map.specs.Extents.{Chunk, Chunked, add, is_before, is_chunk}
-use Rattle.extent_map.specs.Faults.{HasGap, gap_from}
+use Rattle.asm_base.proofs.Exact.{some_is}
+use Rattle.asm_base.proofs.ItemTables.{items_again, items_found}
+use Rattle.extent_map.specs.Extents.{Chunk, Chunked, add, has_no_gap, is_before, is_chunk, opened, stands_at}
+use Rattle.extent_map.specs.Faults.{HasGap, IsWithoutGap, gap_from}
 use Rattle.extent_map.proofs.Laws.{chunk_entry}
 
 pub gap_is : (records : List Entry) (read : Option (List Chunked)) (t : List Chunked) (at : Chunk) → read ≡ read_from is_chunk add [] records → read ≡ Some t → gap_from None t ≡ Some at → HasGap records at
 gap_is records read t at e some gap =
     let f = items_found chunk_entry is_chunk is_before records (Some t) (sym some ∙ e) in
     record { table = t; items = f.0; same = f.1; gap = gap }
+
+none_gap : (past : Option Chunk) (t : List Chunked) → gap_from past t ≡ None → has_no_gap past t ≡ true
+none_gap past [] e = refl
+none_gap past (x ∷ t) e = by (stands_at past x) refl (none_gap (opened x) t) where
+  by : (b : Bool) → stands_at past x ≡ b → (gap_from (opened x) t ≡ None → has_no_gap (opened x) t ≡ true) → has_no_gap past (x ∷ t) ≡ true
+  by true is rest = rw is (rest (rw is at e))
+  by false is rest = absurd (none-some x.0 (sym (rw is at e)))
+
+pub no_gap_is : (records : List Entry) (read : Option (List Chunked)) (t : List Chunked) → read ≡ read_from is_chunk add [] records → read ≡ Some t → gap_from None t ≡ None → IsWithoutGap records
+no_gap_is records read t e some none u fits same =
+    let again = items_again chunk_entry is_chunk is_before records read u e fits same in
+    subst (λ (v : List Chunked). has_no_gap None v ≡ true) (some_is t u (sym some ∙ again)) (none_gap None t none)
+
+pub no_table_is : (records : List Entry) (read : Option (List Chunked)) → read ≡ read_from is_chunk add [] records → read ≡ None → IsWithoutGap records
+no_table_is records read e none u fits same = absurd (none-some u (sym none ∙ items_again chunk_entry is_chunk is_before records read u e fits same))

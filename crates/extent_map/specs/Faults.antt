@@ -1,8 +1,8 @@
 -- Which chunk breaks the rule of the extents.
-use Rattle.std.specs.Prelude.{◌≡◌, List, [], ◌∷◌, map, Option, Some, None, if◌then◌else◌}
+use Rattle.std.specs.Prelude.{◌≡◌, List, [], ◌∷◌, map, Option, Some, None, if◌then◌else◌, IsTrue}
 use Rattle.asm_base.specs.Records.{Entry, of_kinds}
 use Rattle.asm_base.specs.Tables.{IsItemTable}
-use Rattle.extent_map.specs.Extents.{Chunk, Chunked, is_before, is_chunk, item_of, opened, record_of, stands_at}
+use Rattle.extent_map.specs.Extents.{Chunk, Chunked, has_no_gap, is_before, is_chunk, item_of, opened, record_of, stands_at}
 
 -- the first chunk that doesn't stand behind the ones before it
 abbrev pub gap_from : Option Chunk → List Chunked → Option Chunk
@@ -15,3 +15,7 @@ pub record HasGap (records : List Entry) (at : Chunk) : Type 0 where
   pub items : IsItemTable is_before item_of table
   pub same : of_kinds is_chunk records ≡ map record_of table
   pub gap : gap_from None table ≡ Some at
+
+-- each table of chunks that has these records has no gap
+abbrev pub IsWithoutGap : List Entry → Type 0
+IsWithoutGap records = (table : List Chunked) → IsItemTable is_before item_of table → of_kinds is_chunk records ≡ map record_of table → IsTrue (has_no_gap None table)
