@@ -1,6 +1,7 @@
 -- What a status record becomes where one thing of it changes.
 use Rattle.std.specs.Prelude.{ℕ, ◌+◌, ◌/◌, ◌==◌, if◌then◌else◌, false, List, [], ◌∷◌, map, length}
 use Rattle.asm_group.specs.declared.Mode.{Mode}
+use Rattle.asm_group.specs.declared.Mode.TheVariants.{Offline}
 use Rattle.asm_formats.specs.Sets.{elements}
 use Rattle.asm_formats.specs.Status.{Entry, Status}
 
@@ -30,3 +31,7 @@ status_with_partners r sets = record r { entries = entries_with_partners r.entri
 abbrev pub first_status : ℕ → ℕ → ℕ → ℕ → List Entry → Status
 first_status id births holders directories entries =
     record { id = id; epoch = 1; turn = 1; gone = false; births = births; holders = holders; next_holders = 0; directories = directories; entries = entries }
+
+-- no disk's entry: Offline, without partners, each number 0
+abbrev pub blank_entry : Entry
+blank_entry = record { number = 0; birth = 0; mode = Offline; failgroup = 0; quorum = false; units = 0; since = 0; repair = 0; partners = 0 }

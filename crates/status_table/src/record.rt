@@ -36,8 +36,12 @@ impl Model for PstEntry {
 }
 
 impl PstEntry {
+    ghost use Rattle.status_table.specs.Changes.{blank_entry};
+
     /// What stands in an array past the entries.
-    pub fn blank() -> PstEntry {
+    pub fn blank() -> PstEntry
+        ensures { result ≡ blank_entry }
+    {
         PstEntry {
             number: 0,
             birth: 0,
