@@ -5,3 +5,4 @@ pub mod Lookups
 pub mod Ends
 pub mod FileEnds
 pub mod FoundGaps
+pub mod ChangeLaws

@@ -42,6 +42,14 @@ impl Chunk {
         Chunk { homes }
     }
 
+    /// An equal chunk.
+    pub fn copy(&self, alloc: Global) -> Result<Chunk, NoMemory>
+        ensures { IfOk result (λ c. c ≡ self.now) }
+    {
+        let homes = Vec::from_slice(alloc, &self.homes).map_err(|_| NoMemory)?;
+        Ok(Chunk { homes })
+    }
+
     pub fn as_slice(&self) -> &[Homes]
         ensures homes { result.now ≡ self.now }
         ensures size { length self.now ≡ 256 }

@@ -1,6 +1,7 @@
 //! Where the copies of the extents of a group's files begin.
 #![tactic(auto)]
 
+mod changing;
 mod chunk;
 mod counting;
 mod faults;

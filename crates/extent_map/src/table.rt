@@ -2,6 +2,7 @@
 
 ghost use Rattle.std.specs.Prelude.{◌≡◌, ◌++◌, ◌+◌, ◌<◌, ◌≤◌, ◌^◌, ◌/◌, ◌%◌, [], List as Items, length, map, replicate, slice_set, IfOk, IfSome, IsTrue, OnErr, OnOk, Some, None, if◌then◌else◌};
 ghost use Rattle.std.specs.Bool.{OnFalse, OnTrue};
+ghost use Rattle.std.specs.BTreeMap.{is_at};
 ghost use Rattle.std.specs.Option.{is_some, option_copied, option_map};
 ghost use Rattle.std.specs.List.{AllByRecursion};
 ghost use Rattle.asm_base.specs.Records.{Ascend, ends_below, of_kinds, read_from};
@@ -34,7 +35,8 @@ impl Model for ExtentMap {
 }
 
 impl ExtentMap {
-    ghost use Rattle.extent_map.specs.Extents.{absent, Chunked, IsNumbered, IsTable, add, chunk_at, extent_at, has_extent, has_no_gap, is_before, is_chunk, record_of, with_chunk, with_extent, with_homes, without_chunk, without_extent, without_gap};
+    ghost use Rattle.extent_map.specs.Changing.{AreChunks, value_at};
+    ghost use Rattle.extent_map.specs.Extents.{Chunk as Place, chunk_cmp, absent, Chunked, IsNumbered, IsTable, add, chunk_at, extent_at, has_extent, has_no_gap, is_before, is_chunk, record_of, with_chunk, with_extent, with_homes, without_chunk, without_extent, without_gap};
 
     pub fn new(alloc: Global) -> ExtentMap
         ensures { result ≡ [] }
@@ -166,14 +168,38 @@ impl ExtentMap {
         true
     }
 
-    fn insert(&mut self, at: (u32, u32), chunk: Chunk) -> Result<(), NoMemory>
+    pub(crate) fn insert(&mut self, at: (u32, u32), chunk: Chunk) -> Result<(), NoMemory>
         ensures ok { OnOk result (self.new ≡ with_chunk self.old at chunk) }
+        // Other chunks keep their extents.
+        ensures at { OnOk result ((c : Place) → chunk_at self.new c ≡ (if is_at (chunk_cmp at) c then Some chunk else chunk_at self.old c)) }
         ensures err { OnErr result (self.new ≡ self.old) }
     {
         match self.map.insert(at, chunk) {
             Ok(_) => Ok(()),
             Err(_) => Err(NoMemory),
         }
+    }
+
+    #[tactic(auto, using(crate::proofs::ChangeLaws::record_gone))]
+    pub(crate) fn take_away(&mut self, at: (u32, u32)) -> bool
+        ensures there { result ≡ is_some (chunk_at self.old at) }
+        ensures after { self.new ≡ without_chunk self.old at }
+        ensures gone { (c : Place) → value_at self.new c ≡ (if is_at (chunk_cmp at) c then None else value_at self.old c) }
+    {
+        self.map.remove(&at).is_some()
+    }
+
+    /// An equal table.
+    #[tactic(auto, using(crate::proofs::ChangeLaws::copied))]
+    pub fn copy(&self, alloc: Global) -> Result<ExtentMap, NoMemory>
+        requires { AreChunks self.now }
+        ensures { IfOk result (λ copy. copy ≡ self.now) }
+    {
+        let mut copy = ExtentMap::new(alloc);
+        for (at, chunk) in self.map.iter() {
+            copy.insert(*at, chunk.copy(alloc)?)?;
+        }
+        Ok(copy)
     }
 
     /// The record of a chunk, or None where it isn't there.
