@@ -56,6 +56,12 @@ member_of_all P (y ∷ nodes) x all m = elim m [ inl e ↦ subst P (sym e) all.0
 pub item_at : (nodes : List Numbered) (n : ℕ) (node : Node) → IsItemTable is_before item_of nodes → node_at nodes n ≡ Some node → IsTrue (is_item (node_item n node))
 item_at nodes n node t e = member_of_all (λ x. IsTrue (is_item (item_of x))) nodes (n, node) t.1 (at_member nodes n node e)
 
+pub nodes_of : (nodes : List Numbered) → IsTable nodes → IsItemTable is_before item_of nodes
+nodes_of nodes t = t.items
+
+pub name_of_item : (nodes : List Numbered) (n : ℕ) (node : Node) → IsItemTable is_before item_of nodes → node_at nodes n ≡ Some node → length node.name ≤ 80
+name_of_item nodes n node t e = name_is_short n node (item_at nodes n node t e)
+
 pub name_at : (nodes : List Numbered) (n : ℕ) (node : Node) → IsTable nodes → node_at nodes n ≡ Some node → length node.name ≤ 80
 name_at nodes n node t e = name_is_short n node (item_at nodes n node t.items e)
 

@@ -19,3 +19,4 @@ pub mod EditLaws
 pub mod Names
 pub mod FileLaws
 pub mod FoundFaults
+pub mod OpenLaws

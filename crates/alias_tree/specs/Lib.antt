@@ -5,3 +5,4 @@ pub mod Trees
 pub mod Edits
 pub mod FileNames
 pub mod Faults
+pub mod Opening

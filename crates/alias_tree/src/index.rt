@@ -3,6 +3,8 @@
 ghost use Rattle.std.specs.Prelude.{◌≡◌, ◌≤◌, length, ℕ, IfOk, OnErr, OnOk, Some, None, if◌then◌else◌, is_some, true};
 ghost use Rattle.std.specs.Bool.{OnTrue, OnFalse};
 ghost use Rattle.std.specs.Option.{option_map, MatchOption};
+ghost use Rattle.std.specs.Ordering.{nat_cmp};
+ghost use Rattle.std.specs.BTreeMap.{is_at};
 ghost use Rattle.asm_base.specs.Tables.{IsItemTable};
 ghost use Rattle.alias_tree.specs.Nodes.{IsTable, is_before, item_of, node_at, with_node, without_node};
 ghost use Rattle.alias_tree.specs.Places.{Clash, Indexes, IsIndex, Place, is_same_place, number_at, place_of, without_place};
@@ -14,7 +16,7 @@ use asm_base::NoMemory;
 use std::alloc::Global;
 
 /// Puts a node among the nodes and at its place. Where there is no memory the nodes stay.
-#[tactic(auto, using(crate::proofs::IndexLaws::name_after, crate::proofs::IndexLaws::put_same_or_not))]
+#[tactic(auto, using(crate::proofs::IndexLaws::name_after, crate::proofs::IndexLaws::put_same_or_not, crate::proofs::IndexLaws::nodes_of))]
 pub(crate) fn put_node(
     nodes: &mut Nodes,
     places: &mut Places,
@@ -39,18 +41,20 @@ pub(crate) fn put_node(
 
 /// Puts a node at a place where none is.
 #[tactic(auto, using(crate::proofs::IndexLaws::index_stays, crate::proofs::IndexLaws::put_and_gone, crate::proofs::IndexLaws::put_new))]
-fn put_at(
+pub(crate) fn put_at(
     nodes: &mut Nodes,
     places: &mut Places,
     at: Place,
     key: u32,
     item: Node,
 ) -> Result<(), NoMemory>
-    requires was { IsTable nodes.old }
+    requires was { IsItemTable is_before item_of nodes.old }
     requires index { IsIndex nodes.old places.old }
     requires at { at ≡ place_of item }
     requires free { number_at places.old at ≡ None }
     ensures ok { OnOk result (nodes.new ≡ with_node nodes.old key item) }
+    // Other numbers keep their nodes.
+    ensures nodes { OnOk result ((n : ℕ) → node_at nodes.new n ≡ (if is_at (nat_cmp key) n then Some item else node_at nodes.old n)) }
     ensures err { OnErr result (nodes.new ≡ nodes.old) }
     ensures index { IsIndex nodes.new places.new }
 {
@@ -67,10 +71,11 @@ fn put_at(
 /// Takes a node and its place away, and tells whether it was there.
 #[tactic(auto, using(crate::proofs::IndexLaws::index_without))]
 pub(crate) fn remove_node(nodes: &mut Nodes, places: &mut Places, key: u32) -> bool
-    requires was { IsTable nodes.old }
+    requires was { IsItemTable is_before item_of nodes.old }
     requires index { IsIndex nodes.old places.old }
     ensures there { result ≡ is_some (node_at nodes.old key) }
     ensures after { nodes.new ≡ without_node nodes.old key }
+    ensures nodes { (n : ℕ) → node_at nodes.new n ≡ (if is_at (nat_cmp key) n then None else node_at nodes.old n) }
     ensures index { IsIndex nodes.new places.new }
 {
     let gone = place_at(nodes, key);
@@ -79,9 +84,9 @@ pub(crate) fn remove_node(nodes: &mut Nodes, places: &mut Places, key: u32) -> b
 }
 
 /// The place of a node.
-#[tactic(auto, using(crate::proofs::IndexLaws::name_at))]
+#[tactic(auto, using(crate::proofs::IndexLaws::name_of_item))]
 fn place_at(nodes: &Nodes, key: u32) -> Option<Place>
-    requires { IsTable nodes.now }
+    requires { IsItemTable is_before item_of nodes.now }
     ensures { result ≡ option_map place_of (node_at nodes.now key) }
 {
     let node = nodes.get(key)?;

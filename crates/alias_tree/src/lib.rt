@@ -10,6 +10,7 @@ mod files;
 mod index;
 mod node;
 mod nodes;
+mod opening;
 mod places;
 mod reading;
 mod tree;
@@ -17,5 +18,6 @@ mod writing;
 
 pub use editing::{TreeEdit, TreeError};
 pub use node::Node;
+pub use opening::OpenTree;
 pub use tree::AliasTree;
 pub use writing::node_record;

@@ -4,7 +4,7 @@ ghost use Rattle.std.specs.Prelude.{◌≡◌};
 ghost use Rattle.asm_group.specs.TreeEdits.{file_of_node};
 ghost use Rattle.asm_formats.specs.Nodes.{node_kind};
 
-use asm_base::{Name, NodeKind};
+use asm_base::{Name, NoMemory, NodeKind};
 use std::marker::Model;
 
 /// A name in the tree. Contracts see it as the node of the formats.
@@ -25,6 +25,21 @@ impl Model for Node {
     ghost Value = { FormatNode };
 
     ghost view = { λ n. record { parent = n.parent; kind = n.kind; file = n.file; name = n.name } };
+}
+
+impl Node {
+    ghost use Rattle.std.specs.Prelude.{◌≡◌, IfOk};
+
+    pub fn copy(&self) -> Result<Node, NoMemory>
+        ensures { IfOk result (λ copy. copy ≡ self.now) }
+    {
+        Ok(Node {
+            parent: self.parent,
+            kind: self.kind,
+            file: self.file,
+            name: self.name.copy()?,
+        })
+    }
 }
 
 /// The file that the name stands for, where it isn't a directory's.

@@ -143,6 +143,19 @@ impl Nodes {
         self.names.first(file)
     }
 
+    /// Equal nodes.
+    #[tactic(auto, using(crate::proofs::OpenLaws::copied))]
+    pub(crate) fn copy(&self, alloc: Global) -> Result<Nodes, NoMemory>
+        requires { IsItemTable is_before item_of self.now }
+        ensures { IfOk result (λ copy. copy ≡ self.now) }
+    {
+        let mut copy = Nodes::new(alloc);
+        for (number, node) in self.map.iter() {
+            copy.put(*number, node.copy()?)?;
+        }
+        Ok(copy)
+    }
+
     /// Puts the records of the nodes into a change. After an `Err` some of them may stand there.
     pub(crate) fn to_records(&self, alloc: Global, change: &mut Change) -> Result<(), NoMemory>
         requires { IsItemTable is_before item_of self.now }

@@ -10,6 +10,7 @@ ghost use Rattle.asm_base.specs.Records.{of_kinds};
 use crate::index::{places_of, put_node, remove_node};
 use crate::node::Node;
 use crate::nodes::Nodes;
+use crate::opening::OpenTree;
 use crate::places::{Places, named_place};
 use asm_base::{Change, Name, NoMemory, Path, Records};
 use std::alloc::Global;
@@ -43,7 +44,7 @@ impl AliasTree {
     ghost use Rattle.alias_tree.specs.Edits.{IsLeastFree, is_name_of};
     ghost use Rattle.asm_formats.specs.Nodes.{entry_of_node, node_kind};
     ghost use Rattle.alias_tree.specs.Trees.{node_by, tree_of};
-    ghost use Rattle.alias_tree.specs.Nodes.{IsTable, Numbered, are_distinct, child, is_mine, is_under, node_at, number_from, number_of, record_of, with_node, without_node};
+    ghost use Rattle.alias_tree.specs.Nodes.{IsTable, KeepsRule, Numbered, are_distinct, child, is_mine, is_under, node_at, number_from, number_of, record_of, with_node, without_node};
 
     /// A tree without names.
     #[tactic(auto, using(crate::proofs::IndexLaws::no_nodes, crate::proofs::IndexLaws::no_places))]
@@ -88,12 +89,47 @@ impl AliasTree {
     }
 
     /// Takes a node away, and tells whether it was there.
+    #[tactic(auto, using(crate::proofs::IndexLaws::nodes_of))]
     pub fn remove(&mut self, key: u32) -> bool
         requires { IsTable (without_node self.old key) }
         ensures there { result ≡ is_some (node_at self.old key) }
         ensures after { self.new ≡ without_node self.old key }
     {
         remove_node(&mut self.nodes, &mut self.places, key)
+    }
+
+    /// An equal tree.
+    #[tactic(auto, using(crate::proofs::IndexLaws::nodes_of, crate::proofs::Rules::index_of))]
+    pub fn copy(&self, alloc: Global) -> Result<AliasTree, NoMemory>
+        ensures { IfOk result (λ copy. copy ≡ self.now) }
+    {
+        let nodes = self.nodes.copy(alloc)?;
+        let Some(places) = places_of(alloc, &nodes)? else {
+            return Err(NoMemory);
+        };
+        Ok(AliasTree { nodes, places })
+    }
+
+    /// The tree for a change of records, in the midst of which its rule needn't hold.
+    #[tactic(auto, using(crate::proofs::IndexLaws::nodes_of))]
+    pub fn open(self) -> OpenTree
+        ensures { result ≡ self }
+    {
+        OpenTree {
+            nodes: self.nodes,
+            places: self.places,
+        }
+    }
+
+    /// The tree of these nodes, which keep the rule.
+    pub fn close(tree: OpenTree) -> AliasTree
+        requires { KeepsRule tree }
+        ensures { result ≡ tree }
+    {
+        AliasTree {
+            nodes: tree.nodes,
+            places: tree.places,
+        }
     }
 
     /// Puts the records of the nodes into a change. After an `Err` some of them may stand there.
