@@ -1,5 +1,5 @@
 -- A gap that is found is one of a table that has the records, and where none is found each such table keeps the rule.
-use Rattle.std.proofs.Common.{◌≡◌, Bool, true, false, List, [], ◌∷◌, map, Option, Some, None, refl, sym, subst, ◌∙◌}
+use Rattle.std.proofs.Common.{◌≡◌, Bool, true, false, List, [], ◌∷◌, Option, Some, None, refl, sym, subst, ◌∙◌}
 use Rattle.std.proofs.lemmas.Option.{none-some}
 use Rattle.asm_base.specs.Records.{Entry, read_from}
 use Rattle.asm_base.proofs.Exact.{some_is}
