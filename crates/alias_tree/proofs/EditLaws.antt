@@ -1,7 +1,6 @@
 -- What is done to the nodes is what the edit says of the tree.
-use Rattle.std.proofs.Common.{◌≡◌, ℕ, List, Option, Some, None, refl, sym, ap, subst, ◌∙◌}
-use Rattle.std.specs.Prelude.{Result, Ok, Err}
-use Rattle.asm_group.specs.Names.{Path}
+use Rattle.std.proofs.Common.{◌≡◌, List, Option, Some, None, sym, ap, ◌∙◌}
+use Rattle.std.specs.Prelude.{Ok, Err}
 use Rattle.asm_group.specs.Refusal.{Refusal}
 use Rattle.asm_group.specs.Causes.{first_cause, unless_refused}
 use Rattle.asm_group.specs.TreeEdits as e

@@ -1,5 +1,5 @@
 -- The index of the names by file stays that of the nodes.
-use Rattle.std.proofs.Common.{◌≡◌, ℕ, ◌<◌, ◌≤◌, ◌^◌, Bool, true, false, cond, eqb, Ordering, List, [], Option, Some, None, refl, sym, ap, subst, ◌∙◌, arith, inl, inr, ◌⊎◌}
+use Rattle.std.proofs.Common.{◌≡◌, ℕ, ◌<◌, ◌^◌, Bool, true, false, cond, eqb, Ordering, List, Option, Some, None, refl, sym, ap, subst, ◌∙◌, inl, inr}
 use Rattle.std.specs.Prelude.{IfNone, IfSome, is_some, not, ◌&&◌, ◌||◌}
 use Rattle.std.specs.Cmp.{IsTotalOrder, Equal-is, bool_cmp_total}
 use Rattle.std.specs.FinMap as maps
@@ -17,7 +17,7 @@ use Rattle.asm_base.specs.Tables.{IsItemTable}
 use Rattle.alias_tree.specs.Nodes.{Numbered, node_at, is_before, item_of}
 use Rattle.asm_formats.specs.Nodes.{node_kind}
 use Rattle.alias_tree.specs.FileNames.{FileName, name_cmp, is_same_name, has_name, is_it, forgotten, name_by_kind, name_of_node, IsFileIndex, IsLow}
-use Rattle.alias_tree.proofs.IndexLaws.{either, at_is, at_self, not_at, at_member, item_at, member_at}
+use Rattle.alias_tree.proofs.IndexLaws.{either, at_is, at_self, at_member, item_at, member_at}
 use Rattle.alias_tree.proofs.Leading.{same_bool, any_some, any_of, among_member, member_among}
 use Rattle.alias_tree.proofs.Readings.{number_is_some}
 

@@ -1,20 +1,20 @@
 -- What keeps the rule of the table.
-use Rattle.std.proofs.Common.{◌≡◌, ℕ, zero, suc, ◌+◌, ◌<◌, ◌≤◌, Bool, true, false, eqb, cond, Ordering, List, [], ◌∷◌, length, Option, Some, None, refl, sym, ap, subst, ◌∙◌, arith, inl, inr, ◌⊎◌}
+use Rattle.std.proofs.Common.{◌≡◌, ℕ, zero, suc, ◌+◌, ◌<◌, ◌≤◌, Bool, true, false, cond, Ordering, List, [], ◌∷◌, length, Option, Some, None, refl, sym, ap, subst, ◌∙◌, arith, inl, inr, ◌⊎◌}
 use Rattle.std.specs.Prelude.{IsTrue}
 use Rattle.std.specs.FinMap as maps
 use Rattle.std.specs.BTreeMap.{is_at}
 use Rattle.std.specs.Ordering.{nat_cmp}
 use Rattle.std.specs.declared.cmp.Ordering.TheVariants.{Less, Equal, Greater}
-use Rattle.std.proofs.lemmas.Bool.{eqb-true, eq-eqb, true≢false}
+use Rattle.std.proofs.lemmas.Bool.{true≢false}
 use Rattle.std.proofs.lemmas.Cmp.{nat_cmp_total}
 use Rattle.std.proofs.lemmas.Option.{none-some}
-use Rattle.asm_group.specs.Names.{Bytes, folded}
+use Rattle.asm_group.specs.Names.{folded}
 use Rattle.asm_formats.specs.Items.{Node, node_item, is_item}
 use Rattle.asm_base.specs.Records.{Ascend}
 use Rattle.asm_base.specs.Tables.{IsItemTable}
 use Rattle.asm_base.proofs.Exact.{some_is}
 use Rattle.asm_base.proofs.ItemTables.{put_keeps, removed_keeps}
-use Rattle.alias_tree.specs.Nodes.{Numbered, item_of, is_before, node_at, with_node, without_node, is_directory, reaches_root, KeepsRule, IsTable, child}
+use Rattle.alias_tree.specs.Nodes.{Numbered, item_of, is_before, node_at, with_node, without_node, is_directory, reaches_root, IsTable, child}
 use Rattle.alias_tree.proofs.IndexLaws.{either, at_is, at_self, not_at, at_member, first_below, less_apart, tail_up, item_at}
 use Rattle.alias_tree.proofs.Readings.{number_is_some}
 use Rattle.alias_tree.proofs.Rules.{at_root}

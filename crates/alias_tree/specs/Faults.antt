@@ -1,5 +1,5 @@
 -- Which node breaks the rule of the tree.
-use Rattle.std.specs.Prelude.{◌≡◌, ◌⊎◌, ℕ, List, map, not, find, Option, Some}
+use Rattle.std.specs.Prelude.{◌≡◌, ◌⊎◌, ℕ, List, map, not, find, Some}
 use Rattle.asm_base.specs.Records.{Entry, of_kinds}
 use Rattle.asm_base.specs.Tables.{IsItemTable}
 use Rattle.alias_tree.specs.Nodes.{KeepsRule, Numbered, is_before, is_mine, is_right, item_of, record_of}

@@ -1,4 +1,3 @@
-use Rattle.std.proofs.Common.{sym}
 use Rattle.std.specs.Option.{option_copied}
 use Rattle.alias_tree.proofs.Done.{node_is, node_is_none}
 use Rattle.alias_tree.proofs.tree.AliasTree.node_of.Goals as goal
