@@ -1,8 +1,6 @@
 -- A record of the format stays one where one thing of it changes.
-use Rattle.std.proofs.Common.{◌≡◌, ℕ, zero, suc, ◌+◌, ◌^◌, ◌<◌, Bool, true, false, cond, eqb, List, [], ◌∷◌, ◌++◌, length, map, take, set, get_or, refl, sym, ap, subst, ◌∙◌, arith, inl, inr, ◌⊎◌}
-use Rattle.std.specs.Prelude.{◌&&◌}
+use Rattle.std.proofs.Common.{◌≡◌, ℕ, zero, suc, ◌+◌, ◌^◌, ◌<◌, Bool, true, false, cond, eqb, List, [], ◌∷◌, ◌++◌, length, map, take, set, get_or, refl, ap, ◌∙◌, arith, inl}
 use Rattle.std.specs.List.{list_all}
-use Rattle.std.specs.Option.{is_some}
 use Rattle.std.proofs.lemmas.Bool.{and_parts, and_from}
 use Rattle.std.proofs.lemmas.List.{take_more_set}
 use Rattle.asm_group.specs.declared.Mode.{Mode}
@@ -11,7 +9,7 @@ use Rattle.asm_formats.specs.Status.{Entry, Status, is_entry, is_status, entry_o
 use Rattle.asm_formats.specs.Following.{sets_of, disks_of, sets, Holder, Follows, FollowsSets}
 use Rattle.status_table.specs.Rules.{number_of}
 use Rattle.status_table.specs.Changes.{entry_with_mode, entries_with_partners, status_with_mode, status_with_partners}
-use Rattle.status_table.proofs.Allowed.{Parts, parts_of, parts_are, FitsEntry, entry_fits, entry_is}
+use Rattle.status_table.proofs.Allowed.{parts_of, parts_are, entry_fits, entry_is}
 
 -- ---- entries of the same numbers
 

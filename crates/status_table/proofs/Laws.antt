@@ -1,17 +1,16 @@
 -- A status record is read from its two spellings alone.
-use Rattle.std.proofs.Common.{◌≡◌, ℕ, zero, suc, ◌+◌, ◌^◌, ◌<◌, ◌≤◌, Bool, true, false, cond, List, [], ◌∷◌, ◌++◌, length, map, Option, Some, None, refl, sym, ap, subst, ◌∙◌, arith, inl, inr, ◌⊎◌}
-use Rattle.std.specs.Prelude.{codes, flat_map}
+use Rattle.std.proofs.Common.{◌≡◌, ℕ, zero, suc, ◌^◌, ◌<◌, ◌≤◌, true, cond, List, [], ◌∷◌, length, Option, Some, None, refl, sym, ap, subst, ◌∙◌, arith, inl, inr}
 use Rattle.std.specs.Int.{w32, w64}
 use Rattle.std.specs.List.{AllByRecursion}
-use Rattle.std.specs.Option.{option_or, option_and_then}
+use Rattle.std.specs.Option.{option_or}
 use Rattle.std.proofs.lemmas.Option.{none-some}
 use Rattle.asm_group.specs.declared.Mode.{Mode}
 use Rattle.asm_group.specs.declared.Mode.TheVariants.{Online, Offline, Syncing, Dropping, Forced}
 use Rattle.asm_formats.specs.Bytes.{number, whole_block}
-use Rattle.asm_formats.specs.Codes.{flag, mode_code}
-use Rattle.asm_formats.specs.Status.{Entry, Status, entry_fields, front_fields, tail_fields, status_spelling, status_spelling_1, is_entry, is_status, decoded_status}
+use Rattle.asm_formats.specs.Codes.{mode_code}
+use Rattle.asm_formats.specs.Status.{Entry, Status, entry_fields, front_fields, tail_fields, status_spelling, status_spelling_1, is_status, decoded_status}
 use Rattle.asm_formats.proofs.Bodies.{status_codec}
-use Rattle.asm_base.specs.Readings.{Reading, both, counted, whole}
+use Rattle.asm_base.specs.Readings.{whole}
 use Rattle.asm_base.proofs.Exact.{IsBytes, IsBytes-none, IsExact, Begins, bind_some, test_some, some_is, both_exact, as_exact, decoded_exact, fits_exact}
 use Rattle.asm_base.proofs.Numbers.{number_exact}
 use Rattle.asm_base.proofs.Tables.{are_bytes_is}
@@ -20,7 +19,7 @@ use Rattle.status_table.specs.declared.reading.Version.{Version}
 use Rattle.status_table.specs.declared.reading.Version.TheVariants.{One, Two}
 use Rattle.status_table.specs.Rules.{right_status}
 use Rattle.status_table.specs.Readings.{known_mode, mode_reading, EntryParts, to_entry, entry_reading, tag_of, next_reading, next_fields, StatusParts, to_status, status_reading, status_fields}
-use Rattle.status_table.proofs.Allowed.{Parts, parts_of, few, all_fit, FitsEntry}
+use Rattle.status_table.proofs.Allowed.{parts_of, few, all_fit, FitsEntry}
 
 -- ---- modes
 

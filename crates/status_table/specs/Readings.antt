@@ -1,6 +1,6 @@
 -- The reading of a status record, field by field, and the fields of both versions.
 use Rattle.std.specs.Prelude.{ℕ, zero, suc, Bool, List, [], ◌∷◌, ◌++◌, length, flat_map, codes, Option, Some, None}
-use Rattle.std.specs.Int.{w16, w32, w64}
+use Rattle.std.specs.Int.{w32, w64}
 use Rattle.asm_group.specs.declared.Mode.{Mode}
 use Rattle.asm_group.specs.declared.Mode.TheVariants.{Online, Offline, Syncing, Dropping, Forced}
 use Rattle.asm_formats.specs.Bytes.{number}

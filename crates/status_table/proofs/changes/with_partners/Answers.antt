@@ -1,4 +1,4 @@
-use Rattle.std.proofs.Common.{sym, subst, arith}
+use Rattle.std.proofs.Common.{sym, subst}
 use Rattle.std.specs.Prelude.{IsTrue}
 use Rattle.asm_formats.specs.Status.{Status, is_status}
 use Rattle.status_table.proofs.Kept.{partners_keep}
