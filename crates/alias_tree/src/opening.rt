@@ -37,6 +37,13 @@ impl Model for OpenTree {
 }
 
 impl OpenTree {
+    /// Shows that the nodes are of the formats and in order, and does nothing.
+    pub fn are_nodes(&self)
+        ensures { AreNodes self.now }
+    {
+        let _nodes = &self.nodes;
+    }
+
     /// Takes the node of a number away, where it is there.
     #[tactic(auto, using(crate::proofs::OpenLaws::record_gone, crate::proofs::OpenLaws::removed_keeps_nodes))]
     pub fn remove_record(&mut self, number: u32)

@@ -1,9 +1,10 @@
 -- A disk's record is read from its one spelling alone.
-use Rattle.std.proofs.Common.{◌≡◌, ℕ, ◌^◌, ◌<◌, true, ltb, eqb, cond, List, [], map, Option, Some, refl, sym, ap, subst, ◌∙◌, arith}
+use Rattle.std.proofs.Common.{◌≡◌, ℕ, ◌^◌, ◌<◌, Bool, true, false, ltb, eqb, cond, List, [], ◌∷◌, ◌++◌, map, Option, Some, None, inl, inr, ◌⊎◌, refl, sym, ap, subst, ◌∙◌, arith}
 use Rattle.std.specs.Prelude.{IfSome}
 use Rattle.std.specs.Int.{w64}
 use Rattle.std.specs.Option.{option_map}
-use Rattle.std.specs.Cmp.{nat_cmp_total}
+use Rattle.std.specs.BTreeMap.{is_at}
+use Rattle.std.specs.Cmp.{Equal-is, nat_cmp_total}
 use Rattle.std.specs.FinMap.{nat_cmp-IsAntisymmetric}
 use Rattle.std.specs.Ordering.{nat_cmp}
 use Rattle.std.specs.declared.cmp.Ordering.TheVariants.{Equal}
@@ -11,13 +12,14 @@ use Rattle.std.proofs.lemmas.Bool.{and_parts, eqb-true, ltb-true, lt-ltb}
 use Rattle.asm_group.specs.Names.{is_name, is_part}
 use Rattle.asm_formats.specs.Items.{DiskInfo, Item, Key, file_item, chunk_item, disk_item, rebalance_item, pending_item, templates_item, node_item, settings_item, marks_item, key, is_item}
 use Rattle.asm_formats.specs.Values.{value, disk_value, decoded_item}
-use Rattle.asm_base.specs.Records.{Entry, all_of, ends_below, of_kinds, read_from}
+use Rattle.asm_base.specs.Records.{Ascend, Entry, all_of, ends_below, of_kinds, read_from}
 use Rattle.asm_base.specs.Tables.{entry_of_record}
 use Rattle.asm_base.proofs.Exact.{IsExact, some_is, both_exact, as_exact, fits_exact}
 use Rattle.asm_base.proofs.Numbers.{number_exact}
 use Rattle.asm_base.proofs.NameLaws.{name_exact, name_is_part}
-use Rattle.asm_base.proofs.ItemTables.{IsEntry, entry_is_read, entry_taken, is_entry_item, items_again, items_found, put_keeps, value_is_decoded}
-use Rattle.catalog.specs.Disks.{Disk, DiskParts, IsTable, add, disk_reading, entry_of, is_before, is_mine, is_right, item_of, record_of, right_disk, to_disk, with_info}
+use Rattle.asm_base.proofs.ItemTables.{IsEntry, entry_is_read, entry_taken, is_entry_item, items_again, items_found, put_keeps, removed_keeps, value_is_decoded}
+use Rattle.asm_base.proofs.Copying.{copied_more}
+use Rattle.catalog.specs.Disks.{Disk, DiskParts, IsTable, add, disk_reading, entry_of, info_at, is_before, is_mine, is_right, item_of, record_of, right_disk, to_disk, value_at, with_info, without_disk}
 
 of_disk : DiskInfo → DiskParts
 of_disk d = (d.birth, (d.name, d.failgroup))
@@ -112,6 +114,36 @@ same_number = nat_cmp-IsAntisymmetric
 
 pub put_keeps_table : (disks : List Disk) (n : ℕ) (d : DiskInfo) → is_item (disk_item n d) ≡ true → IsTable disks → IsTable (with_info disks n d)
 put_keeps_table disks n d ok t = put_keeps nat_cmp nat_cmp_total same_number item_of disks n d ok t
+
+-- a table without a disk, one with another record, and a copy
+
+either : (b : Bool) → (b ≡ true) ⊎ (b ≡ false)
+either true = inl refl
+either false = inr refl
+
+pub removed_keeps_table : (disks : List Disk) (n : ℕ) → IsTable disks → IsTable (without_disk disks n)
+removed_keeps_table disks n t = removed_keeps nat_cmp nat_cmp_total item_of (is_at (nat_cmp n)) disks t
+
+pub record_put : (old new : List Disk) (k : Key) (v : List ℕ) (info : DiskInfo) → is_mine k ≡ true → entry_of_record entry_of (k, v) ≡ Some (k.a, info)
+    → ((d : ℕ) → info_at new d ≡ cond (is_at (nat_cmp k.a) d) (Some info) (info_at old d))
+    → (d : ℕ) → value_at new d ≡ cond (is_at (nat_cmp k.a) d) (Some v) (value_at old d)
+record_put old new k v info mine read all d = elim (either (is_at (nat_cmp k.a) d)) [
+  | inl hit ↦
+      let same : k.a ≡ d = nat_cmp-IsAntisymmetric k.a d ((Equal-is (nat_cmp k.a d)).0 hit) in
+      let r = ((is_entry_item is_entry is_mine).takes (k, v) (k.a, info) mine read).0 in
+      rw (all d, hit) (ap (λ (n : ℕ). Some (value (disk_item n info))) (sym same) ∙ ap (λ (e : Entry). Some e.1) r)
+  | inr miss ↦ rw (all d, miss) refl
+]
+
+pub record_gone : (old new : List Disk) (n : ℕ) → ((d : ℕ) → info_at new d ≡ cond (is_at (nat_cmp n) d) None (info_at old d))
+    → (d : ℕ) → value_at new d ≡ cond (is_at (nat_cmp n) d) None (value_at old d)
+record_gone old new n all d = elim (either (is_at (nat_cmp n) d)) [
+  | inl hit ↦ rw (all d, hit) refl
+  | inr miss ↦ rw (all d, miss) refl
+]
+
+pub copied : (whole done new rest : List Disk) (n : ℕ) (info : DiskInfo) → Ascend is_before whole → done ++ (n, info) ∷ rest ≡ whole → new ≡ with_info done n info → new ++ rest ≡ whole
+copied whole done new rest n info up e put = ap (λ (ds : List Disk). ds ++ rest) put ∙ copied_more nat_cmp nat_cmp_total whole done rest n info up e
 
 step_taken : (disks new : List Disk) (e : Entry) (x : Disk) → is_mine e.0 ≡ true → IsTable disks → entry_of_record entry_of e ≡ Some x → ends_below is_before disks x.0 ≡ true → new ≡ with_info disks x.0 x.1 → cond (is_mine e.0) (add disks e) (Some disks) ≡ Some new
 step_taken disks new e x mine table read ends put = rw mine (entry_taken is_entry nat_cmp nat_cmp_total disks new e x table.0 read ends put).0

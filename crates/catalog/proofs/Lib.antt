@@ -6,3 +6,5 @@ pub mod PlacingLaws
 pub mod ReadingLaws
 pub mod StoreLaws
 pub mod UnusedLaws
+pub mod SetLaws
+pub mod SameTables

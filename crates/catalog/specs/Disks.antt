@@ -2,11 +2,12 @@
 use Rattle.std.specs.Prelude.{ℕ, Bool, ◌==◌, ◌&&◌, nat_lt, List, Option, Some, None, if◌then◌else◌}
 use Rattle.std.specs.Int.{w64}
 use Rattle.std.specs.Ordering.{nat_cmp, is_lt}
-use Rattle.std.specs.Option.{option_and_then}
+use Rattle.std.specs.Option.{option_and_then, option_map}
 use Rattle.std.specs.BTreeMap.{is_at, insert_entry}
 use Rattle.std.specs.Map.{lookup, remove_entry}
 use Rattle.asm_group.specs.Names.{Bytes, is_name}
 use Rattle.asm_formats.specs.Items.{DiskInfo, Item, Key, disk_item}
+use Rattle.asm_formats.specs.Values.{value}
 use Rattle.asm_base.specs.Readings.{Reading, both, as_a, number_reading, name_reading}
 use Rattle.asm_base.specs.Records.{Entry, add_item}
 use Rattle.asm_base.specs.Tables.{IsItemTable, entry_of_record, item_record}
@@ -24,6 +25,10 @@ with_info disks d info = insert_entry nat_cmp disks d info
 
 abbrev pub without_disk : List Disk → ℕ → List Disk
 without_disk disks d = remove_entry (is_at (nat_cmp d)) disks
+
+-- the value of the record of a disk
+abbrev pub value_at : List Disk → ℕ → Option (List ℕ)
+value_at disks d = option_map value (option_map (disk_item d) (info_at disks d))
 
 abbrev pub item_of : Disk → Item
 item_of x = disk_item x.0 x.1

@@ -3,3 +3,4 @@ pub mod Tables
 pub mod Rules
 pub mod Placing
 pub mod Faults
+pub mod Changing

@@ -1,11 +1,14 @@
 //! The records of disks, as a table.
 
-ghost use Rattle.std.specs.Prelude.{◌≡◌, ◌≤◌, ◌&&◌, [], length, map, IfOk, IfSome, IsTrue, None, OnErr, OnOk, Some, if◌then◌else◌, List as Items};
+ghost use Rattle.std.specs.Prelude.{◌≡◌, ◌≤◌, ◌&&◌, ℕ, OnErr, [], length, map, IfOk, IfSome, IsTrue, None, OnOk, Some, if◌then◌else◌, List as Items};
+ghost use Rattle.std.specs.Bool.{OnFalse, OnTrue};
+ghost use Rattle.std.specs.BTreeMap.{is_at};
+ghost use Rattle.std.specs.Ordering.{nat_cmp};
 ghost use Rattle.std.specs.Option.{option_copied, option_map};
 ghost use Rattle.asm_base.specs.Cursors.{Reads};
 ghost use Rattle.asm_base.specs.Records.{all_of, ends_below, of_kinds, read_from};
 ghost use Rattle.asm_base.specs.Tables.{entry_of_record};
-ghost use Rattle.catalog.specs.Disks.{disk_reading, entry_of, is_mine, is_right, right_disk};
+ghost use Rattle.catalog.specs.Disks.{value_at, disk_reading, entry_of, is_mine, is_right, right_disk};
 
 use crate::disk_info::DiskInfo;
 use asm_base::{Key, NoMemory, Reader, Records, Value, is_at_end, take_name, take_u64};
@@ -65,12 +68,63 @@ impl DiskTable {
     fn put(&mut self, disk: u32, info: DiskInfo) -> Result<(), NoMemory>
         requires { IsTrue (is_item (disk_item disk info)) }
         ensures ok { OnOk result (self.new ≡ with_info self.old disk info) }
+        // Other disks keep their records.
+        ensures at { OnOk result ((d : ℕ) → info_at self.new d ≡ (if is_at (nat_cmp disk) d then Some info else info_at self.old d)) }
         ensures err { OnErr result (self.new ≡ self.old) }
     {
         match self.map.insert(disk, info) {
             Ok(_) => Ok(()),
             Err(_) => Err(NoMemory),
         }
+    }
+
+    /// Gives the disk of a record's key what its value says. `false`, with the table as it was, where the value isn't that
+    /// of a disk. Where there is no memory the table stays.
+    #[tactic(auto, using(crate::proofs::DiskLaws::record_put))]
+    pub(crate) fn put_record(
+        &mut self,
+        alloc: Global,
+        key: Key,
+        value: &Value,
+    ) -> Result<bool, NoMemory>
+        requires { IsTrue (is_mine key) }
+        ensures put { IfOk result (λ put. OnTrue put ((d : ℕ) → value_at self.new d ≡ (if is_at (nat_cmp key.a) d then Some value.now else value_at self.old d))) }
+        ensures refused { IfOk result (λ put. OnFalse put (entry_of_record entry_of (key, value.now) ≡ None)) }
+        ensures stays { IfOk result (λ put. OnFalse put (self.new ≡ self.old)) }
+        ensures err { OnErr result (self.new ≡ self.old) }
+    {
+        let Some(info) = info_in(alloc, key, value)? else {
+            return Ok(false);
+        };
+        self.put(key.a, info)?;
+        Ok(true)
+    }
+
+    /// Takes the record of a disk away, where it is there.
+    #[tactic(auto, using(crate::proofs::DiskLaws::removed_keeps_table, crate::proofs::DiskLaws::record_gone))]
+    pub(crate) fn remove_record(&mut self, disk: u32)
+        ensures { (d : ℕ) → value_at self.new d ≡ (if is_at (nat_cmp disk) d then None else value_at self.old d) }
+    {
+        self.remove(disk);
+    }
+
+    #[tactic(auto, using(crate::proofs::DiskLaws::removed_keeps_table))]
+    fn remove(&mut self, disk: u32)
+        ensures { (d : ℕ) → info_at self.new d ≡ (if is_at (nat_cmp disk) d then None else info_at self.old d) }
+    {
+        let _ = self.map.remove(&disk);
+    }
+
+    /// An equal table.
+    #[tactic(auto, using(crate::proofs::DiskLaws::copied))]
+    pub(crate) fn copy(&self, alloc: Global) -> Result<DiskTable, NoMemory>
+        ensures { IfOk result (λ copy. copy ≡ self.now) }
+    {
+        let mut copy = DiskTable::new(alloc);
+        for (disk, info) in self.map.iter() {
+            copy.put(*disk, info.copy()?)?;
+        }
+        Ok(copy)
     }
 
     /// The table whose records these are, or None where one of its kind isn't of the format.
@@ -130,7 +184,7 @@ impl DiskTable {
 
 ghost use Rattle.asm_formats.specs.Items.{disk_item, is_item};
 
-fn is_mine(key: Key) -> bool
+pub(crate) fn is_mine(key: Key) -> bool
     ensures { result ≡ is_mine key }
 {
     key.kind == KIND && key.b == 0 && key.a < MOST_DISKS

@@ -11,6 +11,7 @@ mod error;
 mod file_rules;
 mod laws;
 mod name_rules;
+mod opening;
 mod parts;
 mod placing;
 mod reading;
