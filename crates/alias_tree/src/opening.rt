@@ -55,12 +55,7 @@ impl OpenTree {
     /// Puts the node that a record says, where its number has none. `false`, with the nodes as they were, where the record
     /// isn't a node's or another node has its parent and folded name. Where there is no memory the nodes stay.
     #[tactic(auto, using(crate::proofs::OpenLaws::record_put, crate::proofs::OpenLaws::put_keeps_nodes, crate::proofs::OpenLaws::name_of_record, crate::proofs::OpenLaws::not_read, crate::proofs::OpenLaws::is_taken))]
-    pub fn put_record(
-        &mut self,
-        alloc: Global,
-        key: Key,
-        value: &Value,
-    ) -> Result<bool, NoMemory>
+    pub fn put_record(&mut self, alloc: Global, key: Key, value: &Value) -> Result<bool, NoMemory>
         requires kind { key.kind ≡ 6 }
         requires absent { node_at self.old key.a ≡ None }
         ensures put { IfOk result (λ put. OnTrue put ((n : ℕ) → value_at self.new n ≡ (if is_at (nat_cmp key.a) n then Some value.now else value_at self.old n))) }

@@ -17,12 +17,7 @@ impl FileTable {
     /// Gives the file of a record's key the head that its value says. `false`, with the table as it was, where the value
     /// isn't that of a head. Where there is no memory the table stays.
     #[tactic(auto, using(crate::proofs::ChangeLaws::record_put))]
-    pub fn put_record(
-        &mut self,
-        alloc: Global,
-        key: Key,
-        value: &Value,
-    ) -> Result<bool, NoMemory>
+    pub fn put_record(&mut self, alloc: Global, key: Key, value: &Value) -> Result<bool, NoMemory>
         requires { IsTrue (is_mine key) }
         ensures put { IfOk result (λ put. OnTrue put ((f : ℕ) → value_at self.new f ≡ (if is_at (nat_cmp key.a) f then Some value.now else value_at self.old f))) }
         ensures refused { IfOk result (λ put. OnFalse put (entry_of_record entry_of (key, value.now) ≡ None)) }

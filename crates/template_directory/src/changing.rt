@@ -16,12 +16,7 @@ impl TemplateTable {
     /// Takes up the templates or the settings that a record says. `false` where it says neither. Where that is so, or there
     /// is no memory, the table stays.
     #[tactic(auto, using(crate::proofs::ReadingLaws::said_templates_allowed, crate::proofs::ReadingLaws::said_settings_allowed, crate::proofs::ChangeLaws::templates_put, crate::proofs::ChangeLaws::settings_put))]
-    pub fn put_record(
-        &mut self,
-        alloc: Global,
-        key: Key,
-        value: &Value,
-    ) -> Result<bool, NoMemory>
+    pub fn put_record(&mut self, alloc: Global, key: Key, value: &Value) -> Result<bool, NoMemory>
         ensures put { IfOk result (λ put. OnTrue put ((k : FormatKey) → value_at self.new k ≡ (if is_same_key key k then Some value.now else value_at self.old k))) }
         ensures no_templates { IfOk result (λ put. OnFalse put (entry_of_record templates_said (key, value.now) ≡ None)) }
         ensures no_settings { IfOk result (λ put. OnFalse put (entry_of_record settings_said (key, value.now) ≡ None)) }

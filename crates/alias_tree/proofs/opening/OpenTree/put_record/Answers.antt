@@ -19,6 +19,8 @@ returns-then-is_some-clause-refused c =
     (c.named_place-at.ensures ∙ ap (named_place c.node.inside.parent) c.as_bytes.ensures.bytes ∙ ap place_of c.node.view_is) (ap is_some (sym c.get.ensures) ∙ sym c.is_some.ensures ∙ c.if-is_some.true))
 
 pub invariant_of-self-2 : goal.invariant_of-self-2
-invariant_of-self-2 c =
-    (put_keeps_nodes c.self.inside.nodes c.put_at.new.nodes c.args.key c.args.value.now c.in-Some.node (ap (option_map (node_item c.args.key.a)) (sym c.in-Some.is) ∙ c.in_ok-node.ensures)
-    (c.in_ok-put_at.ensures.ok ∙ ap (λ (k : Key). with_node c.self.inside.nodes k.a c.in-Some.node) c.key.view_is) c.self.invariant.0, c.put_at.ensures.index)
+invariant_of-self-2 c = (
+  put_keeps_nodes c.self.inside.nodes c.put_at.new.nodes c.args.key c.args.value.now c.in-Some.node (ap (option_map (node_item c.args.key.a)) (sym c.in-Some.is) ∙ c.in_ok-node.ensures)
+      (c.in_ok-put_at.ensures.ok ∙ ap (λ (k : Key). with_node c.self.inside.nodes k.a c.in-Some.node) c.key.view_is) c.self.invariant.0,
+  c.put_at.ensures.index,
+)

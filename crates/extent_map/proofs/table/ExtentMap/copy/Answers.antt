@@ -7,7 +7,7 @@ use Rattle.extent_map.proofs.table.ExtentMap.copy.Goals as goal
 pub loop-at-preserved : goal.loop-at-preserved
 loop-at-preserved c = record {
   copied =
-    copied c.args.self.now c.loop-at.copy c.insert.new.self c.next.new.self c.in-Some.at.now c.in-Some.chunk.now c.loop-at.invariant.ascend (rw c.in-Some.ensures.steps at c.loop-at.invariant.copied)
-    (c.in_ok-insert.ensures.ok ∙ ap (λ (hs : List Homes). with_chunk c.loop-at.copy c.in-Some.at.now hs) c.in_ok-copy.ensures);
+      copied c.args.self.now c.loop-at.copy c.insert.new.self c.next.new.self c.in-Some.at.now c.in-Some.chunk.now c.loop-at.invariant.ascend (rw c.in-Some.ensures.steps at c.loop-at.invariant.copied)
+      (c.in_ok-insert.ensures.ok ∙ ap (λ (hs : List Homes). with_chunk c.loop-at.copy c.in-Some.at.now hs) c.in_ok-copy.ensures);
   ascend = c.loop-at.invariant.ascend;
 }
