@@ -8,3 +8,4 @@ pub mod StoreLaws
 pub mod UnusedLaws
 pub mod SetLaws
 pub mod SameTables
+pub mod AfterLaws

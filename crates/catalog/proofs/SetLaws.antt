@@ -76,22 +76,22 @@ by_both j k kind = one_test (is_key j k) (is_at (chunk_cmp (j.a, j.b)) (k.a, k.b
 by_chunk : (f c : ℕ) (k : Key) → k.kind ≡ 1 → 0 < k.b → is_key (record { kind = 1; a = f; b = c + 1 }) k ≡ is_at (chunk_cmp (f, c)) (k.a, k.b - 1)
 by_chunk f c k kind some = one_test (is_key (chunk_key f c) k) (is_at (chunk_cmp (f, c)) (k.a, k.b - 1))
     (λ e.
-      let s = same_key (chunk_key f c) k e in
-      let b : c + 1 ≡ k.b = ap (λ (x : Key). x.b) s in
-      let less : c ≡ k.b - 1 = omega (arith, b) in
-      subst (λ (x : Chunk). is_at (chunk_cmp (f, c)) x ≡ true) (ap (λ (n : ℕ). (n, c)) (ap (λ (x : Key). x.a) s) ∙ ap (λ (n : ℕ). (k.a, n)) less) (chunk_itself (f, c)))
+    let s = same_key (chunk_key f c) k e in
+    let b : c + 1 ≡ k.b = ap (λ (x : Key). x.b) s in
+    let less : c ≡ k.b - 1 = omega (arith, b) in
+    subst (λ (x : Chunk). is_at (chunk_cmp (f, c)) x ≡ true) (ap (λ (n : ℕ). (n, c)) (ap (λ (x : Key). x.a) s) ∙ ap (λ (n : ℕ). (k.a, n)) less) (chunk_itself (f, c)))
     (λ e.
-      let p = chunk_is (f, c) (k.a, k.b - 1) e in
-      let less : c ≡ k.b - 1 = ap (λ (x : Chunk). x.1) p in
-      let b : c + 1 ≡ k.b = omega (arith, less, some) in
-      equal_keys (chunk_key f c) k (key_of (chunk_key f c) k (sym kind) (ap (λ (x : Chunk). x.0) p) b))
+    let p = chunk_is (f, c) (k.a, k.b - 1) e in
+    let less : c ≡ k.b - 1 = ap (λ (x : Chunk). x.1) p in
+    let b : c + 1 ≡ k.b = omega (arith, less, some) in
+    equal_keys (chunk_key f c) k (key_of (chunk_key f c) k (sym kind) (ap (λ (x : Chunk). x.0) p) b))
 
 same_is_key : (j k : Key) → is_same_key j k ≡ is_key j k
 same_is_key j k = one_test (is_same_key j k) (is_key j k)
     (λ e.
-      let p = and_parts (eqb j.kind k.kind) _ e in
-      let q = and_parts (eqb j.a k.a) (eqb j.b k.b) p.1 in
-      equal_keys j k (key_of j k (eqb-true j.kind k.kind p.0) (eqb-true j.a k.a q.0) (eqb-true j.b k.b q.1)))
+    let p = and_parts (eqb j.kind k.kind) _ e in
+    let q = and_parts (eqb j.a k.a) (eqb j.b k.b) p.1 in
+    equal_keys j k (key_of j k (eqb-true j.kind k.kind p.0) (eqb-true j.a k.a q.0) (eqb-true j.b k.b q.1)))
     (λ e. subst (λ (x : Key). is_same_key j x ≡ true) (same_key j k e) (rw (eq-eqb j.kind j.kind refl, eq-eqb j.a j.a refl, eq-eqb j.b j.b refl) refl))
 
 -- ---- what the tables give, by table

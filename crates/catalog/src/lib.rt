@@ -2,6 +2,7 @@
 #![tactic(auto)]
 
 mod catalog;
+mod changing;
 mod checking;
 mod chunk_rules;
 mod disk_info;
@@ -18,6 +19,7 @@ mod reading;
 mod reads;
 
 pub use catalog::Catalog;
+pub use changing::a_change_leaves_one_set_of_tables;
 pub use disk_info::DiskInfo;
 pub use error::CatalogError;
 pub use laws::a_fault_leaves_no_catalog;

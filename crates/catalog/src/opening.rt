@@ -1,9 +1,12 @@
 //! The tables of a group in the midst of a change.
 
-ghost use Rattle.std.specs.Prelude.{◌≡◌, ◌<◌, ◌+◌, ◌^◌, ◌==◌, ◌||◌, true, None, OnOk, Some};
+ghost use Rattle.std.specs.Prelude.{◌≡◌, ◌<◌, ◌+◌, ◌^◌, ◌==◌, ◌||◌, false, true, if◌then◌else◌, None, OnOk, Some};
+ghost use Rattle.asm_formats.specs.Items.{Key as FormatKey};
+ghost use Rattle.asm_base.specs.Records.{is_key};
+ghost use Rattle.page_map.specs.Changes.{is_gone, is_put, last_put, value_after};
 ghost use Rattle.alias_tree.specs.Nodes.{KeepsRule};
 ghost use Rattle.catalog.specs.Changing.{AreItems, IsOpen, Sets, is_place, tables_of};
-ghost use Rattle.catalog.specs.Tables.{AreTables};
+ghost use Rattle.catalog.specs.Tables.{AreTables, records_of};
 
 use crate::disks::{DiskTable, is_mine};
 use crate::parts::Parts;
@@ -72,6 +75,68 @@ impl OpenParts {
         let _ = self.templates.list();
         let _ = self.templates.settings();
         self.tree.are_nodes();
+    }
+
+    /// Takes up a change: the records that are put, of two with one key the later, and then the keys that go. NoMemory is
+    /// also the answer where a record isn't of the formats, where two nodes then have one place, or where the templates or
+    /// the settings go.
+    pub(crate) fn take_up(
+        &mut self,
+        alloc: Global,
+        put: &[(Key, Value)],
+        gone: &[Key],
+    ) -> Result<(), NoMemory>
+        requires { IsOpen self.old }
+        ensures after { OnOk result ((k : FormatKey) → records_of (tables_of self.new) k ≡ value_after put.now gone.now k (records_of (tables_of self.old) k)) }
+        ensures open { OnOk result (IsOpen self.new) }
+    {
+        self.forget_nodes(put);
+        self.put_all(alloc, put)?;
+        self.remove_all(gone)
+    }
+
+    /// Takes the nodes away whose records are put: they may change places with one another.
+    fn forget_nodes(&mut self, put: &[(Key, Value)])
+        requires { IsOpen self.old }
+        ensures others { (k : FormatKey) → is_put put.now k ≡ false → records_of (tables_of self.new) k ≡ records_of (tables_of self.old) k }
+        ensures open { IsOpen self.new }
+    {
+        for (key, _) in put {
+            self.forget_node(*key);
+        }
+    }
+
+    fn forget_node(&mut self, key: Key)
+        requires { IsOpen self.old }
+        ensures others { (k : FormatKey) → is_key key k ≡ false → records_of (tables_of self.new) k ≡ records_of (tables_of self.old) k }
+        ensures open { IsOpen self.new }
+    {
+        if key.kind != 6 || !is_place(key) {
+            return;
+        }
+        self.remove_node(key);
+    }
+
+    fn put_all(&mut self, alloc: Global, put: &[(Key, Value)]) -> Result<(), NoMemory>
+        requires { IsOpen self.old }
+        ensures put { OnOk result ((k : FormatKey) → records_of (tables_of self.new) k ≡ last_put put.now k (records_of (tables_of self.old) k)) }
+        ensures open { OnOk result (IsOpen self.new) }
+    {
+        for (key, value) in put {
+            self.put_record(alloc, *key, value)?;
+        }
+        Ok(())
+    }
+
+    fn remove_all(&mut self, gone: &[Key]) -> Result<(), NoMemory>
+        requires { IsOpen self.old }
+        ensures gone { OnOk result ((k : FormatKey) → records_of (tables_of self.new) k ≡ (if is_gone gone.now k then None else records_of (tables_of self.old) k)) }
+        ensures open { OnOk result (IsOpen self.new) }
+    {
+        for key in gone {
+            self.remove_record(*key)?;
+        }
+        Ok(())
     }
 
     /// Takes up a record. NoMemory is also the answer where the record isn't of the formats, or is that of a node at a
