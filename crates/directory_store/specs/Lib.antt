@@ -2,3 +2,4 @@ pub mod Contents
 pub mod Copies
 pub mod Stores
 pub mod Answers
+pub mod Copying

@@ -3,12 +3,14 @@
 #![tactic(auto)]
 
 mod commit;
+mod copying;
 mod due;
 mod error;
 mod laws;
 mod making;
 mod store;
 
+pub use copying::CopyError;
 pub use error::StoreError;
 pub use laws::{forgotten_keep, keeps_elsewhere, kept_have_records};
 pub use store::Store;

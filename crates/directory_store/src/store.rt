@@ -1,21 +1,26 @@
 //! The records of a group on its copies.
 
-ghost use Rattle.std.specs.Prelude.{◌≡◌, ◌≤◌, ◌<◌, ◌+◌, ◌*◌, [], ℕ, length, IfOk, IfErr, OnOk};
+ghost use Rattle.std.specs.Prelude.{◌≡◌, ◌≤◌, ◌<◌, ◌+◌, ◌*◌, ◌/◌, ◌∷◌, ◌++◌, [], ℕ, length, IfOk, IfErr, IsErrOf, OnErr, OnOk};
 ghost use Rattle.asm_formats.specs.Items.{Key as FormatKey};
 ghost use Rattle.asm_base.specs.Records.{record_at};
 ghost use Rattle.bay.specs.Image.{ChangesOnly};
-ghost use Rattle.bay.specs.State.{KeepsAttached};
+ghost use Rattle.bay.specs.State.{KeepsAttached, IsSlot};
+ghost use Rattle.bay.specs.Counts.{Rose};
 ghost use Rattle.bay.specs.Moments.{Runs, NowOnly, LeavesOnly};
+ghost use Rattle.change_directory.specs.Places.{IsCopy};
+ghost use Rattle.change_directory.specs.StoreLaws.{RegionOf};
 ghost use Rattle.page_map.specs.Changes.{value_after};
 ghost use Rattle.page_map.specs.Applying.{Applies, IsCause};
 ghost use Rattle.page_map.specs.Tables.{IsTable, PageTable, SameTable, new_in, room};
 ghost use Rattle.directory_store.specs.Answers.{IsRefusal, IsFirstRefusal};
 ghost use Rattle.directory_store.specs.Contents.{ArePutItems};
-ghost use Rattle.directory_store.specs.Copies.{AllAreShut, AreApart, AreNamed, FailedAlone, IsSlotOf, RegionsOf, WritesAll, WritesFew, calls_for, first_size, making_calls};
+ghost use Rattle.directory_store.specs.Copying.{IsReadable, MayTakeRecords, due_off};
+ghost use Rattle.directory_store.specs.Copies.{AllAreShut, AreApart, AreNamed, FailedAlone, IsApartFrom, IsSlotOf, RegionsOf, WritesAll, WritesFew, calls_for, first_size, making_calls};
 ghost use Rattle.directory_store.specs.Stores.{AreFirst, HaveEitherRecords, HaveNoneOrFirst, HaveOneSize, HaveRecords, IsEmpty, Keeps, off, others, without};
 
 use crate::StoreError;
 use crate::commit::commit_all;
+use crate::copying::{CopyError, drop_due, renew_copy, with_copy};
 use crate::due::Due;
 use crate::making::make_all;
 use asm_base::{Block, Change, DiskSet, NoMemory, Records};
@@ -183,6 +188,47 @@ impl Store {
             return Err(StoreError::Gone { slot });
         }
         Ok(failed)
+    }
+
+    /// Brings a copy up that the store doesn't have, whatever it holds: an older content, none, or damaged pages. From then
+    /// on it takes commits as the others do. All memory is taken before the first write. At each moment the other copies
+    /// have the records, and the new one, where it can be read, has the content that it had, none, or the records.
+    pub fn copy_to<B: Bay>(
+        &mut self,
+        alloc: Global,
+        bay: &mut B,
+        copy: DirCopy,
+    ) -> Result<(), CopyError>
+        requires kept { Keeps self.old (B.state bay.old) }
+        requires copy { IsCopy (B.state bay.old) copy }
+        requires number { copy.number < 64 }
+        requires size { copy.dir_blocks ≡ self.old.table.free.units }
+        requires apart { IsApartFrom copy self.old.copies }
+        ensures table { self.new.table ≡ self.old.table }
+        ensures commit { self.new.number ≡ self.old.number }
+        ensures done { OnOk result (self.new.copies ≡ self.old.copies ++ copy ∷ []) }
+        ensures due { OnOk result (self.new.due ≡ due_off copy.slot self.old.due) }
+        ensures same { OnErr result (self.new ≡ self.old) }
+        ensures kept { Keeps self.new (B.state bay.new) }
+        ensures moments { LeavesOnly (B.state bay.old) (B.state bay.new) (HaveRecords self.old) }
+        ensures content { NowOnly (B.state bay.old) (IsReadable copy)
+            → Runs (IsSlot copy.slot) (MayTakeRecords self.old.table self.old.number copy) (B.state bay.old) (B.state bay.new) }
+        ensures fault { IsErrOf result CopyError.Fault → Rose ((B.state bay.old).faults copy.slot) ((B.state bay.new).faults copy.slot) }
+        ensures memory { IsErrOf result CopyError.NoMemory → (B.state bay.new).written copy.slot ≡ (B.state bay.old).written copy.slot }
+        ensures attached { KeepsAttached (B.state bay.old) (B.state bay.new) }
+        ensures calls { (B.state bay.new).calls ≤ (B.state bay.old).calls + 2 * copy.dir_blocks + 2 * (copy.dir_blocks / 64) + 36 }
+        ensures written { (B.state bay.new).written copy.slot ≤ (B.state bay.old).written copy.slot + 4 * copy.sector + (3 * copy.dir_blocks + 1) * 4096 }
+        ensures runs { Runs (IsSlot copy.slot) (ChangesOnly (RegionOf copy)) (B.state bay.old) (B.state bay.new) }
+    {
+        if self.number >= LAST_NUMBER {
+            return Err(CopyError::NoMemory);
+        }
+        let pages = self.map.pages(alloc)?;
+        let copies = with_copy(alloc, &self.copies, copy)?;
+        renew_copy(alloc, bay, copy, self.number, &pages)?;
+        self.copies = copies;
+        drop_due(&mut self.due, copy.slot);
+        Ok(())
     }
 
     /// Gives up the copies on a slot.

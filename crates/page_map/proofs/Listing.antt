@@ -33,7 +33,6 @@ behind key (e ∷ es) k p all at = elim (one_or_other (is_key k e.0)) [
   | inr other ↦ behind key es k p all.1 (rw other at at)
 ]
 
-
 module _ (t : PageTable) (key : Key) (page : ℕ) (left : List (Key × ℕ)) (old new : List (ℕ × Block)) (sound : IsTable t) (before : ListsBut t ((key, page) ∷ left) old)
     (blocks : (p : ℕ) → block_at new p ≡ cond (eqb p page) (Some (block_of key (record_at t.records key))) (block_at old p))
     (more : block_at old page ≡ None → length new ≡ length old + 1) where

@@ -1,0 +1,198 @@
+-- A copy that is brought up: how it is read.
+use Rattle.std.proofs.Common.{◌≡◌, ◌⊎◌, inl, inr, ⊎_elim, ℕ, ◌+◌, ◌*◌, ◌<◌, ◌≤◌, Bool, true, false, List, [], ◌∷◌, ◌++◌, length, map, take, drop, get_or, refl, sym, ap, subst, ◌∙◌, Option, Some, None, arith}
+use Rattle.std.specs.Prelude.{◌&&◌, nat_le, nat_lt, IsTrue, IsSome}
+use Rattle.std.specs.List.{flat_map, list_all, range_with_len}
+use Rattle.std.proofs.lemmas.Bool.{true≢false, and_parts, leb-true, ltb-true}
+use Rattle.std.proofs.lemmas.List.{length-drop, map-append, map_more}
+use Rattle.std.proofs.lemmas.Option.{none-some}
+use Rattle.bay.specs.Image.{Image, Same, ChangesOnly, window}
+use Rattle.bay.specs.State.{BayState, IsSound, IsSlot, KeepsAttached}
+use Rattle.bay.specs.Moments.{Runs, Ends, Durable, NowOnly}
+use Rattle.bay.proofs.Calls.{as_held, goes_on, now_only, stops, widened}
+use Rattle.bay.proofs.Images.{window-same}
+use Rattle.asm_group.specs.Names.{Bytes}
+use Rattle.asm_base.specs.declared.block.Block.{Block}
+use Rattle.asm_formats.specs.Among.{IsAmong}
+use Rattle.asm_formats.specs.Damage.{directory_damage}
+use Rattle.asm_formats.specs.Logs.{logs_decode}
+use Rattle.asm_formats.specs.Pages.{IsCheckpointed, copy_content}
+use Rattle.asm_formats.specs.Status.{ascends_from}
+use Rattle.change_directory.specs.declared.copy.DirCopy.{DirCopy}
+use Rattle.change_directory.specs.declared.loading.Pages.{Pages}
+use Rattle.change_directory.specs.Changes.{disk, content_in, DecodesIn, IsAtHome}
+use Rattle.change_directory.specs.Formatting.{AreShut}
+use Rattle.change_directory.specs.Homes.{AreDue, HasHomed, HomesOf, KeepsContent}
+use Rattle.change_directory.specs.Loads.{IsLoaded, commit_of, due_page, filled_pages, open_slots}
+use Rattle.change_directory.specs.Logs.{are_pages, image_of_page}
+use Rattle.change_directory.specs.Places.{IsCopy}
+use Rattle.change_directory.specs.StoreLaws.{HasDue, HasOpen, HasRegion, IsReadAs, IsShaped, SameCopy, due_images, shown_by}
+use Rattle.change_directory.specs.Told.{Told}
+use Rattle.change_directory.proofs.Loaded.{loaded_is_content, loaded_is_due}
+use Rattle.change_directory.proofs.Runs.{same_disk, same_content}
+use Rattle.directory_store.specs.Copies.{MayBecome}
+use Rattle.directory_store.specs.Copying.{IsReadable, IsRenewable, are_pages_from}
+use Rattle.directory_store.proofs.CopyLaws.{homed_settles}
+use Rattle.directory_store.proofs.Renewing.{shut_is}
+use Rattle.directory_store.proofs.Rows.{copy_stays}
+use Rattle.directory_store.proofs.Steps.{empty_list}
+
+-- ---- pages in order
+
+shuffled : (a b c d : Bool) → (a && (b && (c && d))) ≡ ((a && c) && (b && d))
+shuffled true true c d = refl
+shuffled true false true d = refl
+shuffled true false false d = refl
+shuffled false b c d = refl
+
+pub pages_from : (m d : ℕ) (pages : List (ℕ × Block)) → are_pages_from m d pages ≡ (ascends_from m (map (λ (p : ℕ × Block). p.0) pages) && list_all (λ (p : ℕ × Block). nat_lt p.0 d) pages)
+pages_from m d [] = refl
+pages_from m d (p ∷ pages) =
+    ap (λ (b : Bool). nat_le m p.0 && (nat_lt p.0 d && b)) (pages_from (p.0 + 1) d pages)
+    ∙ shuffled (nat_le m p.0) (nat_lt p.0 d) (ascends_from (p.0 + 1) (map (λ (q : ℕ × Block). q.0) pages)) (list_all (λ (q : ℕ × Block). nat_lt q.0 d) pages)
+
+fewer : (m d : ℕ) (pages : List (ℕ × Block)) → m ≤ d → are_pages_from m d pages ≡ true → m + length pages ≤ d
+fewer m d [] le ok = omega (arith, le)
+fewer m d (p ∷ pages) le ok =
+    let one = and_parts (nat_le m p.0) (nat_lt p.0 d && are_pages_from (p.0 + 1) d pages) ok in
+    let two = and_parts (nat_lt p.0 d) (are_pages_from (p.0 + 1) d pages) one.1 in
+    let low = leb-true m p.0 one.0 in
+    let below = ltb-true p.0 d two.0 in
+    omega (arith, low, fewer (p.0 + 1) d pages (omega (arith, below)) two.1)
+
+-- a copy has at most so many pages
+pub few_pages : (d : ℕ) (pages : List (ℕ × Block)) → are_pages d pages ≡ true → length pages ≤ d
+few_pages d pages ok = let h = fewer 0 d pages (omega arith) (pages_from 0 d pages ∙ ok) in omega (arith, h)
+
+-- ---- lists
+
+pub none_left : {A : Type 0} (i : ℕ) (xs : List A) → length xs ≤ i → drop i xs ≡ []
+none_left i xs le = empty_list (drop i xs) (omega (arith, le, length-drop i xs))
+
+-- one due page more
+pub due_more : (blocks : List (ℕ × Block)) (xs : List (ℕ × ℕ)) (i : ℕ) (x : ℕ × ℕ) (b : Block) (old new : List (ℕ × Block)) → i < length xs → x ≡ get_or xs i (0, 0)
+    → map image_of_page old ≡ map (λ (d : ℕ × ℕ). (d.0, shown_by blocks d.0)) (take i xs) → b.bytes ≡ shown_by blocks x.0 → new ≡ old ++ (x.0, b) ∷ []
+    → map image_of_page new ≡ map (λ (d : ℕ × ℕ). (d.0, shown_by blocks d.0)) (take (i + 1) xs)
+due_more blocks xs i x b old new lt is before bytes e =
+    ap (λ (l : List (ℕ × Block)). map image_of_page l) e ∙ map-append image_of_page old ((x.0, b) ∷ [])
+    ∙ (λ j. before j ++ (x.0, bytes j) ∷ [])
+    ∙ ap (λ (d : ℕ × ℕ). map (λ (d : ℕ × ℕ). (d.0, shown_by blocks d.0)) (take i xs) ++ (d.0, shown_by blocks d.0) ∷ []) is
+    ∙ sym (map_more (λ (d : ℕ × ℕ). (d.0, shown_by blocks d.0)) xs i (0, 0) lt)
+
+-- ---- what is read is what a stop leaves
+
+-- a disk that reads as another one is listed as it
+disk_as : (copy : DirCopy) (x h : Image) → x.size copy.slot ≡ h.size copy.slot → ((k : ℕ) → x.byte copy.slot k ≡ h.byte copy.slot k) → disk copy x ≡ disk copy h
+disk_as copy x h size byte =
+    ap (λ (n : ℕ). window (x.byte copy.slot) 0 n) size ∙ window-same (h.byte copy.slot) (x.byte copy.slot) 0 (h.size copy.slot) (λ k low high. byte k)
+
+-- the same size of an attached disk
+size_as : (s : BayState) (slot : ℕ) (x h : Image) → IsSound s → IsSome (s.attached slot) → s.leaves s.calls x → s.leaves s.calls h → x.size slot ≡ h.size slot
+size_as s slot x h sound some left held = go (s.attached slot) refl some
+  where
+    go : (o : Option ℕ) → s.attached slot ≡ o → IsSome o → x.size slot ≡ h.size slot
+    go (Some size) at is = sound.sized slot size x at left ∙ sym (sound.sized slot size h at held)
+    go None at is = absurd (true≢false (sym is))
+
+-- What is told of a copy that was read after a sync holds of each image that a stop may leave now.
+module _ (copy : DirCopy) (m t : BayState) (sound : IsSound m) (sound_t : IsSound t) (is : IsCopy m copy) (durable : Durable copy.slot m) (run : Runs (IsSlot copy.slot) Same m t) where
+  pub told_now : (P : Image → Type 0) → ((x h : Image) → disk copy x ≡ disk copy h → P h → P x) → Told m t P → NowOnly t P
+  told_now P carry told = record { now = λ x left. go x left }
+    where
+      go : (x : Image) → t.leaves t.calls x → P x
+      go x left =
+          let now = sound_t.told x left in
+          let held = run.held now.0 now.1 in
+          let from = (stops run).now x left in
+          let size = size_as m copy.slot from.0 held.0 sound is.attached from.1 (sound.held held.0 held.1) in
+          carry x held.0 (same_disk copy from.0 x from.2 ∙ disk_as copy from.0 held.0 size (λ k. durable.byte from.0 held.0 k from.1 held.1))
+          (told now.0 now.1 held.0 held.1)
+
+-- ---- what is due
+
+-- what was loaded of a disk that reads as another one
+pub loaded_as : (copy : DirCopy) (pages : Pages) (x h : Image) → disk copy x ≡ disk copy h → IsLoaded copy pages h → IsLoaded copy pages x
+loaded_as copy pages x h e is = record {
+  number = is.number ∙ ap (λ (b : Bytes). commit_of (open_slots copy.dir_blocks b)) (sym e);
+  blocks = is.blocks ∙ ap (λ (b : Bytes). filled_pages copy.dir_blocks b (open_slots copy.dir_blocks b)) (sym e);
+  due = is.due ∙ ap (λ (b : Bytes). flat_map (due_page (open_slots copy.dir_blocks b)) (range_with_len 0 copy.dir_blocks)) (sym e);
+}
+
+pub damage_as : (copy : DirCopy) (damage : Option ℕ) (x h : Image) → disk copy x ≡ disk copy h → directory_damage copy.dir_blocks (disk copy h) ≡ damage → directory_damage copy.dir_blocks (disk copy x) ≡ damage
+damage_as copy damage x h e is = ap (directory_damage copy.dir_blocks) e ∙ is
+
+no_dues : (dues : List (ℕ × Block)) → map image_of_page dues ≡ [] → dues ≡ []
+no_dues [] e = refl
+no_dues (d ∷ dues) e = absurd cc
+
+module _ (copy : DirCopy) (shape : IsShaped copy) where
+  -- nothing is written home
+  none_written : (x y : Image) → HasRegion copy x → ChangesOnly (HomesOf copy []) x y → SameCopy copy x y
+  none_written x y sized step = copy_stays copy (HomesOf copy []) x y shape sized (λ k inside. absurd inside.1) step
+
+  pub none_due : (x : Image) → HasRegion copy x → (IsReadable copy x → IsAtHome copy x) → IsRenewable copy [] x
+  none_due x sized home = record {
+    due_are = inr (λ p inside. absurd inside);
+    homed = λ readable y did. let same = none_written x y sized did.elsewhere in (same.decodes readable.decodes, same.at_home (home readable));
+  }
+
+  -- a damaged copy that is readable is at home
+  pub damaged_home : (x : Image) (block : ℕ) → directory_damage copy.dir_blocks (disk copy x) ≡ Some block → IsReadable copy x → IsAtHome copy x
+  damaged_home x block is readable = ⊎_elim (λ (none : directory_damage copy.dir_blocks (disk copy x) ≡ None). absurd (none-some block (sym none ∙ is))) (λ home. home) readable.whole
+
+  module _ (pages : Pages) (dues : List (ℕ × Block)) (x : Image) (sized : HasRegion copy x) (loaded : IsLoaded copy pages x) (none : directory_damage copy.dir_blocks (disk copy x) ≡ None)
+      (are : map image_of_page dues ≡ due_images pages) where
+    pub has_due : HasDue copy dues x
+    has_due = loaded_is_due copy shape pages x sized loaded none dues are
+
+    read : IsReadAs copy pages x
+    read = loaded_is_content copy shape pages x sized loaded none
+
+    once_homed : (y : Image) → HasHomed copy dues x y → DecodesIn copy y × IsAtHome copy y
+    once_homed y did = ⊎_elim
+        (λ (shut : AreShut copy x).
+        let empty : pages.due.items ≡ [] = (read.shut shut).3 in
+        let none_are : dues ≡ [] = no_dues dues (are ∙ ap (λ (l : List (ℕ × ℕ)). map (λ (d : ℕ × ℕ). (d.0, shown_by pages.blocks.items d.0)) l) empty) in
+        let same = none_written x y sized (subst (λ (l : List (ℕ × Block)). HasHomed copy l x y) none_are did).elsewhere in
+        let is = shut_is copy x shape sized shut in
+        (same.decodes (is.pages 0).decodes, same.at_home is.home))
+        (λ (opened : HasOpen copy x).
+        let both = homed_settles copy dues pages.number (shown_by pages.blocks.items) x y shape (read.opened opened) has_due did in
+        (both.0.pages.decodes, both.1))
+        read.either
+
+    pub loaded_due : IsRenewable copy dues x
+    loaded_due = record { due_are = has_due.due; homed = λ readable y did. once_homed y did }
+
+-- ---- the steps of a renewal
+
+module _ (copy : DirCopy) where
+  readable_same : (x y : Image) → IsReadable copy x → Same x y → IsReadable copy y
+  readable_same x y is same =
+      let lists = sym (same_disk copy x y same) in
+      record {
+        decodes = subst (λ (b : Bytes). logs_decode copy.dir_blocks b ≡ true) lists is.decodes;
+        whole = ⊎_elim (λ (none : directory_damage copy.dir_blocks (disk copy x) ≡ None). inl (ap (directory_damage copy.dir_blocks) (sym lists) ∙ none))
+            (λ (home : IsAtHome copy x). inr (subst (λ (b : Bytes). IsCheckpointed copy.dir_blocks b) lists home)) is.whole;
+      }
+
+  pub read_keeps : {s t : BayState} → Runs (IsSlot copy.slot) Same s t → Runs (IsSlot copy.slot) (KeepsContent copy) s t
+  read_keeps {s} {t} run = widened {step = Same} {whole = KeepsContent copy} (λ x y same. same_content copy x y same) run
+
+  pub homes_keep : {s t u : BayState} → Runs (IsSlot copy.slot) Same s t → Runs (IsSlot copy.slot) (KeepsContent copy) t u → Runs (IsSlot copy.slot) (KeepsContent copy) s u
+  homes_keep {s} {t} {u} run next = goes_on {done = KeepsContent copy} {step = KeepsContent copy} {whole = KeepsContent copy} (λ x y z first second. second ∙ first) (read_keeps run) (stops (read_keeps run)) next
+
+  pub ready_now : {s t u : BayState} (due : List (ℕ × Block)) → NowOnly s (IsReadable copy) → Runs (IsSlot copy.slot) Same s t → NowOnly t (IsRenewable copy due) → Ends (HasHomed copy due) t u
+      → NowOnly u (λ x. DecodesIn copy x × IsAtHome copy x)
+  ready_now {s} {t} {u} due now run renewable ends =
+      let readable : NowOnly t (IsReadable copy) = now_only {P = IsReadable copy} {Q = IsReadable copy} (λ x y is same. readable_same x y is same) (stops run) now in
+      now_only {P = λ x. IsReadable copy x × IsRenewable copy due x} {Q = λ x. DecodesIn copy x × IsAtHome copy x}
+      (λ x y is did. is.1.homed is.0 y did) ends (record { now = λ x left. (readable.now x left, renewable.now x left) })
+
+  module _ (number : ℕ) (page : ℕ → Bytes) where
+    pub keeps_or_becomes : {s u : BayState} → Runs (IsSlot copy.slot) (KeepsContent copy) s u → Runs (IsSlot copy.slot) (MayBecome copy number page) s u
+    keeps_or_becomes {s} {u} run = widened {step = KeepsContent copy} {whole = MayBecome copy number page} (λ x y same. inl same) run
+
+    pub renewed : {s u v : BayState} → Runs (IsSlot copy.slot) (KeepsContent copy) s u → Runs (IsSlot copy.slot) (MayBecome copy number page) u v → Runs (IsSlot copy.slot) (MayBecome copy number page) s v
+    renewed {s} {u} {v} run next = goes_on {done = KeepsContent copy} {step = MayBecome copy number page} {whole = MayBecome copy number page}
+        (λ x y z keeps step. ⊎_elim (λ (same : content_in copy z ≡ content_in copy y). inl (same ∙ keeps)) (λ new. inr new) step)
+        (keeps_or_becomes run) (stops run) next

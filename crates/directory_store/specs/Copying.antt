@@ -1,0 +1,34 @@
+-- A copy that is brought up beside those of a store.
+use Rattle.std.specs.Prelude.{◌≡◌, ◌⊎◌, ◌==◌, ℕ, ◌+◌, Bool, true, ◌&&◌, not, nat_le, nat_lt, filter, List, [], ◌∷◌, None}
+use Rattle.bay.specs.Image.{Image}
+use Rattle.asm_base.specs.declared.block.Block.{Block}
+use Rattle.asm_formats.specs.Damage.{directory_damage}
+use Rattle.change_directory.specs.declared.copy.DirCopy.{DirCopy}
+use Rattle.change_directory.specs.Changes.{disk, content_in, DecodesIn, IsAtHome}
+use Rattle.change_directory.specs.Homes.{AreDue, HasHomed}
+use Rattle.page_map.specs.Tables.{PageTable}
+use Rattle.directory_store.specs.Contents.{HasRecords}
+use Rattle.directory_store.specs.declared.due.Due.{Due}
+
+-- the open log slots decode, and the copy isn't damaged, or each page counts as it stands at home
+pub record IsReadable (copy : DirCopy) (x : Image) : Type 0 where
+  pub decodes : DecodesIn copy x
+  pub whole : (directory_damage copy.dir_blocks (disk copy x) ≡ None) ⊎ IsAtHome copy x
+
+-- These pages are due. Once they are written home, each page of a readable copy counts as it stands at home.
+pub record IsRenewable (copy : DirCopy) (due : List (ℕ × Block)) (x : Image) : Type 0 where
+  pub due_are : AreDue copy due x
+  pub homed : IsReadable copy x → (y : Image) → HasHomed copy due x y → DecodesIn copy y × IsAtHome copy y
+
+-- the content stays, is gone, or is that of these records
+abbrev pub MayTakeRecords : PageTable → ℕ → DirCopy → Image → Image → Type 0
+MayTakeRecords table number copy old new = (content_in copy new ≡ content_in copy old) ⊎ ((content_in copy new ≡ None) ⊎ HasRecords table number copy new)
+
+-- the due pages of copies on other slots
+abbrev pub due_off : ℕ → List Due → List Due
+due_off slot dues = filter (λ (due : Due). not (due.slot == slot)) dues
+
+-- pages of a copy, ascending, the first of them not below a number
+abbrev pub are_pages_from : ℕ → ℕ → List (ℕ × Block) → Bool
+are_pages_from least dir_blocks [] = true
+are_pages_from least dir_blocks (p ∷ pages) = nat_le least p.0 && (nat_lt p.0 dir_blocks && are_pages_from (p.0 + 1) dir_blocks pages)
