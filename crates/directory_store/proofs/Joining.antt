@@ -1,5 +1,5 @@
 -- A copy that joins those of a store.
-use Rattle.std.proofs.Common.{◌≡◌, ◌≢◌, ◌⊎◌, inl, inr, ⊎_elim, ℕ, ◌<◌, Bool, true, false, cond, List, [], ◌∷◌, ◌++◌, map, refl, sym, ap, subst, ◌∙◌, arith}
+use Rattle.std.proofs.Common.{◌≡◌, ◌≢◌, ◌⊎◌, inl, inr, ⊎_elim, ℕ, ◌<◌, true, false, cond, List, [], ◌∷◌, ◌++◌, map, refl, sym, ap, subst, ◌∙◌, arith}
 use Rattle.std.specs.Prelude.{IsTrue, ◌==◌, nat_lt}
 use Rattle.std.specs.List.{list_all}
 use Rattle.std.proofs.lemmas.Bool.{and_from, eqb-true, ne_eqb}
@@ -7,7 +7,6 @@ use Rattle.bay.specs.Image.{Image, ChangesOnly}
 use Rattle.bay.specs.State.{BayState, IsSlot, KeepsAttached}
 use Rattle.bay.specs.Moments.{Runs, NowOnly, LeavesOnly}
 use Rattle.bay.proofs.Calls.{leaves_only, now_only, stops, widened}
-use Rattle.asm_group.specs.Names.{Bytes}
 use Rattle.asm_base.specs.declared.block.Block.{Block}
 use Rattle.asm_formats.specs.Among.{IsAmong}
 use Rattle.asm_formats.specs.Status.{ascends_from}
@@ -21,7 +20,6 @@ use Rattle.change_directory.proofs.Usable.{still_copy}
 use Rattle.page_map.specs.Free.{is_free}
 use Rattle.page_map.specs.Listing.{Lists}
 use Rattle.page_map.proofs.Keys.{one_or_other}
-use Rattle.directory_store.specs.Contents.{HasRecords}
 use Rattle.directory_store.specs.Copies.{AreApart, AreKept, AreNamed, IsApartFrom, IsKept, IsNamed, IsSettled, MayBecome, due_of}
 use Rattle.directory_store.specs.Copying.{MayTakeRecords, due_off}
 use Rattle.directory_store.specs.Stores.{Stored, Keeps, HaveRecords}

@@ -1,27 +1,26 @@
 -- A copy that is brought up: how it is read.
-use Rattle.std.proofs.Common.{◌≡◌, ◌⊎◌, inl, inr, ⊎_elim, ℕ, ◌+◌, ◌*◌, ◌<◌, ◌≤◌, Bool, true, false, List, [], ◌∷◌, ◌++◌, length, map, take, drop, get_or, refl, sym, ap, subst, ◌∙◌, Option, Some, None, arith}
-use Rattle.std.specs.Prelude.{◌&&◌, nat_le, nat_lt, IsTrue, IsSome}
+use Rattle.std.proofs.Common.{◌≡◌, inl, inr, ⊎_elim, ℕ, ◌+◌, ◌<◌, ◌≤◌, Bool, true, false, List, [], ◌∷◌, ◌++◌, length, map, take, drop, get_or, refl, sym, ap, subst, ◌∙◌, Option, Some, None, arith}
+use Rattle.std.specs.Prelude.{◌&&◌, nat_le, nat_lt, IsSome}
 use Rattle.std.specs.List.{flat_map, list_all, range_with_len}
 use Rattle.std.proofs.lemmas.Bool.{true≢false, and_parts, leb-true, ltb-true}
 use Rattle.std.proofs.lemmas.List.{length-drop, map-append, map_more}
 use Rattle.std.proofs.lemmas.Option.{none-some}
 use Rattle.bay.specs.Image.{Image, Same, ChangesOnly, window}
-use Rattle.bay.specs.State.{BayState, IsSound, IsSlot, KeepsAttached}
+use Rattle.bay.specs.State.{BayState, IsSound, IsSlot}
 use Rattle.bay.specs.Moments.{Runs, Ends, Durable, NowOnly}
-use Rattle.bay.proofs.Calls.{as_held, goes_on, now_only, stops, widened}
+use Rattle.bay.proofs.Calls.{goes_on, now_only, stops, widened}
 use Rattle.bay.proofs.Images.{window-same}
 use Rattle.asm_group.specs.Names.{Bytes}
 use Rattle.asm_base.specs.declared.block.Block.{Block}
-use Rattle.asm_formats.specs.Among.{IsAmong}
 use Rattle.asm_formats.specs.Damage.{directory_damage}
 use Rattle.asm_formats.specs.Logs.{logs_decode}
-use Rattle.asm_formats.specs.Pages.{IsCheckpointed, copy_content}
+use Rattle.asm_formats.specs.Pages.{IsCheckpointed}
 use Rattle.asm_formats.specs.Status.{ascends_from}
 use Rattle.change_directory.specs.declared.copy.DirCopy.{DirCopy}
 use Rattle.change_directory.specs.declared.loading.Pages.{Pages}
 use Rattle.change_directory.specs.Changes.{disk, content_in, DecodesIn, IsAtHome}
 use Rattle.change_directory.specs.Formatting.{AreShut}
-use Rattle.change_directory.specs.Homes.{AreDue, HasHomed, HomesOf, KeepsContent}
+use Rattle.change_directory.specs.Homes.{HasHomed, HomesOf, KeepsContent}
 use Rattle.change_directory.specs.Loads.{IsLoaded, commit_of, due_page, filled_pages, open_slots}
 use Rattle.change_directory.specs.Logs.{are_pages, image_of_page}
 use Rattle.change_directory.specs.Places.{IsCopy}

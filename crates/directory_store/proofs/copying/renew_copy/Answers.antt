@@ -1,6 +1,5 @@
-use Rattle.std.proofs.Common.{ℕ, ◌*◌, List, length, sym, subst, arith}
+use Rattle.std.proofs.Common.{ℕ, List, sym, subst, arith}
 use Rattle.std.specs.Prelude.{IsTrue}
-use Rattle.bay.specs.Image.{Same}
 use Rattle.bay.specs.Moments.{NowOnly}
 use Rattle.bay.proofs.Calls.{widened}
 use Rattle.bay.proofs.Images.{changes-same}
@@ -10,7 +9,7 @@ use Rattle.change_directory.specs.StoreLaws.{RegionOf, shown_by}
 use Rattle.change_directory.proofs.Regions.{steps_stay_inside}
 use Rattle.directory_store.specs.Copying.{IsRenewable}
 use Rattle.directory_store.proofs.Reading.{few_pages, homes_keep, keeps_or_becomes, read_keeps, ready_now, renewed}
-use Rattle.directory_store.proofs.Steps.{both_run, shaped}
+use Rattle.directory_store.proofs.Steps.{both_run}
 use Rattle.directory_store.proofs.copying.renew_copy.Goals as goal
 
 pub returns-in_err-due-clause-runs : goal.returns-in_err-due-clause-runs
