@@ -8,3 +8,6 @@ pub mod Reading
 pub mod Joining
 pub mod Creating
 pub mod Trying
+pub mod ReadingCopies
+pub mod Building
+pub mod Loads

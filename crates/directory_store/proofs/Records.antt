@@ -95,7 +95,7 @@ all_by : {A : Type 0} (t : A → Bool) (xs : List A) → ((x : A) → IsAmong xs
 all_by t [] each = refl
 all_by t (x ∷ xs) each = and_from (t x) (list_all t xs) (each x (inl refl)) (all_by t xs (λ y h. each y (inr h)))
 
-all_are : {A : Type 0} (t : A → Bool) (xs : List A) (x : A) → list_all t xs ≡ true → IsAmong xs x → t x ≡ true
+pub all_are : {A : Type 0} (t : A → Bool) (xs : List A) (x : A) → list_all t xs ≡ true → IsAmong xs x → t x ≡ true
 all_are t [] x all h = absurd h
 all_are t (y ∷ xs) x all (inl e) = ap t e ∙ (and_parts (t y) (list_all t xs) all).0
 all_are t (y ∷ xs) x all (inr h) = all_are t xs x (and_parts (t y) (list_all t xs) all).1 h

@@ -3,3 +3,5 @@ pub mod Copies
 pub mod Stores
 pub mod Answers
 pub mod Copying
+pub mod Reading
+pub mod Loading

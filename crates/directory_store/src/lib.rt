@@ -7,11 +7,13 @@ mod copying;
 mod due;
 mod error;
 mod laws;
+mod loading;
 mod making;
+mod reading;
 mod store;
 
 pub use copying::CopyError;
-pub use error::StoreError;
+pub use error::{LoadError, StoreError};
 pub use laws::{forgotten_keep, keeps_elsewhere, kept_have_records};
 pub use store::Store;
 

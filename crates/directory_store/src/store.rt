@@ -101,6 +101,21 @@ fn copied(alloc: Global, copies: &[DirCopy]) -> Result<Vec<DirCopy>, NoMemory>
 }
 
 impl Store {
+    /// A store of these.
+    pub(crate) fn of(map: PageMap, number: u64, copies: Vec<DirCopy>, due: Vec<Due>) -> Store
+        ensures table { result.table ≡ map }
+        ensures number { result.number ≡ number }
+        ensures copies { result.copies ≡ copies.items }
+        ensures due { result.due ≡ due.items }
+    {
+        Store {
+            map,
+            number,
+            copies,
+            due,
+        }
+    }
+
     /// Makes the first records of a group on copies that have no open log slot, under commit number 1. Every copy must take
     /// them: Gone has the slot of one that failed. Full comes exactly where more records are put than there are blocks, and
     /// then nothing is written. At each moment each copy has no content, or all the records.
