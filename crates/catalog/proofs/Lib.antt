@@ -1,10 +1,16 @@
 pub mod DiskLaws
+pub mod ExtentCounts
 pub mod FaultLaws
 pub mod FileLaws
+pub mod HomeUnits
+pub mod ItemLaws
+pub mod ItemLists
 pub mod NoCatalog
 pub mod PlacingLaws
 pub mod ReadingLaws
 pub mod StoreLaws
+pub mod TableItems
+pub mod UnitLaws
 pub mod UnusedLaws
 pub mod SetLaws
 pub mod SameTables

@@ -34,7 +34,7 @@ from_all : (p : ℕ → Bool) (at n : ℕ) → ((k : ℕ) → at ≤ k → k < a
 from_all p at zero each = refl
 from_all p at (suc n) each = rw (each at (omega arith) (omega arith)) (from_all p (at + 1) n (λ k low high. each k (omega (arith, low)) (omega (arith, high))))
 
-run_is : (m : UnitMap) (at n : ℕ) → is_run_free m at n ≡ true → IsFreeRun m at n
+pub run_is : (m : UnitMap) (at n : ℕ) → is_run_free m at n ≡ true → IsFreeRun m at n
 run_is m at n e = all_in (is_free m) at n e
 
 no_run : (m : UnitMap) (at n : ℕ) → (IsFreeRun m at n → ⊥) → is_run_free m at n ≡ false

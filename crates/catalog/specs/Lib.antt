@@ -4,3 +4,4 @@ pub mod Rules
 pub mod Placing
 pub mod Faults
 pub mod Changing
+pub mod Items

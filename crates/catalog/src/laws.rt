@@ -6,8 +6,24 @@ ghost use Rattle.asm_formats.specs.Status.{Entry as StatusEntry};
 ghost use Rattle.asm_base.specs.Records.{Entry};
 ghost use Rattle.catalog.specs.Tables.{Catalogued};
 ghost use Rattle.catalog.specs.Faults.{IsAtFault, IsCatalogOf};
+ghost use Rattle.catalog.specs.Items.{ItemsOfRecords, ItemsSayTables, UnitsOfItems};
 
 /// Where a record is at fault, no value is a catalog of the records.
 pub fn a_fault_leaves_no_catalog()
     ensures { (content : Items Entry) (es : Items StatusEntry) (c : Catalogued) (k : Key) → IsAtFault content c.shape es k → ¬ IsCatalogOf content es c }
+{}
+
+/// The items of a group's records are those of the tables that have these records.
+pub fn items_are_of_tables()
+    ensures { ItemsOfRecords }
+{}
+
+/// What items say of files, extents, marks, homes and copies is what the tables say whose items they are.
+pub fn items_say_tables()
+    ensures { ItemsSayTables }
+{}
+
+/// The used units of each disk are, from scratch, those of the homes that the items name.
+pub fn units_are_of_items()
+    ensures { UnitsOfItems }
 {}

@@ -11,6 +11,7 @@ mod disks;
 mod error;
 mod file_rules;
 mod laws;
+mod listing;
 mod name_rules;
 mod opening;
 mod parts;
@@ -22,4 +23,6 @@ pub use catalog::Catalog;
 pub use changing::a_change_leaves_one_set_of_tables;
 pub use disk_info::DiskInfo;
 pub use error::CatalogError;
-pub use laws::a_fault_leaves_no_catalog;
+pub use laws::{
+    a_fault_leaves_no_catalog, items_are_of_tables, items_say_tables, units_are_of_items,
+};
