@@ -82,9 +82,10 @@ impl Catalog {
         striping::units_of(self.shape.step, index as u64)
     }
 
-    /// The units of all disk numbers, those of disk k at place k.
+    /// The units of all disk numbers, those of disk k at place k. Its clause also shows that the rules hold.
     pub fn units(&self) -> &[Units]
-        ensures { result.now ≡ self.now.units }
+        ensures units { result.now ≡ self.now.units }
+        ensures rules { IsCatalog self.now }
     {
         &self.units
     }

@@ -4,6 +4,8 @@
 #[cfg(test)]
 mod group;
 #[cfg(test)]
+mod moves;
+#[cfg(test)]
 mod refused;
 #[cfg(test)]
 mod taken;

@@ -1,6 +1,7 @@
 pub mod Selected
 pub mod FailureGroups
 pub mod Rounds
+pub mod Searching
 pub mod TableSets
 pub mod Sharing
 pub mod HomeLists

@@ -182,8 +182,12 @@ said_copy stage.Lost s items all es ms t x k small long units is are less = rw (
 said_copy stage.NoSpace s items all es ms t x k small long units is are less = rw (home_is s items all es ms x k long units are) refl
 said_copy stage.Balance s items all es ms t x k small long units is are less = rw (balancing_is s items all es ms t x k small long units is are) refl
 
+pub said_agrees : (stage : Stage) (s : Shape) (items : List Item) (all : List Copy) (es : List Entry) (ms : List UnitMap) (t : Sums) (x : Extent) → AreNumbered es → 0 < x.units → AreUnitsOf s items es ms → t ≡ sums_of s items es → IsExtentOf s items all x
+    → first_from (said_at stage es ms t x) 0 x.copies ≡ first_of (said stage s es items all) (copies_of x)
+said_agrees stage s items all es ms t x small long units is are =
+    first_agree (said_at stage es ms t x) (λ k. said stage s es items all (copy_of x k)) 0 x.copies (λ k less. said_copy stage s items all es ms t x k small long units is are (omega arith))
+    ∙ sym (first_copies (said stage s es items all) x 0 x.copies)
+
 pub said_is : (stage : Stage) (s : Shape) (items : List Item) (all : List Copy) (es : List Entry) (ms : List UnitMap) (t : Sums) (x : Extent) (next : Option CodeNext) → AreNumbered es → 0 < x.units → AreUnitsOf s items es ms → t ≡ sums_of s items es → IsExtentOf s items all x
     → option_map next_meant next ≡ first_from (said_at stage es ms t x) 0 x.copies → option_map next_meant next ≡ first_of (said stage s es items all) (copies_of x)
-said_is stage s items all es ms t x next small long units is are found =
-    found ∙ first_agree (said_at stage es ms t x) (λ k. said stage s es items all (copy_of x k)) 0 x.copies (λ k less. said_copy stage s items all es ms t x k small long units is are (omega arith))
-    ∙ sym (first_copies (said stage s es items all) x 0 x.copies)
+said_is stage s items all es ms t x next small long units is are found = found ∙ said_agrees stage s items all es ms t x small long units is are

@@ -4,3 +4,4 @@ pub mod Sums
 pub mod Extents
 pub mod Moves
 pub mod Stages
+pub mod Searching

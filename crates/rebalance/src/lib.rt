@@ -9,12 +9,14 @@ mod extent;
 mod groups;
 mod homes;
 mod moves;
+mod next;
 mod shares;
 mod stages;
 mod tables;
 
 pub use extent::Extent;
 pub use moves::{Move, Next};
+pub use next::{next_move, share};
 pub use shares::Shares;
 pub use stages::{
     Stage, extents_own_copies, first_of_parts, new_home, said, said_by_tables, stages_are_next,

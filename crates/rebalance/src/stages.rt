@@ -117,7 +117,7 @@ fn said_on(
 }
 
 #[tactic(auto, using(crate::proofs::Verdicts::said_more, crate::proofs::Verdicts::said_found, crate::proofs::Verdicts::said_start, crate::proofs::Verdicts::said_end))]
-fn said_first(
+pub(crate) fn said_first(
     disks: &[PstEntry],
     units: &[Units],
     shares: &Shares,

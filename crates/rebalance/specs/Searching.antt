@@ -1,0 +1,79 @@
+-- The search for the next move over the tables of a group.
+use Rattle.std.specs.Prelude.{◌≡◌, ℕ, suc, ◌*◌, ◌^◌, ◌&&◌, nat_lt, List, [], ◌∷◌, unwrap_or, Option, Some, None, IsTrue}
+use Rattle.std.specs.Option.{option_map, option_or}
+use Rattle.asm_group.specs.Shape.{Shape}
+use Rattle.asm_formats.specs.Status.{Entry, Status, is_status}
+use Rattle.asm_formats.specs.Items.{FileHead, Homes, Item, chunk_len}
+use Rattle.asm_placement.specs.Layout.{units_of}
+use Rattle.asm_placement.specs.Rebalancing.{Next, done, next, next_directory, next_tables, when}
+use Rattle.asm_placement.specs.Space.{share}
+use Rattle.allocator.specs.UnitMaps.{UnitMap}
+use Rattle.extent_map.specs.Extents.{Chunked, has_home}
+use Rattle.file_directory.specs.Files.{head_at}
+use Rattle.catalog.specs.Tables.{Catalogued, Tables}
+use Rattle.catalog.specs.Rules.{marks_of}
+use Rattle.catalog.specs.Placing.{HasUnits}
+use Rattle.rebalance.specs.declared.extent.Extent.{Extent}
+use Rattle.rebalance.specs.declared.stages.Stage.{Stage}
+use Rattle.rebalance.specs.declared.stages.Stage.TheVariants as stage
+use Rattle.rebalance.specs.Sums.{Sums, sums_at}
+use Rattle.rebalance.specs.Extents.{first_from}
+use Rattle.rebalance.specs.Stages.{said_at}
+
+-- The status record is that of the catalog: one of the formats, and the used units are those of its entries' disks.
+pub record IsStatusOf (c : Catalogued) (r : Status) : Type 0 where
+  pub status : IsTrue (is_status r)
+  pub units : HasUnits c.shape r.entries c.tables c.units
+
+-- ---- one extent after the other
+
+-- an extent of a file with so many copies, as the tables have it
+abbrev pub extent_of : Shape → Tables → ℕ → ℕ → ℕ → Homes → Extent
+extent_of s t f copies i homes = record { id = record { file = f; index = i }; homes = homes; marks = marks_of t f i; copies = copies; units = units_of s.step i }
+
+-- what the extent says, where it is there; its number has 32 bits
+abbrev pub said_there : (Extent → Option Next) → Shape → Tables → ℕ → ℕ → ℕ → Homes → Option Next
+said_there says s t f copies i homes = when (has_home homes && nat_lt i (2 ^ 32)) (says (extent_of s t f copies i homes))
+
+-- what the first of some extents says, that have the numbers from i on
+abbrev pub first_of_extents : (Extent → Option Next) → Shape → Tables → ℕ → ℕ → ℕ → List Homes → Option Next
+first_of_extents says s t f copies i [] = None
+first_of_extents says s t f copies i (homes ∷ more) = option_or (said_there says s t f copies i homes) (first_of_extents says s t f copies (suc i) more)
+
+abbrev pub with_copies : (ℕ → Option Next) → Option ℕ → Option Next
+with_copies says None = None
+with_copies says (Some copies) = says copies
+
+-- what the first extent of a chunk says, where the file has a head
+abbrev pub first_of_chunk : (Extent → Option Next) → Shape → Tables → Chunked → Option Next
+first_of_chunk says s t x = with_copies (λ copies. first_of_extents says s t x.0.0 copies (x.0.1 * chunk_len) x.1) (option_map (λ (h : FileHead). h.copies) (head_at t.files x.0.0))
+
+abbrev pub first_of_chunks : (Extent → Option Next) → Shape → Tables → List Chunked → Option Next
+first_of_chunks says s t [] = None
+first_of_chunks says s t (x ∷ xs) = option_or (first_of_chunk says s t x) (first_of_chunks says s t xs)
+
+-- ---- one stage after the other
+
+-- what an extent says at a stage, by maps of units and sums
+abbrev pub extent_says : Stage → List Entry → List UnitMap → Sums → Extent → Option Next
+extent_says at es ms t x = first_from (said_at at es ms t x) 0 x.copies
+
+-- what the first extent of a group says
+abbrev pub group_says : Stage → List Entry → Catalogued → Sums → Option Next
+group_says at es c t = first_of_chunks (extent_says at es c.units t) c.shape c.tables c.tables.extents
+
+-- what is first to be done with copies, and what is said once nothing has to be done
+abbrev pub work_said : List Entry → Catalogued → Sums → Option Next
+work_said es c t = option_or (group_says stage.Recopy es c t) (option_or (group_says stage.Fill es c t) (group_says stage.Shift es c t))
+
+abbrev pub rest_said : List Entry → Catalogued → Sums → Option Next
+rest_said es c t = option_or (group_says stage.Lost es c t) (option_or (group_says stage.NoSpace es c t) (group_says stage.Balance es c t))
+
+abbrev pub tables_said : Catalogued → Status → Option Next
+tables_said c r = option_or (next_directory c.shape r) (next_tables c.shape r)
+
+abbrev pub all_said : Catalogued → Status → List Entry → Sums → Option Next
+all_said c r es t = option_or (work_said es c t) (option_or (tables_said c r) (rest_said es c t))
+
+abbrev pub next_in : Catalogued → Status → Next
+next_in c r = unwrap_or (all_said c r r.entries (sums_at c.units r.entries)) done
