@@ -4,7 +4,7 @@ pub mod Rows
 pub mod Records
 pub mod Storing
 pub mod Renewing
-pub mod Reading
+pub mod Lagging
 pub mod Joining
 pub mod Creating
 pub mod Trying

@@ -1,7 +1,7 @@
 use Rattle.std.proofs.Common.{ℕ, List, length, get_or, ap, ◌∙◌, arith}
 use Rattle.asm_base.specs.declared.block.Block.{Block}
 use Rattle.change_directory.specs.StoreLaws.{shown_by}
-use Rattle.directory_store.proofs.Reading.{due_more}
+use Rattle.directory_store.proofs.Lagging.{due_more}
 use Rattle.directory_store.proofs.copying.due_blocks.Goals as goal
 
 pub loop-page-preserved : goal.loop-page-preserved

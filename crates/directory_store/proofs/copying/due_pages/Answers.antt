@@ -7,7 +7,7 @@ use Rattle.change_directory.specs.Changes.{disk}
 use Rattle.change_directory.specs.Loads.{IsLoaded}
 use Rattle.change_directory.proofs.Usable.{still_copy}
 use Rattle.directory_store.specs.Copying.{IsRenewable}
-use Rattle.directory_store.proofs.Reading.{damage_as, damaged_home, has_due, loaded_as, loaded_due, none_due, told_now}
+use Rattle.directory_store.proofs.Lagging.{damage_as, damaged_home, has_due, loaded_as, loaded_due, none_due, told_now}
 use Rattle.directory_store.proofs.Renewing.{sized_now}
 use Rattle.directory_store.proofs.Steps.{shaped}
 use Rattle.directory_store.proofs.copying.due_pages.Goals as goal

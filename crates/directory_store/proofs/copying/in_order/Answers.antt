@@ -4,7 +4,7 @@ use Rattle.std.proofs.lemmas.Bool.{true≢false}
 use Rattle.asm_base.specs.declared.block.Block.{Block}
 use Rattle.change_directory.specs.Logs.{are_pages}
 use Rattle.directory_store.specs.Copying.{are_pages_from}
-use Rattle.directory_store.proofs.Reading.{pages_from}
+use Rattle.directory_store.proofs.Lagging.{pages_from}
 use Rattle.directory_store.proofs.copying.in_order.Goals as goal
 
 pub returns-then-ascend-clause-pages : goal.returns-then-ascend-clause-pages

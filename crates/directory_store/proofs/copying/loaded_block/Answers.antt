@@ -1,7 +1,7 @@
 use Rattle.std.proofs.Common.{ℕ, List, ap, sym, ◌∙◌, arith}
 use Rattle.asm_base.specs.declared.block.Block.{Block}
 use Rattle.change_directory.specs.StoreLaws.{shown_by}
-use Rattle.directory_store.proofs.Reading.{none_left}
+use Rattle.directory_store.proofs.Lagging.{none_left}
 use Rattle.directory_store.proofs.copying.loaded_block.Goals as goal
 
 pub returns : goal.returns

@@ -21,7 +21,7 @@ use Rattle.change_directory.specs.declared.loading.Pages.{Pages}
 use Rattle.change_directory.specs.Changes.{disk, content_in, DecodesIn, IsAtHome}
 use Rattle.change_directory.specs.Formatting.{AreShut}
 use Rattle.change_directory.specs.Homes.{HasHomed, HomesOf, KeepsContent}
-use Rattle.change_directory.specs.Loads.{IsLoaded, commit_of, due_page, filled_pages, open_slots}
+use Rattle.change_directory.specs.Loads.{IsLoaded, number_of, due_page, filled_pages, open_slots}
 use Rattle.change_directory.specs.Logs.{are_pages, image_of_page}
 use Rattle.change_directory.specs.Places.{IsCopy}
 use Rattle.change_directory.specs.StoreLaws.{HasDue, HasOpen, HasRegion, IsReadAs, IsShaped, SameCopy, due_images, shown_by}
@@ -111,7 +111,7 @@ module _ (copy : DirCopy) (m t : BayState) (sound : IsSound m) (sound_t : IsSoun
 -- what was loaded of a disk that reads as another one
 pub loaded_as : (copy : DirCopy) (pages : Pages) (x h : Image) → disk copy x ≡ disk copy h → IsLoaded copy pages h → IsLoaded copy pages x
 loaded_as copy pages x h e is = record {
-  number = is.number ∙ ap (λ (b : Bytes). commit_of (open_slots copy.dir_blocks b)) (sym e);
+  number = is.number ∙ ap (λ (b : Bytes). number_of (open_slots copy.dir_blocks b)) (sym e);
   blocks = is.blocks ∙ ap (λ (b : Bytes). filled_pages copy.dir_blocks b (open_slots copy.dir_blocks b)) (sym e);
   due = is.due ∙ ap (λ (b : Bytes). flat_map (due_page (open_slots copy.dir_blocks b)) (range_with_len 0 copy.dir_blocks)) (sym e);
 }
@@ -155,7 +155,8 @@ module _ (copy : DirCopy) (shape : IsShaped copy) where
         let is = shut_is copy x shape sized shut in
         (same.decodes (is.pages 0).decodes, same.at_home is.home))
         (λ (opened : HasOpen copy x).
-        let both = homed_settles copy dues pages.number (shown_by pages.blocks.items) x y shape (read.opened opened) has_due did in
+        let has = read.opened opened in
+        let both = homed_settles copy dues has.0 (shown_by pages.blocks.items) x y shape has.2 has_due did in
         (both.0.pages.decodes, both.1))
         read.either
 
