@@ -1,9 +1,9 @@
 -- What the store of several copies has, and what its refusals mean.
-use Rattle.std.proofs.Common.{◌≡◌, ◌⊎◌, inl, inr, ⊎_elim, ℕ, zero, suc, ◌+◌, ◌<◌, ◌≤◌, true, List, [], ◌∷◌, ◌++◌, map, refl, sym, ap, subst, ◌∙◌, Option, Some, None, arith}
+use Rattle.std.proofs.Common.{◌≡◌, ◌⊎◌, inl, inr, ⊎_elim, ℕ, zero, suc, ◌+◌, ◌<◌, ◌≤◌, true, false, List, [], ◌∷◌, ◌++◌, length, map, refl, sym, ap, subst, ◌∙◌, Option, Some, None, arith}
 use Rattle.std.specs.Prelude.{◌==◌, flat_map, unwrap_or, nat_lt, IsSome, IfOk, Result, Ok, Err}
 use Rattle.std.specs.List.{range_with_len, list_all}
 use Rattle.std.specs.Option.{option_map, option_to_list}
-use Rattle.std.proofs.lemmas.Bool.{true≢false, and_parts, eq-eqb, eqb-true, ne_eqb, ltb-true, cases_eq}
+use Rattle.std.proofs.lemmas.Bool.{and_from, true≢false, and_parts, eq-eqb, eqb-true, ne_eqb, ltb-true, cases_eq}
 use Rattle.std.proofs.lemmas.Option.{same_Some}
 use Rattle.std.specs.Str.{bytes_eq}
 use Rattle.bay.specs.Image.{Image, Same}
@@ -18,7 +18,7 @@ use Rattle.asm_formats.specs.Logs.{PageImage}
 use Rattle.asm_formats.specs.Pages.{with_images}
 use Rattle.asm_formats.specs.Regions.{page_home}
 use Rattle.asm_formats.specs.Status.{ascends_from}
-use Rattle.asm_formats.proofs.Codec.{bytes_same}
+use Rattle.asm_formats.proofs.Codec.{bytes_same, same_bytes}
 use Rattle.change_directory.specs.declared.copy.DirCopy.{DirCopy}
 use Rattle.change_directory.specs.Changes.{disk}
 use Rattle.change_directory.specs.Formatting.{AreShut}
@@ -148,7 +148,31 @@ its_due (p ∷ ps) dues apart are q (inr h) =
     let other : are.0.slot ≡ q.copy.slot → ⊥ = λ e. (apart.0 q.copy (copy_among ps q h)).0 (sym are.1.slot ∙ e) in
     record { due = later.due; is = later.is; at = ap (λ (l : List Due). due_of l q.copy.slot) are.3 ∙ rw (ne_eqb are.0.slot q.copy.slot other) later.at }
 
+same_self : (ps : List (ℕ × Block)) → same_pages ps ps ≡ true
+same_self [] = refl
+same_self (p ∷ ps) = and_from (is_same_page p p) (same_pages ps ps) (and_from (p.0 == p.0) (bytes_eq p.1.bytes p.1.bytes) (eq-eqb p.0 p.0 refl) (same_bytes p.1.bytes p.1.bytes refl)) (same_self ps)
+
+-- the one that is taken is kept
+taken_kept : (r : Reading) (readings kept : List Reading) → AreKeptOf r readings kept → IsAmong readings r → are_same r r ≡ true → IsAmong kept r
+taken_kept r [] kept are among same = absurd among
+taken_kept r (p ∷ ps) kept (inl one) among same = subst (λ (l : List Reading). IsAmong l r) (sym one.2) (⊎_elim (λ e. inl e) (λ there. inr (taken_kept r ps one.1 one.3 there same)) among)
+taken_kept r (p ∷ ps) kept (inr one) among same = ⊎_elim
+    (λ (e : r ≡ p). absurd (true≢false (sym same ∙ subst (λ (z : Reading). are_same r z ≡ false) (sym e) one.0)))
+    (λ there. taken_kept r ps kept one.1 there same)
+    among
+
+some_among : (cs : List DirCopy) (c : DirCopy) → IsAmong cs c → 0 < length cs
+some_among [] c among = absurd among
+some_among (d ∷ cs) c among = omega arith
+
 -- ---- the store
+
+pub some_copies : (readings : List Reading) (store : Stored) → IsBuilt readings store → 0 < length store.copies
+some_copies readings store built =
+    let r = built.taken in
+    let same : are_same r r ≡ true = and_from (r.number == r.number) (same_pages r.pages.blocks.items r.pages.blocks.items) (eq-eqb r.number r.number refl) (same_self r.pages.blocks.items) in
+    let kept = taken_kept r readings built.kept built.are_kept (newest_among readings r built.newest) same in
+    subst (λ (l : List DirCopy). 0 < length l) (sym built.copies) (some_among (copies_of built.kept) r.copy (copy_among built.kept r kept))
 
 module _ (copies : List DirCopy) (readings : List Reading) (s t : BayState) (store : Stored) (sound : IsSound s) (named : AreNamed copies [] s) (apart : AreApart copies) (size : HaveOneSize copies)
     (read : AreRead copies readings s t) (built : IsBuilt readings store) where

@@ -284,6 +284,7 @@ impl Store {
         requires apart { AreApart copies.now }
         requires size { HaveOneSize copies.now }
         ensures copies { IfOk result (λ store. ArePartOf store.copies copies.now) }
+        ensures some { IfOk result (λ store. 0 < length store.copies) }
         ensures content { IfOk result (λ store. Told (B.state bay.old) (B.state bay.new) (HaveRecords store)) }
         ensures greatest { IfOk result (λ store. AreUpTo store.number copies.now (B.state bay.old) (B.state bay.new)) }
         ensures kept { IfOk result (λ store. AreDurable copies.now (B.state bay.old) → Keeps store (B.state bay.new)) }

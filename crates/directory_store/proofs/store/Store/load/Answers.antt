@@ -1,4 +1,4 @@
-use Rattle.std.proofs.Common.{List, sym, subst}
+use Rattle.std.proofs.Common.{◌<◌, length, List, sym, subst}
 use Rattle.std.proofs.lemmas.Result.{err_from_is_err_and}
 use Rattle.change_directory.specs.Told.{Told}
 use Rattle.directory_store.specs.Loading.{AreDurable, AreUpTo, LoadCause}
@@ -6,7 +6,7 @@ use Rattle.directory_store.specs.Reading.{ArePartOf, AreRead, IsBuilt, IsBuildFa
 use Rattle.directory_store.specs.Stores.{HaveRecords, Keeps}
 use Rattle.directory_store.specs.declared.reading.Reading.{Reading}
 use Rattle.directory_store.proofs.ReadingCopies.{on_err_is}
-use Rattle.directory_store.proofs.Loads.{all_read, build_cause, content_told, copies_part, few_blocks, if_ok_is, load_keeps, read_cause, up_to}
+use Rattle.directory_store.proofs.Loads.{all_read, build_cause, content_told, copies_part, few_blocks, if_ok_is, load_keeps, read_cause, some_copies, up_to}
 use Rattle.directory_store.proofs.store.Store.load.Goals as goal
 
 pub returns-in_err-read_all-clause-cause : goal.returns-in_err-read_all-clause-cause
@@ -71,3 +71,6 @@ returns-clause-cause g c =
     let readings = c.deref.result.now in
     let read : AreRead copies readings s t = subst (λ (l : List Reading). AreRead copies l s t) (sym c.deref.ensures.value) (all_read copies c.new-readings.result.items c.read_all.new.readings.items s t c.new-readings.ensures.items c.in_ok-read_all.ensures.read) in
     on_err_is (IsBuildFault readings) (LoadCause copies s t) c.build.result (λ e fault. build_cause copies readings s t c.requires.named read e fault) c.build.ensures.cause
+
+pub returns-clause-some : goal.returns-clause-some
+returns-clause-some g c = if_ok_is (IsBuilt c.deref.result.now) (λ store. 0 < length store.copies) c.build.result (λ store built. some_copies c.deref.result.now store built) c.build.ensures.built
