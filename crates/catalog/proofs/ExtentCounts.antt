@@ -1,17 +1,16 @@
 -- How many copies a file has, and how many extents.
-use Rattle.std.proofs.Common.{◌≡◌, ℕ, zero, suc, ◌+◌, ◌-◌, ◌*◌, ◌<◌, ◌≤◌, ◌^◌, Bool, true, false, cond, eqb, leb, ltb, get_or, length, List, [], ◌∷◌, ◌++◌, map, Option, Some, None, refl, sym, ap, subst, ◌∙◌, arith, inl, inr, ◌⊎◌}
-use Rattle.std.specs.Prelude.{◌&&◌, ◌||◌, not, flat_map, slice_set}
+use Rattle.std.proofs.Common.{◌≡◌, ℕ, zero, suc, ◌+◌, ◌-◌, ◌*◌, ◌<◌, ◌≤◌, ◌^◌, Bool, true, false, cond, eqb, leb, ltb, get_or, length, List, [], ◌∷◌, ◌++◌, map, Option, Some, None, refl, sym, ap, subst, ◌∙◌, arith}
+use Rattle.std.specs.Prelude.{◌&&◌, ◌||◌, slice_set}
 use Rattle.std.specs.List.{AllByRecursion, list_all, range_with_len, slice_get}
-use Rattle.std.specs.Option.{is_some, option_map}
+use Rattle.std.specs.Option.{is_some}
 use Rattle.std.specs.Ordering.{nat_cmp}
 use Rattle.std.proofs.lemmas.Cmp.{nat_cmp_total}
 use Rattle.std.proofs.lemmas.Bool.{and_parts, eqb-true, leb-true}
-use Rattle.std.proofs.lemmas.Option.{none-some}
 use Rattle.std.proofs.lemmas.List.{length-replicate}
 use Rattle.std.proofs.lemmas.List.Sums.{count_by-le-length}
 use Rattle.asm_group.specs.Shape.{Shape}
 use Rattle.asm_formats.specs.Among.{IsAmong}
-use Rattle.asm_formats.specs.Items.{FileHead, Home, Homes, chunk_item, file_item, is_item, is_homes}
+use Rattle.asm_formats.specs.Items.{FileHead, Homes, chunk_item, file_item, is_item, is_homes}
 use Rattle.asm_formats.specs.Regions.{reserved_units}
 use Rattle.asm_formats.specs.Status.{Entry, is_entry}
 use Rattle.asm_placement.specs.Layout.{units_of}
@@ -24,8 +23,8 @@ use Rattle.extent_map.specs.Extents as extents
 use Rattle.catalog.specs.Tables.{AreTables, Tables}
 use Rattle.catalog.specs.Placing.{HasUnits, after_chunks, after_homes, disk_units, homes_of, unused_maps}
 use Rattle.catalog.proofs.PlacingLaws.{units_some}
-use Rattle.catalog.proofs.TableItems.{each_of, found_is, from_map, numbers_exact}
-use Rattle.catalog.proofs.HomeUnits.{IsTaken, Takes, taken_is, takes}
+use Rattle.catalog.proofs.TableItems.{each_of, found_is, numbers_exact}
+use Rattle.catalog.proofs.HomeUnits.{IsTaken, taken_is, takes}
 use Rattle.catalog.proofs.UnusedLaws.{few_found}
 
 -- ---- copies

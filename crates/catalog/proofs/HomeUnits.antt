@@ -1,30 +1,28 @@
 -- What homes that are taken one after the other make of a disk's map.
-use Rattle.std.proofs.Common.{◌≡◌, ℕ, zero, suc, ◌+◌, ◌-◌, ◌*◌, ◌<◌, ◌≤◌, Bool, true, false, cond, eqb, leb, ltb, get_or, take, drop, replicate, length, List, [], ◌∷◌, ◌++◌, map, Option, Some, None, refl, sym, ap, subst, ◌∙◌, arith, inl, inr, ◌⊎◌}
-use Rattle.std.specs.Prelude.{◌&&◌, ◌||◌, not, flat_map, find, slice_set, count_by, IsSomeAnd}
-use Rattle.std.specs.List.{AllByRecursion, list_all, list_any, range_with_len, slice_get}
+use Rattle.std.proofs.Common.{◌≡◌, ℕ, zero, suc, ◌+◌, ◌-◌, ◌*◌, ◌<◌, ◌≤◌, Bool, true, false, cond, eqb, leb, ltb, get_or, take, drop, replicate, length, List, [], ◌∷◌, ◌++◌, Option, Some, None, refl, sym, ap, subst, ◌∙◌, arith, inl, inr}
+use Rattle.std.specs.Prelude.{◌&&◌, ◌||◌, not, flat_map, slice_set, count_by}
+use Rattle.std.specs.List.{AllByRecursion, list_any, slice_get}
 use Rattle.std.specs.Option.{option_and_then}
-use Rattle.std.proofs.lemmas.Bool.{and_parts, cases_lt, cond_both, eqb-true, eqb-false, eq-eqb, ne_eqb, leb-true, ltb-true, lt-leb, le-leb, lt-ltb, le-ltb}
-use Rattle.std.proofs.lemmas.List.{append-nil, length-take, length-drop, length-append, length-replicate, get_or_append_left, get_or-append_right, get_or-take, get_or-drop, get_or-replicate, get_or_default, get_or_past, get_or-set_same, get_or-set_other}
+use Rattle.std.proofs.lemmas.Bool.{and_parts, cases_lt, eqb-true, eqb-false, eq-eqb, ne_eqb, leb-true, ltb-true, lt-leb, le-leb, lt-ltb, le-ltb}
+use Rattle.std.proofs.lemmas.List.{append-nil, length-take, length-drop, length-append, length-replicate, get_or_append_left, get_or-append_right, get_or-take, get_or-drop, get_or-replicate, get_or_default, get_or-set_same, get_or-set_other}
 use Rattle.std.proofs.lemmas.List.FromFn.{get_or-map-range_with_len, length-map-range_with_len}
 use Rattle.std.proofs.lemmas.List.Folds.{sum_by-replicate}
-use Rattle.std.proofs.lemmas.Option.{none-some, slice_get_within, slice_get-get_or, slice_get_read, get_or_from_slice_get}
+use Rattle.std.proofs.lemmas.Option.{none-some, slice_get_within, slice_get_read, get_or_from_slice_get}
 use Rattle.std.proofs.Math.ListN.{take-append-drop, length-set}
 use Rattle.asm_group.specs.Shape.{Shape}
 use Rattle.asm_formats.specs.Among.{IsAmong}
-use Rattle.asm_formats.specs.Items.{Home, Item}
+use Rattle.asm_formats.specs.Items.{Home}
 use Rattle.asm_formats.specs.Regions.{reserved_units}
 use Rattle.asm_formats.specs.Sets.{most_disks}
 use Rattle.asm_formats.specs.Status.{Entry, ascends_from, is_entry}
-use Rattle.asm_formats.proofs.Among.{all_among}
 use Rattle.asm_placement.specs.DiskSets.{numbers}
-use Rattle.asm_placement.specs.Placed.{Placed, placed}
-use Rattle.asm_placement.specs.Space.{is_free_run, units_on, used_units}
+use Rattle.asm_placement.specs.Placed.{Placed}
+use Rattle.asm_placement.specs.Space.{is_free_run, units_on}
 use Rattle.allocator.specs.UnitMaps.{UnitMap, is_free, unused, used_of, with_run}
 use Rattle.allocator.proofs.Maps.{count_replaced}
-use Rattle.asm_base.proofs.Exact.{bind_some, some_is, test_some}
+use Rattle.asm_base.proofs.Exact.{bind_some, some_is}
 use Rattle.extent_map.specs.Extents.{Chunked}
-use Rattle.catalog.specs.Tables.{AreTables, Tables}
-use Rattle.catalog.specs.Placing.{HasUnits, after_chunks, after_homes, disk_units, entry_units, home_taken, homes_of, is_run_free, marked, unused_maps}
+use Rattle.catalog.specs.Placing.{after_chunks, after_homes, disk_units, home_taken, homes_of, is_run_free, marked, unused_maps}
 use Rattle.catalog.proofs.PlacingLaws.{after_append, run_is}
 
 -- ---- a map with a run used

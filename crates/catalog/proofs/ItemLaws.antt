@@ -1,27 +1,19 @@
 -- What the items of a group say, by its tables.
-use Rattle.std.proofs.Common.{◌≡◌, ℕ, suc, ◌+◌, ◌-◌, ◌*◌, ◌<◌, ◌≤◌, ◌^◌, Bool, true, false, cond, eqb, leb, ltb, get_or, List, [], ◌∷◌, ◌++◌, map, filter, Option, Some, None, refl, sym, ap, subst, ◌∙◌, arith, inl, inr, ◌⊎◌}
-use Rattle.std.specs.Prelude.{◌&&◌, not, flat_map, ◌/◌, ◌%◌, slice_index, slice_index_or}
+use Rattle.std.proofs.Common.{◌≡◌, ℕ, ◌+◌, ◌-◌, Bool, true, false, eqb, get_or, List, [], ◌∷◌, Option, Some, None, refl, sym, ap, subst, ◌∙◌, arith, inl, inr}
+use Rattle.std.specs.Prelude.{◌&&◌, ◌/◌, ◌%◌}
 use Rattle.std.specs.declared.cmp.Ordering.{Ordering}
-use Rattle.std.specs.declared.cmp.Ordering.TheVariants.{Less, Equal, Greater}
-use Rattle.std.specs.Ordering.{nat_cmp, is_lt, ordering_then}
+use Rattle.std.specs.Ordering.{nat_cmp, is_lt}
 use Rattle.std.specs.Cmp.{IsTotalOrder}
 use Rattle.std.proofs.lemmas.Cmp.{nat_cmp_total}
 use Rattle.std.specs.BTreeMap.{is_at}
 use Rattle.std.specs.Map.{lookup}
-use Rattle.std.specs.List.{AllByRecursion, list_all}
-use Rattle.std.specs.Option.{is_some, option_and_then, option_map, option_or, unwrap_or}
-use Rattle.std.proofs.lemmas.Bool.{and_parts, and_from, cond_both, eqb-true, eq-eqb, ne_eqb, le-leb, ltb-true, false_from_ne_true}
+use Rattle.std.specs.Option.{option_and_then, option_map, option_or, unwrap_or}
+use Rattle.std.proofs.lemmas.Bool.{and_parts, and_from, eqb-true, eq-eqb, ne_eqb}
 use Rattle.std.proofs.lemmas.Option.{none-some}
 use Rattle.asm_formats.specs.Among.{IsAmong}
-use Rattle.asm_formats.specs.Items.{FileHead, Homes, Item, Key, chunk_len, key, key_rank, is_item, is_same_key, file_item, chunk_item, disk_item, rebalance_item, pending_item, templates_item, node_item, settings_item, marks_item}
+use Rattle.asm_formats.specs.Items.{Item, chunk_len, key, file_item, chunk_item, disk_item, rebalance_item, pending_item, templates_item, node_item, settings_item, marks_item}
 use Rattle.asm_formats.specs.Sets.{has_bit}
-use Rattle.asm_formats.specs.Status.{ascends_from}
-use Rattle.asm_formats.proofs.Among.{among_map, among_filter, filter_among}
-use Rattle.asm_formats.proofs.RecordLists.{one_list}
 use Rattle.asm_placement.specs.Tables.{first_said, head_of, homes_in, if_is, is_stale, marks_in}
-use Rattle.asm_placement.specs.Copies.{Copy, all_copies, file_copies, item_copies}
-use Rattle.asm_placement.specs.Placed.{Placed, placed, placed_extents}
-use Rattle.asm_placement.specs.Work.{keys_differ}
 use Rattle.asm_base.specs.Records.{Ascend}
 use Rattle.asm_base.proofs.Exact.{bind_some, some_is, test_some}
 use Rattle.asm_base.proofs.ItemTables.{IsEntry}
@@ -30,10 +22,9 @@ use Rattle.extent_map.specs.Extents as extents
 use Rattle.extent_map.proofs.Laws.{chunk_entry, chunk_total}
 use Rattle.staleness_directory.specs.Marks as stale
 use Rattle.catalog.specs.Tables.{AreTables, Tables, item_at}
-use Rattle.catalog.specs.Placing.{homes_of}
 use Rattle.catalog.specs.Rules.{marks_of}
-use Rattle.catalog.specs.Items.{AreItemsOf, SayTables, chunk_copies}
-use Rattle.catalog.proofs.TableItems.{AreExact, IsOf, a_file, a_chunk, marks, above_least, allowed, among_found, chunks_exact, each_of, found_is, from_map, map_among, numbers_exact, rank, ranks, said, says, tail_up}
+use Rattle.catalog.specs.Items.{AreItemsOf}
+use Rattle.catalog.proofs.TableItems.{AreExact, IsOf, a_file, a_chunk, marks, among_found, chunks_exact, found_is, from_map, numbers_exact, says}
 
 -- ---- the first item that says something
 

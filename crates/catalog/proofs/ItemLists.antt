@@ -1,14 +1,14 @@
 -- The homes and the copies of a group's items, chunk by chunk.
-use Rattle.std.proofs.Common.{◌≡◌, ℕ, ◌+◌, ◌*◌, ◌<◌, ◌≤◌, ◌^◌, Bool, true, false, cond, eqb, leb, ltb, List, [], ◌∷◌, ◌++◌, map, filter, Option, Some, None, refl, sym, ap, subst, ◌∙◌, arith, inl, inr, ◌⊎◌}
+use Rattle.std.proofs.Common.{◌≡◌, ℕ, ◌+◌, ◌*◌, ◌<◌, ◌≤◌, ◌^◌, Bool, true, false, cond, eqb, leb, List, [], ◌∷◌, ◌++◌, map, filter, Option, Some, None, refl, sym, ap, subst, ◌∙◌, arith, inl, inr, ◌⊎◌}
 use Rattle.std.specs.Prelude.{◌&&◌, not, flat_map}
 use Rattle.std.specs.declared.cmp.Ordering.{Ordering}
 use Rattle.std.specs.declared.cmp.Ordering.TheVariants.{Less, Equal, Greater}
 use Rattle.std.specs.Ordering.{nat_cmp, is_lt, ordering_then}
 use Rattle.std.specs.List.{AllByRecursion, list_all}
 use Rattle.std.specs.Option.{is_some}
-use Rattle.std.proofs.lemmas.Bool.{and_parts, and_from, cond_both, eqb-true, le-leb, leb-true, ltb-true, false_from_ne_true}
+use Rattle.std.proofs.lemmas.Bool.{and_parts, and_from, cond_both, eqb-true, le-leb, leb-true, false_from_ne_true}
 use Rattle.asm_formats.specs.Among.{IsAmong}
-use Rattle.asm_formats.specs.Items.{FileHead, Item, Key, chunk_len, key, key_rank, is_item, is_same_key, file_item, chunk_item, disk_item, rebalance_item, pending_item, templates_item, node_item, settings_item, marks_item}
+use Rattle.asm_formats.specs.Items.{FileHead, Item, Key, chunk_len, key, key_rank, is_item, is_same_key, chunk_item}
 use Rattle.asm_formats.specs.Status.{ascends_from}
 use Rattle.asm_formats.proofs.Among.{among_map, among_filter, filter_among}
 use Rattle.asm_formats.proofs.RecordLists.{one_list}
@@ -18,13 +18,13 @@ use Rattle.asm_placement.specs.Placed.{Placed, placed}
 use Rattle.asm_placement.specs.Work.{keys_differ}
 use Rattle.asm_base.specs.Records.{Ascend}
 use Rattle.file_directory.specs.Files.{head_at}
-use Rattle.extent_map.specs.Extents.{Chunk, Chunked, IsNumbered, chunk_cmp, chunked, is_before, item_of}
+use Rattle.extent_map.specs.Extents.{Chunk, Chunked, IsNumbered, chunked, is_before, item_of}
 use Rattle.extent_map.proofs.Laws.{chunk_entry, table_numbered}
 use Rattle.catalog.specs.Tables.{AreTables, Tables}
 use Rattle.catalog.specs.Placing.{homes_of}
 use Rattle.catalog.specs.Items.{AreItemsOf, SayTables, chunk_copies}
 use Rattle.catalog.proofs.TableItems.{above_least, allowed, map_among, rank, ranks, said}
-use Rattle.catalog.proofs.ItemLaws.{AreEntries, chunk_entries, heads_are, homes_are, marks_are, stale_are}
+use Rattle.catalog.proofs.ItemLaws.{chunk_entries, heads_are, homes_are, marks_are, stale_are}
 
 -- ---- each is of the formats, and keys differ
 

@@ -1,6 +1,6 @@
 -- The items of the tables, and that they are those of the records.
-use Rattle.std.proofs.Common.{◌≡◌, ℕ, ◌+◌, ◌-◌, ◌<◌, ◌≤◌, Bool, true, false, cond, eqb, leb, ltb, List, [], ◌∷◌, ◌++◌, map, filter, Option, Some, None, refl, sym, ap, subst, ◌∙◌, arith, inl, inr, ◌⊎◌}
-use Rattle.std.specs.Prelude.{◌&&◌, ◌||◌, not}
+use Rattle.std.proofs.Common.{◌≡◌, ℕ, ◌+◌, ◌-◌, ◌≤◌, Bool, true, false, cond, eqb, leb, ltb, List, [], ◌∷◌, ◌++◌, map, Option, Some, None, refl, sym, ap, subst, ◌∙◌, arith, inl, inr, ◌⊎◌}
+use Rattle.std.specs.Prelude.{◌&&◌, not}
 use Rattle.std.specs.declared.cmp.Ordering.{Ordering}
 use Rattle.std.specs.declared.cmp.Ordering.TheVariants.{Less, Equal, Greater}
 use Rattle.std.specs.Ordering.{nat_cmp, is_eq, is_lt, ordering_then, ordering_reverse}
@@ -10,15 +10,15 @@ use Rattle.std.specs.BTreeMap.{is_at}
 use Rattle.std.specs.Map.{lookup}
 use Rattle.std.specs.List.{AllByRecursion}
 use Rattle.std.specs.Option.{option_map, option_to_list}
-use Rattle.std.proofs.lemmas.Bool.{and_parts, cond_both, eqb-true, eqb-false, eq-eqb, ne_eqb, leb-true}
+use Rattle.std.proofs.lemmas.Bool.{and_parts, cond_both, eqb-true, eqb-false, ne_eqb, leb-true}
 use Rattle.std.proofs.lemmas.Option.{none-some}
 use Rattle.asm_formats.specs.Among.{IsAmong}
-use Rattle.asm_formats.specs.Items.{FileHead, Item, Key, Homes, Pending, key, key_rank, is_item, file_item, chunk_item, disk_item, rebalance_item, pending_item, templates_item, node_item, settings_item, marks_item}
+use Rattle.asm_formats.specs.Items.{Item, Key, key, key_rank, is_item, file_item, chunk_item, disk_item, rebalance_item, pending_item, templates_item, node_item, settings_item, marks_item}
 use Rattle.asm_formats.specs.Values.{value, decoded_item}
 use Rattle.asm_formats.specs.Status.{ascends_from}
 use Rattle.asm_formats.proofs.Among.{among_map, among_filter, filter_among}
 use Rattle.asm_formats.proofs.ItemReading.{decoded_again}
-use Rattle.asm_base.specs.Records.{Ascend, Entry, is_key, key_cmp, of_kinds, record_at}
+use Rattle.asm_base.specs.Records.{Ascend, Entry, key_cmp, of_kinds}
 use Rattle.asm_base.specs.Tables.{item_record}
 use Rattle.asm_base.proofs.Exact.{some_is}
 use Rattle.file_directory.specs.Files as files

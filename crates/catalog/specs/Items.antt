@@ -1,9 +1,9 @@
 -- The tables of a group as the items of its directories.
-use Rattle.std.specs.Prelude.{◌≡◌, ℕ, ◌*◌, List, flat_map, Option, Some, None, IsTrue}
+use Rattle.std.specs.Prelude.{◌≡◌, ℕ, ◌*◌, List, flat_map, Some, IsTrue}
 use Rattle.std.specs.List.{list_all}
 use Rattle.asm_group.specs.Shape.{Shape}
 use Rattle.asm_formats.specs.Among.{IsAmong}
-use Rattle.asm_formats.specs.Items.{FileHead, Homes, Item, Key, chunk_len, is_item, key}
+use Rattle.asm_formats.specs.Items.{Item, Key, chunk_len, is_item, key}
 use Rattle.asm_formats.specs.PageLaws.{are_in_order}
 use Rattle.asm_formats.specs.Sets.{has_bit}
 use Rattle.asm_formats.specs.Status as status
