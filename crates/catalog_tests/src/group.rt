@@ -13,7 +13,7 @@ use std::test::*;
 use template_directory::{Settings, are_allowed, settings_value, system, templates_value};
 
 /// Units of 1 MiB, of which the first two of a disk hold no user bytes: 270 blocks of 4,096 bytes.
-const SHAPE: Shape = Shape {
+pub const SHAPE: Shape = Shape {
     kind: GroupKind::Normal,
     au: 1_048_576,
     sector: 512,

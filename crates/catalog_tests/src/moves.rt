@@ -1,7 +1,7 @@
-use crate::group::{Edit, apply, read, usual};
+use crate::group::{Edit, SHAPE, apply, usual};
 use asm_base::{DiskSet, ExtentId, Home, Mode, Records};
-use catalog::{Catalog, CatalogError};
-use rebalance::{Move, Next, next_move, share};
+use catalog::Catalog;
+use rebalance::{Move, Next, next_move};
 use staleness_directory::{Marks, StaleTable};
 use status_table::{PstEntry, PstRecord, is_status};
 use std::alloc::Global;
@@ -32,7 +32,7 @@ fn status(modes: &[Mode]) -> PstRecord {
 }
 
 fn entry(number: u8, mode: Mode) -> PstEntry {
-    let others = 31 & !(1u64 << (number & 7));
+    let others = 31u64 & !(1u64 << (number & 7));
     PstEntry {
         number,
         birth: number as u64 + 1,
@@ -49,7 +49,7 @@ fn entry(number: u8, mode: Mode) -> PstEntry {
 /// The records of a group of five disks whose file 256 has extents with these homes, of which none is stale.
 fn records(alloc: Global, homes: &[[u8; 4]]) -> Result<Records, Fail> {
     let mut records = usual(alloc)?;
-    let size = homes.len() as u64 * 1_048_576;
+    let size = homes.len().min(8) as u64 * 1_048_576;
     apply(alloc, &mut records, Edit::Head(2, size))?;
     apply(alloc, &mut records, Edit::Chunk(256, 0, homes))?;
     for number in 2..5 {
@@ -65,13 +65,14 @@ fn records(alloc: Global, homes: &[[u8; 4]]) -> Result<Records, Fail> {
 }
 
 /// What the rebalance does first in such a group, where its disks are in these modes.
+#[tactic(auto, unfolding(asm_formats::specs::Status::is_status))]
 fn first(alloc: Global, modes: &[Mode], homes: &[[u8; 4]]) -> Result<Next, Fail> {
     let records = records(alloc, homes)?;
     let status = status(modes);
-    if !is_status(&status) {
-        return Err(Fail::from("a status record"));
+    if !SHAPE.is_allowed() || !is_status(&status) {
+        return Err(Fail::from("a shape and a status record"));
     }
-    match read(alloc, &records, &status)? {
+    match Catalog::from_store(alloc, &records, &status, SHAPE) {
         Ok(catalog) => Ok(next_move(&catalog, &status)),
         Err(_) => Err(Fail::from("the records are refused")),
     }
