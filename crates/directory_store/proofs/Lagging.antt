@@ -29,7 +29,7 @@ use Rattle.change_directory.specs.Told.{Told}
 use Rattle.change_directory.proofs.Loaded.{loaded_is_content, loaded_is_due}
 use Rattle.change_directory.proofs.Runs.{same_disk, same_content}
 use Rattle.directory_store.specs.Copies.{MayBecome}
-use Rattle.directory_store.specs.Copying.{IsReadable, IsRenewable, are_pages_from}
+use Rattle.directory_store.specs.Copying.{IsReadable, IsRenewable}
 use Rattle.directory_store.proofs.CopyLaws.{homed_settles}
 use Rattle.directory_store.proofs.Renewing.{shut_is}
 use Rattle.directory_store.proofs.Rows.{copy_stays}
@@ -37,13 +37,18 @@ use Rattle.directory_store.proofs.Steps.{empty_list}
 
 -- ---- pages in order
 
+-- pages of a copy, ascending, the first of them not below a number
+abbrev are_pages_from : ℕ → ℕ → List (ℕ × Block) → Bool
+are_pages_from least dir_blocks [] = true
+are_pages_from least dir_blocks (p ∷ pages) = nat_le least p.0 && (nat_lt p.0 dir_blocks && are_pages_from (p.0 + 1) dir_blocks pages)
+
 shuffled : (a b c d : Bool) → (a && (b && (c && d))) ≡ ((a && c) && (b && d))
 shuffled true true c d = refl
 shuffled true false true d = refl
 shuffled true false false d = refl
 shuffled false b c d = refl
 
-pub pages_from : (m d : ℕ) (pages : List (ℕ × Block)) → are_pages_from m d pages ≡ (ascends_from m (map (λ (p : ℕ × Block). p.0) pages) && list_all (λ (p : ℕ × Block). nat_lt p.0 d) pages)
+pages_from : (m d : ℕ) (pages : List (ℕ × Block)) → are_pages_from m d pages ≡ (ascends_from m (map (λ (p : ℕ × Block). p.0) pages) && list_all (λ (p : ℕ × Block). nat_lt p.0 d) pages)
 pages_from m d [] = refl
 pages_from m d (p ∷ pages) =
     ap (λ (b : Bool). nat_le m p.0 && (nat_lt p.0 d && b)) (pages_from (p.0 + 1) d pages)
@@ -61,21 +66,6 @@ fewer m d (p ∷ pages) le ok =
 -- a copy has at most so many pages
 pub few_pages : (d : ℕ) (pages : List (ℕ × Block)) → are_pages d pages ≡ true → length pages ≤ d
 few_pages d pages ok = let h = fewer 0 d pages (omega arith) (pages_from 0 d pages ∙ ok) in omega (arith, h)
-
--- ---- lists
-
-pub none_left : {A : Type 0} (i : ℕ) (xs : List A) → length xs ≤ i → drop i xs ≡ []
-none_left i xs le = empty_list (drop i xs) (omega (arith, le, length-drop i xs))
-
--- one due page more
-pub due_more : (blocks : List (ℕ × Block)) (xs : List (ℕ × ℕ)) (i : ℕ) (x : ℕ × ℕ) (b : Block) (old new : List (ℕ × Block)) → i < length xs → x ≡ get_or xs i (0, 0)
-    → map image_of_page old ≡ map (λ (d : ℕ × ℕ). (d.0, shown_by blocks d.0)) (take i xs) → b.bytes ≡ shown_by blocks x.0 → new ≡ old ++ (x.0, b) ∷ []
-    → map image_of_page new ≡ map (λ (d : ℕ × ℕ). (d.0, shown_by blocks d.0)) (take (i + 1) xs)
-due_more blocks xs i x b old new lt is before bytes e =
-    ap (λ (l : List (ℕ × Block)). map image_of_page l) e ∙ map-append image_of_page old ((x.0, b) ∷ [])
-    ∙ (λ j. before j ++ (x.0, bytes j) ∷ [])
-    ∙ ap (λ (d : ℕ × ℕ). map (λ (d : ℕ × ℕ). (d.0, shown_by blocks d.0)) (take i xs) ++ (d.0, shown_by blocks d.0) ∷ []) is
-    ∙ sym (map_more (λ (d : ℕ × ℕ). (d.0, shown_by blocks d.0)) xs i (0, 0) lt)
 
 -- ---- what is read is what a stop leaves
 

@@ -27,8 +27,3 @@ MayTakeRecords table number copy old new = (content_in copy new ≡ content_in c
 -- the due pages of copies on other slots
 abbrev pub due_off : ℕ → List Due → List Due
 due_off slot dues = filter (λ (due : Due). not (due.slot == slot)) dues
-
--- pages of a copy, ascending, the first of them not below a number
-abbrev pub are_pages_from : ℕ → ℕ → List (ℕ × Block) → Bool
-are_pages_from least dir_blocks [] = true
-are_pages_from least dir_blocks (p ∷ pages) = nat_le least p.0 && (nat_lt p.0 dir_blocks && are_pages_from (p.0 + 1) dir_blocks pages)

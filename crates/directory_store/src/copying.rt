@@ -8,11 +8,12 @@ ghost use Rattle.change_directory.specs.Places.{IsCopy};
 ghost use Rattle.change_directory.specs.Logs.{are_pages, image_of_page};
 ghost use Rattle.change_directory.specs.StoreLaws.{RegionOf, due_images, shown_by};
 ghost use Rattle.directory_store.specs.Copies.{IsSettled, MayBecome};
-ghost use Rattle.directory_store.specs.Copying.{IsReadable, IsRenewable, are_pages_from, due_off};
+ghost use Rattle.directory_store.specs.Copying.{IsReadable, IsRenewable, due_off};
 ghost use Rattle.directory_store.specs.declared.copying.CopyError.TheVariants.{Fault as DiskFault, NoMemory as WithoutMemory};
 
 use crate::due::Due;
 use crate::making::make_copy;
+use crate::pages::{ascend, due_blocks};
 use asm_base::{Block, NoMemory as WantOfMemory};
 use bay::{Bay, Fault as BayFault};
 use change_directory::{DirCopy, LoadFault, Pages, checkpoint, load};
@@ -63,57 +64,12 @@ pub(crate) fn drop_due(dues: &mut Vec<Due>, slot: u32)
     dues.retain(|due| due.slot != slot);
 }
 
-/// The block of a page among those that were loaded, or zeros.
-fn loaded_block(blocks: &[(u32, Block)], page: u32) -> Block
-    ensures { result.bytes ≡ shown_by blocks.now page }
-{
-    for (number, block) in blocks {
-        if *number == page {
-            return Block { bytes: block.bytes };
-        }
-    }
-    Block::zeros()
-}
-
-/// The due pages that were loaded, each with the image that counts.
-fn due_blocks(alloc: Global, pages: &Pages) -> Result<Vec<(u32, Block)>, WantOfMemory>
-    ensures { IfOk result (λ due. map image_of_page due.items ≡ due_images pages.now) }
-{
-    let mut due = Vec::new(alloc);
-    for (page, _) in &pages.due {
-        let block = loaded_block(&pages.blocks, *page);
-        push_block(&mut due, *page, block)?;
-    }
-    Ok(due)
-}
-
-/// Puts a page with its block at the end.
-fn push_block(due: &mut Vec<(u32, Block)>, page: u32, block: Block) -> Result<(), WantOfMemory>
-    ensures { OnOk result (due.new.items ≡ due.old.items ++ (page, block) ∷ []) }
-{
-    match due.push((page, block)) {
-        Ok(()) => Ok(()),
-        Err(_) => Err(WantOfMemory),
-    }
-}
-
-/// Whether these are pages of a copy, ascending, the first of them not below a number.
-fn ascend(least: u64, dir_blocks: u32, pages: &[(u32, Block)]) -> bool
-    ensures { result ≡ are_pages_from least dir_blocks pages.now }
-{
-    let [first, rest @ ..] = pages else {
-        return true;
-    };
-    let page = first.0;
-    least <= page as u64 && page < dir_blocks && ascend(page as u64 + 1, dir_blocks, rest)
-}
-
 /// These pages, where they are pages of the copy in order, as a checkpoint demands. Else none.
 fn in_order(alloc: Global, copy: DirCopy, due: Vec<(u32, Block)>) -> Vec<(u32, Block)>
     ensures pages { IsTrue (are_pages copy.dir_blocks result.items) }
     ensures same { IsTrue (are_pages copy.dir_blocks due.items) → result.items ≡ due.items }
 {
-    if ascend(0, copy.dir_blocks, &due) {
+    if ascend(copy.dir_blocks, &due) {
         due
     } else {
         Vec::new(alloc)

@@ -9,6 +9,7 @@ mod error;
 mod laws;
 mod loading;
 mod making;
+mod pages;
 mod reading;
 mod store;
 

@@ -11,6 +11,7 @@ ghost use Rattle.page_map.specs.Loaded.{AreFilled, IsTableOf};
 ghost use Rattle.directory_store.specs.Reading.{IsBuildFault, IsBuilt, IsDueFault, IsDueOf, IsKeepFault, IsMapFault, IsNewest, KeepsOne, PutsKept, are_filled, are_same, block_in, is_same_page, same_pages};
 
 use crate::due::Due;
+use crate::pages::{ascend, due_blocks};
 use crate::reading::{Reading, read_all};
 use crate::{LoadError, Store};
 use asm_base::{Block, NoMemory};
@@ -39,20 +40,6 @@ fn newest(readings: &[Reading]) -> Option<&Reading>
         },
         None => Some(first),
     }
-}
-
-/// Whether the numbers ascend, below the number of pages.
-fn ascend(dir_blocks: u32, blocks: &[(u32, Block)]) -> bool
-    ensures { result ≡ are_pages dir_blocks blocks.now }
-{
-    let mut least = 0u64;
-    for (page, _) in blocks {
-        if (*page as u64) < least || dir_blocks <= *page {
-            return false;
-        }
-        least = *page as u64 + 1;
-    }
-    true
 }
 
 /// Whether a block is that of a record.
@@ -147,43 +134,12 @@ fn is_same(taken: &Reading, reading: &Reading) -> bool
     reading.number == taken.number && same_pages(&reading.pages.blocks, &taken.pages.blocks)
 }
 
-/// The page of a number, or zeros.
-fn shown(blocks: &[(u32, Block)], page: u32) -> Block
-    ensures { result.bytes ≡ shown_by blocks.now page }
-{
-    for (number, block) in blocks {
-        if *number == page {
-            return Block { bytes: block.bytes };
-        }
-    }
-    Block::zeros()
-}
-
-/// Puts a page behind others.
-fn push_page(pages: &mut Vec<(u32, Block)>, page: u32, block: Block) -> Result<(), NoMemory>
-    ensures { OnOk result (pages.new.items ≡ pages.old.items ++ (page, block) ∷ []) }
-{
-    pages.push((page, block)).map_err(|_| NoMemory)
-}
-
-/// The due pages of a reading, with what stands on them.
-fn due_pages(alloc: Global, pages: &Pages) -> Result<Vec<(u32, Block)>, NoMemory>
-    ensures { IfOk result (λ dues. map image_of_page dues.items ≡ due_images pages.now) }
-{
-    let mut dues = Vec::new(alloc);
-    for (page, _) in &pages.due {
-        let block = shown(&pages.blocks, *page);
-        push_page(&mut dues, *page, block)?;
-    }
-    Ok(dues)
-}
-
 /// The due pages of a reading, as a store keeps them.
 fn due_of(alloc: Global, reading: &Reading) -> Result<Due, LoadError>
     ensures due { IfOk result (IsDueOf reading.now) }
     ensures cause { IfErr result (IsDueFault reading.now) }
 {
-    let pages = due_pages(alloc, &reading.pages)?;
+    let pages = due_blocks(alloc, &reading.pages)?;
     // A load of a copy gives no other pages.
     if !ascend(reading.copy.dir_blocks, &pages) {
         return Err(LoadError::Damaged {
