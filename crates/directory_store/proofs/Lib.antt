@@ -11,3 +11,4 @@ pub mod Trying
 pub mod ReadingCopies
 pub mod Building
 pub mod Loads
+pub mod Standing

@@ -82,7 +82,7 @@ block_past : (slots : List OpenSlot) (a n p : ℕ) → p < a → block_in (flat_
 block_past slots a zero p lt = refl
 block_past slots a (suc n) p lt = step_off (counted_block slots a) a p (flat_map (due_page slots) (range_with_len (a + 1) n)) (λ e. omega arith) ∙ block_past slots (a + 1) n p (omega arith)
 
-block_row : (slots : List OpenSlot) (a n p : ℕ) → a ≤ p → p < a + n → block_in (flat_map (due_page slots) (range_with_len a n)) p ≡ unwrap_or (counted_block slots p) (page_home p)
+pub block_row : (slots : List OpenSlot) (a n p : ℕ) → a ≤ p → p < a + n → block_in (flat_map (due_page slots) (range_with_len a n)) p ≡ unwrap_or (counted_block slots p) (page_home p)
 block_row slots a zero p low high = absurd (omega arith)
 block_row slots a (suc n) p low high = ⊎_elim
     (λ (here : a ≡ p).
@@ -125,7 +125,7 @@ copy_of [] c among = absurd among
 copy_of (q ∷ qs) c (inl e) = (q, inl refl, sym e)
 copy_of (q ∷ qs) c (inr h) = let p = copy_of qs c h in (p.0, inr p.1, p.2)
 
-copy_among : (readings : List Reading) (q : Reading) → IsAmong readings q → IsAmong (copies_of readings) q.copy
+pub copy_among : (readings : List Reading) (q : Reading) → IsAmong readings q → IsAmong (copies_of readings) q.copy
 copy_among [] q among = absurd among
 copy_among (p ∷ ps) q (inl e) = inl (ap (λ (r : Reading). r.copy) e)
 copy_among (p ∷ ps) q (inr h) = inr (copy_among ps q h)
@@ -167,12 +167,16 @@ some_among (d ∷ cs) c among = omega arith
 
 -- ---- the store
 
-pub some_copies : (readings : List Reading) (store : Stored) → IsBuilt readings store → 0 < length store.copies
-some_copies readings store built =
+-- the copy that is taken is one of the store's
+pub taken_among : (readings : List Reading) (store : Stored) (built : IsBuilt readings store) → IsAmong store.copies built.taken.copy
+taken_among readings store built =
     let r = built.taken in
     let same : are_same r r ≡ true = and_from (r.number == r.number) (same_pages r.pages.blocks.items r.pages.blocks.items) (eq-eqb r.number r.number refl) (same_self r.pages.blocks.items) in
     let kept = taken_kept r readings built.kept built.are_kept (newest_among readings r built.newest) same in
-    subst (λ (l : List DirCopy). 0 < length l) (sym built.copies) (some_among (copies_of built.kept) r.copy (copy_among built.kept r kept))
+    subst (λ (l : List DirCopy). IsAmong l r.copy) (sym built.copies) (copy_among built.kept r kept)
+
+pub some_copies : (readings : List Reading) (store : Stored) → IsBuilt readings store → 0 < length store.copies
+some_copies readings store built = some_among store.copies built.taken.copy (taken_among readings store built)
 
 module _ (copies : List DirCopy) (readings : List Reading) (s t : BayState) (store : Stored) (sound : IsSound s) (named : AreNamed copies [] s) (apart : AreApart copies) (size : HaveOneSize copies)
     (read : AreRead copies readings s t) (built : IsBuilt readings store) where

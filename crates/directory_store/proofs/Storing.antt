@@ -98,7 +98,7 @@ same_items old new same items = λ k v found. items k v (sym (same.records k) �
 
 -- the same store but for equal records keeps
 pub unchanged_keeps : (old : Stored) (table : PageTable) (s : BayState) → Keeps old s → SameTable old.table table → IsTable table
-    → Keeps (record { table = table; number = old.number; copies = old.copies; due = old.due }) s
+    → Keeps (record { table = table; number = old.number; copies = old.copies; due = old.due; read = old.read }) s
 unchanged_keeps old table s keeps same sound = record {
   table = sound;
   items = same_items old.table table same keeps.items;
@@ -148,7 +148,7 @@ module _ (old : Stored) (table : PageTable) (put : List Entry) (gone : List Key)
   earlier = record { before = old.number; page = keeps.page; smaller = less; holds = keeps.now }
 
   module _ (failed : ℕ) (t : BayState) (commits : Commits old.copies old.due next pages failed s t) where
-    pub commit_keeps : Keeps (record { table = table; number = next; copies = others failed old.copies; due = [] }) t
+    pub commit_keeps : Keeps (record { table = table; number = next; copies = others failed old.copies; due = []; read = old.read }) t
     commit_keeps = record {
       table = sound;
       items = new_items;
@@ -168,10 +168,10 @@ module _ (old : Stored) (table : PageTable) (put : List Entry) (gone : List Key)
       };
     }
 
-    pub commit_moments : (copies : List DirCopy) (due : List Due) → LeavesOnly s t (HaveEitherRecords old (record { table = table; number = next; copies = copies; due = due }))
+    pub commit_moments : (copies : List DirCopy) (due : List Due) → LeavesOnly s t (HaveEitherRecords old (record { table = table; number = next; copies = copies; due = due; read = old.read }))
     commit_moments copies due = leaves_less
         {P = HaveEither old.copies old.number next keeps.page (with_images (map image_of_page pages) keeps.page)}
-        {Q = HaveEitherRecords old (record { table = table; number = next; copies = copies; due = due })}
+        {Q = HaveEitherRecords old (record { table = table; number = next; copies = copies; due = due; read = old.read })}
         (λ x either c among. ⊎_elim
         (λ before. inl (has_records old.table old.number c keeps.page x keeps.table keeps.shows keeps.items (keeps.pages c among) before))
         (λ now. inr (has_records table next c (with_images (map image_of_page pages) keeps.page) x sound new_shows new_items (new_units c among) now))
@@ -206,16 +206,16 @@ pub record HasCommitted (old new : Stored) (keys failed : ℕ) (s t : BayState) 
 pub has_committed : (old was : Stored) (table : PageTable) (put : List Entry) (gone : List Key) (pages : List (ℕ × Block)) (s t : BayState) (next failed : ℕ) (copies : List DirCopy)
     → was ≡ old → Keeps old s → Applies was.table table put gone pages → IsTable table → ArePutItems put → length put + length gone ≤ 64 → was.number < next → next < 2 ^ 64 - 1
     → Commits was.copies was.due next pages failed s t → copies ≡ others failed was.copies
-    → HasCommitted old (record { table = table; number = next; copies = copies; due = [] }) (length put + length gone) failed s t
+    → HasCommitted old (record { table = table; number = next; copies = copies; due = []; read = was.read }) (length put + length gone) failed s t
 has_committed old was table put gone pages s t next failed copies is keeps applies sound puts few less small commits left =
     let keeps_was = subst (λ (o : Stored). Keeps o s) (sym is) keeps in
-    let kept = subst (λ (l : List DirCopy). Keeps (record { table = table; number = next; copies = l; due = [] }) t) (sym left)
+    let kept = subst (λ (l : List DirCopy). Keeps (record { table = table; number = next; copies = l; due = []; read = was.read }) t) (sym left)
     (commit_keeps was table put gone pages s next keeps_was applies sound puts few less small failed t commits) in
-    subst (λ (o : Stored). HasCommitted o (record { table = table; number = next; copies = copies; due = [] }) (length put + length gone) failed s t) is
+    subst (λ (o : Stored). HasCommitted o (record { table = table; number = next; copies = copies; due = []; read = was.read }) (length put + length gone) failed s t) is
     (record {
       keeps = kept;
       moments = commit_moments was table put gone pages s next keeps_was applies sound puts few less small failed t commits copies [];
-      done = kept_have_records (record { table = table; number = next; copies = copies; due = [] }) t kept;
+      done = kept_have_records (record { table = table; number = next; copies = copies; due = []; read = was.read }) t kept;
       calls = omega (arith, commits.calls, few_calls was.copies was.due (length pages) (length put + length gone) applies.few);
       written = λ c among. omega (arith, commits.written c among, applies.few);
       gone = λ none. all_failed was.copies was.due failed s t keeps_was.apart keeps_was.named commits.failed_alone none;

@@ -5,3 +5,4 @@ pub mod Answers
 pub mod Copying
 pub mod Reading
 pub mod Loading
+pub mod Places

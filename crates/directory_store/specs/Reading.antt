@@ -189,6 +189,8 @@ pub record IsBuilt (readings : List Reading) (store : Stored) : Type 0 where
   pub are_kept : AreKeptOf taken readings kept
   pub are_dues : AreDuesOf kept store.due
   pub copies : store.copies ≡ copies_of kept
+  pub slot : store.read.slot ≡ taken.copy.slot
+  pub blocks : store.read.due.items ≡ taken.pages.due.items
 
 -- there is none, or the pages of one aren't records, or two have one key
 abbrev pub IsBuildFault : List Reading → LoadError → Type 0

@@ -8,10 +8,11 @@ ghost use Rattle.directory_store.specs.declared.reading.Reading.{Reading as Load
 ghost use Rattle.change_directory.specs.Logs.{are_pages, image_of_page};
 ghost use Rattle.change_directory.specs.StoreLaws.{due_images, shown_by};
 ghost use Rattle.page_map.specs.Loaded.{AreFilled, IsTableOf};
-ghost use Rattle.directory_store.specs.Reading.{IsBuildFault, IsBuilt, IsDueFault, IsDueOf, IsKeepFault, IsMapFault, IsNewest, KeepsOne, PutsKept, are_filled, are_same, block_in, is_same_page, same_pages};
+ghost use Rattle.directory_store.specs.Reading.{IsBuildFault, IsBuilt, IsDueFault, IsDueOf, IsKeepFault, IsMapFault, IsNewest, KeepsOne, PutsKept, are_filled, are_same, is_same_page, same_pages};
 
 use crate::due::Due;
 use crate::pages::{ascend, due_blocks};
+use crate::places::{REGION_START, block_of, read_at};
 use crate::reading::{Reading, read_all};
 use crate::{LoadError, Store};
 use asm_base::{Block, NoMemory};
@@ -20,9 +21,6 @@ use change_directory::{DirCopy, Pages};
 use directory_page::is_page;
 use page_map::{LoadedError, PageMap, from_pages};
 use std::alloc::Global;
-
-/// The block of the first page.
-const REGION_START: u64 = 10;
 
 /// The reading of the greatest number, the first where numbers are equal.
 fn newest(readings: &[Reading]) -> Option<&Reading>
@@ -66,18 +64,6 @@ fn are_read(dir_blocks: u32, blocks: &[(u32, Block)]) -> bool
     ensures { result ≡ (are_pages dir_blocks blocks.now && are_filled blocks.now) }
 {
     ascend(dir_blocks, blocks) && are_filled(blocks)
-}
-
-/// The block where a page counts from: that of its image, else its home.
-fn block_of(due: &[(u32, u64)], page: u32) -> u64
-    ensures { result ≡ block_in due.now page }
-{
-    for (number, block) in due {
-        if *number == page {
-            return *block;
-        }
-    }
-    REGION_START + page as u64
 }
 
 /// The map of what was read.
@@ -217,7 +203,8 @@ fn build(alloc: Global, readings: &[Reading]) -> Result<Store, LoadError>
     let mut copies = Vec::new(alloc);
     let mut dues = Vec::new(alloc);
     keep(alloc, taken, readings, &mut copies, &mut dues)?;
-    Ok(Store::of(map, taken.number, copies, dues))
+    let read = read_at(alloc, taken)?;
+    Ok(Store::of(map, taken.number, copies, dues, read))
 }
 
 impl Store {
@@ -228,6 +215,7 @@ impl Store {
     ghost use Rattle.change_directory.specs.Told.{Told};
     ghost use Rattle.directory_store.specs.Copies.{AreApart, AreNamed, IsSlotOf};
     ghost use Rattle.directory_store.specs.Loading.{AreDurable, AreUpTo, LoadCause};
+    ghost use Rattle.directory_store.specs.Places.{AreTakenPlaces};
     ghost use Rattle.directory_store.specs.Reading.{ArePartOf, KeepsWritten, calls_to_read};
     ghost use Rattle.directory_store.specs.Stores.{HaveOneSize, HaveRecords, Keeps};
 
@@ -244,6 +232,7 @@ impl Store {
         ensures content { IfOk result (λ store. Told (B.state bay.old) (B.state bay.new) (HaveRecords store)) }
         ensures greatest { IfOk result (λ store. AreUpTo store.number copies.now (B.state bay.old) (B.state bay.new)) }
         ensures kept { IfOk result (λ store. AreDurable copies.now (B.state bay.old) → Keeps store (B.state bay.new)) }
+        ensures places { IfOk result (λ store. AreTakenPlaces store (B.state bay.old) (B.state bay.new)) }
         ensures cause { IfErr result (LoadCause copies.now (B.state bay.old) (B.state bay.new)) }
         ensures attached { KeepsAttached (B.state bay.old) (B.state bay.new) }
         ensures calls { (B.state bay.new).calls ≤ (B.state bay.old).calls + calls_to_read copies.now }

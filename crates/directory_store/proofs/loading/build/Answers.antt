@@ -5,6 +5,7 @@ use Rattle.page_map.specs.Loaded.{IsTableOf}
 use Rattle.page_map.specs.Tables.{PageTable}
 use Rattle.directory_store.specs.Reading.{AreDuesOf, copies_of}
 use Rattle.directory_store.specs.declared.due.Due.{Due}
+use Rattle.directory_store.specs.declared.places.ReadAt.{ReadAt}
 use Rattle.directory_store.proofs.Building.{newest_among}
 use Rattle.directory_store.proofs.loading.build.Goals as goal
 
@@ -30,4 +31,6 @@ returns-clause-built c =
       are_kept = k.are_kept;
       are_dues = subst (λ (l : List Due). AreDuesOf k.kept l) (sym dues) k.are_dues;
       copies = c.of.ensures.copies ∙ k.copies_are ∙ ap (λ (l : List DirCopy). l ++ copies_of k.kept) c.new-copies.ensures.items;
+      slot = ap (λ (r : ReadAt). r.slot) c.of.ensures.read ∙ c.in_ok-read.ensures.slot;
+      blocks = ap (λ (r : ReadAt). r.due.items) c.of.ensures.read ∙ c.in_ok-read.ensures.due;
     }

@@ -2,11 +2,13 @@ use Rattle.std.proofs.Common.{◌<◌, length, List, sym, subst}
 use Rattle.std.proofs.lemmas.Result.{err_from_is_err_and}
 use Rattle.change_directory.specs.Told.{Told}
 use Rattle.directory_store.specs.Loading.{AreDurable, AreUpTo, LoadCause}
+use Rattle.directory_store.specs.Places.{AreTakenPlaces}
 use Rattle.directory_store.specs.Reading.{ArePartOf, AreRead, IsBuilt, IsBuildFault}
 use Rattle.directory_store.specs.Stores.{HaveRecords, Keeps}
 use Rattle.directory_store.specs.declared.reading.Reading.{Reading}
 use Rattle.directory_store.proofs.ReadingCopies.{on_err_is}
 use Rattle.directory_store.proofs.Loads.{all_read, build_cause, content_told, copies_part, few_blocks, if_ok_is, load_keeps, read_cause, some_copies, up_to}
+use Rattle.directory_store.proofs.Standing.{load_places}
 use Rattle.directory_store.proofs.store.Store.load.Goals as goal
 
 pub returns-in_err-read_all-clause-cause : goal.returns-in_err-read_all-clause-cause
@@ -74,3 +76,12 @@ returns-clause-cause g c =
 
 pub returns-clause-some : goal.returns-clause-some
 returns-clause-some g c = if_ok_is (IsBuilt c.deref.result.now) (λ store. 0 < length store.copies) c.build.result (λ store built. some_copies c.deref.result.now store built) c.build.ensures.built
+
+pub returns-clause-places : goal.returns-clause-places
+returns-clause-places g c =
+    let s = g.B.Bay.state c.args.bay.now in
+    let t = g.B.Bay.state c.read_all.new.bay in
+    let copies = c.args.copies.now in
+    let readings = c.deref.result.now in
+    let read : AreRead copies readings s t = subst (λ (l : List Reading). AreRead copies l s t) (sym c.deref.ensures.value) (all_read copies c.new-readings.result.items c.read_all.new.readings.items s t c.new-readings.ensures.items c.in_ok-read_all.ensures.read) in
+    if_ok_is (IsBuilt readings) (λ store. AreTakenPlaces store s t) c.build.result (λ store built. load_places copies readings s t store c.requires.named read built) c.build.ensures.built
