@@ -10,7 +10,7 @@ use Rattle.allocator.specs.UnitMaps.{UnitMap}
 use Rattle.extent_map.specs.Extents.{Chunk, Chunked, IsNumbered, IsTable}
 use Rattle.extent_map.proofs.Laws.{table_numbered}
 use Rattle.catalog.specs.Tables.{AreTables, Tables}
-use Rattle.catalog.specs.Rules.{HasExtents, IsShort, KeepsRules, blocks_used, first_unknown, first_wrong, has_chunk, has_marks, has_names, is_named_back, is_on_disks, is_owned, keeps_copies}
+use Rattle.catalog.specs.Rules.{HasExtents, IsShort, KeepsRules, blocks_used, first_unknown, first_wrong, has_chunk, has_marks, has_names, is_marked_right, is_named_back, is_on_disks, is_owned, keeps_copies}
 use Rattle.catalog.specs.Placing.{after_homes, homes_of, misplaced, unused_maps}
 use Rattle.catalog.specs.Faults.{AreChunksRight, AreNamesRight, AreSizesRight, BreaksRule, IsChunkFault, disk_key, file_key, key_of_chunk, key_of_marks, node_key, settings_key}
 use Rattle.catalog.specs.Faults as fault
@@ -31,8 +31,8 @@ module _ (t : Tables) (at : Chunk) where
 pub chunks_are : (t : Tables) → first_wrong (has_marks t) t.extents ≡ None → first_wrong (is_owned t) t.extents ≡ None → first_wrong (keeps_copies t) t.extents ≡ None → first_wrong is_on_disks t.extents ≡ None → AreChunksRight t
 chunks_are t a b c d = record { marked = a; owned = b; redundancy = c; apart = d }
 
-pub names_are : (t : Tables) → first_wrong (has_chunk t) t.stale ≡ None → first_wrong (is_named_back t) t.nodes ≡ None → first_wrong (has_names t) t.files ≡ None → AreNamesRight t
-names_are t a b c = record { chunks = a; nodes = b; names = c }
+pub names_are : (t : Tables) → first_wrong (has_chunk t) t.stale ≡ None → first_wrong (is_marked_right t) t.stale ≡ None → first_wrong (is_named_back t) t.nodes ≡ None → first_wrong (has_names t) t.files ≡ None → AreNamesRight t
+names_are t a m b c = record { chunks = a; stale = m; nodes = b; names = c }
 
 pub sizes_are : (s : Shape) (es : List status.Entry) (t : Tables) → AllByRecursion (HasExtents t s) t.files → first_unknown t es ≡ None → blocks_used t + 2 ≤ s.dir_blocks → AreSizesRight s es t
 sizes_are s es t a b c = record { extents = a; infos = b; room = c }
@@ -45,6 +45,7 @@ rules_are s es t are c n z = record {
   owned = c.owned;
   redundancy = c.redundancy;
   apart = c.apart;
+  stale = n.stale;
   nodes = n.nodes;
   names = n.names;
   extents = z.extents;
@@ -59,6 +60,9 @@ chunk_fault_is s es t at k (inr (inr (inr e))) is = fault.on_one_disk at e is
 
 pub alone_is : (s : Shape) (es : List status.Entry) (t : Tables) (at : Chunk) (k : Key) → first_wrong (has_chunk t) t.stale ≡ Some at → k ≡ key_of_marks at → BreaksRule s es t k
 alone_is s es t at k e is = fault.marks_alone at e is
+
+pub mark_alone_is : (s : Shape) (es : List status.Entry) (t : Tables) (at : Chunk) (k : Key) → first_wrong (is_marked_right t) t.stale ≡ Some at → k ≡ key_of_marks at → BreaksRule s es t k
+mark_alone_is s es t at k e is = fault.mark_alone at e is
 
 pub node_is : (s : Shape) (es : List status.Entry) (t : Tables) (n : ℕ) (k : Key) → first_wrong (is_named_back t) t.nodes ≡ Some n → k ≡ node_key n → BreaksRule s es t k
 node_is s es t n k e is = fault.nameless_node n e is

@@ -67,6 +67,7 @@ has_extents t s x (y ∷ xs) all among = elim among [
 no_break : (s : Shape) (es : List status.Entry) (t : Tables) (ms : List UnitMap) (k : Key) → KeepsRules s t → first_unknown t es ≡ None → HasUnits s es t ms → BreaksRule s es t k → ⊥
 no_break s es t ms k r infos units (fault.unmarked at e is) = two_answers _ at r.marked e
 no_break s es t ms k r infos units (fault.marks_alone at e is) = two_answers _ at r.chunks e
+no_break s es t ms k r infos units (fault.mark_alone at e is) = two_answers _ at r.stale e
 no_break s es t ms k r infos units (fault.unowned at e is) = two_answers _ at r.owned e
 no_break s es t ms k r infos units (fault.too_many_copies at e is) = two_answers _ at r.redundancy e
 no_break s es t ms k r infos units (fault.on_one_disk at e is) = two_answers _ at r.apart e

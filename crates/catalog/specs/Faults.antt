@@ -11,7 +11,7 @@ use Rattle.alias_tree.specs.Faults.{HasFault}
 use Rattle.catalog.specs.declared.error.CatalogError.{CatalogError}
 use Rattle.catalog.specs.declared.error.CatalogError.TheVariants as answer
 use Rattle.catalog.specs.Tables.{AreTables, Catalogued, HasRecords, Tables, first_unreadable}
-use Rattle.catalog.specs.Rules.{HasExtents, IsShort, KeepsRules, blocks_used, first_unknown, first_wrong, has_chunk, has_marks, has_names, is_named_back, is_on_disks, is_owned, keeps_copies}
+use Rattle.catalog.specs.Rules.{HasExtents, IsShort, KeepsRules, blocks_used, first_unknown, first_wrong, has_chunk, has_marks, has_names, is_marked_right, is_named_back, is_on_disks, is_owned, keeps_copies}
 use Rattle.catalog.specs.Placing.{HasUnits, misplaced, unused_maps}
 
 -- ---- keys
@@ -57,6 +57,7 @@ pub record AreChunksRight (t : Tables) : Type 0 where
 
 pub record AreNamesRight (t : Tables) : Type 0 where
   pub chunks : first_wrong (has_chunk t) t.stale ≡ None
+  pub stale : first_wrong (is_marked_right t) t.stale ≡ None
   pub nodes : first_wrong (is_named_back t) t.nodes ≡ None
   pub names : first_wrong (has_names t) t.files ≡ None
 
@@ -71,6 +72,8 @@ pub data BreaksRule (s : Shape) (entries : List status.Entry) (t : Tables) (k : 
   unmarked : (at : Chunk) → first_wrong (has_marks t) t.extents ≡ Some at → k ≡ key_of_chunk at → BreaksRule s entries t k
   -- a record of stale marks that has no chunk
   marks_alone : (at : Chunk) → first_wrong (has_chunk t) t.stale ≡ Some at → k ≡ key_of_marks at → BreaksRule s entries t k
+  -- stale marks of a copy that isn't there
+  mark_alone : (at : Chunk) → first_wrong (is_marked_right t) t.stale ≡ Some at → k ≡ key_of_marks at → BreaksRule s entries t k
   -- a chunk that is neither one of a file nor of the pending operation's
   unowned : (at : Chunk) → first_wrong (is_owned t) t.extents ≡ Some at → k ≡ key_of_chunk at → BreaksRule s entries t k
   -- a chunk that has a home at a copy number that the file doesn't have

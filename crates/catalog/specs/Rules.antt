@@ -1,12 +1,13 @@
 -- The rules that hold across the tables of a group.
 use Rattle.std.specs.Prelude.{◌≡◌, ◌≤◌, ℕ, ◌+◌, Bool, true, false, ◌&&◌, ◌||◌, ◌==◌, not, nat_lt, ◌/◌, ◌%◌, List, [], length, get_or, slice_index_or, find, Option, Some, None, is_some}
-use Rattle.std.specs.List.{list_all, AllByRecursion}
+use Rattle.std.specs.List.{list_all, zip, AllByRecursion}
 use Rattle.std.specs.Option.{option_map, unwrap_or}
 use Rattle.asm_group.specs.Shape.{Shape}
 use Rattle.asm_group.specs.declared.NodeKind.{NodeKind}
 use Rattle.asm_group.specs.declared.NodeKind.TheVariants.{Directory, System, Alias}
 use Rattle.asm_formats.specs.Items.{DiskInfo, chunk_len, FileHead, Home, Homes, Node, Pending}
 use Rattle.asm_formats.specs.Among.{IsAmong}
+use Rattle.asm_formats.specs.Sets.{has_bit}
 use Rattle.asm_formats.specs.Status as status
 use Rattle.asm_placement.specs.Layout.{has_extent}
 use Rattle.file_directory.specs.Files.{File, head_at, is_file}
@@ -64,6 +65,22 @@ are_on_disks homes = are_on_two (get_or homes 0 None) (get_or homes 1 None) && (
 -- the homes of each extent lie on different disks
 abbrev pub is_on_disks : Chunked → Bool
 is_on_disks x = list_all are_on_disks x.1
+
+-- where mark bit k of an extent is set, it has a home at copy number k
+abbrev pub is_mark_of : ℕ → Homes → ℕ → Bool
+is_mark_of marks homes k = not (has_bit marks k) || is_some (get_or homes k None)
+
+-- each mark of an extent is that of a copy that is there
+abbrev pub are_marks_of : ℕ × Homes → Bool
+are_marks_of x = is_mark_of x.0 x.1 0 && (is_mark_of x.0 x.1 1 && is_mark_of x.0 x.1 2)
+
+-- the same of each extent of a chunk that is there
+abbrev pub are_chunk_marks : Option (List Homes) → List ℕ → Bool
+are_chunk_marks None marks = true
+are_chunk_marks (Some homes) marks = list_all are_marks_of (zip marks homes)
+
+abbrev pub is_marked_right : Tables → Marked → Bool
+is_marked_right t x = are_chunk_marks (chunk_at t.extents x.0) x.1
 
 -- ---- names
 
@@ -154,6 +171,8 @@ pub record KeepsRules (s : Shape) (t : Tables) : Type 0 where
   pub redundancy : first_wrong (keeps_copies t) t.extents ≡ None
   -- the homes of one extent lie on different disks
   pub apart : first_wrong is_on_disks t.extents ≡ None
+  -- each stale mark is that of a copy that is there
+  pub stale : first_wrong (is_marked_right t) t.stale ≡ None
   -- nodes and files name each other
   pub nodes : first_wrong (is_named_back t) t.nodes ≡ None
   pub names : first_wrong (has_names t) t.files ≡ None

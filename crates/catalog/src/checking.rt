@@ -59,13 +59,17 @@ impl Parts {
         None
     }
 
-    /// The key of a record of stale marks without a chunk, or of a node or a file that isn't named back.
-    #[tactic(auto, using(crate::proofs::FaultLaws::alone_is, crate::proofs::FaultLaws::node_is, crate::proofs::FaultLaws::file_is, crate::proofs::FaultLaws::names_are))]
+    /// The key of a record of stale marks without a chunk or with a mark of a copy that isn't there, or of a node or a file
+    /// that isn't named back.
+    #[tactic(auto, using(crate::proofs::FaultLaws::alone_is, crate::proofs::FaultLaws::mark_alone_is, crate::proofs::FaultLaws::node_is, crate::proofs::FaultLaws::file_is, crate::proofs::FaultLaws::names_are))]
     fn name_fault(&self) -> Option<Key>
         ensures some { IfSome result (λ k. (s : GroupShape) (es : Items Entry) → BreaksRule s es self.now k) }
         ensures none { IfNone result (AreNamesRight self.now) }
     {
         if let Some(at) = self.marks_alone() {
+            return Some(marks_key(at));
+        }
+        if let Some(at) = self.mark_alone() {
             return Some(marks_key(at));
         }
         if let Some(number) = self.nameless_node() {

@@ -12,6 +12,7 @@ mod error;
 mod file_rules;
 mod laws;
 mod listing;
+mod mark_rules;
 mod name_rules;
 mod opening;
 mod parts;

@@ -31,8 +31,8 @@ pub enum Edit<'a> {
     Head(u8, u64),
     /// A chunk of extents, by file and number: of each of its first extents the disk and the unit of two copies.
     Chunk(u32, u32, &'a [[u8; 4]]),
-    /// The stale marks of a chunk, by file and number: copy 1 of extent 1 is stale.
-    Marks(u32, u32),
+    /// The stale marks of a chunk, by file and number: those of its first extents, bit k for copy k.
+    Marks(u32, u32, &'a [u8]),
     /// A node: its number, parent, kind, file and name.
     Node(u32, u32, NodeKind, u32, &'a [u8]),
     /// A disk's number and birth.
@@ -46,13 +46,13 @@ pub enum Edit<'a> {
 }
 
 /// Two disks of 64 units, and file 256 of 3 MiB, with its system name in a directory and its alias: each extent has a unit
-/// on each disk.
+/// on each disk, and copy 1 of extent 1 is stale.
 const USUAL: [Edit<'static>; 8] = [
     Edit::Disk(0, 1),
     Edit::Disk(1, 2),
     Edit::Head(2, 3_145_728),
     Edit::Chunk(256, 0, &[[0, 2, 1, 2], [1, 3, 0, 3], [0, 4, 1, 4]]),
-    Edit::Marks(256, 0),
+    Edit::Marks(256, 0, &[0, 2]),
     Edit::Node(1, 0, NodeKind::Directory, 0, b"db"),
     Edit::Node(2, 1, NodeKind::System, 256, b"u.256.1"),
     Edit::Node(3, 0, NodeKind::Alias, 256, b"x"),
@@ -120,7 +120,7 @@ pub fn apply(alloc: Global, records: &mut Records, edit: Edit) -> Result<(), Fai
     match edit {
         Edit::Head(copies, size) => put_head(alloc, records, copies, size),
         Edit::Chunk(file, chunk, homes) => put_chunk(alloc, records, (file, chunk), homes),
-        Edit::Marks(file, chunk) => put_marks(alloc, records, (file, chunk)),
+        Edit::Marks(file, chunk, marks) => put_marks(alloc, records, (file, chunk), marks),
         Edit::Node(number, parent, kind, file, name) => {
             put_node(alloc, records, number, (parent, kind, file), name)
         }
@@ -231,9 +231,16 @@ fn put_chunk(
     put(alloc, records, key, &bytes)
 }
 
-fn put_marks(alloc: Global, records: &mut Records, at: (u32, u32)) -> Result<(), Fail> {
+fn put_marks(
+    alloc: Global,
+    records: &mut Records,
+    at: (u32, u32),
+    first: &[u8],
+) -> Result<(), Fail> {
     let mut bits = [0; 256];
-    bits[1] = 2;
+    for place in 0..256usize {
+        bits[place] = first.get(place).copied().unwrap_or(0);
+    }
     let marks = Marks { bits };
     let Ok((key, value)) = StaleTable::to_record(alloc, at, &marks) else {
         return Err(Fail::from("memory"));

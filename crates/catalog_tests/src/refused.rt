@@ -122,7 +122,10 @@ fn what_must_stand_together(rt: HostRuntime) -> Result<(), Fail> {
     let short = [[0, 2, 1, 2], [1, 3, 0, 3], [0, 4, NO, 0]];
     let rows = [
         (Edit::Gone(1, 256, 1), (12, 256, 0)),
-        (Edit::Marks(256, 1), (12, 256, 1)),
+        (Edit::Marks(256, 1, &[]), (12, 256, 1)),
+        // a mark of a third copy, and one of an extent that isn't there
+        (Edit::Marks(256, 0, &[4]), (12, 256, 0)),
+        (Edit::Marks(256, 0, &[0, 0, 0, 1]), (12, 256, 0)),
         // a second alias, and a system name of a file that isn't there
         (Edit::Node(4, 1, NodeKind::Alias, 256, b"y"), (6, 4, 0)),
         (

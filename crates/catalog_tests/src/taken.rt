@@ -4,7 +4,7 @@ use catalog::{Catalog, DiskInfo};
 use std::alloc::Global;
 use std::test::*;
 
-fn catalog(alloc: Global, records: &Records) -> Result<Catalog, Fail> {
+pub fn catalog(alloc: Global, records: &Records) -> Result<Catalog, Fail> {
     match read(alloc, records, &disks(2))? {
         Ok(catalog) => Ok(catalog),
         Err(_) => Err(Fail::from("the records are refused")),
@@ -189,7 +189,10 @@ fn blocks_told(alloc: Global, records: &Records) -> Result<(u32, u64), Fail> {
     Ok(blocks(&catalog))
 }
 
-fn operations_told(alloc: Global, records: &Records) -> Result<(Option<u32>, Option<u16>), Fail> {
+pub fn operations_told(
+    alloc: Global,
+    records: &Records,
+) -> Result<(Option<u32>, Option<u16>), Fail> {
     let catalog = catalog(alloc, records)?;
     Ok(operations(&catalog))
 }
@@ -214,7 +217,7 @@ fn half_made(alloc: Global) -> Result<Records, Fail> {
     let edits = [
         Edit::Begun(257),
         Edit::Chunk(257, 0, &[[1, 63, 0, 63]]),
-        Edit::Marks(257, 0),
+        Edit::Marks(257, 0, &[2]),
         Edit::Disk(2, 3),
     ];
     for edit in edits {
