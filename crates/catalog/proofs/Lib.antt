@@ -15,3 +15,4 @@ pub mod UnusedLaws
 pub mod SetLaws
 pub mod SameTables
 pub mod AfterLaws
+pub mod PlanLaws

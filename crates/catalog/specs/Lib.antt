@@ -5,3 +5,4 @@ pub mod Placing
 pub mod Faults
 pub mod Changing
 pub mod Items
+pub mod Plans

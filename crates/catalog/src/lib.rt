@@ -17,6 +17,7 @@ mod name_rules;
 mod opening;
 mod parts;
 mod placing;
+mod plans;
 mod reading;
 mod reads;
 

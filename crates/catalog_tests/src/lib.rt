@@ -6,6 +6,8 @@ mod group;
 #[cfg(test)]
 mod moves;
 #[cfg(test)]
+mod plans;
+#[cfg(test)]
 mod refused;
 #[cfg(test)]
 mod taken;

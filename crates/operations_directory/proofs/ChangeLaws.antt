@@ -174,3 +174,17 @@ operation_put t new j k v (Pending p) read is four = pending_put t new j v p rea
 pub operation_table : (t new : Operations) (j : Key) (v : List ℕ) (o : Operation) → entry_of_record operation_of (j, v) ≡ Some o → new ≡ set_operation t o → IsTable t → IsTable new
 operation_table t new j v (Rebalance p) read is table = rebalance_table t new j v p read is table
 operation_table t new j v (Pending p) read is table = pending_table t new j v p read is table
+
+-- ---- by the power and the operation themselves
+
+pub power_set : (t : Operations) (p : ℕ) (k : Key) → k.kind ≡ 4 → value_at (record t { rebalance = Some p }) k ≡ cond (is_same_key (record { kind = 4; a = 0; b = 0 }) k) (Some (value (rebalance_item p))) (value_at t k)
+power_set t p k four = rw (at_numbers (record { kind = 4; a = 0; b = 0 }) k refl four) (rebalance_is t p (Some p) (Some (value (rebalance_item p))) k refl)
+
+pub operation_set : (t : Operations) (p : PendingOperation) (k : Key) → k.kind ≡ 4 → value_at (record t { pending = Some p }) k ≡ cond (is_same_key (record { kind = 4; a = 1; b = 0 }) k) (Some (value (pending_item p))) (value_at t k)
+operation_set t p k four = rw (at_numbers (record { kind = 4; a = 1; b = 0 }) k refl four) (pending_is t (Some p) (Some (value (pending_item p))) k refl)
+
+pub power_allowed : (t : Operations) (p : ℕ) → is_item (rebalance_item p) ≡ true → IsTable t → IsTable (record t { rebalance = Some p })
+power_allowed t p ok table = of_parts (record t { rebalance = Some p }) (λ q e. let same : p ≡ q = cc in rw (← same) ok) (λ q e. pending_of t table q e)
+
+pub operation_allowed : (t : Operations) (p : PendingOperation) → is_item (pending_item p) ≡ true → IsTable t → IsTable (record t { pending = Some p })
+operation_allowed t p ok table = of_parts (record t { pending = Some p }) (λ q e. rebalance_of t table q e) (λ q e. let same : p ≡ q = cc in rw (← same) ok)

@@ -10,3 +10,4 @@ mod writing;
 pub use asm_base::PendingKind;
 pub use pending::Pending;
 pub use table::OperationTable;
+pub use writing::{pending_record, rebalance_record};
