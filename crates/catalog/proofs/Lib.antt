@@ -16,3 +16,5 @@ pub mod SetLaws
 pub mod SameTables
 pub mod AfterLaws
 pub mod PlanLaws
+pub mod DiskPlans
+pub mod TemplatePlans

@@ -1,5 +1,5 @@
 -- Plans: changes that lead to tables that keep the rules.
-use Rattle.std.proofs.Common.{◌≡◌, ◌<◌, ◌≤◌, ◌^◌, ℕ, Bool, true, false, cond, List, [], ◌∷◌, Option, Some, None, refl, sym, ap, subst, ◌∙◌, arith}
+use Rattle.std.proofs.Common.{◌≡◌, ◌<◌, ◌^◌, ℕ, Bool, true, false, cond, List, [], ◌∷◌, Some, None, refl, ap, ◌∙◌, arith}
 use Rattle.std.specs.Prelude.{◌||◌}
 use Rattle.std.proofs.lemmas.Bool.{lt-ltb}
 use Rattle.asm_group.specs.Shape.{Shape}
@@ -7,7 +7,6 @@ use Rattle.asm_formats.specs.Items.{Key, Pending, is_item, pending_item, rebalan
 use Rattle.asm_formats.specs.Values.{value}
 use Rattle.asm_base.specs.Records.{Entry, is_key}
 use Rattle.asm_base.specs.Tables.{item_record}
-use Rattle.page_map.specs.Changes.{value_after}
 use Rattle.operations_directory.specs.Operations as operations
 use Rattle.operations_directory.proofs.ChangeLaws as operation_laws
 use Rattle.catalog.specs.Changing.{IsAfter, Sets}

@@ -147,7 +147,7 @@ fn file_key(file: u32) -> Key
 }
 
 /// The key of a disk's record.
-fn disk_key(number: u8) -> Key
+pub(crate) fn disk_key(number: u8) -> Key
     ensures { result ≡ disk_key number }
 {
     Key {

@@ -23,6 +23,14 @@ impl Model for DiskInfo {
 
 impl DiskInfo {
     ghost use Rattle.std.specs.Prelude.{◌≡◌, IfOk};
+    ghost use Rattle.asm_formats.specs.Items.{disk_item, is_item};
+
+    /// Whether a directory may hold it as the record of this disk: a number below 64, and names of the grammar.
+    pub fn is_allowed(&self, disk: u8) -> bool
+        ensures { result ≡ is_item (disk_item disk self.now) }
+    {
+        is_allowed(disk, self.birth, &self.name, &self.failgroup)
+    }
 
     pub fn copy(&self) -> Result<DiskInfo, NoMemory>
         ensures { IfOk result (λ d. d ≡ self.now) }
@@ -33,4 +41,22 @@ impl DiskInfo {
             failgroup: self.failgroup.copy()?,
         })
     }
+}
+
+ghost use Rattle.std.specs.Prelude.{◌≡◌, ◌&&◌, nat_lt};
+ghost use Rattle.asm_group.specs.Names.{is_name};
+ghost use Rattle.asm_formats.specs.Items.{disk_item, is_item};
+
+fn is_allowed(disk: u8, birth: u64, name: &Name, failgroup: &Name) -> bool
+    ensures { result ≡ is_item (disk_item disk (record { birth = birth; name = name.now; failgroup = failgroup.now })) }
+{
+    // Reading a number shows that it is one of its type.
+    let _birth = birth;
+    are_right(disk, name, failgroup)
+}
+
+fn are_right(disk: u8, name: &Name, failgroup: &Name) -> bool
+    ensures { result ≡ (nat_lt disk 64 && (is_name name.now && is_name failgroup.now)) }
+{
+    disk < 64 && name.is_name() && failgroup.is_name()
 }

@@ -25,7 +25,7 @@ use std::alloc::Global;
 use template_directory::TemplateTable;
 
 /// The key of the templates' record.
-const TEMPLATES: Key = Key {
+pub(crate) const TEMPLATES: Key = Key {
     kind: 5,
     a: 0,
     b: 0,

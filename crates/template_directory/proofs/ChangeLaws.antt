@@ -114,3 +114,8 @@ pub settings_put : (t new : Table) (j k : Key) (v : List ℕ) (s : Settings) →
 settings_put t new j k v s read is =
     let r = settings_record j v s read in
     rw (is, ← r.0) (at_settings t s v k r.1)
+
+-- ---- by the templates themselves
+
+pub templates_set : (t : Table) (ts : List Template) (k : Key) → value_at (record { templates = ts; settings = t.settings }) k ≡ cond (is_same_key (record { kind = 5; a = 0; b = 0 }) k) (Some (value (templates_item ts))) (value_at t k)
+templates_set t ts k = at_templates t ts (value (templates_item ts)) k refl

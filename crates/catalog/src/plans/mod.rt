@@ -1,4 +1,6 @@
 //! Plans: changes of a group's records that keep its rules.
 
+mod disks;
 mod making;
 mod operations;
+mod templates;
