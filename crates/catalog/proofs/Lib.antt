@@ -18,3 +18,4 @@ pub mod AfterLaws
 pub mod PlanLaws
 pub mod DiskPlans
 pub mod TemplatePlans
+pub mod NextFile

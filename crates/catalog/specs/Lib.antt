@@ -6,3 +6,4 @@ pub mod Faults
 pub mod Changing
 pub mod Items
 pub mod Plans
+pub mod Numbers

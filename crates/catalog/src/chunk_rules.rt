@@ -73,7 +73,7 @@ impl Parts {
     }
 }
 
-fn is_pending(file: u32, op: Option<Pending>) -> bool
+pub(crate) fn is_pending(file: u32, op: Option<Pending>) -> bool
     ensures { result ≡ is_pending file op }
 {
     match op {

@@ -14,6 +14,7 @@ mod laws;
 mod listing;
 mod mark_rules;
 mod name_rules;
+mod next_file;
 mod opening;
 mod parts;
 mod placing;

@@ -226,6 +226,22 @@ fn half_made(alloc: Global) -> Result<Records, Fail> {
     Ok(records)
 }
 
+fn next_file_told(alloc: Global, records: &Records) -> Result<u32, Fail> {
+    let catalog = catalog(alloc, records)?;
+    Ok(catalog.next_file())
+}
+
+/// The number of a file that is being made isn't free.
+#[test]
+fn next_file(rt: HostRuntime) -> Result<(), Fail> {
+    let alloc = rt.alloc();
+    let records = usual(alloc)?;
+    assert_eq!(rt; next_file_told(alloc, &records)?, 257);
+    let records = half_made(alloc)?;
+    assert_eq!(rt; next_file_told(alloc, &records)?, 258);
+    Ok(())
+}
+
 /// What a stop may leave is taken.
 #[test]
 fn half_made_file_is_taken(rt: HostRuntime) -> Result<(), Fail> {

@@ -1,0 +1,21 @@
+-- Numbers of files.
+use Rattle.std.specs.Prelude.{◌≡◌, ◌≤◌, ◌<◌, ℕ, Bool, true, false, ◌||◌}
+use Rattle.file_directory.specs.Files.{is_file}
+use Rattle.catalog.specs.Rules.{is_pending}
+use Rattle.catalog.specs.Tables.{Tables}
+
+-- the number is that of a file or of the pending operation
+abbrev pub is_taken : Tables → ℕ → Bool
+is_taken t f = is_file t.files f || is_pending f t.operations.pending
+
+-- the least number from 256 that isn't taken
+pub record IsUntaken (t : Tables) (f : ℕ) : Type 0 where
+  pub at_least : 256 ≤ f
+  pub others : (k : ℕ) → 256 ≤ k → k < f → is_taken t k ≡ true
+  pub free : is_taken t f ≡ false
+
+-- the same, or the greatest number where all are taken
+pub record IsNextFile (t : Tables) (f : ℕ) : Type 0 where
+  pub at_least : 256 ≤ f
+  pub others : (k : ℕ) → 256 ≤ k → k < f → is_taken t k ≡ true
+  pub free : is_taken t f ≡ true → f ≡ 4294967295
