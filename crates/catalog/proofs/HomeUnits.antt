@@ -27,15 +27,15 @@ use Rattle.catalog.proofs.PlacingLaws.{after_append, run_is}
 
 -- ---- a map with a run used
 
-abbrev is_in : ℕ → ℕ → ℕ → Bool
+abbrev pub is_in : ℕ → ℕ → ℕ → Bool
 is_in at n k = leb at k && ltb k (at + n)
 
-and_false : (b : Bool) → (b && false) ≡ false
+pub and_false : (b : Bool) → (b && false) ≡ false
 and_false true = refl
 and_false false = refl
 
 -- an element of a list of which a run was replaced
-replaced : (xs : List Bool) (at n : ℕ) (used : Bool) (k : ℕ) (d : Bool) → at + n ≤ length xs → get_or (take at xs ++ replicate n used ++ drop (at + n) xs) k d ≡ cond (is_in at n k) used (get_or xs k d)
+pub replaced : (xs : List Bool) (at n : ℕ) (used : Bool) (k : ℕ) (d : Bool) → at + n ≤ length xs → get_or (take at xs ++ replicate n used ++ drop (at + n) xs) k d ≡ cond (is_in at n k) used (get_or xs k d)
 replaced xs at n used k d fits =
     let front : length (take at xs) ≡ at = omega (arith, length-take at xs) in
     let two : length (take at xs ++ replicate n used) ≡ at + n = omega (arith, length-append (take at xs) (replicate n used), front, length-replicate n used) in
@@ -53,12 +53,12 @@ replaced xs at n used k d fits =
 abbrev IsWhole : UnitMap → Type 0
 IsWhole m = length m.used ≡ m.units
 
-three_true : (a b c : Bool) → (a && b && c) ≡ true → (a ≡ true) × (b ≡ true) × (c ≡ true)
+pub three_true : (a b c : Bool) → (a && b && c) ≡ true → (a ≡ true) × (b ≡ true) × (c ≡ true)
 three_true true true c e = (refl, refl, e)
 three_true true false c e = absurd cc
 three_true false b c e = absurd cc
 
-not_true : (b : Bool) → not b ≡ true → b ≡ false
+pub not_true : (b : Bool) → not b ≡ true → b ≡ false
 not_true true e = absurd cc
 not_true false e = refl
 
@@ -158,13 +158,13 @@ takes ms next h n e = by (slice_get ms h.disk) refl e where
     in_map false free e = absurd (none-some next e)
     in_map true free e = record { map_before = m; there = is; free = free; put = sym (some_is (slice_set ms h.disk (with_run m h.unit n true)) next e) }
 
-set_here : (ms : List UnitMap) (d : ℕ) (old new : UnitMap) → slice_get ms d ≡ Some old → slice_get (slice_set ms d new) d ≡ Some new
+pub set_here : (ms : List UnitMap) (d : ℕ) (old new : UnitMap) → slice_get ms d ≡ Some old → slice_get (slice_set ms d new) d ≡ Some new
 set_here ms d old new e =
     let within = slice_get_within ms d old e in
     let long : length ms ≡ length (slice_set ms d new) = sym (length-set ms d new) in
     slice_get_read (slice_set ms d new) (length ms) d new long within (sym (get_or-set_same ms d new new within))
 
-set_other : (ms : List UnitMap) (d c : ℕ) (old new : UnitMap) → (d ≡ c → ⊥) → slice_get ms d ≡ Some old → slice_get (slice_set ms c new) d ≡ Some old
+pub set_other : (ms : List UnitMap) (d c : ℕ) (old new : UnitMap) → (d ≡ c → ⊥) → slice_get ms d ≡ Some old → slice_get (slice_set ms c new) d ≡ Some old
 set_other ms d c old new apart e =
     let within = slice_get_within ms d old e in
     let long : length ms ≡ length (slice_set ms c new) = sym (length-set ms c new) in

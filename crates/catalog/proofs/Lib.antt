@@ -10,7 +10,11 @@ pub mod PlacingLaws
 pub mod ReadingLaws
 pub mod StoreLaws
 pub mod TableItems
+pub mod ChunkUnits
+pub mod GivingLaws
+pub mod ChangeUnits
 pub mod UnitLaws
+pub mod UnitOrder
 pub mod UnusedLaws
 pub mod SetLaws
 pub mod SameTables
@@ -19,3 +23,4 @@ pub mod PlanLaws
 pub mod DiskPlans
 pub mod TemplatePlans
 pub mod NextFile
+pub mod ApplyingLaws

@@ -30,7 +30,7 @@ all_in p at (suc n) e k low high =
       | inr later ↦ all_in p (at + 1) n parts.1 k (omega (arith, later)) (omega (arith, high))
     ]
 
-from_all : (p : ℕ → Bool) (at n : ℕ) → ((k : ℕ) → at ≤ k → k < at + n → p k ≡ true) → list_all p (range_with_len at n) ≡ true
+pub from_all : (p : ℕ → Bool) (at n : ℕ) → ((k : ℕ) → at ≤ k → k < at + n → p k ≡ true) → list_all p (range_with_len at n) ≡ true
 from_all p at zero each = refl
 from_all p at (suc n) each = rw (each at (omega arith) (omega arith)) (from_all p (at + 1) n (λ k low high. each k (omega (arith, low)) (omega (arith, high))))
 
@@ -61,12 +61,12 @@ after_append ms (p ∷ ps) qs = by (λ next. after_append next ps qs) (home_take
   by rest (Some next) = rest next
 
 -- the homes of an extent, the first of which may be absent
-one_home : (ms : List UnitMap) (f i len : ℕ) (h : Option Home) (hs : Homes) → after_homes ms (placed_copies f i len (h ∷ hs)) ≡ option_and_then (λ next. after_homes next (placed_copies f i len hs)) (home_placed ms h len)
+pub one_home : (ms : List UnitMap) (f i len : ℕ) (h : Option Home) (hs : Homes) → after_homes ms (placed_copies f i len (h ∷ hs)) ≡ option_and_then (λ next. after_homes next (placed_copies f i len hs)) (home_placed ms h len)
 unfolding after_homes
 one_home ms f i len None hs = refl
 one_home ms f i len (Some h) hs = refl
 
-no_home : (ms : List UnitMap) (f i len : ℕ) → after_homes ms (placed_copies f i len []) ≡ Some ms
+pub no_home : (ms : List UnitMap) (f i len : ℕ) → after_homes ms (placed_copies f i len []) ≡ Some ms
 unfolding after_homes
 no_home ms f i len = refl
 
@@ -157,7 +157,7 @@ units_some step i n e = by (ltb i step) (ltb i (2 * step)) refl refl where
   by false true p q = let f : n ≡ 4 = rw (p, q) at e in omega (arith, f)
   by false false p q = let f : n ≡ 16 = rw (p, q) at e in omega (arith, f)
 
-left_from : (xs : List Homes) (k : ℕ) (hs : Homes) → k < length xs → hs ≡ get_or xs k hs → drop k xs ≡ hs ∷ drop (k + 1) xs
+pub left_from : (xs : List Homes) (k : ℕ) (hs : Homes) → k < length xs → hs ≡ get_or xs k hs → drop k xs ≡ hs ∷ drop (k + 1) xs
 left_from xs k hs within is = drop_more xs k hs within ∙ ap (λ (h : Homes). h ∷ drop (k + 1) xs) (sym is)
 
 pub extent_next : (step f i k n : ℕ) (ms next : List UnitMap) (xs : List Homes) (hs : Homes) (r : Bool) (after : Option (List UnitMap)) → k < length xs → hs ≡ get_or xs k hs → n ≡ units_of step i

@@ -72,7 +72,7 @@ module _ {K X : Type 0} (R : K → K → Ordering) (order : IsTotalOrder R) wher
   found q [] = refl
   found q (e ∷ es) = ap (cond (is_at (R q) e.0) (Some e.1)) (found q es)
 
-  same_lookups : ((x y : K) → R x y ≡ Equal → x ≡ y) → (es fs : List (K × X)) → Up es → Up fs → ((q : K) → lookup (is_at (R q)) es ≡ lookup (is_at (R q)) fs) → es ≡ fs
+  pub same_lookups : ((x y : K) → R x y ≡ Equal → x ≡ y) → (es fs : List (K × X)) → Up es → Up fs → ((q : K) → lookup (is_at (R q)) es ≡ lookup (is_at (R q)) fs) → es ≡ fs
   same_lookups exact es fs up too same =
       same_entries R order exact es fs (holds (is_sorted R es) (sorted es up)) (holds (is_sorted R fs) (sorted fs too)) (λ q. found q es ∙ (same q ∙ sym (found q fs)))
 
@@ -87,7 +87,7 @@ module _ {K X : Type 0} (R : K → K → Ordering) (order : IsTotalOrder R) (exa
   abbrev Items : List (K × X) → Type 0
   Items es = AllByRecursion (λ (x : K × X). IsTrue (is_item (item x.0 x.1))) es
 
-  looked : (es : List (K × X)) → Items es → (q : K) (v : X) → lookup (is_at (R q)) es ≡ Some v → is_item (item q v) ≡ true
+  pub looked : (es : List (K × X)) → Items es → (q : K) (v : X) → lookup (is_at (R q)) es ≡ Some v → is_item (item q v) ≡ true
   looked [] all q v e = absurd cc
   looked (x ∷ es) all q v e = elim (either (is_at (R q) x.0)) [
     | inl hit ↦
@@ -97,7 +97,7 @@ module _ {K X : Type 0} (R : K → K → Ordering) (order : IsTotalOrder R) (exa
     | inr miss ↦ looked es all.1 q v (rw miss at e)
   ]
 
-  same_found : (q : K) (o p : Option X) → ((v : X) → o ≡ Some v → is_item (item q v) ≡ true) → ((v : X) → p ≡ Some v → is_item (item q v) ≡ true)
+  pub same_found : (q : K) (o p : Option X) → ((v : X) → o ≡ Some v → is_item (item q v) ≡ true) → ((v : X) → p ≡ Some v → is_item (item q v) ≡ true)
       → option_map value (option_map (item q) o) ≡ option_map value (option_map (item q) p) → o ≡ p
   same_found q None None f g e = refl
   same_found q None (Some w) f g e = absurd cc
@@ -121,7 +121,7 @@ same_files t u a b same =
     same_values nat_cmp nat_cmp_total nat_cmp-IsAntisymmetric file_item (λ k v w. refl) (λ k v w e. cc) t.files u.files a.files.0 a.files.1 b.files.0 b.files.1
     (λ f. same (record { kind = 1; a = f; b = 0 }))
 
-chunk_record : (t : Tables) (c : extents.Chunk) → records_of t (record { kind = 1; a = c.0; b = c.1 + 1 }) ≡ extents_changing.value_at t.extents c
+pub chunk_record : (t : Tables) (c : extents.Chunk) → records_of t (record { kind = 1; a = c.0; b = c.1 + 1 }) ≡ extents_changing.value_at t.extents c
 unfolding item_at
 chunk_record t c =
     let some : eqb (c.1 + 1) 0 ≡ false = ne_eqb (c.1 + 1) 0 (λ e. omega (arith, e)) in

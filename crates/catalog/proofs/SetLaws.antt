@@ -73,7 +73,7 @@ by_both j k kind = one_test (is_key j k) (is_at (chunk_cmp (j.a, j.b)) (k.a, k.b
     (λ e. let p = chunk_is (j.a, j.b) (k.a, k.b) e in equal_keys j k (key_of j k kind (ap (λ (x : Chunk). x.0) p) (ap (λ (x : Chunk). x.1) p)))
 
 -- keys of chunks, by file and chunk
-by_chunk : (f c : ℕ) (k : Key) → k.kind ≡ 1 → 0 < k.b → is_key (record { kind = 1; a = f; b = c + 1 }) k ≡ is_at (chunk_cmp (f, c)) (k.a, k.b - 1)
+pub by_chunk : (f c : ℕ) (k : Key) → k.kind ≡ 1 → 0 < k.b → is_key (record { kind = 1; a = f; b = c + 1 }) k ≡ is_at (chunk_cmp (f, c)) (k.a, k.b - 1)
 by_chunk f c k kind some = one_test (is_key (chunk_key f c) k) (is_at (chunk_cmp (f, c)) (k.a, k.b - 1))
     (λ e.
     let s = same_key (chunk_key f c) k e in

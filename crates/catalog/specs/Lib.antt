@@ -2,8 +2,10 @@ pub mod Disks
 pub mod Tables
 pub mod Rules
 pub mod Placing
+pub mod Giving
 pub mod Faults
 pub mod Changing
+pub mod Applying
 pub mod Items
 pub mod Plans
 pub mod Numbers

@@ -25,11 +25,13 @@ pub record Tables : Type 0 where
   pub operations : operations.Operations
   pub disks : List disks.Disk
 
--- the tables, the group's shape, and of each disk number which units are used
+-- The tables, the group's shape, and of each disk number which units are used; and the tables that the next change gives, where
+-- the memory for it was taken.
 pub record Catalogued : Type 0 where
   pub tables : Tables
   pub shape : Shape
   pub units : List UnitMap
+  pub next : Option Tables
 
 -- each table is one: its entries are of the formats, in order, and keep its own rule
 pub record AreTables (t : Tables) : Type 0 where

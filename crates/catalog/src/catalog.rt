@@ -23,6 +23,8 @@ pub struct Catalog {
     pub(crate) shape: Shape,
     /// The units of disk k at place k.
     pub(crate) units: Vec<Units>,
+    /// The tables after the change that the memory was taken for.
+    pub(crate) next: Option<Parts>,
 }
 
 impl Model for Catalog {
@@ -31,9 +33,9 @@ impl Model for Catalog {
 
     ghost Value = { Catalogued };
 
-    ghost view = { λ c. record { tables = c.parts; shape = c.shape; units = c.units.items } };
+    ghost view = { λ c. record { tables = c.parts; shape = c.shape; units = c.units.items; next = c.next } };
 
-    ghost invariant = { λ c. IsCatalog (record { tables = c.parts; shape = c.shape; units = c.units.items }) };
+    ghost invariant = { λ c. IsCatalog (record { tables = c.parts; shape = c.shape; units = c.units.items; next = c.next }) };
 }
 
 impl Catalog {
@@ -68,6 +70,7 @@ impl Catalog {
             parts,
             shape,
             units,
+            next: None,
         })
     }
 }

@@ -1,7 +1,9 @@
 //! The tables of a group as one value, with the rules that hold across them.
 #![tactic(auto)]
 
+mod applying;
 mod catalog;
+mod changed_units;
 mod changing;
 mod checking;
 mod chunk_rules;
@@ -10,6 +12,7 @@ mod disk_rules;
 mod disks;
 mod error;
 mod file_rules;
+mod giving;
 mod laws;
 mod listing;
 mod mark_rules;

@@ -44,7 +44,13 @@ pub(crate) fn place_in(units: &mut Vec<Units>, step: u32, extents: &ExtentMap) -
 /// The same for the extents of a chunk, the first of which has this index. `false` where one has a home whose units aren't
 /// free.
 #[tactic(auto, using(crate::proofs::PlacingLaws::next_extent, crate::proofs::PlacingLaws::extent_refused, crate::proofs::PlacingLaws::no_extents))]
-fn place_chunk(units: &mut [Units], step: u32, file: u32, first: u64, extents: &[Homes]) -> bool
+pub(crate) fn place_chunk(
+    units: &mut [Units],
+    step: u32,
+    file: u32,
+    first: u64,
+    extents: &[Homes],
+) -> bool
     requires { first + length extents.now < 2 ^ 63 }
     ensures { after_homes units.old (placed_extents step file first extents.now) ≡ (if result then Some units.new else None) }
 {

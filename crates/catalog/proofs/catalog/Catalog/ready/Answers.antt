@@ -1,0 +1,12 @@
+use Rattle.std.proofs.Common.{subst, sym}
+use Rattle.catalog.specs.Applying.{Leaves}
+use Rattle.catalog.specs.Changing.{IsAfter}
+use Rattle.catalog.specs.Tables.{Catalogued, Tables}
+use Rattle.catalog.proofs.ApplyingLaws.{ready_is}
+use Rattle.catalog.proofs.catalog.Catalog.ready.Goals as goal
+
+pub returns-clause-ready : goal.returns-clause-ready
+returns-clause-ready c =
+    ready_is c.self.inside.parts c.in_ok-changed.field-0 c.self.inside.shape c.self.inside.units.items c.self.inside.next c.args.change.now.put c.args.change.now.gone
+    (subst (λ (x : Catalogued). (v : Tables) × Leaves x c.args.change.now.put c.args.change.now.gone v) (sym c.self.view_is) c.requires)
+    (subst (λ (x : Tables). IsAfter x c.args.change.now.put c.args.change.now.gone c.in_ok-changed.field-0) c.in_ok-parts.ensures c.in_ok-changed.ensures)

@@ -1,0 +1,22 @@
+-- When a change may be applied to a catalog.
+use Rattle.std.specs.Prelude.{◌≡◌, List, Option, Some}
+use Rattle.asm_formats.specs.Items.{Key}
+use Rattle.asm_formats.specs.Status as status
+use Rattle.asm_base.specs.Records.{Entry}
+use Rattle.allocator.specs.UnitMaps.{UnitMap}
+use Rattle.catalog.specs.Changing.{IsAfter}
+use Rattle.catalog.specs.Placing.{HasUnits}
+use Rattle.catalog.specs.Rules.{KeepsRules}
+use Rattle.catalog.specs.Tables.{Catalogued, Tables}
+
+-- The change leaves these tables, which keep the rules, and whose homes find their units free.
+pub record Leaves (c : Catalogued) (put : List Entry) (gone : List Key) (u : Tables) : Type 0 where
+  pub after : IsAfter c.tables put gone u
+  pub rules : KeepsRules c.shape u
+  pub units : (entries : List status.Entry) → HasUnits c.shape entries c.tables c.units → (ms : List UnitMap) × HasUnits c.shape entries u ms
+
+-- The memory for the change was taken: the next tables are those that it leaves.
+pub record IsReady (c : Catalogued) (put : List Entry) (gone : List Key) : Type 0 where
+  pub tables : Tables
+  pub next : c.next ≡ Some tables
+  pub leaves : Leaves c put gone tables
