@@ -1,0 +1,10 @@
+//! Tests of the store of a group's directories over disks in memory: commits that are stopped, and what a load takes and
+//! refuses.
+#![tactic(auto)]
+
+#[cfg(test)]
+mod loads;
+#[cfg(test)]
+mod stops;
+#[cfg(test)]
+mod trials;
