@@ -90,6 +90,29 @@ pub fn create_on_two<B: Bay>(alloc: Global, bay: &mut B) -> Option<Store>
     }
 }
 
+/// A store of one record on the first copy, which is then brought to the second, whatever that held. None where it may not
+/// be asked, or fails.
+pub fn create_and_copy<B: Bay>(alloc: Global, bay: &mut B) -> Option<Store>
+    ensures { IfSome result (λ store. Keeps store (B.state bay.new)) }
+{
+    if !is_there(bay, FIRST) {
+        return None;
+    }
+    if !is_there(bay, SECOND) {
+        return None;
+    }
+    let Ok(first) = rebalance(alloc) else {
+        return None;
+    };
+    let Ok(mut store) = Store::create(alloc, bay, &[FIRST], &first) else {
+        return None;
+    };
+    match store.copy_to(alloc, bay, SECOND) {
+        Ok(()) => Some(store),
+        Err(_) => None,
+    }
+}
+
 /// Loads the store of both copies. None where one isn't there.
 pub fn load_both<B: Bay>(alloc: Global, bay: &mut B) -> Option<Result<Store, LoadError>> {
     if !is_there(bay, FIRST) {
