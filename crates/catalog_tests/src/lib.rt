@@ -4,10 +4,6 @@
 #[cfg(test)]
 mod group;
 #[cfg(test)]
-mod moves;
-#[cfg(test)]
-mod plans;
-#[cfg(test)]
 mod refused;
 #[cfg(test)]
 mod taken;
