@@ -1,6 +1,5 @@
-//! The next move of a rebalance, as far as status records, maps of units and the copies of one extent decide it:
-//! where status tables and directory copies go, the shares of the disks, and what an extent lacks. No call takes
-//! memory.
+//! The next move of a group's rebalance, and what it stands on: where status tables and directory copies go, the shares
+//! of the disks, and what an extent lacks. No call takes memory.
 #![tactic(auto)]
 
 mod choice;

@@ -35,7 +35,6 @@ pub fn next_move(catalog: &Catalog, status: &PstRecord) -> Next
 }
 
 /// The share of disk d in the used units of the Online regular disks, in units.
-
 pub fn share(catalog: &Catalog, status: &PstRecord, disk: u8) -> u32
     requires { IsStatusOf catalog.now status.now }
     ensures share { (items : List Item) (e : Entry) → AreItemsOf catalog.now.tables items → entry_of status.now.entries disk ≡ Some e → result ≡ share catalog.now.shape items status.now.entries e }
