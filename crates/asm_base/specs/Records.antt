@@ -1,5 +1,5 @@
 -- Records in the order of their keys.
-use Rattle.std.specs.Prelude.{◌≡◌, ℕ, List, [], ◌∷◌, ◌++◌, length, true, Option, Some, None, Bool, ◌==◌, nat_lt, if◌then◌else◌, filter}
+use Rattle.std.specs.Prelude.{◌≡◌, ℕ, List, [], ◌∷◌, ◌++◌, length, true, Option, Some, None, Bool, ◌==◌, nat_lt, if◌then◌else◌, filter, map}
 use Rattle.std.specs.Option.{option_and_then}
 use Rattle.asm_base.specs.Readings.{Reading}
 use Rattle.std.specs.Ordering.{nat_cmp, ordering_then}
@@ -20,6 +20,10 @@ is_key x y = is_at (key_cmp x) y
 -- a record, as a key and the bytes of its value
 abbrev pub Entry : Type 0
 Entry = Key × List ℕ
+
+-- the keys of records
+abbrev pub keys_of : List Entry → List Key
+keys_of records = map (λ e. e.0) records
 
 -- the value at a key
 abbrev pub record_at : List Entry → Key → Option (List ℕ)

@@ -102,7 +102,8 @@ impl Model for Records {
 
 impl Records {
     ghost use Rattle.asm_formats.specs.Items.{Key as FormatKey};
-    ghost use Rattle.asm_base.specs.Records.{is_key, record_at, with_record, without_record};
+    ghost use Rattle.std.specs.List.Sorted.{IsStrictlySortedBy};
+    ghost use Rattle.asm_base.specs.Records.{is_key, key_cmp, keys_of, record_at, with_record, without_record};
 
     pub fn new(alloc: Global) -> Records
         ensures { result ≡ [] }
@@ -140,7 +141,9 @@ impl Records {
 
     /// The records in the order of their keys.
     pub fn iter(&self) -> Iter<'_, Key, Value>
-        ensures { result ≡ self.now }
+        ensures all { result ≡ self.now }
+        // Each key is below those behind it.
+        ensures ordered { IsStrictlySortedBy key_cmp (keys_of self.now) }
     {
         self.map.iter()
     }
