@@ -17,7 +17,7 @@ use Rattle.asm_group.specs.TreeEdits.{Tree, last_part, up, is_root, is_there, is
 use Rattle.asm_formats.specs.Items.{Node}
 use Rattle.asm_base.proofs.Exact.{some_is}
 use Rattle.alias_tree.specs.Edits.{HangsAt, PutsNode, PutsAlias, RemovesNode, MovesNode, RemovesNames, is_name_of}
-use Rattle.alias_tree.specs.Nodes.{Numbered, node_at, with_node, without_node, is_directory, kind_is_directory, IsTable}
+use Rattle.alias_tree.specs.Nodes.{Numbered, node_at, number_of, with_node, without_node, is_directory, kind_is_directory, IsTable}
 use Rattle.asm_formats.specs.Nodes.{node_kind, entry_of_node}
 use Rattle.alias_tree.specs.Trees.{tree_of, number_by}
 use Rattle.alias_tree.proofs.Allowed.{four_false, both_false, number_is, IsNew, is_new, new_name}
@@ -29,9 +29,15 @@ use Rattle.alias_tree.proofs.Ways.{by_last, child_at, no_root}
 
 -- ---- a node is put
 
-pub put_tree : (old : List Numbered) (path : Path) (n : ℕ) (node : Node) → IsTable old → IsTable (with_node old n node) → IsNew old path → HangsAt old path node → node_at old n ≡ None
-    → tree_of (with_node old n node) ≡ maps.insert (tree_of old) (folded_path path) (entry_of_node node)
-put_tree old path n node t u new hangs free = inserted_tree (with_node old n node) old n node (folded_path path) u t gone root at there where
+-- where a node is put, with what that rests on
+record Placed (old : List Numbered) (path : Path) (n : ℕ) (node : Node) : Type 0 where
+  there : node_at (with_node old n node) n ≡ Some node
+  gone : OneGone (with_node old n node) old n
+  root : is_at (nat_cmp n) 0 ≡ false
+  at : number_by (with_node old n node) 0 (folded_path path) ≡ Some n
+
+placed : (old : List Numbered) (path : Path) (n : ℕ) (node : Node) → IsTable old → IsTable (with_node old n node) → IsNew old path → HangsAt old path node → node_at old n ≡ None → Placed old path n node
+placed old path n node t u new hangs free = record { there = there; gone = gone; root = root; at = at } where
   there : node_at (with_node old n node) n ≡ Some node
   there = at_with old n node n ∙ rw (at_self n) refl
 
@@ -51,6 +57,16 @@ put_tree old path n node t u new hangs free = inserted_tree (with_node old n nod
   at : number_by (with_node old n node) 0 (folded_path path) ≡ Some n
   at = ap (λ (p : Path). number_by (with_node old n node) 0 p) new.key ∙ (by_last (with_node old n node) (folded_path (up path)) (folded (last_part path)) 0 new.parent above
       ∙ child_at (with_node old n node) new.parent (folded (last_part path)) n u (record { node = node; at = there; parent_is = sym (hung_parent old path node new hangs); name_is = ap folded hangs.name }))
+
+pub put_tree : (old : List Numbered) (path : Path) (n : ℕ) (node : Node) → IsTable old → IsTable (with_node old n node) → IsNew old path → HangsAt old path node → node_at old n ≡ None
+    → tree_of (with_node old n node) ≡ maps.insert (tree_of old) (folded_path path) (entry_of_node node)
+put_tree old path n node t u new hangs free =
+    let p = placed old path n node t u new hangs free in
+    inserted_tree (with_node old n node) old n node (folded_path path) u t p.gone p.root p.at p.there
+
+-- the path of a new node leads to it
+pub put_number : (old : List Numbered) (path : Path) (n : ℕ) (node : Node) → IsTable old → IsTable (with_node old n node) → first_cause (e.new_name_causes (tree_of old) path) ≡ None → HangsAt old path node → node_at old n ≡ None → number_of (with_node old n node) path ≡ Some n
+put_number old path n node t u none hangs free = number_is (with_node old n node) path ∙ (placed old path n node t u (new_name old path t none) hangs free).at
 
 abbrev entry_named : Bytes → NodeKind → ℕ → TreeEntry
 entry_named name kind file = record { name = name; node = node_kind kind file }

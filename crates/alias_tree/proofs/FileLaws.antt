@@ -145,13 +145,13 @@ low_put nodes new low n node l nodes_are = record {
 -- ---- the names of a file
 
 -- a name that is there is a node's
-record Shown (nodes : List Numbered) (q : FileName) : Type 0 where
-  node : Node
-  at : node_at nodes q.number ≡ Some node
-  names : names_file q.file (node_kind node.kind node.file) ≡ true
-  is_alias : is_alias_of q.file (node_kind node.kind node.file) ≡ q.is_alias
+pub record Shown (nodes : List Numbered) (q : FileName) : Type 0 where
+  pub node : Node
+  pub at : node_at nodes q.number ≡ Some node
+  pub names : names_file q.file (node_kind node.kind node.file) ≡ true
+  pub is_alias : is_alias_of q.file (node_kind node.kind node.file) ≡ q.is_alias
 
-shown : (nodes : List Numbered) (names : List FileName) (q : FileName) → IsFileIndex nodes names → has_name names q ≡ true → Shown nodes q
+pub shown : (nodes : List Numbered) (names : List FileName) (q : FileName) → IsFileIndex nodes names → has_name names q ≡ true → Shown nodes q
 shown nodes names q i e = one (node_at nodes q.number) refl (sym (i.same q) ∙ e) where
   two : (node : Node) (kind : NodeKind) → node.kind ≡ kind → node_at nodes q.number ≡ Some node → is_it (name_by_kind q.number node.file kind) q ≡ true → Shown nodes q
   two node Directory k at e = absurd (true≢false (sym e))
@@ -168,14 +168,15 @@ shown nodes names q i e = one (node_at nodes q.number) refl (sym (i.same q) ∙ 
   one (Some node) at e = two node node.kind refl at e
 
 -- a node that names a file has a name that is there
-record Named (nodes : List Numbered) (names : List FileName) (file : ℕ) (x : Numbered) : Type 0 where
-  q : FileName
-  file_is : q.file ≡ file
-  there : has_name names q ≡ true
-  small : q.number < 2 ^ 32
-  is_alias : is_alias_of file (node_kind x.1.kind x.1.file) ≡ q.is_alias
+pub record Named (nodes : List Numbered) (names : List FileName) (file : ℕ) (x : Numbered) : Type 0 where
+  pub q : FileName
+  pub file_is : q.file ≡ file
+  pub number_is : q.number ≡ x.0
+  pub there : has_name names q ≡ true
+  pub small : q.number < 2 ^ 32
+  pub is_alias : is_alias_of file (node_kind x.1.kind x.1.file) ≡ q.is_alias
 
-named : (nodes : List Numbered) (names : List FileName) (file n : ℕ) (node : Node) → IsItemTable is_before item_of nodes → IsFileIndex nodes names → node_at nodes n ≡ Some node → names_file file (node_kind node.kind node.file) ≡ true → Named nodes names file (n, node)
+pub named : (nodes : List Numbered) (names : List FileName) (file n : ℕ) (node : Node) → IsItemTable is_before item_of nodes → IsFileIndex nodes names → node_at nodes n ≡ Some node → names_file file (node_kind node.kind node.file) ≡ true → Named nodes names file (n, node)
 named nodes names file n node t i at e = one node.kind refl e where
   there : (q : FileName) → q.number ≡ n → is_it (name_by_kind n node.file node.kind) q ≡ true → has_name names q ≡ true
   there q number e = had nodes names n q i (sym number) ∙ (ap (λ (o : Option Node). is_it (name_of_node n o) q) at ∙ e)
@@ -188,6 +189,7 @@ named nodes names file n node t i at e = one node.kind refl e where
   one System k e = record {
     q = made node.file false n;
     file_is = eqb-true node.file file e;
+    number_is = refl;
     there = there (made node.file false n) refl (rw k (name_self (made node.file false n)));
     small = small;
     is_alias = rw k refl;
@@ -195,6 +197,7 @@ named nodes names file n node t i at e = one node.kind refl e where
   one Alias k e = record {
     q = made node.file true n;
     file_is = eqb-true node.file file e;
+    number_is = refl;
     there = there (made node.file true n) refl (rw k (name_self (made node.file true n)));
     small = small;
     is_alias = rw k e;

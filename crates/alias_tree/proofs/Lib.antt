@@ -20,3 +20,5 @@ pub mod Names
 pub mod FileLaws
 pub mod FoundFaults
 pub mod OpenLaws
+pub mod FileNumbers
+pub mod PlanLaws

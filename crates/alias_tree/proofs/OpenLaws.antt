@@ -1,5 +1,5 @@
 -- One record more or less of an open tree, and one entry more of a copy.
-use Rattle.std.proofs.Common.{◌≡◌, ℕ, ◌≤◌, Bool, true, false, cond, List, ◌∷◌, ◌++◌, length, Option, Some, None, refl, sym, ap, subst, ◌∙◌, inl, inr, ◌⊎◌}
+use Rattle.std.proofs.Common.{◌≡◌, ℕ, ◌≤◌, true, cond, List, ◌∷◌, ◌++◌, length, Option, Some, None, refl, sym, ap, subst, ◌∙◌, inl, inr}
 use Rattle.std.specs.Prelude.{is_some}
 use Rattle.std.specs.Option.{option_map}
 use Rattle.std.specs.Ordering.{nat_cmp}
@@ -13,7 +13,7 @@ use Rattle.asm_formats.proofs.Bodies.{item_codec}
 use Rattle.asm_base.specs.Records.{Ascend}
 use Rattle.asm_base.proofs.Copying.{copied_more}
 use Rattle.asm_base.proofs.ItemTables.{put_keeps, removed_keeps}
-use Rattle.alias_tree.specs.Nodes.{Numbered, IsTable, is_before, item_of, node_at, with_node, without_node}
+use Rattle.alias_tree.specs.Nodes.{Numbered, is_before, item_of, node_at, with_node, without_node}
 use Rattle.alias_tree.specs.Opening as opening
 use Rattle.alias_tree.specs.Opening.{AreNodes, Refuses, value_at}
 use Rattle.alias_tree.specs.Places.{IsIndex, Place, number_at, place_of}

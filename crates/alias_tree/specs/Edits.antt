@@ -1,6 +1,6 @@
 -- What edits of the tree mean, and what each makes of the nodes.
-use Rattle.std.specs.Prelude.{◌≡◌, ◌⊎◌, ℕ, ◌<◌, Bool, true, false, List, Option, Some, None, Result, Err, IsTrue, is_some, if◌then◌else◌}
-use Rattle.std.specs.List.{list_all}
+use Rattle.std.specs.Prelude.{◌≡◌, ◌⊎◌, ℕ, ◌<◌, ◌==◌, Bool, true, false, List, [], ◌∷◌, Option, Some, None, Result, Err, IsTrue, is_some, if◌then◌else◌}
+use Rattle.std.specs.List.{list_all, list_any}
 use Rattle.asm_group.specs.declared.NodeKind.{NodeKind}
 use Rattle.asm_group.specs.declared.NodeKind.TheVariants.{Directory, System, Alias}
 use Rattle.asm_group.specs.Names.{Path, is_part}
@@ -12,6 +12,8 @@ use Rattle.alias_tree.specs.declared.editing.TreeEdit.{TreeEdit}
 use Rattle.alias_tree.specs.declared.editing.TreeEdit.TheVariants as code
 use Rattle.alias_tree.specs.declared.editing.TreeError.{TreeError}
 use Rattle.alias_tree.specs.declared.editing.TreeError.TheVariants as cause
+use Rattle.alias_tree.specs.declared.planning.TreeChange.{TreeChange}
+use Rattle.alias_tree.specs.declared.planning.TreeChange.TheVariants as change
 use Rattle.alias_tree.specs.Nodes.{Numbered, node_at, number_of, with_node, without_node}
 use Rattle.asm_formats.specs.Nodes.{node_kind}
 use Rattle.alias_tree.specs.Trees.{tree_of}
@@ -125,3 +127,54 @@ ChangesNodes old new (e.RenameAlias from to) = MovesNode old new from to
 ChangesNodes old new (e.DropAlias path) = RemovesNode old new path
 ChangesNodes old new (e.AddFile path file) = PutsNode old new path System file
 ChangesNodes old new (e.DropFile file) = RemovesNames old new file
+
+-- ---- what an edit changes
+
+-- the node of a new name, with its number, to which its path then leads
+pub record IsMade (nodes : List Numbered) (path : Path) (kind : NodeKind) (file number : ℕ) (node : Node) : Type 0 where
+  pub free : IsLeastFree nodes number
+  pub hangs : HangsAt nodes path node
+  pub kind_is : node.kind ≡ kind
+  pub file_is : node.file ≡ file
+  pub at : number_of (with_node nodes number node) path ≡ Some number
+
+-- the node of a new alias of the file that the node at the end of a path names
+pub record IsMadeAlias (nodes : List Numbered) (alias path : Path) (number : ℕ) (node : Node) : Type 0 where
+  pub file : ℕ
+  pub file_is : e.file_at (tree_of nodes) path ≡ Some file
+  pub made : IsMade nodes alias Alias file number node
+
+-- the node that an edit puts
+abbrev pub IsPut : List Numbered → e.TreeEdit → ℕ → Node → Type 0
+IsPut nodes (e.MakeDir path) number node = IsMade nodes path Directory 0 number node
+IsPut nodes (e.RenameDir from to) number node = IsMoved nodes from to number node
+IsPut nodes (e.AddAlias alias path) number node = IsMadeAlias nodes alias path number node
+IsPut nodes (e.RenameAlias from to) number node = IsMoved nodes from to number node
+IsPut nodes (e.AddFile path file) number node = IsMade nodes path System file number node
+IsPut nodes _ number node = ⊥
+
+-- the node that goes by an edit
+abbrev pub IsGone : List Numbered → e.TreeEdit → ℕ → Type 0
+IsGone nodes (e.DropDir path) number = number_of nodes path ≡ Some number
+IsGone nodes (e.DropAlias path) number = number_of nodes path ≡ Some number
+IsGone nodes _ number = ⊥
+
+-- the names that go with a file
+abbrev pub AreGone : List Numbered → e.TreeEdit → List ℕ → Type 0
+AreGone nodes (e.DropFile file) numbers = (n : ℕ) → list_any (λ m. m == n) numbers ≡ is_name_of file (node_at nodes n)
+AreGone nodes _ numbers = ⊥
+
+-- What an edit changes: it puts one node, or one goes, or the names of a file.
+abbrev pub IsChange : List Numbered → e.TreeEdit → TreeChange → Type 0
+IsChange nodes edit (change.Put number node) = IsPut nodes edit number node
+IsChange nodes edit (change.Gone number) = IsGone nodes edit number
+IsChange nodes edit (change.NamesGone numbers) = AreGone nodes edit numbers.items
+
+abbrev pub without_all : List Numbered → List ℕ → List Numbered
+without_all nodes [] = nodes
+without_all nodes (n ∷ ns) = without_all (without_node nodes n) ns
+
+abbrev pub nodes_after : List Numbered → TreeChange → List Numbered
+nodes_after nodes (change.Put number node) = with_node nodes number node
+nodes_after nodes (change.Gone number) = without_node nodes number
+nodes_after nodes (change.NamesGone numbers) = without_all nodes numbers.items

@@ -1,8 +1,10 @@
 -- The index of the names by file, and the least number that may be free.
-use Rattle.std.specs.Prelude.{◌≡◌, ℕ, ◌<◌, Bool, true, false, ◌&&◌, not, List, Option, Some, None, IsTrue, is_some, if◌then◌else◌}
+use Rattle.std.specs.Prelude.{◌≡◌, ℕ, ◌<◌, Bool, true, false, ◌&&◌, not, List, map, filter, Option, Some, None, IsTrue, is_some, if◌then◌else◌}
 use Rattle.std.specs.Ordering.{nat_cmp, bool_cmp, ordering_then, is_eq}
 use Rattle.std.specs.declared.cmp.Ordering.{Ordering}
 use Rattle.std.specs.BTreeMap.{is_at}
+use Rattle.std.specs.BTreeMap.Range.{range_contains}
+use Rattle.std.specs.declared.ops.Bound.TheVariants.{Included}
 use Rattle.std.specs.List.{list_any}
 use Rattle.asm_group.specs.declared.NodeKind.{NodeKind}
 use Rattle.asm_group.specs.declared.NodeKind.TheVariants.{Directory, System, Alias}
@@ -40,6 +42,17 @@ is_it (Some p) q = is_same_name p q
 -- the index has just the names that the nodes are
 pub record IsFileIndex (nodes : List Numbered) (names : List FileName) : Type 0 where
   pub same : (q : FileName) → has_name names q ≡ is_it (name_of_node q.number (node_at nodes q.number)) q
+
+-- before and behind the names of a file
+abbrev pub first_name : ℕ → FileName
+first_name file = record { file = file; is_alias = false; number = 0 }
+
+abbrev pub last_name : ℕ → FileName
+last_name file = record { file = file; is_alias = true; number = 4294967295 }
+
+-- the nodes that the index has as names of a file
+abbrev pub numbers_of_file : List FileName → ℕ → List ℕ
+numbers_of_file names file = map (λ (q : FileName). q.number) (filter (range_contains name_cmp (Included (first_name file)) (Included (last_name file))) names)
 
 -- whether a name is there, where one goes unless it is the one that is kept
 abbrev pub forgotten : Option FileName → Option FileName → FileName → Bool → Bool

@@ -117,7 +117,7 @@ impl AliasTree {
     }
 
     /// Why an edit is refused, or None where it isn't.
-    fn refusal(&self, edit: &TreeEdit) -> Option<TreeError>
+    pub(crate) fn refusal(&self, edit: &TreeEdit) -> Option<TreeError>
         ensures { option_map cause_said result ≡ first_cause (edit_causes (tree_of self.now) (edit_meant edit.now)) }
     {
         match edit {

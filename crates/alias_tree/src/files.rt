@@ -1,10 +1,10 @@
 //! The index of the names by file.
 
-ghost use Rattle.std.specs.Prelude.{◌≡◌, ◌<◌, ◌^◌, ◌||◌, [], ℕ, IfNone, IfSome, IsTrue, OnErr, OnOk, Some, None, false, true};
+ghost use Rattle.std.specs.Prelude.{◌≡◌, ◌<◌, ◌^◌, ◌||◌, [], ℕ, IfNone, IfOk, IfSome, IsTrue, OnErr, OnOk, Some, None, false, true};
 ghost use Rattle.std.specs.Ordering.{is_gt};
 ghost use Rattle.std.specs.BTreeMap.Range.{IsInRange};
 ghost use Rattle.std.specs.declared.ops.Bound.TheVariants.{Included};
-ghost use Rattle.alias_tree.specs.FileNames.{forgotten, has_name, is_it, is_same_name, name_by_kind, name_cmp, FileName};
+ghost use Rattle.alias_tree.specs.FileNames.{forgotten, has_name, is_it, is_same_name, name_by_kind, name_cmp, numbers_of_file, FileName};
 
 use asm_base::{NoMemory, NodeKind};
 use std::alloc::Global;
@@ -123,6 +123,29 @@ impl FileNames {
             number: u32::MAX,
         };
         self.between(from, to).is_some()
+    }
+
+    /// The nodes that are names of the file.
+    pub(crate) fn all(&self, alloc: Global, file: u32) -> Result<Vec<u32>, NoMemory>
+        ensures { IfOk result (λ v. v.items ≡ numbers_of_file self.now file) }
+    {
+        let from = FileName {
+            file,
+            is_alias: false,
+            number: 0,
+        };
+        let to = FileName {
+            file,
+            is_alias: true,
+            number: u32::MAX,
+        };
+        let mut numbers = Vec::new(alloc);
+        for name in self.set.range(from..=to) {
+            if numbers.push(name.number).is_err() {
+                return Err(NoMemory);
+            }
+        }
+        Ok(numbers)
     }
 
     /// The first name that is between two.

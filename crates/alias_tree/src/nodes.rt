@@ -94,6 +94,7 @@ impl Nodes {
         match self.map.insert(number, node) {
             Ok(_) => {
                 self.names.forget(before, after);
+                self.low = past_taken(&self.map, self.low);
                 Ok(())
             }
             Err(_) => {
@@ -114,16 +115,12 @@ impl Nodes {
         self.map.remove(&number).is_some()
     }
 
-    /// The least number from 1 that no node has. It is looked for from the last one on that was found, or from the least
-    /// that was taken away since.
-    pub(crate) fn free_number(&mut self) -> Option<u32>
-        ensures least { IfSome result (IsLeastFree self.old) }
+    /// The least number from 1 that no node has.
+    pub(crate) fn free_number(&self) -> Option<u32>
+        ensures least { IfSome result (IsLeastFree self.now) }
         ensures small { IfSome result (λ n. n < 2 ^ 32) }
-        ensures same { self.new ≡ self.old }
     {
-        let free = first_free(&self.map, self.low)?;
-        self.low = free;
-        Some(free)
+        first_free(&self.map, self.low)
     }
 
     /// Whether a node is a user alias of the file.
@@ -141,6 +138,15 @@ impl Nodes {
         ensures named { IfSome result (λ n. is_name_of file (node_at self.now n) ≡ true) }
     {
         self.names.first(file)
+    }
+
+    /// The nodes that are names of the file.
+    pub(crate) fn names_of(&self, alloc: Global, file: u32) -> Result<Vec<u32>, NoMemory>
+        requires { IsItemTable is_before item_of self.now }
+        ensures { IfOk result (λ v. (n : ℕ) → list_any (λ m. m == n) v.items ≡ is_name_of file (node_at self.now n)) }
+    {
+        let numbers = self.names.all(alloc, file)?;
+        Ok(numbers)
     }
 
     /// Equal nodes.
@@ -294,4 +300,15 @@ fn first_free(map: &BTreeMap<u32, Node>, low: u32) -> Option<u32>
         number = number.checked_add(1)?;
     }
     Some(number)
+}
+
+/// A number below which none is free: the least that is, where `low` is such a number.
+fn past_taken(map: &BTreeMap<u32, Node>, low: u32) -> u32
+    requires { IsLow map.now.entries low }
+    ensures { IsLow map.now.entries result }
+{
+    match first_free(map, low) {
+        Some(number) => number,
+        None => low,
+    }
 }

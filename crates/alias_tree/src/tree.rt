@@ -41,7 +41,7 @@ impl Model for AliasTree {
 
 impl AliasTree {
     ghost use Rattle.std.specs.Prelude.{List as Items};
-    ghost use Rattle.alias_tree.specs.Edits.{IsLeastFree, is_name_of};
+    ghost use Rattle.alias_tree.specs.Edits.{IsLeastFree, is_name_of, without_all};
     ghost use Rattle.asm_formats.specs.Nodes.{entry_of_node, node_kind};
     ghost use Rattle.alias_tree.specs.Trees.{node_by, tree_of};
     ghost use Rattle.alias_tree.specs.Nodes.{IsTable, KeepsRule, Numbered, are_distinct, child, is_mine, is_under, node_at, number_from, number_of, record_of, with_node, without_node};
@@ -230,11 +230,20 @@ impl AliasTree {
         self.nodes.name_of(file)
     }
 
+    /// The nodes that are names of the file. They may go.
+    #[tactic(auto, using(crate::proofs::IndexLaws::nodes_of))]
+    pub(crate) fn names_of(&self, alloc: Global, file: u32) -> Result<Vec<u32>, NoMemory>
+        ensures all { IfOk result (λ v. (n : ℕ) → list_any (λ m. m == n) v.items ≡ is_name_of file (node_at self.now n)) }
+        ensures table { IfOk result (λ v. IsTable (without_all self.now v.items)) }
+    {
+        let numbers = self.nodes.names_of(alloc, file)?;
+        Ok(numbers)
+    }
+
     /// The least number from 1 that no node has.
-    pub(crate) fn free_number(&mut self) -> Option<u32>
-        ensures least { IfSome result (IsLeastFree self.old) }
+    pub(crate) fn free_number(&self) -> Option<u32>
+        ensures least { IfSome result (IsLeastFree self.now) }
         ensures small { IfSome result (λ n. n < 2 ^ 32) }
-        ensures same { self.new ≡ self.old }
     {
         self.nodes.free_number()
     }
