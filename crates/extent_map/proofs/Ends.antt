@@ -54,17 +54,17 @@ not_lower x y file next e = none (lower x y e) where
 -- ---- the rule, by the chunks that are found
 
 -- the chunk before is the full one past, or a full one of the table
-abbrev Before : Option Chunk → List Chunked → Chunk → Type 0
+abbrev pub Before : Option Chunk → List Chunked → Chunk → Type 0
 Before past t k = (c : ℕ) × (k.1 ≡ c + 1) × ((past ≡ Some (k.0, c)) ⊎ Full t (k.0, c))
 
-abbrev Place : Option Chunk → List Chunked → Chunk → List Homes → Type 0
+abbrev pub Place : Option Chunk → List Chunked → Chunk → List Homes → Type 0
 Place past t k homes = (is_blank homes ≡ true) ⊎ ((k.1 ≡ 0) ⊎ Before past t k)
 
-record IsRight (past : Option Chunk) (t : List Chunked) (k : Chunk) (homes : List Homes) : Type 0 where
-  stands : Stands homes
-  place : Place past t k homes
+pub record IsRight (past : Option Chunk) (t : List Chunked) (k : Chunk) (homes : List Homes) : Type 0 where
+  pub stands : Stands homes
+  pub place : Place past t k homes
 
-abbrev Rule : Option Chunk → List Chunked → Type 0
+abbrev pub Rule : Option Chunk → List Chunked → Type 0
 Rule past t = (k : Chunk) (homes : List Homes) → chunk_at t k ≡ Some homes → IsRight past t k homes
 
 -- what is past comes before all chunks
@@ -132,7 +132,7 @@ no_gap : (t : List Chunked) (past : Option Chunk) → Rule past t → Ascend is_
 no_gap [] past rule up is = refl
 no_gap (x ∷ t) past rule up is = rw (stands_here past x t rule up) (no_gap t (opened x) (rule_on past x t rule up is) (tail_up x t up) (past_on x t up))
 
-rule_of : (t : List Chunked) → IsTable t → Rule None t
+pub rule_of : (t : List Chunked) → IsTable t → Rule None t
 rule_of t fits k homes e = record { stands = all_stand t None k homes fits.1 e; place = by (is_blank homes) refl k.1 refl } where
   by : (b : Bool) → is_blank homes ≡ b → (n : ℕ) → k.1 ≡ n → Place None t k homes
   by true q n m = inl q
@@ -147,34 +147,24 @@ rule_of t fits k homes e = record { stands = all_stand t None k homes fits.1 e; 
 
 -- ---- another chunk
 
--- the table u is t with these homes in a chunk
-pub record IsChange (t u : List Chunked) (k : Chunk) (homes : List Homes) : Type 0 where
-  pub here : chunk_at u k ≡ Some homes
+-- the table u is t but for a chunk, which may be gone
+pub record IsEdit (t u : List Chunked) (k : Chunk) : Type 0 where
   pub others : (q : Chunk) → is_at (chunk_cmp q) k ≡ false → chunk_at u q ≡ chunk_at t q
   pub items : IsItemTable is_before item_of u
 
--- the chunks before it are full, and the one behind it has no extents
-abbrev pub FullBelow : List Chunked → Chunk → Type 0
-FullBelow t k = (c : ℕ) → k.1 ≡ c + 1 → Full t (k.0, c)
-
-abbrev pub BlankAbove : List Chunked → Chunk → Type 0
-BlankAbove t k = (homes : List Homes) → chunk_at t (k.0, k.1 + 1) ≡ Some homes → is_blank homes ≡ true
-
-lower_is_other : (k : Chunk) (c : ℕ) → k.1 ≡ c + 1 → is_at (chunk_cmp (k.0, c)) k ≡ false
+pub lower_is_other : (k : Chunk) (c : ℕ) → k.1 ≡ c + 1 → is_at (chunk_cmp (k.0, c)) k ≡ false
 lower_is_other k c next = by (is_at (chunk_cmp (k.0, c)) k) refl where
   by : (b : Bool) → is_at (chunk_cmp (k.0, c)) k ≡ b → is_at (chunk_cmp (k.0, c)) k ≡ false
   by true q = absurd (omega (arith, next, ap (λ (j : Chunk). j.1) (same_chunk (k.0, c) k (is_same (chunk_cmp (k.0, c) k) q))))
   by false q = q
 
-module _ (t u : List Chunked) (k : Chunk) (w : List Homes) (fits : IsTable t) (change : IsChange t u k w) (stands : Stands w) (below : FullBelow t k) (above : BlankAbove t k) where
-  still_full : (j : Chunk) → is_at (chunk_cmp j) k ≡ false → Full t j → Full u j
-  still_full j other full = (full.0, change.others j other ∙ full.1, full.2)
+pub still_full : (t u : List Chunked) (k : Chunk) → IsEdit t u k → (j : Chunk) → is_at (chunk_cmp j) k ≡ false → Full t j → Full u j
+still_full t u k edit j other full = (full.0, edit.others j other ∙ full.1, full.2)
 
-  place_of : (n : ℕ) → k.1 ≡ n → Place None u k w
-  place_of zero m = inr (inl m)
-  place_of (suc c) m = let next : k.1 ≡ c + 1 = omega (arith, m) in inr (inr (c, next, inr (still_full (k.0, c) (lower_is_other k c next) (below c next))))
-
-  -- a chunk behind the full one that changes has no extents, and others stand as before
+-- what stands at the chunk is right, and behind it are no extents, or it is full if it was
+module _ (t u : List Chunked) (k : Chunk) (fits : IsTable t) (edit : IsEdit t u k) (here : (w : List Homes) → chunk_at u k ≡ Some w → IsRight None u k w)
+    (behind : (homes : List Homes) → chunk_at t (k.0, k.1 + 1) ≡ Some homes → (is_blank homes ≡ true) ⊎ (Full t k → Full u k)) where
+  -- a chunk behind the one that changes has no extents or stands behind a full one, and others stand as before
   place_on : (q : Chunk) (homes : List Homes) → chunk_at t q ≡ Some homes → Place None t q homes → Place None u q homes
   place_on q homes e (inl blank) = inl blank
   place_on q homes e (inr (inl none)) = inr (inl none)
@@ -184,20 +174,68 @@ module _ (t u : List Chunked) (k : Chunk) (w : List Homes) (fits : IsTable t) (c
     by true h =
         let same = same_chunk (q.0, c) k (is_same (chunk_cmp (q.0, c) k) h) in
         let at : chunk_at t (k.0, k.1 + 1) ≡ Some homes = ap (λ (j : Chunk). chunk_at t (j.0, j.1 + 1)) (sym same) ∙ ap (λ (n : ℕ). chunk_at t (q.0, n)) (sym next) ∙ e in
-        inl (above homes at)
-    by false h = inr (inr (c, next, inr (still_full (q.0, c) h full)))
+        elim (behind homes at) [
+          | inl blank ↦ inl blank
+          | inr stays ↦ inr (inr (c, next, inr (subst (λ (j : Chunk). Full u j) (sym same) (stays (subst (λ (j : Chunk). Full t j) same full)))))
+        ]
+    by false h = inr (inr (c, next, inr (still_full t u k edit (q.0, c) h full)))
 
-  changed_rule : Rule None u
-  changed_rule q homes e = by (is_at (chunk_cmp q) k) refl where
+  edited_rule : Rule None u
+  edited_rule q homes e = by (is_at (chunk_cmp q) k) refl where
     by : (b : Bool) → is_at (chunk_cmp q) k ≡ b → IsRight None u q homes
     by true h =
         let same = same_chunk q k (is_same (chunk_cmp q k) h) in
-        let is : w ≡ homes = some_is w homes (sym change.here ∙ ap (chunk_at u) (sym same) ∙ e) in
-        subst (λ (j : Chunk). IsRight None u j homes) (sym same) (subst (λ (hs : List Homes). IsRight None u k hs) is (record { stands = stands; place = place_of k.1 refl }))
+        subst (λ (j : Chunk). IsRight None u j homes) (sym same) (here homes (ap (chunk_at u) (sym same) ∙ e))
     by false h =
-        let at = sym (change.others q h) ∙ e in
+        let at = sym (edit.others q h) ∙ e in
         let r = rule_of t fits q homes at in
         record { stands = r.stands; place = place_on q homes at r.place }
 
-  pub changed_table : IsTable u
-  changed_table = (change.items, no_gap u None changed_rule change.items.0 (λ j q homes e at. absurd (none-some j e)))
+  pub edited_table : IsTable u
+  edited_table = (edit.items, no_gap u None edited_rule edit.items.0 (λ j q homes e at. absurd (none-some j e)))
+
+-- the table u is t with these homes in a chunk
+pub record IsChange (t u : List Chunked) (k : Chunk) (homes : List Homes) : Type 0 where
+  pub here : chunk_at u k ≡ Some homes
+  pub edit : IsEdit t u k
+
+-- the chunks before it are full, and the one behind it has no extents
+abbrev pub FullBelow : List Chunked → Chunk → Type 0
+FullBelow t k = (c : ℕ) → k.1 ≡ c + 1 → Full t (k.0, c)
+
+abbrev pub BlankAbove : List Chunked → Chunk → Type 0
+BlankAbove t k = (homes : List Homes) → chunk_at t (k.0, k.1 + 1) ≡ Some homes → is_blank homes ≡ true
+
+module _ (t u : List Chunked) (k : Chunk) (w : List Homes) (fits : IsTable t) (change : IsChange t u k w) where
+  abbrev edit : IsEdit t u k
+  edit = change.edit
+
+  its_homes : (P : List Homes → Type 0) → P w → (v : List Homes) → chunk_at u k ≡ Some v → P v
+  its_homes P is v e = subst P (some_is w v (sym change.here ∙ e)) is
+
+  place_of : FullBelow t k → (n : ℕ) → k.1 ≡ n → Place None u k w
+  place_of below zero m = inr (inl m)
+  place_of below (suc c) m = let next : k.1 ≡ c + 1 = omega (arith, m) in inr (inr (c, next, inr (still_full t u k edit (k.0, c) (lower_is_other k c next) (below c next))))
+
+  pub changed_table : Stands w → FullBelow t k → BlankAbove t k → IsTable u
+  changed_table stands below above =
+      edited_table t u k fits edit (its_homes (λ v. IsRight None u k v) (record { stands = stands; place = place_of below k.1 refl })) (λ homes e. inl (above homes e))
+
+  -- where the chunk has extents at the same places as before
+  pub replaced_table : (old : List Homes) → chunk_at t k ≡ Some old → stand_first false w ≡ stand_first false old → is_full w ≡ is_full old → is_blank w ≡ is_blank old → IsTable u
+  replaced_table old there stands full blank =
+      edited_table t u k fits edit (its_homes (λ v. IsRight None u k v) (record { stands = stands ∙ r.stands; place = place r.place })) (λ homes e. inr stays)
+    where
+      r : IsRight None t k old
+      r = rule_of t fits k old there
+
+      place : Place None t k old → Place None u k w
+      place (inl none) = inl (blank ∙ none)
+      place (inr (inl first)) = inr (inl first)
+      place (inr (inr (c, next, inl before))) = absurd (none-some (k.0, c) before)
+      place (inr (inr (c, next, inr before))) = inr (inr (c, next, inr (still_full t u k edit (k.0, c) (lower_is_other k c next) before)))
+
+      stays : Full t k → Full u k
+      stays is =
+          let same : is.0 ≡ old = some_is is.0 old (sym is.1 ∙ there) in
+          (w, change.here, full ∙ ap is_full (sym same) ∙ is.2)

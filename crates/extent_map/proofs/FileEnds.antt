@@ -20,7 +20,7 @@ use Rattle.extent_map.proofs.Ends.{BlankAbove, FullBelow, IsChange, changed_tabl
 -- ---- the count
 
 -- a file that has an extent has those before it
-has_below : (t : List Chunked) (f : ℕ) → IsTable t → (k i : ℕ) → has_extent t f (i + k) ≡ true → has_extent t f i ≡ true
+pub has_below : (t : List Chunked) (f : ℕ) → IsTable t → (k i : ℕ) → has_extent t f (i + k) ≡ true → has_extent t f i ≡ true
 has_below t f fits zero i e = ap (has_extent t f) (omega arith) ∙ e
 has_below t f fits (suc k) i e = has_below t f fits k i (numbers_extents t f (i + k) fits (ap (has_extent t f) (omega arith) ∙ e))
 
@@ -46,14 +46,14 @@ past_end [] i d le = refl
 past_end (x ∷ xs) zero d le = absurd (omega (arith, le))
 past_end (x ∷ xs) (suc i) d le = past_end xs i d (omega (arith, le))
 
-abbrev has_at : List Homes → ℕ → Bool
+abbrev pub has_at : List Homes → ℕ → Bool
 has_at homes p = has_home (get_or homes p [])
 
 -- those below a number are there, and the others not
-abbrev Reaches : List Homes → ℕ → Type 0
+abbrev pub Reaches : List Homes → ℕ → Type 0
 Reaches homes r = ((p : ℕ) → p < length homes → p < r → has_at homes p ≡ true) × ((p : ℕ) → p < length homes → r ≤ p → has_at homes p ≡ false)
 
-none_stand : (homes : List Homes) (ended : Bool) → ((p : ℕ) → p < length homes → has_at homes p ≡ false) → stand_first ended homes ≡ true
+pub none_stand : (homes : List Homes) (ended : Bool) → ((p : ℕ) → p < length homes → has_at homes p ≡ false) → stand_first ended homes ≡ true
 none_stand [] ended none = refl
 none_stand (h ∷ homes) true none = rw (none 0 (omega arith)) (none_stand homes true (λ p lt. none (suc p) (omega (arith, lt))))
 none_stand (h ∷ homes) false none = rw (none 0 (omega arith)) (none_stand homes true (λ p lt. none (suc p) (omega (arith, lt))))
@@ -68,7 +68,7 @@ full_by : (homes : List Homes) → ((p : ℕ) → p < length homes → has_at ho
 full_by [] all = refl
 full_by (h ∷ homes) all = rw (all 0 (omega arith)) (full_by homes (λ p lt. all (suc p) (omega (arith, lt))))
 
-blank_by : (homes : List Homes) → ((p : ℕ) → p < length homes → has_at homes p ≡ false) → is_blank homes ≡ true
+pub blank_by : (homes : List Homes) → ((p : ℕ) → p < length homes → has_at homes p ≡ false) → is_blank homes ≡ true
 blank_by [] none = refl
 blank_by (h ∷ homes) none = rw (none 0 (omega arith)) (blank_by homes (λ p lt. none (suc p) (omega (arith, lt))))
 
@@ -108,7 +108,7 @@ quotient c p lt = omega (arith, lt)
 remainder : (c p : ℕ) → p < 256 → (c * 256 + p) % 256 ≡ p
 remainder c p lt = omega (arith, lt)
 
-same_place : (t : List Chunked) (f c p : ℕ) → p < 256 → has_extent t f (c * 256 + p) ≡ at_place (chunk_at t (f, c)) p
+pub same_place : (t : List Chunked) (f c p : ℕ) → p < 256 → has_extent t f (c * 256 + p) ≡ at_place (chunk_at t (f, c)) p
 same_place t f c p lt = ap (λ (m : ℕ). at_place (chunk_at t (f, m)) ((c * 256 + p) % 256)) (quotient c p lt) ∙ ap (at_place (chunk_at t (f, c))) (remainder c p lt)
 
 module _ (t : List Chunked) (f n : ℕ) (count : HasCount t f n) where
@@ -144,7 +144,7 @@ other_chunk f d c other = by (is_at (chunk_cmp (f, d)) (f, c)) refl where
   by false q = q
 
 -- a table in which the last chunk of a file has other extents, which stand first
-after : (t u : List Chunked) (f n c r : ℕ) (w : List Homes) → IsTable t → HasCount t f n → IsChange t u (f, c) w → length w ≡ 256 → Reaches w r → r ≤ 256 → c * 256 ≤ n → n ≤ c * 256 + 256
+pub after : (t u : List Chunked) (f n c r : ℕ) (w : List Homes) → IsTable t → HasCount t f n → IsChange t u (f, c) w → length w ≡ 256 → Reaches w r → r ≤ 256 → c * 256 ≤ n → n ≤ c * 256 + 256
     → IsTable u × HasCount u f (c * 256 + r)
 after t u f n c r w fits count change size reach few low high = (changed_table t u (f, c) w fits change (stand_by w r reach) below above, counted) where
   below : FullBelow t (f, c)
@@ -157,7 +157,7 @@ after t u f n c r w fits count change size reach few low high = (changed_table t
   inside i same = ap (λ (d : ℕ). at_place (chunk_at u (f, d)) (i % 256)) same ∙ ap (λ (o : Option (List Homes)). at_place o (i % 256)) change.here
 
   outside : (i : ℕ) → (i / 256 ≡ c → ⊥) → has_extent u f i ≡ has_extent t f i
-  outside i other = ap (λ (o : Option (List Homes)). at_place o (i % 256)) (change.others (f, i / 256) (other_chunk f (i / 256) c other))
+  outside i other = ap (λ (o : Option (List Homes)). at_place o (i % 256)) (change.edit.others (f, i / 256) (other_chunk f (i / 256) c other))
 
   counted : HasCount u f (c * 256 + r)
   counted i = elim (cases_eq (i / 256) c) [
@@ -176,25 +176,29 @@ after t u f n c r w fits count change size reach few low high = (changed_table t
 
 -- ---- an extent more, and one less
 
-item_at : (t : List Chunked) (k : Chunk) (homes : List Homes) → AllByRecursion (λ x. is_item (item_of x) ≡ true) t → chunk_at t k ≡ Some homes → is_item (item_of (k, homes)) ≡ true
+pub item_at : (t : List Chunked) (k : Chunk) (homes : List Homes) → AllByRecursion (λ x. is_item (item_of x) ≡ true) t → chunk_at t k ≡ Some homes → is_item (item_of (k, homes)) ≡ true
 item_at [] k homes all e = absurd cc
 item_at (x ∷ t) k homes all e = elim (found_or k x t homes e) [
   | inl here ↦ ap (λ (j : Chunk). is_item (item_of (j, homes))) here.0 ∙ ap (λ (hs : List Homes). is_item (item_of (x.0, hs))) (sym here.1) ∙ all.0
   | inr behind ↦ item_at t k homes all.1 behind.1
 ]
 
-set_change : (t : List Chunked) (k : Chunk) (w : List Homes) → IsTable t → is_some (chunk_at t k) ≡ true → is_item (item_of (k, w)) ≡ true → IsChange t (set_value (is_at (chunk_cmp k)) t w) k w
+pub set_change : (t : List Chunked) (k : Chunk) (w : List Homes) → IsTable t → is_some (chunk_at t k) ≡ true → is_item (item_of (k, w)) ≡ true → IsChange t (set_value (is_at (chunk_cmp k)) t w) k w
 set_change t k w fits there ok = record {
   here = set_here chunk_cmp same_chunk k w t there;
-  others = λ q other. set_other chunk_cmp same_chunk k w q other t;
-  items = (set_ascends chunk_cmp same_chunk k w t fits.0.0, set_all chunk_cmp same_chunk (λ x. is_item (item_of x) ≡ true) k w t fits.0.1 ok);
+  edit = record {
+    others = λ q other. set_other chunk_cmp same_chunk k w q other t;
+    items = (set_ascends chunk_cmp same_chunk k w t fits.0.0, set_all chunk_cmp same_chunk (λ x. is_item (item_of x) ≡ true) k w t fits.0.1 ok);
+  };
 }
 
-put_change : (t : List Chunked) (k : Chunk) (w : List Homes) → IsTable t → is_item (item_of (k, w)) ≡ true → IsChange t (with_chunk t k w) k w
+pub put_change : (t : List Chunked) (k : Chunk) (w : List Homes) → IsTable t → is_item (item_of (k, w)) ≡ true → IsChange t (with_chunk t k w) k w
 put_change t k w fits ok = record {
   here = put_here chunk_cmp same_chunk k w (found_self k.0 k.1) t;
-  others = λ q other. put_other chunk_cmp same_chunk k w q other t;
-  items = put_keeps chunk_cmp chunk_total same_chunk item_of t k w ok fits.0;
+  edit = record {
+    others = λ q other. put_other chunk_cmp same_chunk k w q other t;
+    items = put_keeps chunk_cmp chunk_total same_chunk item_of t k w ok fits.0;
+  };
 }
 
 may_stand_parts : (i : ℕ) (homes : Homes) → may_stand i homes ≡ true → (i / 256 + 1 < 2 ^ 32) × (is_homes homes ≡ true) × (has_home homes ≡ true)

@@ -4,5 +4,6 @@ pub mod Numbering
 pub mod Lookups
 pub mod Ends
 pub mod FileEnds
+pub mod ChunkEnds
 pub mod FoundGaps
 pub mod ChangeLaws

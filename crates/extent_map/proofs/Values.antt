@@ -1,5 +1,5 @@
 -- The value of a chunk's record is read exactly.
-use Rattle.std.proofs.Common.{◌≡◌, ℕ, zero, suc, replicate, ◌+◌, ◌^◌, ◌<◌, Bool, true, false, cond, eqb, ltb, List, [], ◌∷◌, ◌++◌, length, Option, Some, None, refl, sym, ap, subst, ◌∙◌, arith, inl, inr}
+use Rattle.std.proofs.Common.{◌≡◌, ℕ, zero, suc, replicate, take, drop, ◌+◌, ◌^◌, ◌<◌, Bool, true, false, cond, eqb, ltb, List, [], ◌∷◌, ◌++◌, length, Option, Some, None, refl, sym, ap, subst, ◌∙◌, arith, inl, inr}
 use Rattle.std.specs.Prelude.{slice_set}
 use Rattle.std.proofs.lemmas.List.{length-replicate, length-set}
 use Rattle.std.specs.Int.{w32}
@@ -40,7 +40,7 @@ decoded_where {A} {B} {s} {t} {F} {r} G meaning code spelt known one_code fits_c
   bytes = λ x fits. subst IsBytes (spelt x) (law.bytes (code x) (fits_code x fits));
 }
 
-abbrev IsHome : Option Home → Type 0
+abbrev pub IsHome : Option Home → Type 0
 IsHome o = is_home o ≡ true
 
 home_code : Option Home → ℕ × ℕ
@@ -94,7 +94,7 @@ home_exact = decoded_where IsHome home_of home_code spelt known one_code fits_co
 
 -- ---- chunks
 
-abbrev IsHomes : Homes → Type 0
+abbrev pub IsHomes : Homes → Type 0
 IsHomes hs = AreFitting IsHome 3 hs
 
 extents_exact : IsExact (flat_map (flat_map home_fields)) (AreFitting IsHomes 256) chunk_reading
@@ -190,6 +190,32 @@ pub set_allowed : (f c : ℕ) (homes : List Homes) (i : ℕ) (h : Homes) → is_
 set_allowed f c homes i h ok right =
     let fits = chunk_fits f c homes ok in
     chunk_allowed f c (slice_set homes i h) (file_of f c homes ok) (chunk_numbered f c homes ok) (length-set homes i h ∙ fits.0, set_fits homes i h fits.1 (homes_fit h right))
+
+all_append : (xs ys : List Homes) → AllByRecursion IsHomes xs → AllByRecursion IsHomes ys → AllByRecursion IsHomes (xs ++ ys)
+all_append [] ys all more = more
+all_append (x ∷ xs) ys all more = (all.0, all_append xs ys all.1 more)
+
+all_take : (n : ℕ) (xs : List Homes) → AllByRecursion IsHomes xs → AllByRecursion IsHomes (take n xs)
+all_take zero xs all = tt
+all_take (suc n) [] all = tt
+all_take (suc n) (x ∷ xs) all = (all.0, all_take n xs all.1)
+
+all_drop : (n : ℕ) (xs : List Homes) → AllByRecursion IsHomes xs → AllByRecursion IsHomes (drop n xs)
+all_drop zero xs all = all
+all_drop (suc n) [] all = tt
+all_drop (suc n) (x ∷ xs) all = all_drop n xs all.1
+
+-- a chunk with more extents, of which the old ones are of the formats
+pub blank_fits : AreFitting IsHomes 256 (replicate 256 absent)
+blank_fits = (length-replicate 256 absent, same_fits 256 absent (homes_fit absent refl))
+
+pub more_allowed : (f c n m : ℕ) (old homes : List Homes) → f < 2 ^ 32 → c + 1 < 2 ^ 32 → AreFitting IsHomes 256 old → list_all is_homes homes ≡ true → length (take n old ++ homes ++ drop m old) ≡ 256
+    → is_item (chunk_item f c (take n old ++ homes ++ drop m old)) ≡ true
+more_allowed f c n m old homes file number fits right size =
+    chunk_allowed f c (take n old ++ homes ++ drop m old) file number (
+      size,
+      all_append (take n old ++ homes) (drop m old) (all_append (take n old) homes (all_take n old fits.1) (all_map (λ hs. is_homes hs ≡ true) IsHomes homes_fit homes (each_true is_homes homes right))) (all_drop m old fits.1),
+    )
 
 pub new_allowed : (f c i : ℕ) (h : Homes) → f < 2 ^ 32 → c + 1 < 2 ^ 32 → is_homes h ≡ true → is_item (chunk_item f c (slice_set (replicate 256 absent) i h)) ≡ true
 new_allowed f c i h file number right =

@@ -1,10 +1,10 @@
 -- The table of extents, as the list of the chunks in the order of file and number.
-use Rattle.std.specs.Prelude.{ℕ, ◌+◌, ◌/◌, ◌%◌, ◌<◌, ◌^◌, ◌↔◌, Bool, true, false, ◌==◌, ◌&&◌, ◌||◌, not, List, [], ◌∷◌, get_or, nat_lt, replicate, slice_set, Option, Some, None, if◌then◌else◌, IsTrue}
+use Rattle.std.specs.Prelude.{ℕ, ◌+◌, ◌-◌, ◌*◌, ◌/◌, ◌%◌, ◌<◌, ◌^◌, ◌↔◌, Bool, true, false, ◌==◌, ◌&&◌, ◌||◌, not, List, [], ◌∷◌, ◌++◌, length, take, drop, get_or, nat_lt, replicate, slice_set, Option, Some, None, if◌then◌else◌, IsTrue}
 use Rattle.std.specs.Ordering.{nat_cmp, ordering_then, is_lt}
 use Rattle.std.specs.declared.cmp.Ordering.{Ordering}
 use Rattle.std.specs.BTreeMap.{is_at, insert_entry}
 use Rattle.std.specs.Map.{lookup, remove_entry, set_value}
-use Rattle.std.specs.List.{list_all}
+use Rattle.std.specs.List.{list_all, prefix_len}
 use Rattle.std.specs.Option.{is_some, option_and_then, unwrap_or}
 use Rattle.asm_formats.specs.Items.{Homes, Item, chunk_item, chunk_len, is_homes, Key}
 use Rattle.asm_base.specs.Records.{Entry, add_item}
@@ -74,6 +74,28 @@ with_extent table f i homes =
 
 abbrev pub without_extent : List Chunked → ℕ → ℕ → List Chunked
 without_extent table f i = with_homes table (f, i / chunk_len) (i % chunk_len) absent
+
+-- ---- a chunk with more extents
+
+-- how many of a chunk's extents are there from the first on
+abbrev pub count_in : List Homes → ℕ
+count_in chunk = prefix_len has_home chunk
+
+-- the chunk with these extents behind those
+abbrev pub with_more : List Homes → List Homes → List Homes
+with_more chunk homes = take (count_in chunk) chunk ++ homes ++ drop (count_in chunk + length homes) chunk
+
+-- the extents of a chunk, none of which are there where it isn't
+abbrev pub chunk_or_blank : List Chunked → Chunk → List Homes
+chunk_or_blank table chunk = unwrap_or (chunk_at table chunk) (replicate chunk_len absent)
+
+-- the chunk is the file's first, or the last extent of the one before is there
+abbrev pub follows : List Chunked → ℕ → ℕ → Bool
+follows table f c = (c == 0) || has_extent table f (c * chunk_len - 1)
+
+-- each extent is there, with homes of the formats
+abbrev pub are_extents : List Homes → Bool
+are_extents homes = list_all is_homes homes && list_all has_home homes
 
 -- ---- records
 

@@ -1,7 +1,7 @@
 -- What the rule of the table comes to.
-use Rattle.std.specs.Prelude.{◌<◌, ◌^◌, ℕ, suc, List, IsTrue}
-use Rattle.asm_formats.specs.Items.{Homes}
-use Rattle.extent_map.specs.Extents.{Chunked, HasCount, HasExtent, IsTable, may_stand, with_extent, without_extent}
+use Rattle.std.specs.Prelude.{◌≡◌, ◌<◌, ◌≤◌, ◌+◌, ◌*◌, ◌^◌, ℕ, suc, false, ◌&&◌, List, length, IsTrue}
+use Rattle.asm_formats.specs.Items.{Homes, chunk_len, is_homes}
+use Rattle.extent_map.specs.Extents.{Chunked, HasCount, HasExtent, IsTable, are_extents, chunk_or_blank, count_in, follows, has_extent, has_home, may_stand, with_chunk, with_extent, with_more, without_chunk, without_extent}
 
 -- the extents of each file are numbered from 0 without a gap
 abbrev pub NumbersExtents : Type 0
@@ -15,3 +15,16 @@ AppendsExtents = (table : List Chunked) (f n : ℕ) (homes : Homes) → IsTable 
 -- a table without a file's last extent is a table, and the file has one less
 abbrev pub TakesLast : Type 0
 TakesLast = (table : List Chunked) (f n : ℕ) → IsTable table → HasCount table f (suc n) → IsTable (without_extent table f n) × HasCount (without_extent table f n) f n
+
+-- a table in which an extent that is there has other homes is a table
+abbrev pub ReplacesExtents : Type 0
+ReplacesExtents = (table : List Chunked) (f i : ℕ) (homes : Homes) → IsTable table → HasExtent table f i → IsTrue (is_homes homes && has_home homes) → IsTable (with_extent table f i homes)
+
+-- a table in which a chunk that is the file's first, or stands behind a full one, has more extents is a table
+abbrev pub FillsChunks : Type 0
+FillsChunks = (table : List Chunked) (f c : ℕ) (homes : List Homes) → IsTable table → f < 2 ^ 32 → c + 1 < 2 ^ 32 → IsTrue (are_extents homes) → IsTrue (follows table f c)
+    → count_in (chunk_or_blank table (f, c)) + length homes ≤ chunk_len → IsTable (with_chunk table (f, c) (with_more (chunk_or_blank table (f, c)) homes))
+
+-- a table without a chunk behind which the file has no extent is a table
+abbrev pub TakesChunks : Type 0
+TakesChunks = (table : List Chunked) (f c : ℕ) → IsTable table → has_extent table f ((c + 1) * chunk_len) ≡ false → IsTable (without_chunk table (f, c))

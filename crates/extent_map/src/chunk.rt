@@ -1,8 +1,8 @@
 //! The extents of a chunk in memory.
 
-ghost use Rattle.std.specs.Prelude.{◌≡◌, ◌||◌, [], get_or, length, slice_set, replicate, IfOk, None};
+ghost use Rattle.std.specs.Prelude.{◌≡◌, ◌≤◌, ◌+◌, ◌||◌, [], get_or, length, slice_set, replicate, IfOk, None};
 ghost use Rattle.std.specs.Option.{is_some};
-ghost use Rattle.extent_map.specs.Extents.{absent, has_home};
+ghost use Rattle.extent_map.specs.Extents.{absent, count_in, has_home, with_more};
 
 use asm_base::{Homes, NoMemory};
 use std::alloc::Global;
@@ -67,6 +67,26 @@ impl Chunk {
         ensures { self.new ≡ slice_set self.old place homes }
     {
         self.homes[place as usize] = homes;
+    }
+
+    /// How many extents are there from the first on.
+    pub fn count(&self) -> usize
+        ensures count { result ≡ count_in self.now }
+        ensures size { length self.now ≡ 256 }
+    {
+        self.homes
+            .iter()
+            .take_while(|homes| has_home(homes))
+            .count()
+    }
+
+    /// Puts extents behind those that are there.
+    pub fn append(&mut self, homes: &[Homes])
+        requires { count_in self.old + length homes.now ≤ 256 }
+        ensures { self.new ≡ with_more self.old homes.now }
+    {
+        let first = self.count();
+        self.homes[first..first + homes.len()].copy_from_slice(homes);
     }
 }
 

@@ -1,6 +1,6 @@
 //! What the rule of a table comes to. Each law is the contract of a function that does nothing.
 
-ghost use Rattle.extent_map.specs.Laws.{AppendsExtents, NumbersExtents, TakesLast};
+ghost use Rattle.extent_map.specs.Laws.{AppendsExtents, FillsChunks, NumbersExtents, ReplacesExtents, TakesChunks, TakesLast};
 
 /// The extents of each file of a table are numbered from 0 without a gap.
 #[tactic(auto, using(crate::proofs::Numbering::numbers_extents))]
@@ -18,4 +18,22 @@ pub fn an_extent_may_be_appended()
 #[tactic(auto, using(crate::proofs::FileEnds::takes_last))]
 pub fn the_last_extent_may_go()
     ensures { TakesLast }
+{}
+
+/// A table in which an extent that is there has other homes is a table.
+#[tactic(auto, using(crate::proofs::ChunkEnds::replaces_extents))]
+pub fn an_extent_may_move()
+    ensures { ReplacesExtents }
+{}
+
+/// A table in which a chunk that is its file's first, or stands behind a full one, has more extents is a table.
+#[tactic(auto, using(crate::proofs::ChunkEnds::fills_chunks))]
+pub fn extents_may_be_appended()
+    ensures { FillsChunks }
+{}
+
+/// A table without a chunk behind which its file has no extent is a table.
+#[tactic(auto, using(crate::proofs::ChunkEnds::takes_chunks))]
+pub fn a_last_chunk_may_go()
+    ensures { TakesChunks }
 {}

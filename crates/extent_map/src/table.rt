@@ -75,6 +75,21 @@ impl ExtentMap {
         Some(chunk.as_slice())
     }
 
+    /// A copy of a chunk, or None where it isn't there.
+    pub fn copy_chunk(
+        &self,
+        alloc: Global,
+        file: u32,
+        chunk: u32,
+    ) -> Result<Option<Chunk>, NoMemory>
+        ensures { IfOk result (λ copy. copy ≡ chunk_at self.now (file, chunk)) }
+    {
+        match self.map.get(&(file, chunk)) {
+            None => Ok(None),
+            Some(chunk) => Ok(Some(chunk.copy(alloc)?)),
+        }
+    }
+
     /// The chunks in the order of file and number.
     pub fn iter(&self) -> Iter<'_, (u32, u32), Chunk>
         ensures { result ≡ self.now }
