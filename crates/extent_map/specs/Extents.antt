@@ -3,6 +3,8 @@ use Rattle.std.specs.Prelude.{ℕ, ◌+◌, ◌-◌, ◌*◌, ◌/◌, ◌%◌, 
 use Rattle.std.specs.Ordering.{nat_cmp, ordering_then, is_lt}
 use Rattle.std.specs.declared.cmp.Ordering.{Ordering}
 use Rattle.std.specs.BTreeMap.{is_at, insert_entry}
+use Rattle.std.specs.BTreeMap.Range.{entries_between}
+use Rattle.std.specs.declared.ops.Bound.TheVariants.{Included, Unbounded}
 use Rattle.std.specs.Map.{lookup, remove_entry, set_value}
 use Rattle.std.specs.List.{list_all, prefix_len}
 use Rattle.std.specs.Option.{is_some, option_and_then, unwrap_or}
@@ -32,6 +34,10 @@ with_chunk table chunk homes = insert_entry chunk_cmp table chunk homes
 
 abbrev pub without_chunk : List Chunked → Chunk → List Chunked
 without_chunk table chunk = remove_entry (is_at (chunk_cmp chunk)) table
+
+-- the chunks from this one on, in order
+abbrev pub chunks_from : List Chunked → Chunk → List Chunked
+chunks_from table chunk = entries_between chunk_cmp (Included chunk) Unbounded table
 
 -- ---- extents
 

@@ -14,7 +14,7 @@ use crate::writing::{KIND, chunk_record};
 use asm_base::{Change, ExtentId, Homes, Key, NoMemory, Records, Value};
 use std::alloc::Global;
 use std::collections::BTreeMap;
-use std::collections::btree_map::Iter;
+use std::collections::btree_map::{Iter, Range};
 use std::marker::Model;
 
 /// The homes of the extents of each file. Contracts see the list of the chunks of 256 extents, in the order of file and
@@ -36,7 +36,7 @@ impl Model for ExtentMap {
 
 impl ExtentMap {
     ghost use Rattle.extent_map.specs.Changing.{AreChunks, value_at};
-    ghost use Rattle.extent_map.specs.Extents.{Chunk as Place, chunk_cmp, absent, Chunked, IsNumbered, IsTable, add, chunk_at, extent_at, has_extent, has_no_gap, is_before, is_chunk, record_of, with_chunk, with_extent, with_homes, without_chunk, without_extent, without_gap};
+    ghost use Rattle.extent_map.specs.Extents.{Chunk as Place, chunk_cmp, absent, Chunked, IsNumbered, IsTable, add, chunk_at, chunks_from, extent_at, has_extent, has_no_gap, is_before, is_chunk, record_of, with_chunk, with_extent, with_homes, without_chunk, without_extent, without_gap};
 
     pub fn new(alloc: Global) -> ExtentMap
         ensures { result ≡ [] }
@@ -95,6 +95,14 @@ impl ExtentMap {
         ensures { result ≡ self.now }
     {
         self.map.iter()
+    }
+
+    /// The chunks from this one on, whether it is there or not, in the order of file and number. Those before it are passed
+    /// over by their keys.
+    pub fn iter_from(&self, chunk: (u32, u32)) -> Range<'_, (u32, u32), Chunk>
+        ensures { result ≡ chunks_from self.now chunk }
+    {
+        self.map.range(chunk..)
     }
 
     /// How many chunks there are.
