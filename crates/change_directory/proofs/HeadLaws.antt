@@ -9,7 +9,8 @@ use Rattle.std.proofs.lemmas.List.{append-nil, drop-drop, length-drop, take_all}
 use Rattle.asm_group.specs.Names.{Bytes}
 use Rattle.asm_formats.specs.Bytes.{number_at, repeated, spelled_by}
 use Rattle.asm_formats.specs.Logs.{LogHead, decoded_log_head, is_log_head, log_head_at, log_head_spelling}
-use Rattle.change_directory.specs.Slots.{are_numbers, head_with, is_head_of}
+use Rattle.change_directory.specs.Loads.{are_numbers}
+use Rattle.change_directory.specs.Slots.{head_with, is_head_of}
 
 -- ---- numbers, one behind the other
 

@@ -27,3 +27,4 @@ pub mod Elsewhere
 pub mod LoadRows
 pub mod Loaded
 pub mod Formats
+pub mod Orders

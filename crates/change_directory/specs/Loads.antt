@@ -1,19 +1,20 @@
 -- What a copy holds when it is loaded: its commit number, the pages that aren't zeros, and the pages of its open log slots.
-use Rattle.std.specs.Prelude.{◌≡◌, ℕ, ◌+◌, ◌==◌, nat_lt, if◌then◌else◌, List, [], ◌∷◌, ◌++◌, map, flat_map, Option, Some, None}
+use Rattle.std.specs.Prelude.{◌≡◌, ℕ, ◌+◌, Bool, ◌==◌, nat_lt, if◌then◌else◌, List, [], ◌∷◌, ◌++◌, ◌&&◌, not, map, flat_map, Option, Some, None, IsTrue}
 use Rattle.std.specs.Option.{option_map, option_or, option_to_list}
-use Rattle.std.specs.List.{position_from, range_with_len}
+use Rattle.std.specs.List.{list_all, position_from, range_with_len}
 use Rattle.bay.specs.Image.{Image}
 use Rattle.asm_group.specs.Names.{Bytes}
 use Rattle.asm_formats.specs.Bytes.{is_open}
 use Rattle.asm_formats.specs.Regions.{first_log, second_log}
-use Rattle.asm_formats.specs.Content.{is_empty_page}
+use Rattle.asm_formats.specs.Status.{ascends_from}
+use Rattle.asm_formats.specs.Content.{is_page, is_empty_page}
 use Rattle.asm_formats.specs.Logs.{Log, PageImage, log_at}
 use Rattle.asm_formats.specs.Pages.{page_at}
 use Rattle.change_directory.specs.declared.copy.DirCopy.{DirCopy}
 use Rattle.change_directory.specs.declared.loading.Pages.{Pages}
 use Rattle.change_directory.specs.declared.loading.LoadFault.{LoadFault}
 use Rattle.change_directory.specs.declared.loading.LoadFault.TheVariants.{Fault, Damaged, NoMemory}
-use Rattle.change_directory.specs.Logs.{image_of_page}
+use Rattle.change_directory.specs.Logs.{are_pages, bytes_of_page, image_of_page}
 use Rattle.change_directory.specs.Changes.{disk}
 
 -- ---- the open log slots, with the blocks where they stand
@@ -75,6 +76,17 @@ pub record IsLoaded (copy : DirCopy) (pages : Pages) (image : Image) : Type 0 wh
   pub blocks : map image_of_page pages.blocks.items ≡ filled_pages copy.dir_blocks (disk copy image) (open_slots copy.dir_blocks (disk copy image))
   -- ascending
   pub due : pages.due.items ≡ flat_map (due_page (open_slots copy.dir_blocks (disk copy image))) (range_with_len 0 copy.dir_blocks)
+
+-- numbers of pages, ascending
+abbrev pub are_numbers : ℕ → List ℕ → Bool
+are_numbers dir_blocks numbers = ascends_from 0 numbers && list_all (λ n. nat_lt n dir_blocks) numbers
+
+-- What each load gives, also where nothing is known of the disk: the numbers of the pages ascend below that of all pages, each block is that of a record, and so ascend the due pages' numbers.
+pub record AreInOrder (dir_blocks : ℕ) (pages : Pages) : Type 0 where
+  pub ascend : IsTrue (are_pages dir_blocks pages.blocks.items)
+  pub decode : IsTrue (list_all (λ p. is_page (bytes_of_page p)) pages.blocks.items)
+  pub filled : IsTrue (list_all (λ p. not (is_empty_page (bytes_of_page p))) pages.blocks.items)
+  pub due : IsTrue (are_numbers dir_blocks (map (λ d. d.0) pages.due.items))
 
 -- the block that a refusal names
 abbrev pub damaged_block : LoadFault → Option ℕ

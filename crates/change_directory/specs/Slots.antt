@@ -1,5 +1,5 @@
 -- The log slots and the pages of a copy, as they are read.
-use Rattle.std.specs.Prelude.{◌≡◌, ℕ, zero, suc, ◌+◌, ◌*◌, Bool, true, false, ◌&&◌, not, List, [], ◌∷◌, ◌++◌, length, map, zip, take, drop, if◌then◌else◌, nat_lt, ◌==◌, Option, Some, None}
+use Rattle.std.specs.Prelude.{◌≡◌, ℕ, zero, suc, ◌+◌, ◌*◌, Bool, true, false, ◌&&◌, not, List, [], ◌∷◌, ◌++◌, length, map, zip, take, drop, if◌then◌else◌, ◌==◌, Option, Some, None, IsTrue}
 use Rattle.std.specs.List.{list_all}
 use Rattle.std.specs.Str.{bytes_eq}
 use Rattle.std.specs.Option.{is_some, option_map, unwrap_or}
@@ -7,7 +7,6 @@ use Rattle.bay.specs.Image.{Image, window}
 use Rattle.asm_group.specs.Names.{Bytes}
 use Rattle.asm_formats.specs.Bytes.{block_size}
 use Rattle.asm_formats.specs.Regions.{page_home, region_start}
-use Rattle.asm_formats.specs.Status.{ascends_from}
 use Rattle.asm_formats.specs.Content.{is_page, is_empty_page}
 use Rattle.asm_formats.specs.Logs.{Log, LogHead, PageImage, log_head_at, log_head_spelling, decoded_log_head, images_at, image_in}
 use Rattle.asm_formats.specs.Damage.{head_damage, log_damage}
@@ -19,16 +18,12 @@ use Rattle.change_directory.specs.declared.open_log.OpenLogs.{OpenLogs}
 use Rattle.change_directory.specs.Places.{gate_of}
 use Rattle.change_directory.specs.Logs.{log_of, image_of_page, is_open_at}
 use Rattle.change_directory.specs.Changes.{disk}
-use Rattle.change_directory.specs.Loads.{OpenSlot, slot_in, due_page}
+use Rattle.change_directory.specs.Loads.{OpenSlot, slot_in, due_page, are_numbers}
 
 -- ---- heads
 
 abbrev pub head_with : ℕ → List ℕ → LogHead
 head_with commit pages = record { commit = commit; pages = pages }
-
--- numbers of pages, ascending
-abbrev pub are_numbers : ℕ → List ℕ → Bool
-are_numbers dir_blocks pages = ascends_from 0 pages && list_all (λ p. nat_lt p dir_blocks) pages
 
 -- the head is the one spelling of its number and these pages
 abbrev pub is_head_of : ℕ → Bytes → List ℕ → Bool
@@ -91,6 +86,14 @@ pub record IsLogRead (copy : DirCopy) (log : LogSlot) (read : Option OpenLog) (i
   pub slots : slots_of read ≡ slot_in copy.dir_blocks (disk copy image) (gate_of copy log)
   pub damage : damage_of read ≡ log_damage copy.dir_blocks (disk copy image) (gate_of copy log)
 
+-- each image of these slots is a page
+abbrev pub are_sound : List OpenSlot → Bool
+are_sound slots = list_all (λ (s : OpenSlot). list_all (λ (i : PageImage). is_page i.1) s.log.images) slots
+
+-- a slot without a damaged block has only such images
+abbrev pub IsSoundRead : Option OpenLog → Type 0
+IsSoundRead read = damage_of read ≡ None → IsTrue (are_sound (slots_of read))
+
 -- both log slots
 abbrev pub all_slots : OpenLogs → List OpenSlot
 all_slots logs = slots_of logs.newest ++ slots_of logs.older
@@ -150,6 +153,17 @@ pub record Takes (blocks : List PageImage) (due : List (ℕ × ℕ)) (old new : 
 pub record AreTaken (slots : List OpenSlot) (page : ℕ) (homes : List Bytes) (old new : Pages) : Type 0 where
   pub takes : Takes (all_filled slots page homes) (all_due slots page homes) old new
   pub sound : first_bad slots page homes ≡ None
+
+-- The pages below a number stand in order: their numbers ascend, none is zeros, each is a page where the slots' images are, and so ascend the due pages' numbers.
+pub record AreUpTo (slots : List OpenSlot) (n : ℕ) (pages : Pages) : Type 0 where
+  pub numbers : IsTrue (are_numbers n (map (λ (i : PageImage). i.0) (map image_of_page pages.blocks.items)))
+  pub filled : IsTrue (list_all (λ (i : PageImage). not (is_empty_page i.1)) (map image_of_page pages.blocks.items))
+  pub decode : IsTrue (are_sound slots) → IsTrue (list_all (λ (i : PageImage). is_page i.1) (map image_of_page pages.blocks.items))
+  pub due : IsTrue (are_numbers n (map (λ (d : ℕ × ℕ). d.0) pages.due.items))
+
+-- pages stay in order, up to a greater number
+abbrev pub GoesUpTo : List OpenSlot → ℕ → ℕ → Pages → Pages → Type 0
+GoesUpTo slots m n old new = AreUpTo slots m old → AreUpTo slots n new
 
 abbrev pub number_in : Option OpenLog → Option ℕ
 number_in None = None

@@ -11,8 +11,8 @@ ghost use Rattle.asm_formats.specs.Damage.{directory_damage};
 ghost use Rattle.change_directory.specs.Places.{IsCopy};
 ghost use Rattle.change_directory.specs.Changes.{disk};
 ghost use Rattle.change_directory.specs.Told.{Told};
-ghost use Rattle.change_directory.specs.Loads.{IsLoaded, damaged_block};
-ghost use Rattle.change_directory.specs.Slots.{ArePages, AreTaken, IsPageDamage, Takes, all_slots, cut, damage_of, damaged_page, filled, homes_in, number_in};
+ghost use Rattle.change_directory.specs.Loads.{AreInOrder, IsLoaded, damaged_block};
+ghost use Rattle.change_directory.specs.Slots.{ArePages, AreTaken, AreUpTo, GoesUpTo, IsPageDamage, Takes, all_slots, cut, damage_of, damaged_page, filled, homes_in, number_in};
 ghost use Rattle.change_directory.specs.declared.loading.LoadFault.TheVariants.{Fault as DiskFault, NoMemory as OutOfMemory};
 
 use crate::copy::{BLOCK, DirCopy, LogSlot, REGION_START};
@@ -71,6 +71,7 @@ impl From<NoMemory> for LoadFault {
 pub fn load<B: Bay>(alloc: Global, bay: &mut B, copy: DirCopy) -> Result<Pages, LoadFault>
     requires { IsCopy (B.state bay.old) copy }
     ensures loaded { IfOk result (λ pages. Told (B.state bay.old) (B.state bay.new) (IsLoaded copy pages)) }
+    ensures order { IfOk result (AreInOrder copy.dir_blocks) }
     ensures whole { OnOk result (Told (B.state bay.old) (B.state bay.new) (λ image. directory_damage copy.dir_blocks (disk copy image) ≡ None)) }
     ensures damage { IfErr result (λ e. IfSome (damaged_block e) (λ block. Told (B.state bay.old) (B.state bay.new) (λ image. directory_damage copy.dir_blocks (disk copy image) ≡ Some block))) }
     ensures attached { KeepsAttached (B.state bay.old) (B.state bay.new) }
@@ -125,6 +126,7 @@ fn load_pages<B: Bay>(
 ) -> Result<Pages, LoadFault>
     requires { IsCopy (B.state bay.old) copy }
     ensures pages { IfOk result (λ pages. Told (B.state bay.old) (B.state bay.new) (ArePages copy logs.now pages)) }
+    ensures up_to { IfOk result (AreUpTo (all_slots logs.now) copy.dir_blocks) }
     ensures damage { IfErr result (λ e. IfSome (damaged_block e) (λ block. Told (B.state bay.old) (B.state bay.new) (IsPageDamage copy logs.now block))) }
     ensures attached { KeepsAttached (B.state bay.old) (B.state bay.new) }
     ensures calls { (B.state bay.new).calls ≤ (B.state bay.old).calls + copy.dir_blocks / 64 + 1 }
@@ -153,6 +155,7 @@ fn read_pages<B: Bay>(
 ) -> Result<(), LoadFault>
     requires { IsCopy (B.state bay.old) copy }
     ensures taken { OnOk result (Told (B.state bay.old) (B.state bay.new) (λ image. AreTaken (all_slots logs.now) 0 (homes_in copy 0 copy.dir_blocks image) pages.old pages.new)) }
+    ensures up_to { OnOk result (GoesUpTo (all_slots logs.now) 0 copy.dir_blocks pages.old pages.new) }
     ensures damage { IfErr result (λ e. IfSome (damaged_block e) (λ block. Told (B.state bay.old) (B.state bay.new) (λ image. damaged_page (all_slots logs.now) 0 (homes_in copy 0 copy.dir_blocks image) ≡ Some block))) }
     ensures attached { KeepsAttached (B.state bay.old) (B.state bay.new) }
     ensures calls { (B.state bay.new).calls ≤ (B.state bay.old).calls + copy.dir_blocks / 64 + 1 }
@@ -182,6 +185,7 @@ fn read_piece<B: Bay>(
     requires few { count ≤ 64 }
     requires inside { first + count ≤ copy.dir_blocks }
     ensures taken { OnOk result (Told (B.state bay.old) (B.state bay.new) (λ image. AreTaken (all_slots logs.now) first (homes_in copy first count image) pages.old pages.new)) }
+    ensures up_to { OnOk result (GoesUpTo (all_slots logs.now) first (first + count) pages.old pages.new) }
     ensures damage { IfErr result (λ e. IfSome (damaged_block e) (λ block. Told (B.state bay.old) (B.state bay.new) (λ image. damaged_page (all_slots logs.now) first (homes_in copy first count image) ≡ Some block))) }
     ensures attached { KeepsAttached (B.state bay.old) (B.state bay.new) }
     ensures calls { (B.state bay.new).calls ≤ (B.state bay.old).calls + 1 }
@@ -208,6 +212,7 @@ fn fill_piece<B: Bay>(
     requires inside { first + count ≤ copy.dir_blocks }
     requires room { length all.old ≡ 262144 }
     ensures taken { OnOk result (Told (B.state bay.old) (B.state bay.new) (λ image. AreTaken (all_slots logs.now) first (homes_in copy first count image) pages.old pages.new)) }
+    ensures up_to { OnOk result (GoesUpTo (all_slots logs.now) first (first + count) pages.old pages.new) }
     ensures damage { IfErr result (λ e. IfSome (damaged_block e) (λ block. Told (B.state bay.old) (B.state bay.new) (λ image. damaged_page (all_slots logs.now) first (homes_in copy first count image) ≡ Some block))) }
     ensures attached { KeepsAttached (B.state bay.old) (B.state bay.new) }
     ensures calls { (B.state bay.new).calls ≤ (B.state bay.old).calls + 1 }
@@ -232,6 +237,7 @@ fn take_pages(
     requires small { first + count ≤ 16384 }
     requires bytes { length bytes.now ≡ count * 4096 }
     ensures taken { OnOk result (AreTaken (all_slots logs.now) first (cut count bytes.now) pages.old pages.new) }
+    ensures up_to { OnOk result (GoesUpTo (all_slots logs.now) first (first + count) pages.old pages.new) }
     ensures damage { IfErr result (λ e. IfSome (damaged_block e) (λ block. damaged_page (all_slots logs.now) first (cut count bytes.now) ≡ Some block)) }
     ensures no_fault { IsErrOf result LoadFault.Fault → ⊥ }
 {

@@ -8,7 +8,8 @@ ghost use Rattle.asm_formats.specs.Bytes.{number, number_at, repeated};
 ghost use Rattle.asm_formats.specs.Logs.{decoded_log_head, log_head_at, log_head_spelling};
 ghost use Rattle.asm_formats.specs.Status.{ascends_from};
 ghost use Rattle.asm_base.specs.Cursors.{Puts};
-ghost use Rattle.change_directory.specs.Slots.{are_numbers, head_with, is_head_of};
+ghost use Rattle.change_directory.specs.Loads.{are_numbers};
+ghost use Rattle.change_directory.specs.Slots.{head_with, is_head_of};
 
 use asm_base::{Block, NoMemory, Writer, finish, put_bytes, put_u32, put_u64};
 use std::alloc::Global;

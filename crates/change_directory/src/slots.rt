@@ -10,7 +10,7 @@ ghost use Rattle.change_directory.specs.Places.{IsCopy};
 ghost use Rattle.change_directory.specs.Logs.{image_of_page};
 ghost use Rattle.change_directory.specs.Told.{Told};
 ghost use Rattle.change_directory.specs.Loads.{counted_block, newest_slots, damaged_block};
-ghost use Rattle.change_directory.specs.Slots.{IsLogRead, IsRestRead, all_slots, bad_image, cut, has_slots, head_in, images_in, logs_of, place_in, slots_of};
+ghost use Rattle.change_directory.specs.Slots.{IsLogRead, IsRestRead, IsSoundRead, all_slots, bad_image, cut, has_slots, head_in, images_in, logs_of, place_in, slots_of};
 
 use crate::copy::{BLOCK, DirCopy, LogSlot, gate_block, log_place};
 use crate::loading::LoadFault;
@@ -34,6 +34,7 @@ pub(crate) fn read_log<B: Bay>(
 ) -> Result<Option<OpenLog>, LoadFault>
     requires { IsCopy (B.state bay.old) copy }
     ensures log { IfOk result (λ read. Told (B.state bay.old) (B.state bay.new) (IsLogRead copy log read)) }
+    ensures sound { IfOk result IsSoundRead }
     ensures attached { KeepsAttached (B.state bay.old) (B.state bay.new) }
     ensures calls { (B.state bay.new).calls ≤ (B.state bay.old).calls + 3 }
     ensures written { (B.state bay.new).written copy.slot ≡ (B.state bay.old).written copy.slot }
@@ -80,6 +81,7 @@ fn read_rest<B: Bay>(
     requires copy { IsCopy (B.state bay.old) copy }
     requires head { length head.now ≡ 4096 }
     ensures rest { IfOk result (λ read. Told (B.state bay.old) (B.state bay.new) (IsRestRead copy log head.now read)) }
+    ensures sound { IfOk result (λ read. IsSoundRead (Some read)) }
     ensures attached { KeepsAttached (B.state bay.old) (B.state bay.new) }
     ensures calls { (B.state bay.new).calls ≤ (B.state bay.old).calls + 1 }
     ensures written { (B.state bay.new).written copy.slot ≡ (B.state bay.old).written copy.slot }

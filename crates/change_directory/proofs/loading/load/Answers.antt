@@ -7,6 +7,7 @@ use Rattle.change_directory.specs.Changes.{disk}
 use Rattle.change_directory.specs.Told.{Told}
 use Rattle.change_directory.specs.Slots.{IsPageDamage}
 use Rattle.change_directory.proofs.LoadAnswers.{damage_of_err}
+use Rattle.change_directory.proofs.Orders.{slots_are_sound, up_in_order}
 use Rattle.change_directory.proofs.LoadJoins.{loaded_told, log_damage_told, page_damage_told, whole_told}
 use Rattle.change_directory.proofs.loading.load.Goals as goal
 
@@ -55,3 +56,9 @@ pub returns-clause-runs : goal.returns-clause-runs
 returns-clause-runs g c =
     let first = goes_on same-trans c.read_log.ensures.runs (stops c.read_log.ensures.runs) c.read_log-2.ensures.runs in
     goes_on same-trans first (stops first) c.load_pages.ensures.runs
+
+pub returns-clause-order : goal.returns-clause-order
+returns-clause-order g c =
+    up_in_order _ c.args.copy.dir_blocks _
+    (slots_are_sound _ _ _ c.in_order-logs.ensures.slots c.in_ok-first.ensures.sound c.in_ok-second.ensures.sound (sym c.first_damage-damage.ensures ∙ c.in-None.is))
+    c.in_ok-pages.ensures.up_to

@@ -6,6 +6,7 @@ use Rattle.bay.proofs.Images.{same-refl, same-trans}
 use Rattle.change_directory.specs.Told.{Told}
 use Rattle.change_directory.specs.Slots.{AreTaken, all_slots, damaged_page, homes_in}
 use Rattle.change_directory.proofs.LoadSteps.{start_told, taken_step, damage_step}
+use Rattle.change_directory.proofs.Orders.{goes_as, goes_to, goes_up_more}
 use Rattle.change_directory.proofs.LoadAnswers.{damage_of_err}
 use Rattle.change_directory.proofs.loading.read_pages.Goals as goal
 
@@ -18,6 +19,7 @@ loop-piece-init g c =
       written = refl;
       runs = started same-refl;
       taken = start_told c.args.copy (all_slots c.args.logs.now) s s _ _ (omega arith);
+      up_to = goes_as (all_slots c.args.logs.now) _ _ (omega arith);
     }
 
 pub loop-piece-preserved : goal.loop-piece-preserved
@@ -39,6 +41,7 @@ loop-piece-preserved g c =
       written = c.read_piece.ensures.written ∙ c.loop-piece.invariant.written;
       runs = goes_on same-trans c.loop-piece.invariant.runs (stops c.loop-piece.invariant.runs) c.read_piece.ensures.runs;
       taken = taken_step c.args.copy slots s m t (i * 64) c.min-count.result (min ((i + 1) * 64) d) _ _ _ more c.loop-piece.invariant.runs c.read_piece.ensures.runs front c.in_ok-read_piece.ensures.taken;
+      up_to = goes_up_more slots (min (i * 64) d) (i * 64) (min ((i + 1) * 64) d) c.min-count.result _ _ _ so_far more c.loop-piece.invariant.up_to c.in_ok-read_piece.ensures.up_to;
     }
 
 pub returns-clause-taken : goal.returns-clause-taken
@@ -49,6 +52,13 @@ returns-clause-taken g c =
     let d : ℕ = c.args.copy.dir_blocks in
     let all : min (i * 64) d ≡ d = omega (arith, c.div_ceil-pieces.ensures, c.loop-piece-test.false) in
     subst (λ (n : ℕ). Told s m (λ image. AreTaken (all_slots c.args.logs.now) 0 (homes_in c.args.copy 0 n image) c.args.pages.now c.loop-piece.pages)) all c.loop-piece.invariant.taken
+
+pub returns-clause-up_to : goal.returns-clause-up_to
+returns-clause-up_to g c =
+    let i : ℕ = c.loop-piece.piece in
+    let d : ℕ = c.args.copy.dir_blocks in
+    let all : min (i * 64) d ≡ d = omega (arith, c.div_ceil-pieces.ensures, c.loop-piece-test.false) in
+    goes_to (all_slots c.args.logs.now) (min (i * 64) d) d _ _ all c.loop-piece.invariant.up_to
 
 pub returns-in_err-read_piece-clause-damage : goal.returns-in_err-read_piece-clause-damage
 returns-in_err-read_piece-clause-damage g c =

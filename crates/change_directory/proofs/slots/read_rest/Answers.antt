@@ -1,8 +1,10 @@
-use Rattle.std.proofs.Common.{◌≡◌, ◌+◌, ◌≤◌, Some, length, map, ap, ◌∙◌, arith}
+use Rattle.std.proofs.Common.{◌≡◌, ◌+◌, ◌≤◌, Some, length, map, ap, ◌∙◌, arith, ℕ, List}
+use Rattle.asm_base.specs.declared.block.Block.{Block}
 use Rattle.asm_formats.specs.Logs.{decoded_log_head}
 use Rattle.change_directory.specs.Logs.{image_of_page}
 use Rattle.change_directory.specs.Slots.{bad_image}
 use Rattle.change_directory.proofs.HeadLaws.{pages_of}
+use Rattle.change_directory.proofs.Orders.{rest_is_sound}
 use Rattle.change_directory.proofs.Runs.{has_size}
 use Rattle.change_directory.proofs.SlotLaws.{rest_read}
 use Rattle.change_directory.proofs.slots.read_rest.Goals as goal
@@ -17,3 +19,7 @@ returns-clause-rest g c =
     rest_read c.args.copy c.requires.copy.least c.args.log image (has_size sound c.requires.copy image (sound.held image was)) c.args.head.now c.deref.result.now _ few decoded
     c.gate_block-gate.ensures c.head_number-number.ensures (c.in_ok-images.ensures.images now holds image was)
     (c.first_bad-damage.ensures ∙ (λ j. bad_image (c.gate_block-gate.ensures j + 2) (map image_of_page (c.deref-2.ensures.value j))))
+
+pub returns-clause-sound : goal.returns-clause-sound
+returns-clause-sound g c =
+    rest_is_sound (c.gate_block-gate.result + 2) _ _ (c.first_bad-damage.ensures ∙ ap (λ (l : List (ℕ × Block)). bad_image (c.gate_block-gate.result + 2) (map image_of_page l)) c.deref-2.ensures.value)
