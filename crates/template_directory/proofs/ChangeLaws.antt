@@ -119,3 +119,6 @@ settings_put t new j k v s read is =
 
 pub templates_set : (t : Table) (ts : List Template) (k : Key) → value_at (record { templates = ts; settings = t.settings }) k ≡ cond (is_same_key (record { kind = 5; a = 0; b = 0 }) k) (Some (value (templates_item ts))) (value_at t k)
 templates_set t ts k = at_templates t ts (value (templates_item ts)) k refl
+
+pub settings_set : (t : Table) (s : Settings) (k : Key) → value_at (record { templates = t.templates; settings = s }) k ≡ cond (is_same_key (record { kind = 9; a = 0; b = 0 }) k) (Some (value (settings_item s))) (value_at t k)
+settings_set t s k = at_settings t s (value (settings_item s)) k refl

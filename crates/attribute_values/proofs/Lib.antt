@@ -1,0 +1,3 @@
+pub mod RepairLaws
+pub mod VersionLaws
+pub mod SettingLaws

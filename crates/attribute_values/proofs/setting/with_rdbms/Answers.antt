@@ -1,0 +1,10 @@
+use Rattle.std.proofs.Common.{◌≡◌, true, sym, ◌∙◌, arith}
+use Rattle.asm_world.specs.Settings.{is_version}
+use Rattle.asm_base.proofs.Tables.{bytes_are}
+use Rattle.attribute_values.proofs.SettingLaws.{advm_stays, allowed_with, asm_stays, new_text, repair_stays}
+use Rattle.attribute_values.proofs.setting.with_rdbms.Goals as goal
+
+pub returns-clause-allowed : goal.returns-clause-allowed
+returns-clause-allowed c =
+    let version : is_version c.args.value.now ≡ true = sym c.is_version.ensures ∙ c.if-not-is_version.false in
+    allowed_with c.settings.view_is c.requires c.settings.inside.repair c.in_ok-copy.field-0 c.in_ok-from_slice.field-0 c.in_ok-copy-2.field-0 (repair_stays c.settings.view_is c.requires) (asm_stays c.settings.view_is c.requires c.in_ok-copy.field-0 c.in_ok-copy.ensures) (new_text c.in_ok-from_slice.field-0 c.args.value.now c.in_ok-from_slice.ensures version (bytes_are c.args.value.now (λ i. omega (arith, c.type_inv.value i)))) (advm_stays c.settings.view_is c.requires c.in_ok-copy-2.field-0 c.in_ok-copy-2.ensures)
