@@ -3,7 +3,9 @@ pub mod PlaceLaws
 pub mod IndexLaws
 pub mod Children
 pub mod Rules
+pub mod NameBytes
 pub mod Under
+pub mod ByName
 pub mod Single
 pub mod Ways
 pub mod Paths

@@ -45,7 +45,7 @@ place_is parent bytes name len is e =
 
 pub place_total : IsTotalOrder place_cmp
 place_total =
-    then_total (on_total (λ (p : Place). p.parent) nat_cmp_total) (then_total (on_total (λ (p : Place). p.len) nat_cmp_total) (on_total (λ (p : Place). p.name) (lists_total nat_cmp_total)))
+    then_total (on_total (λ (p : Place). p.parent) nat_cmp_total) (then_total (on_total (λ (p : Place). p.name) (lists_total nat_cmp_total)) (on_total (λ (p : Place). p.len) nat_cmp_total))
 
 then_equal : (a b : Ordering) → ordering_then a b ≡ Equal → (a ≡ Equal) × (b ≡ Equal)
 then_equal Equal b e = (refl, e)
@@ -55,11 +55,11 @@ then_equal Greater b e = absurd cc
 pub same_is : (p q : Place) → is_same_place p q ≡ true → p ≡ q
 same_is p q e =
     let whole = (Equal-is (place_cmp p q)).0 e in
-    let a = then_equal (nat_cmp p.parent q.parent) (ordering_then (nat_cmp p.len q.len) (slice_cmp nat_cmp p.name q.name)) whole in
-    let b = then_equal (nat_cmp p.len q.len) (slice_cmp nat_cmp p.name q.name) a.1 in
+    let a = then_equal (nat_cmp p.parent q.parent) (ordering_then (slice_cmp nat_cmp p.name q.name) (nat_cmp p.len q.len)) whole in
+    let b = then_equal (slice_cmp nat_cmp p.name q.name) (nat_cmp p.len q.len) a.1 in
     let parent : p.parent ≡ q.parent = maps.nat_cmp-IsAntisymmetric p.parent q.parent a.0 in
-    let name : p.name ≡ q.name = maps.slice_cmp-IsAntisymmetric maps.nat_cmp-IsAntisymmetric p.name q.name b.1 in
-    let len : p.len ≡ q.len = maps.nat_cmp-IsAntisymmetric p.len q.len b.0 in
+    let name : p.name ≡ q.name = maps.slice_cmp-IsAntisymmetric maps.nat_cmp-IsAntisymmetric p.name q.name b.0 in
+    let len : p.len ≡ q.len = maps.nat_cmp-IsAntisymmetric p.len q.len b.1 in
     ap (λ (x : ℕ). made x p.name p.len) parent ∙ (ap (λ (x : List ℕ). made q.parent x p.len) name ∙ ap (λ (x : ℕ). made q.parent q.name x) len)
 
 pub self_same : (p : Place) → is_same_place p p ≡ true

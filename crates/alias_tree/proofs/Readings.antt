@@ -54,6 +54,9 @@ fits_item n node low high f = rw (lt-ltb 0 n low, lt-ltb n (2 ^ 32) high, lt-ltb
 pub name_is_short : (n : ℕ) (node : Node) → IsTrue (is_item (node_item n node)) → length node.name ≤ 80
 name_is_short n node h = part_is_short 80 node.name (item_fits n node h).2.name
 
+pub name_is_part : (n : ℕ) (node : Node) → IsTrue (is_item (node_item n node)) → is_part 80 node.name ≡ true
+name_is_part n node h = (item_fits n node h).2.name
+
 pub name_is_some : (n : ℕ) (node : Node) → IsTrue (is_item (node_item n node)) → 0 < length node.name
 name_is_some n node h = ltb-true 0 (length node.name) (part_of 80 node.name (item_fits n node h).2.name).some
 

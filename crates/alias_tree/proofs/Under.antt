@@ -16,21 +16,21 @@ use Rattle.asm_formats.specs.Items.{Node}
 use Rattle.asm_base.proofs.Exact.{some_is}
 use Rattle.alias_tree.specs.Nodes.{Numbered, node_at, is_under, are_distinct, IsTable}
 use Rattle.alias_tree.specs.Places.{Place, place_of, place_cmp, number_at, IsIndex, first_under, last_under, numbers_under}
-use Rattle.alias_tree.proofs.PlaceLaws.{same_is, self_same, place_len, place_parent}
-use Rattle.alias_tree.proofs.Readings.{name_is_some}
-use Rattle.alias_tree.proofs.IndexLaws.{either, at_is, at_self, not_same, name_at, stands, item_at}
+use Rattle.alias_tree.proofs.PlaceLaws.{same_is, self_same, place_parent}
+use Rattle.alias_tree.proofs.NameBytes.{is_part_at, place_head}
+use Rattle.alias_tree.proofs.IndexLaws.{either, at_is, at_self, not_same, stands}
 
-abbrev Index : Type 0
+abbrev pub Index : Type 0
 Index = List (Place × ℕ)
 
 abbrev has : ℕ → List ℕ → Bool
 has m numbers = list_any (λ k. eqb k m) numbers
 
-abbrev kept : (Place → Bool) → Index → List ℕ
+abbrev pub kept : (Place → Bool) → Index → List ℕ
 kept keep places = map (λ (e : Place × ℕ). e.1) (filter (λ (e : Place × ℕ). keep e.0) places)
 
 -- between the bounds of a parent
-abbrev keeps : ℕ → Place → Bool
+abbrev pub keeps : ℕ → Place → Bool
 keeps parent p = range_contains place_cmp (Included (first_under parent)) (Included (last_under parent)) p
 
 -- ---- places in order
@@ -50,7 +50,7 @@ less_differs p q less e =
     cc
 
 -- what is found behind the first is found
-behind_first : (f : Place × ℕ) (places : Index) (p : Place) (m : ℕ) → IsStrictlySortedBy place_cmp (keys_of (f ∷ places)) → number_at places p ≡ Some m → number_at (f ∷ places) p ≡ Some m
+pub behind_first : (f : Place × ℕ) (places : Index) (p : Place) (m : ℕ) → IsStrictlySortedBy place_cmp (keys_of (f ∷ places)) → number_at places p ≡ Some m → number_at (f ∷ places) p ≡ Some m
 unfolding IsStrictlySortedBy
 behind_first f places p m up e = rw (not_same p f.0 (λ same. less_differs f.0 p (below_found f.0 places p m up.0 e) (sym same))) e
 
@@ -113,13 +113,13 @@ all_once keep (f ∷ places) up one =
 
 -- ---- the run of a parent
 
-pub bounds_are : (parent : ℕ) (p : Place) → 0 < p.len → p.len < 255 → range_contains place_cmp (Included (first_under parent)) (Included (last_under parent)) p ≡ eqb p.parent parent
-bounds_are parent p low high = one (nat_cmp parent p.parent) refl where
-  from_low : nat_cmp 0 p.len ≡ Less
-  from_low = sym (nat_cmp_is 0 p.len Less low)
+pub bounds_are : (parent : ℕ) (p : Place) (b : ℕ) (rest : List ℕ) → p.name ≡ b ∷ rest → 0 < b → b < 255 → range_contains place_cmp (Included (first_under parent)) (Included (last_under parent)) p ≡ eqb p.parent parent
+bounds_are parent p b rest name low high = one (nat_cmp parent p.parent) refl where
+  from_low : nat_cmp 0 b ≡ Less
+  from_low = sym (nat_cmp_is 0 b Less low)
 
-  to_high : nat_cmp 255 p.len ≡ Greater
-  to_high = sym (nat_cmp_is 255 p.len Greater high)
+  to_high : nat_cmp 255 b ≡ Greater
+  to_high = sym (nat_cmp_is 255 b Greater high)
 
   apart : (o : Ordering) → nat_cmp parent p.parent ≡ o → (o ≡ Equal → ⊥) → eqb p.parent parent ≡ false
   apart o e other = elim (either (eqb p.parent parent)) [
@@ -131,7 +131,7 @@ bounds_are parent p low high = one (nat_cmp parent p.parent) refl where
   one Less e = rw (apart Less e (λ f. cc), e) refl
   one Equal e =
       let same : eqb p.parent parent ≡ true = eq-eqb p.parent parent (sym (at_is parent p.parent (ap is_eq e))) in
-      rw (same, e, from_low, to_high) refl
+      rw (same, e, name, from_low, to_high) refl
   one Greater e = rw (apart Greater e (λ f. cc), e) refl
 
 pub is_forward : (parent : ℕ) → is_gt (place_cmp (first_under parent) (last_under parent)) ≡ false
@@ -141,10 +141,8 @@ is_forward parent = let e : nat_cmp parent parent ≡ Equal = (Equal-is (nat_cmp
 pub place_between : (nodes : List Numbered) (n : ℕ) (node : Node) (parent : ℕ) → IsTable nodes → node_at nodes n ≡ Some node
     → range_contains place_cmp (Included (first_under parent)) (Included (last_under parent)) (place_of node) ≡ eqb node.parent parent
 place_between nodes n node parent t e =
-    let len = place_len node in
-    let short = name_at nodes n node t e in
-    let some = name_is_some n node (item_at nodes n node t.items e) in
-    bounds_are parent (place_of node) (omega arith) (omega arith) ∙ ap (λ (m : ℕ). eqb m parent) (place_parent node)
+    let f = place_head node (is_part_at nodes n node t e) in
+    bounds_are parent (place_of node) f.byte f.rest f.name f.some f.small ∙ ap (λ (m : ℕ). eqb m parent) (place_parent node)
 
 pub under_is : (nodes : List Numbered) (places : Index) (parent : ℕ) (numbers : List ℕ) → IsTable nodes → IsIndex nodes places → IsStrictlySortedBy place_cmp (keys_of places) → numbers ≡ numbers_under places parent
     → (n : ℕ) → has n numbers ≡ is_under nodes parent n

@@ -1,7 +1,9 @@
 -- The tree of names, as the list of its nodes in the order of their numbers.
-use Rattle.std.specs.Prelude.{◌≡◌, ℕ, zero, suc, Bool, true, false, ◌&&◌, ◌||◌, ◌==◌, List, [], ◌∷◌, length, Option, Some, None, IsTrue, not, if◌then◌else◌}
+use Rattle.std.specs.Prelude.{◌≡◌, ℕ, zero, suc, Bool, true, false, ◌&&◌, ◌||◌, ◌==◌, List, [], ◌∷◌, length, map, Option, Some, None, IsTrue, not, if◌then◌else◌}
 use Rattle.std.specs.Ordering.{nat_cmp, is_lt}
 use Rattle.std.specs.List.{list_any}
+use Rattle.std.specs.List.Sorted.{IsStrictlySortedBy}
+use Rattle.std.specs.Cmp.Lexicographic.{slice_cmp}
 use Rattle.std.specs.Option.{option_and_then}
 use Rattle.std.specs.BTreeMap.{is_at, insert_entry}
 use Rattle.std.specs.Map.{lookup, remove_entry}
@@ -98,6 +100,18 @@ is_under nodes parent n = has_parent parent (node_at nodes n)
 abbrev pub are_distinct : List ℕ → Bool
 are_distinct [] = true
 are_distinct (n ∷ ns) = not (list_any (λ m. m == n) ns) && are_distinct ns
+
+-- the name of a node without case, and of the node at a number
+abbrev pub folded_in : Option Node → Bytes
+folded_in None = []
+folded_in (Some node) = folded node.name
+
+abbrev pub folded_name : List Numbered → ℕ → Bytes
+folded_name nodes n = folded_in (node_at nodes n)
+
+-- the numbers are in the order of their nodes' names without case, and no two nodes have one name
+abbrev pub AreByName : List Numbered → List ℕ → Type 0
+AreByName nodes numbers = IsStrictlySortedBy (slice_cmp nat_cmp) (map (folded_name nodes) numbers)
 
 -- ---- how the rule is tested
 

@@ -23,7 +23,7 @@ abbrev pub place_of : Node → Place
 place_of node = named_place node.parent node.name
 
 abbrev pub place_cmp : Place → Place → Ordering
-place_cmp p q = ordering_then (nat_cmp p.parent q.parent) (ordering_then (nat_cmp p.len q.len) (slice_cmp nat_cmp p.name q.name))
+place_cmp p q = ordering_then (nat_cmp p.parent q.parent) (ordering_then (slice_cmp nat_cmp p.name q.name) (nat_cmp p.len q.len))
 
 abbrev pub is_same_place : Place → Place → Bool
 is_same_place p q = is_eq (place_cmp p q)
@@ -49,12 +49,12 @@ without_place (Some p) q number = if is_same_place p q then None else number
 
 -- ---- the run of a parent
 
--- before and behind the places of a parent's nodes, whose names have 1 to 80 bytes
+-- before and behind the places of a parent's nodes, whose names have a first byte from 1 to 254
 abbrev pub first_under : ℕ → Place
 first_under parent = record { parent = parent; len = 0; name = replicate 80 0 }
 
 abbrev pub last_under : ℕ → Place
-last_under parent = record { parent = parent; len = 255; name = replicate 80 0 }
+last_under parent = record { parent = parent; len = 255; name = replicate 80 255 }
 
 abbrev pub numbers_under : List (Place × ℕ) → ℕ → List ℕ
 numbers_under places parent = map (λ (e : Place × ℕ). e.1) (entries_between place_cmp (Included (first_under parent)) (Included (last_under parent)) places)

@@ -12,12 +12,12 @@ use std::collections::BTreeMap;
 use std::marker::Model;
 
 /// Where a node hangs: its parent, and its name without case, with zeros behind it. Places go by
-/// parent, then by the length of the name, so that no name is compared to find a directory's first.
+/// parent, and then by name.
 #[derive(Clone, Copy, Debug, PartialEq, Eq, PartialOrd, Ord)]
 pub(crate) struct Place {
     parent: u32,
-    len: u8,
     name: [u8; 80],
+    len: u8,
 }
 
 /// The place of a name of at most 80 bytes.
@@ -42,8 +42,8 @@ fn first_under(parent: u32) -> Place
 {
     Place {
         parent,
-        len: 0,
         name: [0; 80],
+        len: 0,
     }
 }
 
@@ -53,8 +53,8 @@ fn last_under(parent: u32) -> Place
 {
     Place {
         parent,
+        name: [255; 80],
         len: 255,
-        name: [0; 80],
     }
 }
 

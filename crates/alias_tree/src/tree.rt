@@ -44,7 +44,7 @@ impl AliasTree {
     ghost use Rattle.alias_tree.specs.Edits.{IsLeastFree, is_name_of, without_all};
     ghost use Rattle.asm_formats.specs.Nodes.{entry_of_node, node_kind};
     ghost use Rattle.alias_tree.specs.Trees.{node_by, tree_of};
-    ghost use Rattle.alias_tree.specs.Nodes.{IsTable, KeepsRule, Numbered, are_distinct, child, is_mine, is_under, node_at, number_from, number_of, record_of, with_node, without_node};
+    ghost use Rattle.alias_tree.specs.Nodes.{AreByName, IsTable, KeepsRule, Numbered, are_distinct, child, is_mine, is_under, node_at, number_from, number_of, record_of, with_node, without_node};
 
     /// A tree without names.
     #[tactic(auto, using(crate::proofs::IndexLaws::no_nodes, crate::proofs::IndexLaws::no_places))]
@@ -169,14 +169,15 @@ impl AliasTree {
         self.find_parts(path.parts.as_slice())
     }
 
-    /// The nodes of a directory, or of the root by 0, in no certain order. The work goes by their
-    /// number, not by that of all names.
+    /// The nodes of a directory, or of the root by 0, in the order of their names without case. The
+    /// work goes by their number, not by that of all names.
     #[tactic(auto, using(crate::proofs::Under::under_is, crate::proofs::Under::under_once))]
     pub fn children(&self, alloc: Global, node: u32) -> Result<Vec<u32>, NoMemory>
         // They are just the nodes of this parent.
         ensures each { IfOk result (λ v. (n : ℕ) → list_any (λ m. m == n) v.items ≡ is_under self.now node n) }
         // None is given twice.
         ensures once { IfOk result (λ v. are_distinct v.items ≡ true) }
+        ensures order { IfOk result (λ v. AreByName self.now v.items) }
     {
         let numbers = self.places.under(alloc, node)?;
         Ok(numbers)
