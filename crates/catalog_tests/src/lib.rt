@@ -2,8 +2,6 @@
 #![tactic(auto)]
 
 #[cfg(test)]
-mod group;
-#[cfg(test)]
 mod refused;
 #[cfg(test)]
 mod taken;

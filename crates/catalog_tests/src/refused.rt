@@ -1,7 +1,6 @@
-use crate::group::{Edit, NO, apply, disks, read, usual};
-use crate::taken::put_directories;
 use asm_base::{NodeKind, Records};
 use catalog::CatalogError;
+use sample_group::{Edit, NO, apply, disks, put_directories, read, usual};
 use status_table::PstRecord;
 use std::alloc::Global;
 use std::test::*;

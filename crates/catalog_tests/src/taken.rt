@@ -1,15 +1,8 @@
-use crate::group::{Edit, apply, disks, read, usual};
 use asm_base::{ExtentId, Home, Homes, NodeKind, Path, Records};
 use catalog::{Catalog, DiskInfo};
+use sample_group::{Edit, apply, catalog, operations_told, put_directories, usual};
 use std::alloc::Global;
 use std::test::*;
-
-pub fn catalog(alloc: Global, records: &Records) -> Result<Catalog, Fail> {
-    match read(alloc, records, &disks(2))? {
-        Ok(catalog) => Ok(catalog),
-        Err(_) => Err(Fail::from("the records are refused")),
-    }
-}
 
 fn find(alloc: Global, catalog: &Catalog, path: &[u8]) -> Result<Option<u32>, Fail> {
     let Ok(Some(path)) = Path::read(alloc, path) else {
@@ -165,15 +158,6 @@ fn blocks(catalog: &Catalog) -> (u32, u64) {
     (catalog.shape().dir_blocks, catalog.free_blocks())
 }
 
-/// The file of the pending operation, and the power of the rebalance.
-fn operations(catalog: &Catalog) -> (Option<u32>, Option<u16>) {
-    let file = match catalog.pending() {
-        Some(pending) => Some(pending.file),
-        None => None,
-    };
-    (file, catalog.rebalance())
-}
-
 fn disk_told(alloc: Global, records: &Records) -> Result<DiskInfo, Fail> {
     let catalog = catalog(alloc, records)?;
     disk(&catalog, 1)
@@ -187,14 +171,6 @@ fn lists_told(alloc: Global, records: &Records) -> Result<(usize, u64), Fail> {
 fn blocks_told(alloc: Global, records: &Records) -> Result<(u32, u64), Fail> {
     let catalog = catalog(alloc, records)?;
     Ok(blocks(&catalog))
-}
-
-pub fn operations_told(
-    alloc: Global,
-    records: &Records,
-) -> Result<(Option<u32>, Option<u16>), Fail> {
-    let catalog = catalog(alloc, records)?;
-    Ok(operations(&catalog))
 }
 
 /// Disks, templates, settings and blocks: a head, a chunk, its marks, three nodes, two disks, templates and settings take
@@ -252,16 +228,6 @@ fn half_made_file_is_taken(rt: HostRuntime) -> Result<(), Fail> {
     let units = units_told(alloc, &records, 0)?;
     assert_eq!(rt; units, Some((4, Some(5))));
     assert_eq!(rt; blocks_told(alloc, &records)?, (128, 113));
-    Ok(())
-}
-
-/// Puts directories into the root, as many as are said.
-pub fn put_directories(alloc: Global, records: &mut Records, count: u8) -> Result<(), Fail> {
-    for n in 0..count {
-        let name = [b'd', b'0' + n / 100, b'0' + n / 10 % 10, b'0' + n % 10];
-        let node = Edit::Node(n as u32 + 4, 0, NodeKind::Directory, 0, &name);
-        apply(alloc, records, node)?;
-    }
     Ok(())
 }
 

@@ -9,7 +9,7 @@ use file_directory::{FileHead, record_of};
 use staleness_directory::{Marks, StaleTable};
 use status_table::{PstEntry, PstRecord, is_status};
 use std::alloc::Global;
-use std::test::*;
+use std::test::Fail;
 use template_directory::{Settings, are_allowed, settings_value, system, templates_value};
 
 /// Units of 1 MiB, of which the first two of a disk hold no user bytes: 270 blocks of 4,096 bytes.
@@ -327,4 +327,14 @@ fn put_begun(alloc: Global, records: &mut Records, file: u32) -> Result<(), Fail
         b: 0,
     };
     insert(records, key, value)
+}
+
+/// Puts directories into the root, as many as are said.
+pub fn put_directories(alloc: Global, records: &mut Records, count: u8) -> Result<(), Fail> {
+    for n in 0..count {
+        let name = [b'd', b'0' + n / 100, b'0' + n / 10 % 10, b'0' + n % 10];
+        let node = Edit::Node(n as u32 + 4, 0, NodeKind::Directory, 0, &name);
+        apply(alloc, records, node)?;
+    }
+    Ok(())
 }

@@ -1,0 +1,7 @@
+//! Tests of plans: what a catalog tells once the change that is planned was applied to it.
+#![tactic(auto)]
+
+#[cfg(test)]
+mod making;
+#[cfg(test)]
+mod operations;

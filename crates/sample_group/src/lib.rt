@@ -1,0 +1,8 @@
+//! The records of a small group, for tests: changes of one of them, and the catalog of such records.
+#![tactic(auto)]
+
+mod group;
+mod told;
+
+pub use group::{Edit, NO, SHAPE, apply, disks, put_directories, read, usual};
+pub use told::{catalog, operations_of, operations_told};
