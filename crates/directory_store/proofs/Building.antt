@@ -1,23 +1,25 @@
 -- A store is built of what was read.
 use Rattle.std.proofs.Common.{◌≡◌, ◌⊎◌, inl, inr, ⊎_elim, ℕ, zero, suc, ◌+◌, ◌<◌, ◌≤◌, Bool, true, false, List, [], ◌∷◌, ◌++◌, length, map, take, drop, get_or, refl, sym, ap, subst, ◌∙◌, arith, append_assoc}
-use Rattle.std.specs.Prelude.{◌&&◌, not, nat_lt}
+use Rattle.std.specs.Prelude.{◌&&◌, nat_lt}
 use Rattle.std.specs.List.{list_all}
-use Rattle.std.proofs.lemmas.Bool.{true≢false, and_parts, and_from, lt-ltb, le-ltb, le-leb, lt-leb}
+use Rattle.std.proofs.lemmas.Bool.{and_parts, and_from}
 use Rattle.asm_base.specs.declared.block.Block.{Block}
 use Rattle.asm_formats.specs.Among.{IsAmong}
-use Rattle.asm_formats.specs.Content.{is_page, is_empty_page}
 use Rattle.asm_formats.specs.Status.{ascends_from}
 use Rattle.change_directory.specs.Logs.{are_pages}
 use Rattle.page_map.specs.Loaded.{AreFilled}
 use Rattle.std.proofs.lemmas.List.{append-nil}
 use Rattle.change_directory.specs.declared.copy.DirCopy.{DirCopy}
 use Rattle.directory_store.specs.declared.due.Due.{Due}
-use Rattle.directory_store.specs.Reading.{IsNewest, KeepsOne, PutsKept, are_filled, copies_of, is_same_page, same_pages, IsDueFault, IsKeepFault}
+use Rattle.directory_store.specs.Reading.{IsNewest, KeepsOne, PutsKept, copies_of, is_same_page, same_pages}
 use Rattle.asm_formats.specs.Logs.{PageImage}
 use Rattle.std.proofs.lemmas.List.{take_more}
 use Rattle.change_directory.specs.Logs.{image_of_page}
-use Rattle.change_directory.specs.StoreLaws.{shown_by}
-use Rattle.directory_store.specs.declared.error.LoadError.{LoadError}
+use Rattle.change_directory.specs.StoreLaws.{due_images, shown_by}
+use Rattle.change_directory.specs.declared.loading.Pages.{Pages}
+use Rattle.change_directory.specs.Loads.{AreInOrder}
+use Rattle.std.proofs.lemmas.List.Folds.{list_all-map}
+use Rattle.directory_store.proofs.Records.{same_numbers}
 use Rattle.directory_store.specs.declared.reading.Reading.{Reading}
 
 -- ---- lists
@@ -34,10 +36,6 @@ drop_end [] zero le = refl
 drop_end [] (suc i) le = refl
 drop_end (x ∷ xs) zero le = absurd (omega arith)
 drop_end (x ∷ xs) (suc i) le = drop_end xs i (omega arith)
-
--- the numbers ascend from one on, below the number of pages
-abbrev pub are_pages_from : ℕ → ℕ → List (ℕ × Block) → Bool
-are_pages_from d least blocks = ascends_from least (map (λ (p : ℕ × Block). p.0) blocks) && list_all (λ (p : ℕ × Block). nat_lt p.0 d) blocks
 
 -- ---- the greatest number
 
@@ -79,51 +77,29 @@ newest_later first rest r is lt = record {
 pub newest_alone : (first : Reading) (rest : List Reading) → rest ≡ [] → IsNewest (first ∷ rest) first
 newest_alone first rest none = record { before = []; after = rest; split = refl; smaller = λ q among. absurd among; others = λ q among. absurd (subst (λ (l : List Reading). IsAmong l q) none among) }
 
--- ---- tests
+-- ---- pages as a load gives them
 
--- a page that follows
-pub pages_on : (d least : ℕ) (p : ℕ × Block) (rest : List (ℕ × Block)) → least ≤ p.0 → p.0 < d → are_pages_from d least (p ∷ rest) ≡ are_pages_from d (p.0 + 1) rest
-pages_on d least p rest le lt = rw (le-leb least p.0 le, lt-ltb p.0 d lt) refl
+pub filled_by_order : (d : ℕ) (pages : Pages) → AreInOrder d pages → AreFilled d pages.blocks.items
+filled_by_order d pages order =
+    let p = and_parts (ascends_from 0 (map (λ (p : ℕ × Block). p.0) pages.blocks.items)) (list_all (λ (p : ℕ × Block). nat_lt p.0 d) pages.blocks.items) order.ascend in
+    record { ascend = p.0; inside = p.1; decode = order.decode; filled = order.filled }
 
-and_false : (a : Bool) → (a && false) ≡ false
-and_false true = refl
-and_false false = refl
-
-pub pages_off : (d least : ℕ) (p : ℕ × Block) (rest : List (ℕ × Block)) → (p.0 < least) ⊎ (d ≤ p.0) → are_pages_from d least (p ∷ rest) ≡ false
-pages_off d least p rest (inl lt) = rw (lt-leb least p.0 lt) refl
-pages_off d least p rest (inr le) = rw (le-ltb p.0 d le) (and_false (ascends_from least (map (λ (q : ℕ × Block). q.0) (p ∷ rest))))
-
--- the blocks that pass both tests are those of records
-pub filled_are : (d : ℕ) (blocks : List (ℕ × Block)) → are_pages d blocks ≡ true → are_filled blocks ≡ true → AreFilled d blocks
-filled_are d blocks pages filled =
-    let p = and_parts (ascends_from 0 (map (λ (p : ℕ × Block). p.0) blocks)) (list_all (λ (p : ℕ × Block). nat_lt p.0 d) blocks) pages in
-    record { ascend = p.0; inside = p.1; decode = (go blocks filled).0; filled = (go blocks filled).1 }
+-- so are the due pages
+pub dues_by_order : (d : ℕ) (pages : Pages) (dues : List (ℕ × Block)) → map image_of_page dues ≡ due_images pages → AreInOrder d pages → are_pages d dues ≡ true
+dues_by_order d pages dues are order =
+    and_from (ascends_from 0 (map (λ (p : ℕ × Block). p.0) dues)) (list_all (λ (p : ℕ × Block). nat_lt p.0 d) dues)
+    (ap (ascends_from 0) numbers ∙ p.0)
+    (sym (list_all-map (λ n. nat_lt n d) (λ (p : ℕ × Block). p.0) dues) ∙ ap (list_all (λ n. nat_lt n d)) numbers ∙ p.1)
   where
-    go : (bs : List (ℕ × Block)) → are_filled bs ≡ true → (list_all (λ (p : ℕ × Block). is_page p.1.bytes) bs ≡ true) × (list_all (λ (p : ℕ × Block). not (is_empty_page p.1.bytes)) bs ≡ true)
-    go [] e = (refl, refl)
-    go (b ∷ bs) e =
-        let one = and_parts (is_page b.1.bytes && not (is_empty_page b.1.bytes)) (are_filled bs) e in
-        let two = and_parts (is_page b.1.bytes) (not (is_empty_page b.1.bytes)) one.0 in (
-          and_from (is_page b.1.bytes) (list_all (λ (p : ℕ × Block). is_page p.1.bytes) bs) two.0 (go bs one.1).0,
-          and_from (not (is_empty_page b.1.bytes)) (list_all (λ (p : ℕ × Block). not (is_empty_page p.1.bytes)) bs) two.1 (go bs one.1).1,
-        )
+    of_images : (due : List (ℕ × ℕ)) → map (λ (i : PageImage). i.0) (map (λ (e : ℕ × ℕ). (e.0, shown_by pages.blocks.items e.0)) due) ≡ map (λ (e : ℕ × ℕ). e.0) due
+    of_images [] = refl
+    of_images (e ∷ due) = ap (λ (l : List ℕ). e.0 ∷ l) (of_images due)
 
-pub filled_pass : (d : ℕ) (blocks : List (ℕ × Block)) → AreFilled d blocks → (are_pages d blocks ≡ true) × (are_filled blocks ≡ true)
-filled_pass d blocks is =
-    (and_from (ascends_from 0 (map (λ (p : ℕ × Block). p.0) blocks)) (list_all (λ (p : ℕ × Block). nat_lt p.0 d) blocks) is.ascend is.inside, go blocks is.decode is.filled)
-  where
-    go : (bs : List (ℕ × Block)) → list_all (λ (p : ℕ × Block). is_page p.1.bytes) bs ≡ true → list_all (λ (p : ℕ × Block). not (is_empty_page p.1.bytes)) bs ≡ true → are_filled bs ≡ true
-    go [] e f = refl
-    go (b ∷ bs) e f =
-        let one = and_parts (is_page b.1.bytes) (list_all (λ (p : ℕ × Block). is_page p.1.bytes) bs) e in
-        let two = and_parts (not (is_empty_page b.1.bytes)) (list_all (λ (p : ℕ × Block). not (is_empty_page p.1.bytes)) bs) f in
-        and_from (is_page b.1.bytes && not (is_empty_page b.1.bytes)) (are_filled bs) (and_from (is_page b.1.bytes) (not (is_empty_page b.1.bytes)) one.0 two.0) (go bs one.1 two.1)
+    numbers : map (λ (p : ℕ × Block). p.0) dues ≡ map (λ (e : ℕ × ℕ). e.0) pages.due.items
+    numbers = sym (same_numbers dues) ∙ ap (map (λ (i : PageImage). i.0)) are ∙ of_images pages.due.items
 
-pub stray : (d : ℕ) (blocks : List (ℕ × Block)) → (are_pages d blocks && are_filled blocks) ≡ false → AreFilled d blocks → ⊥
-stray d blocks e filled = let p = filled_pass d blocks filled in true≢false (sym (and_from (are_pages d blocks) (are_filled blocks) p.0 p.1) ∙ e)
-
-pub are_filled_by : (d : ℕ) (blocks : List (ℕ × Block)) → (are_pages d blocks && are_filled blocks) ≡ true → AreFilled d blocks
-are_filled_by d blocks e = let p = and_parts (are_pages d blocks) (are_filled blocks) e in filled_are d blocks p.0 p.1
+    p : (ascends_from 0 (map (λ (e : ℕ × ℕ). e.0) pages.due.items) ≡ true) × (list_all (λ n. nat_lt n d) (map (λ (e : ℕ × ℕ). e.0) pages.due.items) ≡ true)
+    p = and_parts (ascends_from 0 (map (λ (e : ℕ × ℕ). e.0) pages.due.items)) (list_all (λ n. nat_lt n d) (map (λ (e : ℕ × ℕ). e.0) pages.due.items)) order.due
 
 -- ---- those that are kept
 
@@ -151,6 +127,10 @@ more_kept r q qs c0 c1 c2 d0 d1 d2 (inr one) rest = record {
 
 -- ---- pages
 
+and_false : (a : Bool) → (a && false) ≡ false
+and_false true = refl
+and_false false = refl
+
 pub other_length : (ps qs : List (ℕ × Block)) → (length ps ≡ length qs → ⊥) → same_pages ps qs ≡ false
 other_length [] [] differ = absurd (differ refl)
 other_length [] (q ∷ qs) differ = refl
@@ -169,15 +149,6 @@ due_more blocks due i d old new b lt was here is =
     let last : map image_of_page (old ++ ((get_or due i d).0, b) ∷ []) ≡ map image_of_page old ++ ((get_or due i d).0, b.bytes) ∷ [] = map_end image_of_page old ((get_or due i d).0, b) in
     let both : map image_of_page old ++ ((get_or due i d).0, b.bytes) ∷ [] ≡ map f (take i due) ++ f (get_or due i d) ∷ [] = λ j. was j ++ ((get_or due i d).0, here j) ∷ [] in
     ap (map image_of_page) is ∙ last ∙ both ∙ sym (ap (map f) (take_more due i d lt) ∙ map_end f (take i due) (get_or due i d))
-
--- ---- faults
-
-pub due_fault : (readings : List Reading) (q : Reading) (e : LoadError) → IsAmong readings q → IsDueFault q e → IsKeepFault readings e
-due_fault readings q e among fault = inr (q, among, fault)
-
-pub later_keep_fault : (q : Reading) (qs : List Reading) (e : LoadError) → IsKeepFault qs e → IsKeepFault (q ∷ qs) e
-later_keep_fault q qs e (inl none) = inl none
-later_keep_fault q qs e (inr fault) = inr (fault.0, inr fault.1, fault.2)
 
 pub due_more_at : (blocks blocks' : List (ℕ × Block)) (due due' : List (ℕ × ℕ)) → blocks' ≡ blocks → due' ≡ due → (i : ℕ) (d : ℕ × ℕ) (old new : List (ℕ × Block)) (b : Block) → i < length due'
     → map image_of_page old ≡ map (λ (e : ℕ × ℕ). (e.0, shown_by blocks e.0)) (take i due) → b.bytes ≡ shown_by blocks' (get_or due' i d).0 → new ≡ old ++ ((get_or due' i d).0, b) ∷ []

@@ -10,5 +10,9 @@ pub mod Creating
 pub mod Trying
 pub mod ReadingCopies
 pub mod Building
+pub mod EqualPages
+pub mod FirstCopies
 pub mod Loads
+pub mod FirstTaken
+pub mod LoadCauses
 pub mod Standing
