@@ -20,7 +20,10 @@ pub mod SetLaws
 pub mod SameTables
 pub mod AfterLaws
 pub mod PlanLaws
+pub mod NumberedLists
 pub mod DiskPlans
+pub mod TreePlans
+pub mod TreeEditPlans
 pub mod TemplatePlans
 pub mod NextFile
 pub mod ApplyingLaws

@@ -9,3 +9,4 @@ pub mod Applying
 pub mod Items
 pub mod Plans
 pub mod Numbers
+pub mod TreePlans

@@ -4,3 +4,4 @@ mod disks;
 mod making;
 mod operations;
 mod templates;
+mod tree;
