@@ -23,20 +23,20 @@ either : (b : Bool) → (b ≡ true) ⊎ (b ≡ false)
 either true = inl refl
 either false = inr refl
 
-and_true : (b : Bool) → (b && true) ≡ b
+pub and_true : (b : Bool) → (b && true) ≡ b
 and_true true = refl
 and_true false = refl
 
-and_false : (b : Bool) → (b && false) ≡ false
+pub and_false : (b : Bool) → (b && false) ≡ false
 and_false true = refl
 and_false false = refl
 
 -- ---- which chunks are meant
 
-kept_yes : (keep : Chunk → Bool) (x : Chunked) (t : List Chunked) → keep x.0 ≡ true → chunks_kept keep (x ∷ t) ≡ x ∷ chunks_kept keep t
+pub kept_yes : (keep : Chunk → Bool) (x : Chunked) (t : List Chunked) → keep x.0 ≡ true → chunks_kept keep (x ∷ t) ≡ x ∷ chunks_kept keep t
 kept_yes keep x t e = rw e refl
 
-kept_no : (keep : Chunk → Bool) (x : Chunked) (t : List Chunked) → keep x.0 ≡ false → chunks_kept keep (x ∷ t) ≡ chunks_kept keep t
+pub kept_no : (keep : Chunk → Bool) (x : Chunked) (t : List Chunked) → keep x.0 ≡ false → chunks_kept keep (x ∷ t) ≡ chunks_kept keep t
 kept_no keep x t e = rw e refl
 
 -- of chunks that are meant alike
@@ -62,7 +62,7 @@ less_not : (o : Ordering) → o ≡ Less → o ≡ Equal → ⊥
 less_not o less equal = true≢false (ap is_lt (sym less ∙ equal))
 
 -- no later chunk has the key of the first
-tail_none : (x : Chunked) (t : List Chunked) (k : Chunk) → Ascend is_before (x ∷ t) → chunk_cmp k x.0 ≡ Equal → chunk_at t k ≡ None
+pub tail_none : (x : Chunked) (t : List Chunked) (k : Chunk) → Ascend is_before (x ∷ t) → chunk_cmp k x.0 ≡ Equal → chunk_at t k ≡ None
 tail_none x t k up here = by (chunk_at t k) refl where
   same : k ≡ x.0
   same = same_chunk k x.0 here

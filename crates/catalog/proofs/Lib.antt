@@ -27,3 +27,11 @@ pub mod TreeEditPlans
 pub mod TemplatePlans
 pub mod NextFile
 pub mod ApplyingLaws
+pub mod EntryLaws
+pub mod EditLaws
+pub mod MarkPlans
+pub mod UnitEdits
+pub mod MovePlans
+pub mod ReleasePlans
+pub mod AppendPlans
+pub mod MoveItems

@@ -10,3 +10,4 @@ pub mod Items
 pub mod Plans
 pub mod Numbers
 pub mod TreePlans
+pub mod ExtentPlans

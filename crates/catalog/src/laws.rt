@@ -6,6 +6,7 @@ ghost use Rattle.asm_formats.specs.Status.{Entry as StatusEntry};
 ghost use Rattle.asm_base.specs.Records.{Entry};
 ghost use Rattle.catalog.specs.Tables.{Catalogued};
 ghost use Rattle.catalog.specs.Faults.{IsAtFault, IsCatalogOf};
+ghost use Rattle.catalog.specs.ExtentPlans.{MovesItems};
 ghost use Rattle.catalog.specs.Items.{ItemsOfRecords, ItemsSayTables, UnitsOfItems};
 
 /// Where a record is at fault, no value is a catalog of the records.
@@ -26,4 +27,10 @@ pub fn items_say_tables()
 /// The used units of each disk are, from scratch, those of the homes that the items name.
 pub fn units_are_of_items()
     ensures { UnitsOfItems }
+{}
+
+/// The items after a move of a copy, as a committed move leaves them, are those of the tables that the plan of the move leads
+/// to.
+pub fn a_planned_move_is_a_move()
+    ensures { MovesItems }
 {}

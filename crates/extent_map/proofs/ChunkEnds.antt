@@ -79,7 +79,7 @@ down_to : (homes : List Homes) (k j : ℕ) → Stands homes → has_at homes (j 
 down_to homes zero j stands e = ap (has_at homes) (omega arith) ∙ e
 down_to homes (suc k) j stands e = down_to homes k j stands (next_home homes false (j + k) stands (ap (has_at homes) (omega arith) ∙ e))
 
-none_from : (homes : List Homes) (j p : ℕ) → Stands homes → has_at homes j ≡ false → j ≤ p → has_at homes p ≡ false
+pub none_from : (homes : List Homes) (j p : ℕ) → Stands homes → has_at homes j ≡ false → j ≤ p → has_at homes p ≡ false
 none_from homes j p stands none le = elim (either (has_at homes p)) [
   | inl e ↦ absurd (clash (has_at homes j) (down_to homes (p - j) j stands (ap (has_at homes) (omega (arith, le)) ∙ e)) none)
   | inr e ↦ e
@@ -105,19 +105,19 @@ takes_chunks t f c fits none = edited_table t (without_chunk t (f, c)) (f, c) fi
 
 -- the chunk with more extents, by places
 module _ (base homes : List Homes) (size : length base ≡ 256) (stands : Stands base) (there : is_full homes ≡ true) (room : count_in base + length homes ≤ 256) where
-  abbrev n : ℕ
+  abbrev pub n : ℕ
   n = count_in base
 
-  abbrev m : ℕ
+  abbrev pub m : ℕ
   m = count_in base + length homes
 
-  front : length (take n base) ≡ n
+  pub front : length (take n base) ≡ n
   front = omega (arith, length-take n base, prefix_len-le-length has_home base)
 
-  two : length (take n base ++ homes) ≡ m
+  pub two : length (take n base ++ homes) ≡ m
   two = omega (arith, length-append (take n base) homes, front)
 
-  more_long : length (with_more base homes) ≡ 256
+  pub more_long : length (with_more base homes) ≡ 256
   more_long = omega (arith, length-append (take n base ++ homes) (drop m base), two, length-drop m base, size, room)
 
   reaches_more : Reaches (with_more base homes) m
@@ -142,7 +142,7 @@ blank_stands = refl
 
 -- the extents that the file has where its chunk isn't full
 module _ (t : List Chunked) (f c : ℕ) (fits : IsTable t) (ok : follows t f c ≡ true) where
-  abbrev base : List Homes
+  abbrev pub base : List Homes
   base = chunk_or_blank t (f, c)
 
   either_base : (A : List Homes → Type 0) → ((hs : List Homes) → chunk_at t (f, c) ≡ Some hs → A hs) → A (replicate 256 absent) → A base
@@ -151,10 +151,10 @@ module _ (t : List Chunked) (f c : ℕ) (fits : IsTable t) (ok : follows t f c �
     by None e = blank
     by (Some hs) e = there hs e
 
-  base_fits : AreFitting IsHomes 256 base
+  pub base_fits : AreFitting IsHomes 256 base
   base_fits = either_base (λ hs. AreFitting IsHomes 256 hs) (λ hs e. chunk_fits f c hs (item_at t (f, c) hs fits.0.1 e)) blank_fits
 
-  base_stands : Stands base
+  pub base_stands : Stands base
   base_stands = either_base Stands (λ hs e. all_stand t None (f, c) hs fits.1 e) blank_stands
 
   at_base : (p : ℕ) → p < 256 → at_place (chunk_at t (f, c)) p ≡ has_at base p

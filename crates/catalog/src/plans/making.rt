@@ -21,6 +21,38 @@ pub(crate) fn one_put(alloc: Global, entry: (Key, Value)) -> Result<Change, NoMe
     })
 }
 
+/// A change that puts two records.
+pub(crate) fn two_put(
+    alloc: Global,
+    first: (Key, Value),
+    second: (Key, Value),
+) -> Result<Change, NoMemory>
+    ensures put { IfOk result (λ change. change.put ≡ first ∷ second ∷ []) }
+    ensures gone { IfOk result (λ change. change.gone ≡ []) }
+{
+    let mut put = List::new(alloc);
+    put.push(first)?;
+    put.push(second)?;
+    Ok(Change {
+        put,
+        gone: List::new(alloc),
+    })
+}
+
+/// A change by which the records of two keys go.
+pub(crate) fn two_gone(alloc: Global, first: Key, second: Key) -> Result<Change, NoMemory>
+    ensures put { IfOk result (λ change. change.put ≡ []) }
+    ensures gone { IfOk result (λ change. change.gone ≡ first ∷ second ∷ []) }
+{
+    let mut gone = List::new(alloc);
+    gone.push(first)?;
+    gone.push(second)?;
+    Ok(Change {
+        put: List::new(alloc),
+        gone,
+    })
+}
+
 /// A change by which the record of one key goes.
 pub(crate) fn one_gone(alloc: Global, key: Key) -> Result<Change, NoMemory>
     ensures put { IfOk result (λ change. change.put ≡ []) }

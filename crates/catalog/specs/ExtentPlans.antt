@@ -1,0 +1,143 @@
+-- What the plans of extents ask, and what they make of the tables.
+use Rattle.std.specs.Prelude.{◌≡◌, ◌⊎◌, ℕ, ◌+◌, ◌-◌, ◌*◌, ◌/◌, ◌%◌, ◌^◌, ◌<◌, ◌≤◌, Bool, true, false, ◌&&◌, ◌||◌, ◌==◌, nat_lt, List, [], length, get_or, replicate, slice_set, Option, Some, None, IsTrue, bit_and, bit_or, is_some}
+use Rattle.std.specs.List.{list_all}
+use Rattle.std.specs.Option.{unwrap_or}
+use Rattle.asm_group.specs.Shape.{Shape}
+use Rattle.asm_base.specs.declared.refusal.Refusal.{Refusal}
+use Rattle.asm_base.specs.declared.refusal.Refusal.TheVariants as cause
+use Rattle.asm_formats.specs.Items.{FileHead, Home, Homes, Item, chunk_len}
+use Rattle.asm_placement.specs.Layout.{units_of}
+use Rattle.asm_placement.specs.Moves.{with_home, without_bit}
+use Rattle.asm_placement.specs.Placed.{placed_extents}
+use Rattle.extent_map.specs.Extents.{HasExtent, chunk_at, chunk_or_blank, count_in, follows, has_extent, has_home, with_chunk, with_extent, with_more, without_chunk}
+use Rattle.file_directory.specs.Files.{head_at, is_file}
+use Rattle.staleness_directory.specs.Marks.{Marked, marks_at, with_marks, without_marks}
+use Rattle.catalog.specs.Faults.{IsCatalog}
+use Rattle.catalog.specs.Items.{AreItemsOf}
+use Rattle.catalog.specs.Placing.{after_homes, home_taken}
+use Rattle.catalog.specs.Rules.{are_marks_of, are_on_disks, are_within_head, blocks_used, is_due, is_pending, marks_of}
+use Rattle.catalog.specs.Tables.{Catalogued, Tables}
+
+-- ---- one extent
+
+-- the homes at the place of an extent; no home where its chunk isn't there
+abbrev pub homes_at : Tables → ℕ → ℕ → Homes
+homes_at t f i = get_or (unwrap_or (chunk_at t.extents (f, i / chunk_len)) []) (i % chunk_len) []
+
+-- the marks of a chunk, none of which are set where it isn't there
+abbrev pub marks_or_none : List Marked → ℕ × ℕ → List ℕ
+marks_or_none stale chunk = unwrap_or (marks_at stale chunk) (replicate chunk_len 0)
+
+-- the stale marks with others of one extent
+abbrev pub with_marks_at : List Marked → ℕ → ℕ → ℕ → List Marked
+with_marks_at stale f i marks = with_marks stale (f, i / chunk_len) (slice_set (marks_or_none stale (f, i / chunk_len)) (i % chunk_len) marks)
+
+-- ---- marks
+
+-- the marks without those that are cleared, and then with those that are set: what is in both is set
+abbrev pub marks_changed : ℕ → ℕ → ℕ → ℕ
+marks_changed old set clear = bit_or (bit_and old (255 - clear)) set
+
+-- the tables once the marks of an extent are changed so
+abbrev pub with_marks_changed : Tables → ℕ → ℕ → ℕ → ℕ → Tables
+with_marks_changed t f i set clear = record t { stale = with_marks_at t.stale f i (marks_changed (marks_of t f i) set clear) }
+
+-- the extent's chunk is there, and each of these marks is that of a copy of the extent that is there
+pub record MayMark (t : Tables) (f i set : ℕ) : Type 0 where
+  pub chunk : IsTrue (is_some (chunk_at t.extents (f, i / chunk_len)))
+  pub few : set < 8
+  pub copies : IsTrue (are_marks_of (set, homes_at t f i))
+
+-- ---- a copy that moves
+
+-- the home of a copy of an extent
+abbrev pub home_at : Tables → ℕ → ℕ → ℕ → Option Home
+home_at t f i copy = get_or (homes_at t f i) copy None
+
+-- the homes of an extent with this one of a copy
+abbrev pub homes_moved : Tables → ℕ → ℕ → ℕ → Home → Homes
+homes_moved t f i copy h = slice_set (homes_at t f i) copy (Some h)
+
+-- the tables once a copy of an extent has this home and no mark
+abbrev pub with_move : Tables → ℕ → ℕ → ℕ → Home → Tables
+with_move t f i copy h = record t { extents = with_extent t.extents f i (homes_moved t f i copy h); stale = with_marks_at t.stale f i (without_bit (marks_of t f i) copy) }
+
+-- the copy number is below the copies of the file, where it has a head
+abbrev pub is_copy_of : Option FileHead → ℕ → Bool
+is_copy_of None copy = true
+is_copy_of (Some head) copy = nat_lt copy head.copies
+
+-- The extent is there and may have the copy, the other copies lie on other disks, and the home is that of the copy or a run of free user units as long as the extent.
+pub record MayMove (c : Catalogued) (f i copy : ℕ) (h : Home) : Type 0 where
+  pub there : HasExtent c.tables.extents f i
+  pub three : copy < 3
+  pub below : IsTrue (is_copy_of (head_at c.tables.files f) copy)
+  pub apart : IsTrue (are_on_disks (homes_moved c.tables f i copy h))
+  pub free : (home_at c.tables f i copy ≡ Some h) ⊎ IsTrue (is_some (home_taken c.units h (units_of c.shape.step i)))
+
+-- ---- a chunk that gets extents
+
+-- the index of the first extent that a chunk hasn't
+abbrev pub first_new : Tables → ℕ → ℕ → ℕ
+first_new t f n = n * chunk_len + count_in (chunk_or_blank t.extents (f, n))
+
+-- the tables once a chunk has these extents behind those that it has: a new chunk gets marks, none of which are set
+abbrev pub with_appended : Tables → ℕ → ℕ → List Homes → Tables
+with_appended t f n homes = record t { extents = with_chunk t.extents (f, n) (with_more (chunk_or_blank t.extents (f, n)) homes); stale = with_marks t.stale (f, n) (marks_or_none t.stale (f, n)) }
+
+-- what the extents must be that a chunk gets
+pub record MayAppend (c : Catalogued) (f n : ℕ) (homes : List Homes) : Type 0 where
+  -- the number of the chunk has room in a key, and the chunk has room for them
+  pub number : n + 1 < 2 ^ 32
+  pub room : count_in (chunk_or_blank c.tables.extents (f, n)) + length homes ≤ chunk_len
+  -- all extents before them are there, and each of them has a home
+  pub behind : IsTrue (follows c.tables.extents f n)
+  pub there : IsTrue (list_all has_home homes)
+  -- the file has a head, below whose copies the homes are, or is the pending operation's
+  pub owned : IsTrue (is_file c.tables.files f || is_pending f c.tables.operations.pending)
+  pub copies : IsTrue (are_within_head (head_at c.tables.files f) homes)
+  -- the homes of one extent lie on different disks
+  pub apart : IsTrue (list_all are_on_disks homes)
+  -- taken one after the other, each is a run of free user units as long as its extent
+  pub free : IsTrue (is_some (after_homes c.units (placed_extents c.shape.step f (first_new c.tables f n) homes)))
+
+-- the units of three homes are numbers of 32 bits
+abbrev pub is_small : Option Home → Bool
+is_small None = true
+is_small (Some h) = nat_lt h.unit (2 ^ 32)
+
+abbrev pub are_small : Homes → Bool
+are_small homes = (length homes == 3) && list_all is_small homes
+
+-- the chunk isn't there, and fewer blocks are free than it takes with its marks
+pub record LacksBlocks (c : Catalogued) (f n free : ℕ) : Type 0 where
+  pub new : chunk_at c.tables.extents (f, n) ≡ None
+  pub free_is : free + blocks_used c.tables + 2 ≡ c.shape.dir_blocks
+  pub few : free < 2
+
+-- want of memory, or of two blocks
+abbrev pub IsChunkRefusal : Catalogued → ℕ → ℕ → Refusal → Type 0
+IsChunkRefusal c f n refusal = (refusal ≡ cause.NoMemory) ⊎ ((free : ℕ) × (refusal ≡ cause.DirectoryFull 2 free) × LacksBlocks c f n free)
+
+-- ---- a chunk that goes
+
+-- the tables without a chunk and its marks
+abbrev pub with_released : Tables → ℕ → ℕ → Tables
+with_released t f n = record t { extents = without_chunk t.extents (f, n); stale = without_marks t.stale (f, n) }
+
+-- the file, where it has a head, has no extent in the chunk by its size
+abbrev pub IsUndue : Shape → Option FileHead → ℕ → Type 0
+IsUndue s None n = Unit {0}
+IsUndue s (Some head) n = (i : ℕ) → i / chunk_len ≡ n → is_due s head i ≡ false
+
+-- the chunk is there, its file has no extent behind it, and none in it by its size
+pub record MayRelease (s : Shape) (t : Tables) (f n : ℕ) : Type 0 where
+  pub there : IsTrue (is_some (chunk_at t.extents (f, n)))
+  pub last : has_extent t.extents f ((n + 1) * chunk_len) ≡ false
+  pub undue : IsUndue s (head_at t.files f) n
+
+-- ---- moves as asm_placement speaks of them
+
+-- The items after a committed move of a copy are those of the tables that the plan leads to.
+abbrev pub MovesItems : Type 0
+MovesItems = (c : Catalogued) (f i copy : ℕ) (h : Home) (items : List Item) → IsCatalog c → MayMove c f i copy h → h.unit < 2 ^ 32 → AreItemsOf c.tables items → AreItemsOf (with_move c.tables f i copy h) (with_home f i copy h items)
