@@ -1,26 +1,26 @@
 -- A table in which a chunk has other extents, more of them, or goes.
-use Rattle.std.proofs.Common.{◌≡◌, ℕ, zero, suc, ◌+◌, ◌-◌, ◌*◌, ◌/◌, ◌%◌, ◌<◌, ◌≤◌, ◌^◌, Bool, true, false, cond, eqb, List, [], ◌∷◌, ◌++◌, length, take, drop, get_or, replicate, Option, Some, None, refl, sym, ap, subst, ◌∙◌, arith, inl, inr, ◌⊎◌}
+use Rattle.std.proofs.Common.{◌≡◌, ℕ, zero, suc, ◌+◌, ◌-◌, ◌*◌, ◌/◌, ◌%◌, ◌<◌, ◌≤◌, Bool, true, false, cond, eqb, List, [], ◌∷◌, ◌++◌, length, take, drop, get_or, replicate, Option, Some, None, refl, sym, ap, subst, ◌∙◌, arith, inl, inr, ◌⊎◌}
 use Rattle.std.specs.Prelude.{◌&&◌, ◌||◌, not, slice_set}
-use Rattle.std.specs.List.{list_all, prefix_len}
+use Rattle.std.specs.List.{list_all}
 use Rattle.std.specs.Option.{is_some, unwrap_or}
 use Rattle.std.specs.BTreeMap.{is_at}
 use Rattle.std.specs.Map.{set_value}
 use Rattle.std.proofs.lemmas.Bool.{and_parts, cases_lt, ne_eqb}
-use Rattle.std.proofs.lemmas.List.{get_or_append_left, get_or-append_right, get_or-drop, get_or-replicate, get_or-take, length-append, length-drop, length-take, length-replicate, append-nil}
+use Rattle.std.proofs.lemmas.List.{get_or_append_left, get_or-append_right, get_or-drop, get_or-replicate, get_or-take, length-append, length-drop, length-take, append-nil}
 use Rattle.std.proofs.lemmas.List.Sums.{prefix_len-le-length, prefix_len_passes, prefix_len_stops}
 use Rattle.std.proofs.lemmas.Option.{none-some}
 use Rattle.std.proofs.Math.ListN.{take-append-drop}
 use Rattle.asm_formats.specs.Items.{Homes, is_homes}
 use Rattle.asm_base.proofs.Exact.{AreFitting}
 use Rattle.asm_base.proofs.ItemTables.{removed_keeps}
-use Rattle.extent_map.specs.Extents.{Chunk, Chunked, HasCount, HasExtent, IsTable, absent, are_extents, chunk_at, chunk_cmp, chunk_or_blank, count_in, follows, has_extent, has_home, is_blank, is_full, item_of, stand_first, with_chunk, with_extent, with_more, without_chunk}
+use Rattle.extent_map.specs.Extents.{Chunk, Chunked, HasCount, IsTable, absent, chunk_at, chunk_cmp, chunk_or_blank, count_in, follows, has_extent, has_home, is_blank, is_full, item_of, stand_first, with_chunk, with_extent, with_more, without_chunk}
 use Rattle.extent_map.specs.Laws.{FillsChunks, ReplacesExtents, TakesChunks}
 use Rattle.extent_map.proofs.Laws.{chunk_total, same_chunk}
 use Rattle.extent_map.proofs.Values.{IsHomes, blank_fits, chunk_fits, more_allowed, set_allowed}
 use Rattle.extent_map.proofs.Numbering.{Full, Stands, all_stand, at_place, clash, full_at, next_home, the_chunk}
 use Rattle.extent_map.proofs.Lookups.{gone_here, gone_other, put_same}
 use Rattle.extent_map.proofs.Ends.{IsChange, IsEdit, IsRight, edited_table, replaced_table}
-use Rattle.extent_map.proofs.FileEnds.{Reaches, after, blank_by, count_is, has_at, has_to, item_at, none_above, none_stand, put_change, same_place, set_change}
+use Rattle.extent_map.proofs.FileEnds.{Reaches, after, blank_by, count_is, has_at, has_to, item_at, none_above, put_change, same_place, set_change}
 
 either : (b : Bool) → (b ≡ true) ⊎ (b ≡ false)
 either true = inl refl
