@@ -25,6 +25,11 @@ pub mod DiskPlans
 pub mod TreePlans
 pub mod TreeEditPlans
 pub mod TemplatePlans
+pub mod AttributePlans
+pub mod NumberedEntries
+pub mod Owners
+pub mod SizePlans
+pub mod RemovalPlans
 pub mod NextFile
 pub mod ApplyingLaws
 pub mod EntryLaws

@@ -21,7 +21,7 @@ use Rattle.catalog.proofs.SetLaws.{operations_set}
 pub after_put : (t u : Tables) (e : Entry) → AreTables u → Sets t u e.0 (Some e.1) → IsAfter t (e ∷ []) [] u
 after_put t u e are sets = record { tables = are; records = sets }
 
-or_false : (b : Bool) → b ≡ (b || false)
+pub or_false : (b : Bool) → b ≡ (b || false)
 or_false true = refl
 or_false false = refl
 
@@ -74,7 +74,7 @@ operation_fits op o same file kept = rw (same, lt-ltb o.file (2 ^ 32) file, lt-l
 abbrev rebalance_key : Key
 rebalance_key = record { kind = 4; a = 0; b = 0 }
 
-abbrev pending_key : Key
+abbrev pub pending_key : Key
 pending_key = record { kind = 4; a = 1; b = 0 }
 
 module _ (c : Catalogued) (put : List Entry) (gone : List Key) (is : IsCatalog c) where

@@ -17,7 +17,7 @@ use Rattle.catalog.specs.Tables.{AreTables, Catalogued, Tables}
 use Rattle.catalog.proofs.PlanLaws.{after_put}
 use Rattle.catalog.proofs.SetLaws.{templates_set}
 
-with_templates : (t : Tables) (new : templates.Table) → AreTables t → templates.IsTable new → AreTables (record t { templates = new })
+pub with_templates : (t : Tables) (new : templates.Table) → AreTables t → templates.IsTable new → AreTables (record t { templates = new })
 with_templates t new a is = record { files = a.files; extents = a.extents; nodes = a.nodes; templates = is; stale = a.stale; operations = a.operations; disks = a.disks }
 
 pub set_planned : (c : Catalogued) (put : List Entry) (gone : List Key) → IsCatalog c → (ts : List Template) → is_item (templates_item ts) ≡ true → put ≡ item_record (templates_item ts) ∷ [] → gone ≡ []

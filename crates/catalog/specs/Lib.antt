@@ -11,3 +11,4 @@ pub mod Plans
 pub mod Numbers
 pub mod TreePlans
 pub mod ExtentPlans
+pub mod FilePlans

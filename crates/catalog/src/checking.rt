@@ -136,7 +136,7 @@ fn marks_key(at: (u32, u32)) -> Key
 }
 
 /// The key of a file's head.
-fn file_key(file: u32) -> Key
+pub(crate) fn file_key(file: u32) -> Key
     ensures { result ≡ file_key file }
 {
     Key {

@@ -19,7 +19,7 @@ const REBALANCE: Key = Key {
 };
 
 /// The key of the record of the pending operation.
-const PENDING: Key = Key {
+pub(crate) const PENDING: Key = Key {
     kind: 4,
     a: 1,
     b: 0,
@@ -97,7 +97,7 @@ impl Catalog {
 
 /// Shows that an operation is one that a record may say, and does nothing.
 #[tactic(auto, using(crate::proofs::PlanLaws::operation_fits))]
-fn fits(op: &Pending)
+pub(crate) fn fits(op: &Pending)
     ensures { is_item (pending_item op.now) ≡ true }
 {
     numbers(op.file, op.kept);

@@ -1,0 +1,48 @@
+-- Plans of the settings.
+use Rattle.std.proofs.Common.{◌≡◌, true, List, [], ◌∷◌, Option, Some, None, refl, sym, arith}
+use Rattle.asm_group.specs.Names.{Bytes}
+use Rattle.asm_formats.specs.Items.{Key, Settings, is_item, settings_item}
+use Rattle.asm_formats.specs.Values.{value}
+use Rattle.asm_base.specs.Records.{Entry}
+use Rattle.asm_base.specs.Tables.{item_record}
+use Rattle.attribute_values.specs.Edits.{settings_with}
+use Rattle.template_directory.specs.Tables as templates
+use Rattle.template_directory.proofs.ChangeLaws as template_laws
+use Rattle.catalog.specs.Faults.{IsCatalog, settings_key}
+use Rattle.catalog.specs.FilePlans.{IsAttributePlan}
+use Rattle.catalog.specs.Plans.{IsPlan}
+use Rattle.catalog.specs.Tables.{Catalogued}
+use Rattle.catalog.proofs.PlanLaws.{after_put}
+use Rattle.catalog.proofs.SetLaws.{templates_set}
+use Rattle.catalog.proofs.TemplatePlans.{with_templates}
+
+pub settings_planned : (c : Catalogued) (put : List Entry) (gone : List Key) → IsCatalog c → (s : Settings) → is_item (settings_item s) ≡ true → put ≡ item_record (settings_item s) ∷ [] → gone ≡ []
+    → IsPlan c put gone (record c.tables { templates = record { templates = c.tables.templates.templates; settings = s } })
+settings_planned c put gone is s ok p g =
+    let old = c.tables.templates in
+    let new : templates.Table = record { templates = old.templates; settings = s } in
+    let r = is.rules in
+    let are = with_templates c.tables new r.tables (record { templates = r.tables.templates.templates; settings = ok }) in
+    let sets = templates_set c.tables new settings_key (Some (value (settings_item s))) refl (template_laws.settings_set old s) in
+    rw (p, g) (record {
+      after = after_put c.tables (record c.tables { templates = new }) (item_record (settings_item s)) are sets;
+      rules = record {
+        tables = are;
+        marked = r.marked;
+        chunks = r.chunks;
+        owned = r.owned;
+        redundancy = r.redundancy;
+        apart = r.apart;
+        stale = r.stale;
+        nodes = r.nodes;
+        names = r.names;
+        extents = r.extents;
+        room = r.room;
+      };
+      units = λ es has. (c.units, has);
+      few = omega arith;
+    })
+
+pub edit_planned : (c : Catalogued) (put : List Entry) (gone : List Key) (name v : Bytes) (s : Settings) → Some s ≡ settings_with c.tables.templates.settings name v
+    → IsPlan c put gone (record c.tables { templates = record { templates = c.tables.templates.templates; settings = s } }) → IsAttributePlan c name v put gone
+edit_planned c put gone name v s edited plan = record { settings = s; edited = sym edited; plan = plan }

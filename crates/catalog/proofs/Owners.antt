@@ -1,0 +1,18 @@
+-- The owner of a chunk where the pending operation is on a file that has a head.
+use Rattle.std.proofs.Common.{◌≡◌, ℕ, Bool, true, false, eqb, List, Option, Some, None, refl, sym, subst, ◌∙◌}
+use Rattle.std.specs.Prelude.{◌||◌, is_some}
+use Rattle.std.proofs.lemmas.Bool.{eqb-true, true≢false}
+use Rattle.asm_formats.specs.Items.{Pending}
+use Rattle.file_directory.specs.Files.{File, head_at, is_file}
+use Rattle.catalog.specs.FilePlans.{is_on_file}
+use Rattle.catalog.specs.Rules.{is_pending}
+
+pub of_file : (files : List File) (pending : Option Pending) (g : ℕ) → is_on_file files pending ≡ true → (is_file files g || is_pending g pending) ≡ true → is_file files g ≡ true
+of_file files None g on e = alone (is_file files g) e where
+  alone : (b : Bool) → (b || false) ≡ true → b ≡ true
+  alone true e = refl
+  alone false e = e
+of_file files (Some op) g on e = by (is_file files g) refl e where
+  by : (b : Bool) → is_file files g ≡ b → (b || eqb op.file g) ≡ true → b ≡ true
+  by true q e = refl
+  by false q e = sym q ∙ subst (λ (n : ℕ). is_file files n ≡ true) (eqb-true op.file g e) on
