@@ -21,8 +21,8 @@ use striping::{Layout, extents_for};
 
 impl Catalog {
     /// The change by which a file has another size, in bytes. To a greater size it ends the pending operation, and to a
-    /// smaller one it begins the file's shrinking. The file has a head, and where it grows, all extents that it has then are
-    /// there.
+    /// smaller one it begins the file's shrinking. The shape is one that a creation may give, the file has a head, and where
+    /// it grows, all extents that it has then are there.
     pub fn plan_size(&self, alloc: Global, file: u32, size: u64) -> Result<Change, Refusal>
         requires shape { IsTrue (is_shape self.now.shape) }
         requires file { IsTrue (is_file self.now.tables.files file) }
