@@ -3,11 +3,12 @@
 ghost use Rattle.std.specs.Prelude.{◌≡◌, ◌≤◌, IfSome};
 ghost use Rattle.std.specs.Option.{option_map};
 ghost use Rattle.asm_formats.specs.Items.{FileHead as FormatHead};
+ghost use Rattle.extent_map.specs.Extents.{chunks_from};
 ghost use Rattle.file_directory.specs.Files.{head_at};
 
 use crate::catalog::Catalog;
 use extent_map::Chunk;
-use std::collections::btree_map::Iter;
+use std::collections::btree_map::{Iter, Range};
 
 impl Catalog {
     /// The chunks of extents, in the order of file and number, each with the homes of 256 extents.
@@ -15,6 +16,14 @@ impl Catalog {
         ensures { result ≡ self.now.tables.extents }
     {
         self.parts.extents.iter()
+    }
+
+    /// The chunks from this one on, whether it is there or not, in the order of file and number. Those before it are passed
+    /// over by their keys.
+    pub fn chunks_from(&self, chunk: (u32, u32)) -> Range<'_, (u32, u32), Chunk>
+        ensures { result ≡ chunks_from self.now.tables.extents chunk }
+    {
+        self.parts.extents.iter_from(chunk)
     }
 
     /// Copies of each extent of a file, where it has a head: one, two or three.

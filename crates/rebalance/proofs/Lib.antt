@@ -7,3 +7,5 @@ pub mod Sharing
 pub mod HomeLists
 pub mod Verdicts
 pub mod OwnCopies
+pub mod Passing
+pub mod SettingBack

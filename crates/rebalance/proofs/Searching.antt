@@ -79,11 +79,12 @@ same_home (a ∷ []) three = absurd (omega (arith, three))
 same_home (a ∷ b ∷ []) three = absurd (omega (arith, three))
 same_home (a ∷ b ∷ c ∷ d ∷ hs) three = absurd (omega (arith, three))
 
-record IsChunk (x : Chunked) : Type 0 where
-  size : length x.1 ≡ 256
-  homes : list_all is_homes x.1 ≡ true
+-- a chunk of the formats
+pub record IsChunk (x : Chunked) : Type 0 where
+  pub size : length x.1 ≡ 256
+  pub homes : list_all is_homes x.1 ≡ true
 
-chunk_parts : (f c : ℕ) (homes : List Homes) → is_item (chunk_item f c homes) ≡ true → IsChunk ((f, c), homes)
+pub chunk_parts : (f c : ℕ) (homes : List Homes) → is_item (chunk_item f c homes) ≡ true → IsChunk ((f, c), homes)
 unfolding is_item
 chunk_parts f c homes ok =
     let p = and_parts (ltb f (2 ^ 32)) _ ok in

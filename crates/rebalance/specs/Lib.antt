@@ -5,3 +5,5 @@ pub mod Extents
 pub mod Moves
 pub mod Stages
 pub mod Searching
+pub mod Due
+pub mod Cursors

@@ -58,9 +58,12 @@ first_of_chunks says s t (x ∷ xs) = option_or (first_of_chunk says s t x) (fir
 abbrev pub extent_says : Stage → List Entry → List UnitMap → Sums → Extent → Option Next
 extent_says at es ms t x = first_from (said_at at es ms t x) 0 x.copies
 
--- what the first extent of a group says
+-- what the first extent of some chunks of a group says, and of all
+abbrev pub says_of : Stage → List Entry → Catalogued → Sums → List Chunked → Option Next
+says_of at es c t xs = first_of_chunks (extent_says at es c.units t) c.shape c.tables xs
+
 abbrev pub group_says : Stage → List Entry → Catalogued → Sums → Option Next
-group_says at es c t = first_of_chunks (extent_says at es c.units t) c.shape c.tables c.tables.extents
+group_says at es c t = says_of at es c t c.tables.extents
 
 -- what is first to be done with copies, and what is said once nothing has to be done
 abbrev pub work_said : List Entry → Catalogued → Sums → Option Next

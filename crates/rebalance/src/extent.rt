@@ -4,10 +4,12 @@ ghost use Rattle.std.specs.Prelude.{◌≡◌, ◌<◌, ◌≤◌, ◌&&◌, ◌
 ghost use Rattle.asm_formats.specs.Sets.{has_bit};
 ghost use Rattle.asm_placement.specs.Modes.{is_dropping, is_forced, is_online, serves};
 ghost use Rattle.asm_placement.specs.Copies.{is_doubled, is_on, shares_group, wants_fill, wants_shift};
+ghost use Rattle.rebalance.specs.Searching.{extent_of};
 ghost use Rattle.rebalance.specs.Extents.{any_from, can_be_read_at, copy_of, has_other_at, has_source_at, is_marked_at};
 
 use crate::homes::{entry_at, staying_disk};
 use asm_base::{ExtentId, Home, Homes, Mode};
+use catalog::Catalog;
 use status_table::PstEntry;
 
 /// An extent of a file, as a group's tables have it.
@@ -24,6 +26,20 @@ pub struct Extent {
 }
 
 impl Extent {
+    /// The extent of a file with so many copies, as a catalog has it.
+    pub(crate) fn of(catalog: &Catalog, id: ExtentId, copies: u8, homes: &Homes) -> Extent
+        ensures is { result ≡ extent_of catalog.now.shape catalog.now.tables id.file copies id.index homes.now }
+        ensures long { 0 < result.units }
+    {
+        Extent {
+            id,
+            homes: *homes,
+            marks: catalog.marks(id),
+            copies,
+            units: catalog.units_of(id.index),
+        }
+    }
+
     #[tactic(auto, using(crate::proofs::Verdicts::no_home))]
     pub fn home(&self, copy: u8) -> Option<Home>
         ensures { result ≡ get_or self.now.homes copy None }

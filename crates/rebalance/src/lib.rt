@@ -3,7 +3,9 @@
 #![tactic(auto)]
 
 mod choice;
+mod cursor;
 mod disks;
+mod due;
 mod extent;
 mod groups;
 mod homes;
@@ -13,9 +15,10 @@ mod shares;
 mod stages;
 mod tables;
 
+pub use cursor::Cursor;
 pub use extent::Extent;
 pub use moves::{Move, Next};
-pub use next::{next_move, share};
+pub use next::{next_move, next_move_from, share};
 pub use shares::Shares;
 pub use stages::{
     Stage, extents_own_copies, first_of_parts, new_home, said, said_by_tables, stages_are_next,

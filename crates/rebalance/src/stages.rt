@@ -252,7 +252,7 @@ pub fn new_home(disks: &[PstEntry], units: &[Units], extent: &Extent, copy: u8) 
 }
 
 /// The home to which a copy shifts to balance the disks, where its own is on a disk above its share: on one below.
-fn balancing(
+pub(crate) fn balancing(
     disks: &[PstEntry],
     units: &[Units],
     shares: &Shares,

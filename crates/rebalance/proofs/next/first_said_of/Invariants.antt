@@ -1,7 +1,7 @@
 use Rattle.std.proofs.Common.{◌≡◌}
-use Rattle.rebalance.specs.Searching.{extent_says, first_of_chunks, group_says}
-use Rattle.rebalance.proofs.next.first_said.Given as goal
+use Rattle.extent_map.specs.Extents.{chunks_from}
+use Rattle.rebalance.specs.Searching.{says_of}
+use Rattle.rebalance.proofs.next.first_said_of.Given as goal
 
 abbrev pub invariant-loop-at : goal.invariant-loop-at
-invariant-loop-at l =
-    first_of_chunks (extent_says l.stage l.disks l.catalog.units l.shares) l.catalog.shape l.catalog.tables l.at-iterator ≡ group_says l.stage l.disks l.catalog l.shares
+invariant-loop-at l = says_of l.stage l.disks l.catalog l.shares l.at-iterator ≡ says_of l.stage l.disks l.catalog l.shares (chunks_from l.catalog.tables.extents l.first)
