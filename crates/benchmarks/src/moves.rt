@@ -20,6 +20,9 @@ const EXTENTS: u32 = 20_000;
 /// Chunks of 256 extents that a file has.
 const CHUNKS: u32 = 79;
 
+/// What stands for a home that is absent.
+const ABSENT: [u8; 5] = [255, 0, 0, 0, 0];
+
 /// The first unit under a home.
 const FIRST: u32 = 16;
 
@@ -99,8 +102,8 @@ fn entry(number: u8, mode: Mode) -> PstEntry {
 fn group(alloc: Global) -> io::Result<Records> {
     let mut records = Records::new(alloc);
     put_attributes(alloc, &mut records)?;
-    for number in 0..2 {
-        put_at(alloc, &mut records, (2, number, 0), &disk(number as u8))?;
+    for number in 0..2u8 {
+        put_at(alloc, &mut records, (2, number as u32, 0), &disk(number))?;
     }
     for file in 0..FILES {
         put_file(alloc, &mut records, file)?;
@@ -131,16 +134,15 @@ fn put_attributes(alloc: Global, records: &mut Records) -> io::Result<()> {
     records.insert(key, value).map_err(out_of_memory)
 }
 
-/// The value of a disk's record: its birth, and name and failure group in fields of 31 bytes.
+/// The value of a disk's record: its birth, and its name and failure group, each of one letter in a field of 31 bytes.
 fn disk(number: u8) -> [u8; 70] {
     let mut bytes = [0; 70];
+    let letter = b'A'.saturating_add(number);
     bytes[7] = number.saturating_add(1);
-    bytes[8] = 2;
-    bytes[9] = b'D';
-    bytes[10] = b'A' + number % 16;
-    bytes[39] = 2;
-    bytes[40] = b'D';
-    bytes[41] = b'A' + number % 16;
+    bytes[8] = 1;
+    bytes[9] = letter;
+    bytes[39] = 1;
+    bytes[40] = letter;
     bytes
 }
 
@@ -149,7 +151,7 @@ fn put_file(alloc: Global, records: &mut Records, file: u32) -> io::Result<()> {
     let number = file.saturating_add(256);
     put_at(alloc, records, (1, number, 0), &head())?;
     for chunk in 0..CHUNKS {
-        let homes = homes(file, chunk);
+        let homes = homes(alloc, file, chunk)?;
         put_at(alloc, records, (1, number, chunk.saturating_add(1)), &homes)?;
         put_at(alloc, records, (12, number, chunk), &[0; 256])?;
     }
@@ -166,29 +168,28 @@ fn head() -> [u8; 57] {
     bytes
 }
 
-/// The value of a chunk's record: of each extent the disk and the unit of its copy, and two that are absent.
-fn homes(file: u32, chunk: u32) -> [u8; 3_840] {
-    let mut bytes = [0; 3_840];
-    for (place, home) in bytes.chunks_exact_mut(15).enumerate() {
-        let index = chunk.saturating_mul(256).saturating_add(place as u32);
-        put_home(home, file, index);
+/// The value of a chunk's record: of each extent the home of its copy, and two that are absent.
+fn homes(alloc: Global, file: u32, chunk: u32) -> io::Result<Vec<u8>> {
+    let mut bytes = Vec::new(alloc);
+    for place in 0..256u32 {
+        let index = chunk.saturating_mul(256).saturating_add(place);
+        bytes.extend_from_slice(&home(file, index))?;
+        bytes.extend_from_slice(&ABSENT)?;
+        bytes.extend_from_slice(&ABSENT)?;
     }
-    bytes
+    Ok(bytes)
 }
 
-fn put_home(bytes: &mut [u8], file: u32, index: u32) {
+/// A unit of the first disk, and of the second one for the last extent of all.
+fn home(file: u32, index: u32) -> [u8; 5] {
+    if index >= EXTENTS {
+        return ABSENT;
+    }
     let unit = file
         .saturating_mul(EXTENTS)
         .saturating_add(index)
-        .saturating_add(FIRST);
+        .saturating_add(FIRST)
+        .to_be_bytes();
     let is_last = file.saturating_add(1) == FILES && index.saturating_add(1) == EXTENTS;
-    let there = index < EXTENTS;
-    for (place, byte) in bytes.iter_mut().enumerate() {
-        *byte = match place {
-            0 if there => is_last as u8,
-            1..=4 if there => unit.to_be_bytes()[place - 1],
-            0 | 5 | 10 => 255,
-            _ => 0,
-        };
-    }
+    [is_last as u8, unit[0], unit[1], unit[2], unit[3]]
 }

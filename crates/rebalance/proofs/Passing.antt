@@ -137,7 +137,7 @@ first_clear due (y ∷ xs) x up (inr h) passed = by (due y) passed (first_clear 
     after = ap is_lt behind
 
     by : (b : Bool) → is_passed (option_map (λ (z : Chunked). z.0) (cond b (Some y) (find due xs))) x.0 ≡ true → (is_passed (option_map (λ (z : Chunked). z.0) (find due xs)) x.0 ≡ true → due x ≡ false) → due x ≡ false
-    by true passed rest = let no : false ≡ true = sym after ∙ passed in absurd cc
+    by true passed rest = let both : false ≡ true = sym after ∙ passed in absurd cc
     by false passed rest = rest passed
 
 -- ---- a stage
@@ -170,3 +170,7 @@ module _ (at : Stage) (es : List Entry) (c : Catalogued) (t : Sums) (tables : Ar
 
   pub none_is_said : IsClearBefore at es c t None → None ≡ group_says at es c t
   none_is_said clear = sym (none_say c.tables.extents (λ x h. clear_among None clear x h refl))
+
+-- the same of equal entries and sums
+pub along : (P : List Entry → Sums → Type 0) (es fs : List Entry) (t u : Sums) → es ≡ fs → t ≡ u → P es t → P fs u
+along P es fs t u e f p = subst (λ (s : Sums). P fs s) f (subst (λ (xs : List Entry). P xs t) e p)

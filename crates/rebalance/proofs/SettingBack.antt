@@ -36,11 +36,11 @@ before_trans : (a b c : Chunk) → is_before a b ≡ true → is_before b c ≡ 
 before_trans a b c e f = ap is_lt (chunk_total.trans a b c (less_is (chunk_cmp a b) e) (less_is (chunk_cmp b c) f))
 
 before_not : (a b c : Chunk) → is_before a b ≡ true → is_before c b ≡ false → is_before a c ≡ true
-before_not a b c e no = by (chunk_cmp c b) refl no where
+before_not a b c e out = by (chunk_cmp c b) refl out where
   by : (o : Ordering) → chunk_cmp c b ≡ o → is_lt o ≡ false → is_before a c ≡ true
-  by Less is no = absurd cc
-  by Equal is no = subst (λ (d : Chunk). is_before a d ≡ true) (sym (chunks_exact c b is)) e
-  by Greater is no = before_trans a b c e (ap is_lt (chunk_total.antisymm b c ∙ ap ordering_reverse is))
+  by Less is out = absurd cc
+  by Equal is out = subst (λ (d : Chunk). is_before a d ≡ true) (sym (chunks_exact c b is)) e
+  by Greater is out = before_trans a b c e (ap is_lt (chunk_total.antisymm b c ∙ ap ordering_reverse is))
 
 record IsBehind (place : Option Chunk) (at p : Chunk) : Type 0 where
   passed : is_passed place p ≡ true
@@ -104,11 +104,11 @@ none_below p e = by (nat_cmp p.0 0) (nat_cmp p.1 0) (λ is. never p.0 is) (λ is
   never n is = grind (arith, is)
 
   by : (o q : Ordering) → (o ≡ Less → ⊥) → (q ≡ Less → ⊥) → is_lt (ordering_then o q) ≡ true → ⊥
-  by Less q no not e = no refl
-  by Equal Less no not e = not refl
-  by Equal Equal no not e = absurd cc
-  by Equal Greater no not e = absurd cc
-  by Greater q no not e = absurd cc
+  by Less q first second e = first refl
+  by Equal Less first second e = second refl
+  by Equal Equal first second e = absurd cc
+  by Equal Greater first second e = absurd cc
+  by Greater q first second e = absurd cc
 
 pub clear_start : (g : Stage) (es : List Entry) (c : Catalogued) (t : Sums) → IsClearBefore g es c t (Some (0, 0))
 clear_start g es c t p homes found passed = absurd (none_below p passed)

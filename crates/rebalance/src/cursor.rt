@@ -59,7 +59,6 @@ impl Cursor {
     /// Sets the cursor back to the chunk of an extent that changes, where it stands behind it; and the search for a
     /// balancing shift, which goes by the used units of all disks, to the start. A move of a copy of the extent, or a change
     /// of its marks, is such a change.
-    #[tactic(auto, using(crate::proofs::SettingBack::set_back_is))]
     pub fn set_back(&mut self, extent: ExtentId)
         // It is a cursor after each change by which the chunks before the extent's stay as they were.
         ensures { (old new : Catalogued) (r q : Status) → IsCursor old r self.old → IsSameBefore (extent.file, extent.index / 256) old new → q.entries ≡ r.entries → IsCursor new q self.new }
