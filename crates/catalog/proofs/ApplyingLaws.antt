@@ -1,57 +1,137 @@
 -- A change of a catalog.
 use Rattle.std.proofs.Common.{◌≡◌, List, Option, Some, None, refl, sym, ap, subst, ◌∙◌}
+use Rattle.std.specs.Prelude.{ℕ, Err, IfNone, IfOk, IsTrue, Ok, Result, Vec}
+use Rattle.std.specs.declared.alloc.Global.{Global}
 use Rattle.asm_base.proofs.Exact.{some_is}
 use Rattle.asm_base.specs.Records.{Entry}
+use Rattle.asm_base.specs.declared.records.Change.{Change}
 use Rattle.asm_formats.specs.Items.{Key}
 use Rattle.asm_formats.specs.Status as status
-use Rattle.asm_group.specs.Shape.{Shape}
+use Rattle.asm_group.specs.Shape.{Shape, is_shape}
 use Rattle.allocator.specs.UnitMaps.{UnitMap}
-use Rattle.catalog.specs.Applying.{IsReady, Leaves}
+use Rattle.catalog.specs.Applying.{AreDisksReady, IsReady, Leaves}
 use Rattle.catalog.specs.Changing.{IsAfter}
 use Rattle.catalog.specs.Faults.{IsCatalog}
-use Rattle.catalog.specs.Placing.{HasUnits, after_chunks}
+use Rattle.extent_map.specs.Extents.{Chunk, Chunked}
+use Rattle.catalog.specs.Placing.{HasUnits, after_chunks, misplaced, unused_maps}
 use Rattle.catalog.specs.Rules.{KeepsRules}
-use Rattle.catalog.specs.Tables.{Catalogued, Tables}
+use Rattle.catalog.specs.Spares.{IsKept, IsSpareOf, ready_tables, units_in}
+use Rattle.catalog.specs.Tables.{AreTables, Catalogued, Tables}
+use Rattle.catalog.specs.declared.spare.Spare.{Spare}
+use Rattle.catalog.specs.declared.spare.Spare.TheVariants.{Absent, Behind, Ready}
 use Rattle.catalog.proofs.AfterLaws.{one_after}
+use Rattle.catalog.proofs.PlacingLaws.{all_placed}
+
+abbrev Units : Type 0
+Units = Option (List UnitMap)
+
+abbrev pub made : Tables → Shape → List UnitMap → Option Tables → Option (List UnitMap) → Catalogued
+made t s ms o d = record { tables = t; shape = s; units = ms; next = o; next_units = d }
 
 -- the tables that a change leaves are the ones that keep the rules
-pub ready_is : (t u : Tables) (s : Shape) (ms : List UnitMap) (o : Option Tables) (put : List Entry) (gone : List Key) → (v : Tables) × Leaves (record { tables = t; shape = s; units = ms; next = o }) put gone v → IsAfter t put gone u
-    → IsReady (record { tables = t; shape = s; units = ms; next = Some u }) put gone
-ready_is t u s ms o put gone leaves after =
+pub ready_is : (t u : Tables) (s : Shape) (ms : List UnitMap) (o : Option Tables) (d e : Units) (put : List Entry) (gone : List Key) → (v : Tables) × Leaves (made t s ms o d) put gone v → IsAfter t put gone u
+    → IsReady (made t s ms (Some u) e) put gone
+ready_is t u s ms o d e put gone leaves after =
     let same : leaves.0 ≡ u = one_after t leaves.0 u put gone leaves.1.after after in
-    let l = subst (λ (x : Tables). Leaves (record { tables = t; shape = s; units = ms; next = o }) put gone x) same leaves.1 in
+    let l = subst (λ (x : Tables). Leaves (made t s ms o d) put gone x) same leaves.1 in
     record { tables = u; next = refl; leaves = record { after = l.after; rules = l.rules; units = l.units } }
 
-pub same_catalog : (t : Tables) (s : Shape) (ms : List UnitMap) (o p : Option Tables) → IsCatalog (record { tables = t; shape = s; units = ms; next = o }) → IsCatalog (record { tables = t; shape = s; units = ms; next = p })
-same_catalog t s ms o p c = record { rules = c.rules; entries = c.entries; units = c.units }
+-- kept tables brought up by the last change are equal to the catalog's
+pub brought : {E : Type 0} (parts now : Tables) (put : List Entry) (gone : List Key) (made : Result Tables E) → IsAfter parts put gone now → IfOk made (λ u. IsAfter parts put gone u) → IfOk made (λ u. u ≡ now)
+brought parts now put gone (Ok u) is after = one_after parts u now put gone after is
+brought parts now put gone (Err e) is after = tt
 
 -- the units follow the tables
-pub units_after : (t u : Tables) (s : Shape) (old new : List UnitMap) (o : Option Tables) (put : List Entry) (gone : List Key) → Leaves (record { tables = t; shape = s; units = old; next = o }) put gone u
+pub units_after : (t u : Tables) (s : Shape) (old new : List UnitMap) (o : Option Tables) (d : Units) (put : List Entry) (gone : List Key) → Leaves (made t s old o d) put gone u
     → ((first after : List UnitMap) → after_chunks s.step first t.extents ≡ Some old → after_chunks s.step first u.extents ≡ Some after → after ≡ new)
     → (entries : List status.Entry) → HasUnits s entries t old → HasUnits s entries u new
-units_after t u s old new o put gone leaves follows entries has =
+units_after t u s old new o d put gone leaves follows entries has =
     let there = leaves.units entries has in
     there.1 ∙ ap (λ (xs : List UnitMap). Some xs) (follows _ there.0 has there.1)
 
-pub applied : (t u : Tables) (s : Shape) (old new : List UnitMap) (o p : Option Tables) (put : List Entry) (gone : List Key) → IsCatalog (record { tables = t; shape = s; units = old; next = o }) → Leaves (record { tables = t; shape = s; units = old; next = o }) put gone u
-    → ((first after : List UnitMap) → after_chunks s.step first t.extents ≡ Some old → after_chunks s.step first u.extents ≡ Some after → after ≡ new)
-    → IsCatalog (record { tables = u; shape = s; units = new; next = p })
-applied t u s old new o p put gone c leaves follows = record { rules = leaves.rules; entries = c.entries; units = units_after t u s old new o put gone leaves follows c.entries c.units }
+leaves_next : (t u : Tables) (s : Shape) (old : List UnitMap) (o : Option Tables) (d : Units) (put : List Entry) (gone : List Key) → IsReady (made t s old o d) put gone → o ≡ Some u → Leaves (made t s old o d) put gone u
+leaves_next t u s old o d put gone ready is =
+    subst (λ (x : Tables). Leaves (made t s old o d) put gone x) (some_is ready.tables u (sym ready.next ∙ is)) ready.leaves
 
-leaves_next : (t u : Tables) (s : Shape) (old : List UnitMap) (o : Option Tables) (put : List Entry) (gone : List Key) → IsReady (record { tables = t; shape = s; units = old; next = o }) put gone → o ≡ Some u → Leaves (record { tables = t; shape = s; units = old; next = o }) put gone u
-leaves_next t u s old o put gone ready is =
-    subst (λ (x : Tables). Leaves (record { tables = t; shape = s; units = old; next = o }) put gone x) (some_is ready.tables u (sym ready.next ∙ is)) ready.leaves
+pub leaves_seen : (c : Catalogued) (t u : Tables) (s : Shape) (old : List UnitMap) (o : Option Tables) (d : Units) (put : List Entry) (gone : List Key) → made t s old o d ≡ c → IsReady c put gone → o ≡ Some u → Leaves (made t s old o d) put gone u
+leaves_seen c t u s old o d put gone view ready is = leaves_next t u s old o d put gone (subst (λ (x : Catalogued). IsReady x put gone) (sym view) ready) is
 
-pub units_follow : (c : Catalogued) (t u : Tables) (s : Shape) (old new : List UnitMap) (o : Option Tables) (put : List Entry) (gone : List Key) → record { tables = t; shape = s; units = old; next = o } ≡ c → IsReady c put gone → o ≡ Some u
+pub units_follow : (c : Catalogued) (t u : Tables) (s : Shape) (old new : List UnitMap) (o : Option Tables) (d : Units) (put : List Entry) (gone : List Key) → made t s old o d ≡ c → IsReady c put gone → o ≡ Some u
     → ((first after : List UnitMap) → after_chunks s.step first t.extents ≡ Some old → after_chunks s.step first u.extents ≡ Some after → after ≡ new)
     → (entries : List status.Entry) → HasUnits c.shape entries c.tables c.units → HasUnits s entries u new
-units_follow c t u s old new o put gone view ready is follows entries has =
-    units_after t u s old new o put gone (leaves_next t u s old o put gone (subst (λ (x : Catalogued). IsReady x put gone) (sym view) ready) is) follows entries
+units_follow c t u s old new o d put gone view ready is follows entries has =
+    units_after t u s old new o d put gone (leaves_seen c t u s old o d put gone view ready is) follows entries
     (subst (λ (x : Catalogued). HasUnits x.shape entries x.tables x.units) (sym view) has)
 
-pub catalog_after : (c : Catalogued) (t u : Tables) (s : Shape) (old new : List UnitMap) (o p : Option Tables) (put : List Entry) (gone : List Key) → record { tables = t; shape = s; units = old; next = o } ≡ c → IsReady c put gone → o ≡ Some u
-    → IsCatalog (record { tables = t; shape = s; units = old; next = o })
+ready_leads : (spare : Spare) (t u : Tables) (kept : Change) → spare ≡ Ready u kept → IsSpareOf spare t → IsAfter t kept.put kept.gone u
+ready_leads spare t u kept is own = subst (λ (x : Spare). IsSpareOf x t) is own
+
+pub ready_seen : (spare : Spare) (u : Tables) (kept : Change) → spare ≡ Ready u kept → ready_tables spare ≡ Some u
+ready_seen spare u kept is = ap ready_tables is
+
+-- the tables before the change are kept beside those after it
+pub kept_after : (c : Catalogued) (t u was is : Tables) (s : Shape) (old new : List UnitMap) (spare : Spare) (d e : Units) (kept : Change) (put : List Entry) (gone : List Key) → made t s old (ready_tables spare) d ≡ c → IsReady c put gone → spare ≡ Ready u kept
+    → was ≡ t → is ≡ u → IsKept (made t s old (ready_tables spare) d) spare
     → ((first after : List UnitMap) → after_chunks s.step first t.extents ≡ Some old → after_chunks s.step first u.extents ≡ Some after → after ≡ new)
-    → IsCatalog (record { tables = u; shape = s; units = new; next = p })
-catalog_after c t u s old new o p put gone view ready is catalog follows =
-    applied t u s old new o p put gone catalog (leaves_next t u s old o put gone (subst (λ (x : Catalogued). IsReady x put gone) (sym view) ready) is) follows
+    → IsKept (made is s new None e) (Behind was kept)
+kept_after c t u was is s old new spare d e kept put gone view ready ahead same_old same_new own follows =
+    let leaves = leaves_seen c t u s old (ready_tables spare) d put gone view ready (ready_seen spare u kept ahead) in
+    let whole : IsKept (made u s new None e) (Behind t kept) = record {
+      catalog = record { rules = leaves.rules; entries = own.catalog.entries; units = units_after t u s old new (ready_tables spare) d put gone leaves follows own.catalog.entries own.catalog.units };
+      shape = own.shape;
+      kept = (own.catalog.rules.tables, ready_leads spare t u kept ahead own.kept);
+    } in
+    let one : IsKept (made is s new None e) (Behind t kept) = subst (λ (x : Tables). IsKept (made x s new None e) (Behind t kept)) (sym same_new) whole in
+    subst (λ (x : Tables). IsKept (made is s new None e) (Behind x kept)) (sym same_old) one
+
+pub units_kept : (c : Catalogued) (t u is : Tables) (s : Shape) (old new : List UnitMap) (spare : Spare) (d : Units) (kept : Change) (put : List Entry) (gone : List Key) → made t s old (ready_tables spare) d ≡ c → IsReady c put gone → spare ≡ Ready u kept → is ≡ u
+    → ((first after : List UnitMap) → after_chunks s.step first t.extents ≡ Some old → after_chunks s.step first u.extents ≡ Some after → after ≡ new)
+    → (entries : List status.Entry) → HasUnits c.shape entries c.tables c.units → HasUnits s entries is new
+units_kept c t u is s old new spare d kept put gone view ready ahead same follows entries has =
+    subst (λ (x : Tables). HasUnits s entries x new) (sym same) (units_follow c t u s old new (ready_tables spare) d put gone view ready (ready_seen spare u kept ahead) follows entries has)
+
+-- ---- spare tables that are brought up
+
+-- the kept change leads from the kept tables to those of the catalog
+pub behind_now : (spare : Spare) (parts t : Tables) (kept : Change) → spare ≡ Behind parts kept → IsSpareOf spare t → AreTables parts × IsAfter parts kept.put kept.gone t
+behind_now spare parts t kept is own = subst (λ (x : Spare). IsSpareOf x t) is own
+
+-- ---- what a catalog keeps
+
+-- no tables are kept
+pub kept_none : (t : Tables) (s : Shape) (ms : List UnitMap) (o : Option Tables) (d e : Units) (spare : Spare) → IsKept (made t s ms o d) spare → IsKept (made t s ms None e) Absent
+kept_none t s ms o d e spare own = record { catalog = record { rules = own.catalog.rules; entries = own.catalog.entries; units = own.catalog.units }; shape = own.shape; kept = tt }
+
+-- the tables after a change are kept, with an equal change
+pub kept_ready : (t equal u : Tables) (s : Shape) (ms : List UnitMap) (o : Option Tables) (d e : Units) (spare : Spare) (kept : Change) (put : List Entry) (gone : List Key) → IsKept (made t s ms o d) spare → equal ≡ t → IsAfter equal put gone u
+    → kept.put ≡ put → kept.gone ≡ gone → IsKept (made t s ms (Some u) e) (Ready u kept)
+kept_ready t equal u s ms o d e spare kept put gone own same after puts goes =
+    let one : IsAfter t put gone u = subst (λ (x : Tables). IsAfter x put gone u) same after in
+    let two : IsAfter t kept.put gone u = subst (λ (p : List Entry). IsAfter t p gone u) (sym puts) one in
+    record {
+      catalog = record { rules = own.catalog.rules; entries = own.catalog.entries; units = own.catalog.units };
+      shape = own.shape;
+      kept = subst (λ (g : List Key). IsAfter t kept.put g u) (sym goes) two;
+    }
+
+-- the units are others for which the homes have units too
+pub kept_units : (t : Tables) (s : Shape) (ms new : List UnitMap) (o : Option Tables) (d e : Units) (spare : Spare) (entries : List status.Entry) → IsKept (made t s ms o d) spare → HasUnits s entries t new → IsKept (made t s new o e) spare
+kept_units t s ms new o d e spare entries own has = record { catalog = record { rules = own.catalog.rules; entries = entries; units = has }; shape = own.shape; kept = own.kept }
+
+-- the units that were made ready are those of the homes
+pub disks_seen : (c : Catalogued) (t : Tables) (s : Shape) (ms : List UnitMap) (o : Option Tables) (next : Option (Vec UnitMap Global)) (units : Vec UnitMap Global) (entries : List status.Entry) → made t s ms o (units_in next) ≡ c → AreDisksReady c entries → Some units ≡ next
+    → HasUnits s entries t units.items
+disks_seen c t s ms o next units entries view ready is =
+    let r = subst (λ (x : Catalogued). AreDisksReady x entries) (sym view) ready in
+    let there : Some r.units ≡ Some units.items = sym r.next ∙ sym (ap units_in is) in
+    subst (λ (x : List UnitMap). HasUnits s entries t x) (some_is r.units units.items there) r.homes
+
+-- the homes have units, so all of them are placed
+pub units_placed : (s : Shape) (step : ℕ) (entries : List status.Entry) (t : Tables) (extents : List Chunked) (old new : List UnitMap) (fault : Option Chunk) → step ≡ s.step → extents ≡ t.extents → (all : List UnitMap) × HasUnits s entries t all
+    → old ≡ unused_maps s entries → fault ≡ misplaced step old extents → IfNone fault (after_chunks step old extents ≡ Some new) → HasUnits s entries t new
+units_placed s step entries t extents old new fault same_step same_extents there is e placed =
+    let f : fault ≡ misplaced s.step (unused_maps s entries) t.extents =
+    e ∙ (ap (λ (k : ℕ). misplaced k old extents) same_step ∙ (ap (λ (xs : List Chunked). misplaced s.step old xs) same_extents ∙ ap (λ (ms : List UnitMap). misplaced s.step ms t.extents) is)) in
+    let same : after_chunks step old extents ≡ after_chunks s.step (unused_maps s entries) t.extents =
+    ap (λ (k : ℕ). after_chunks k old extents) same_step ∙ (ap (λ (xs : List Chunked). after_chunks s.step old xs) same_extents ∙ ap (λ (ms : List UnitMap). after_chunks s.step ms t.extents) is) in
+    all_placed s.step t.extents (unused_maps s entries) new fault there f (subst (λ (o : Option (List UnitMap)). IfNone fault (o ≡ Some new)) same placed)

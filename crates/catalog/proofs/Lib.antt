@@ -40,3 +40,4 @@ pub mod MovePlans
 pub mod ReleasePlans
 pub mod AppendPlans
 pub mod MoveItems
+pub mod DiskUnitLaws

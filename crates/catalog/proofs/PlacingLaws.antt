@@ -1,7 +1,7 @@
 -- Homes that are placed one after the other.
 use Rattle.std.proofs.Common.{◌≡◌, ℕ, zero, suc, ◌<◌, ◌≤◌, ◌+◌, ◌*◌, Bool, true, false, cond, ltb, get_or, drop, add-one, List, [], ◌∷◌, ◌++◌, length, Option, Some, None, refl, sym, ap, subst, ◌∙◌, arith, inl, inr, ◌⊎◌}
 use Rattle.std.proofs.Math.Nat.{eq-or-lt_of_le}
-use Rattle.std.specs.Prelude.{◌↔◌, IsTrue, slice_set}
+use Rattle.std.specs.Prelude.{◌↔◌, IfNone, IsTrue, slice_set}
 use Rattle.std.proofs.lemmas.List.{drop_more}
 use Rattle.std.proofs.Math.ListN.{drop_of_length-le}
 use Rattle.std.specs.List.{list_all, range_with_len, slice_get}
@@ -119,6 +119,11 @@ misplaced_none step (x ∷ xs) ms at e = by (λ next f. misplaced_none step xs n
   by : ((next : List UnitMap) → misplaced step next xs ≡ Some at → after_chunks step next xs ≡ None) → (next : Option (List UnitMap)) → after_homes ms (homes_of step x) ≡ next → after_chunks step ms (x ∷ xs) ≡ None
   by rest None is = rw is refl
   by rest (Some next) is = rw is (rest next (rw is at e))
+
+-- where all homes have units, none is out of place
+pub all_placed : (step : ℕ) (xs : List Chunked) (ms next : List UnitMap) (fault : Option Chunk) (there : (all : List UnitMap) × (after_chunks step ms xs ≡ Some all)) → fault ≡ misplaced step ms xs → IfNone fault (after_chunks step ms xs ≡ Some next) → after_chunks step ms xs ≡ Some next
+all_placed step xs ms next None there e placed = placed
+all_placed step xs ms next (Some at) there e placed = absurd (none-some there.0 (sym (misplaced_none step xs ms at (sym e)) ∙ there.1))
 
 -- ---- in loops
 

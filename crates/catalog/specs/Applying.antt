@@ -20,3 +20,9 @@ pub record IsReady (c : Catalogued) (put : List Entry) (gone : List Key) : Type 
   pub tables : Tables
   pub next : c.next ≡ Some tables
   pub leaves : Leaves c put gone tables
+
+-- The memory for the disks of these entries was taken: the next units are those of the tables' homes.
+pub record AreDisksReady (c : Catalogued) (entries : List status.Entry) : Type 0 where
+  pub units : List UnitMap
+  pub next : c.next_units ≡ Some units
+  pub homes : HasUnits c.shape entries c.tables units

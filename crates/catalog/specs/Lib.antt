@@ -6,6 +6,7 @@ pub mod Giving
 pub mod Faults
 pub mod Changing
 pub mod Applying
+pub mod Spares
 pub mod Items
 pub mod Plans
 pub mod Numbers

@@ -25,13 +25,14 @@ pub record Tables : Type 0 where
   pub operations : operations.Operations
   pub disks : List disks.Disk
 
--- The tables, the group's shape, and of each disk number which units are used; and the tables that the next change gives, where
--- the memory for it was taken.
+-- The tables, the group's shape, and of each disk number which units are used; and the tables that the next change gives and the
+-- units by the next status record, each where the memory for it was taken.
 pub record Catalogued : Type 0 where
   pub tables : Tables
   pub shape : Shape
   pub units : List UnitMap
   pub next : Option Tables
+  pub next_units : Option (List UnitMap)
 
 -- each table is one: its entries are of the formats, in order, and keep its own rule
 pub record AreTables (t : Tables) : Type 0 where

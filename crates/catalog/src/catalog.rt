@@ -8,6 +8,7 @@ ghost use Rattle.catalog.specs.Faults.{IsAtFault, IsCatalogOf, Names};
 
 use crate::error::CatalogError;
 use crate::parts::Parts;
+use crate::spare::Spare;
 use allocator::Units;
 use asm_base::{Records, Shape};
 use status_table::PstRecord;
@@ -23,19 +24,21 @@ pub struct Catalog {
     pub(crate) shape: Shape,
     /// The units of disk k at place k.
     pub(crate) units: Vec<Units>,
-    /// The tables after the change that the memory was taken for.
-    pub(crate) next: Option<Parts>,
+    /// The tables before the last change, or after the one that the memory was taken for.
+    pub(crate) spare: Spare,
+    /// The units by the status record that the memory was taken for.
+    pub(crate) next_units: Option<Vec<Units>>,
 }
 
 impl Model for Catalog {
     ghost use Rattle.catalog.specs.Tables.{Catalogued};
-    ghost use Rattle.catalog.specs.Faults.{IsCatalog};
+    ghost use Rattle.catalog.specs.Spares.{IsKept, ready_tables, units_in};
 
     ghost Value = { Catalogued };
 
-    ghost view = { λ c. record { tables = c.parts; shape = c.shape; units = c.units.items; next = c.next } };
+    ghost view = { λ c. record { tables = c.parts; shape = c.shape; units = c.units.items; next = ready_tables c.spare; next_units = units_in c.next_units } };
 
-    ghost invariant = { λ c. IsCatalog (record { tables = c.parts; shape = c.shape; units = c.units.items; next = c.next }) };
+    ghost invariant = { λ c. IsKept (record { tables = c.parts; shape = c.shape; units = c.units.items; next = ready_tables c.spare; next_units = units_in c.next_units }) c.spare };
 }
 
 impl Catalog {
@@ -70,7 +73,8 @@ impl Catalog {
             parts,
             shape,
             units,
-            next: None,
+            spare: Spare::Absent,
+            next_units: None,
         })
     }
 }

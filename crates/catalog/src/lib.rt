@@ -9,6 +9,7 @@ mod checking;
 mod chunk_rules;
 mod disk_info;
 mod disk_rules;
+mod disk_units;
 mod disks;
 mod error;
 mod file_rules;
@@ -24,6 +25,7 @@ mod placing;
 mod plans;
 mod reading;
 mod reads;
+mod spare;
 
 pub use catalog::Catalog;
 pub use changing::a_change_leaves_one_set_of_tables;

@@ -1,13 +1,17 @@
 //! What a catalog tells of all extents in a row.
 
-ghost use Rattle.std.specs.Prelude.{◌≡◌, ◌≤◌, IfSome};
+ghost use Rattle.std.specs.Prelude.{◌≡◌, ◌≤◌, ◌==◌, ℕ, IfOk, IfSome};
+ghost use Rattle.std.specs.List.{list_any};
 ghost use Rattle.std.specs.Option.{option_map};
+ghost use Rattle.alias_tree.specs.Nodes.{AreByName, is_under};
 ghost use Rattle.asm_formats.specs.Items.{FileHead as FormatHead};
 ghost use Rattle.extent_map.specs.Extents.{chunks_from};
 ghost use Rattle.file_directory.specs.Files.{head_at};
 
 use crate::catalog::Catalog;
+use asm_base::NoMemory;
 use extent_map::Chunk;
+use std::alloc::Global;
 use std::collections::btree_map::{Iter, Range};
 
 impl Catalog {
@@ -35,5 +39,16 @@ impl Catalog {
             Some(head) => Some(head.copies),
             None => None,
         }
+    }
+
+    /// The nodes of a directory, or of the root by 0, in the order of their names without case. The work goes by their
+    /// number.
+    pub fn children(&self, alloc: Global, node: u32) -> Result<Vec<u32>, NoMemory>
+        // They are just the nodes of this parent.
+        ensures each { IfOk result (λ v. (n : ℕ) → list_any (λ m. m == n) v.items ≡ is_under self.now.tables.nodes node n) }
+        // By name, and none is given twice.
+        ensures order { IfOk result (λ v. AreByName self.now.tables.nodes v.items) }
+    {
+        self.parts.tree.children(alloc, node)
     }
 }

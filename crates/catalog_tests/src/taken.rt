@@ -240,3 +240,30 @@ fn last_block_is_taken(rt: HostRuntime) -> Result<(), Fail> {
     assert_eq!(rt; blocks_told(alloc, &records)?, (128, 0));
     Ok(())
 }
+
+fn children_told(alloc: Global, records: &Records, node: u32) -> Result<Vec<u32>, Fail> {
+    let catalog = catalog(alloc, records)?;
+    match catalog.children(alloc, node) {
+        Ok(children) => Ok(children),
+        Err(_) => Err(Fail::from("memory")),
+    }
+}
+
+/// The nodes of a directory are in the order of their names, of which a long one may come first.
+#[test]
+fn children(rt: HostRuntime) -> Result<(), Fail> {
+    let alloc = rt.alloc();
+    let mut records = usual(alloc)?;
+    let edit = Edit::Node(4, 0, NodeKind::Directory, 0, b"ARCHIVE");
+    apply(alloc, &mut records, edit)?;
+    assert_eq!(rt;
+        children_told(alloc, &records, 0)?.as_slice(),
+        [4, 1, 3].as_slice()
+    );
+    assert_eq!(rt;
+        children_told(alloc, &records, 1)?.as_slice(),
+        [2].as_slice()
+    );
+    assert_eq!(rt; children_told(alloc, &records, 4)?.len(), 0);
+    Ok(())
+}

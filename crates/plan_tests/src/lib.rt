@@ -2,6 +2,8 @@
 #![tactic(auto)]
 
 #[cfg(test)]
+mod disk_units;
+#[cfg(test)]
 mod making;
 #[cfg(test)]
 mod operations;

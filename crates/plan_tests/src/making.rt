@@ -12,9 +12,9 @@ use std::test::Fail;
 pub fn make(alloc: Global, catalog: &mut Catalog, change: &Change) -> Result<(), Fail>
     requires { (u : Tables) × IsPlan catalog.old change.now.put change.now.gone u }
 {
-    if catalog.ready(alloc, change).is_err() {
-        return Err(Fail::from("memory"));
+    match catalog.ready(alloc, change) {
+        Ok(()) => catalog.apply(change),
+        Err(_) => return Err(Fail::from("memory")),
     }
-    catalog.apply(change);
     Ok(())
 }

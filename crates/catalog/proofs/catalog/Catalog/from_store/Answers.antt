@@ -12,7 +12,7 @@ returns-in-Some-clause-fault c =
     (subst (λ (es : List Entry). BreaksRule c.args.shape es c.in-Ok.parts c.in-Some.key) c.entries-entries.ensures.entries c.in-Some.ensures.some)
 
 pub invariant_of-result : goal.invariant_of-result
-invariant_of-result c = invariant_is c.entries-entries.result.now _ (rw c.in_default.is at c.fault.ensures.rules) c.in_ok-units.ensures.units
+invariant_of-result c = record { catalog = invariant_is c.entries-entries.result.now _ (rw c.in_default.is at c.fault.ensures.rules) c.in_ok-units.ensures.units; shape = c.requires.shape; kept = tt }
 
 pub returns-clause-catalog : goal.returns-clause-catalog
 returns-clause-catalog c =

@@ -1,0 +1,32 @@
+-- The tables that a catalog keeps beside its own.
+use Rattle.std.specs.Prelude.{List, Option, Some, None, IsTrue, Vec}
+use Rattle.std.specs.declared.alloc.Global.{Global}
+use Rattle.asm_group.specs.Shape.{is_shape}
+use Rattle.allocator.specs.UnitMaps.{UnitMap}
+use Rattle.catalog.specs.declared.spare.Spare.{Spare}
+use Rattle.catalog.specs.declared.spare.Spare.TheVariants.{Absent, Behind, Ready}
+use Rattle.catalog.specs.Changing.{IsAfter}
+use Rattle.catalog.specs.Faults.{IsCatalog}
+use Rattle.catalog.specs.Tables.{AreTables, Catalogued, Tables}
+
+-- the tables that the memory was taken for
+abbrev pub ready_tables : Spare → Option Tables
+ready_tables Absent = None
+ready_tables (Behind parts change) = None
+ready_tables (Ready parts change) = Some parts
+
+-- the kept change leads from the kept tables to these, or, where the memory was taken, from these to the kept ones
+abbrev pub IsSpareOf : Spare → Tables → Type 0
+IsSpareOf Absent t = Unit {0}
+IsSpareOf (Behind parts change) t = AreTables parts × IsAfter parts change.put change.gone t
+IsSpareOf (Ready parts change) t = IsAfter t change.put change.gone parts
+
+abbrev pub units_in : Option (Vec UnitMap Global) → Option (List UnitMap)
+units_in None = None
+units_in (Some units) = Some units.items
+
+-- The value is a catalog, and the kept tables are spare ones of its own.
+pub record IsKept (c : Catalogued) (spare : Spare) : Type 0 where
+  pub catalog : IsCatalog c
+  pub shape : IsTrue (is_shape c.shape)
+  pub kept : IsSpareOf spare c.tables
