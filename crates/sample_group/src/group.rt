@@ -29,6 +29,8 @@ pub const NO: u8 = 255;
 pub enum Edit<'a> {
     /// The head of file 256: its copies and bytes.
     Head(u8, u64),
+    /// The head of file 257, and its system name in the same directory: its copies and bytes.
+    Second(u8, u64),
     /// A chunk of extents, by file and number: of each of its first extents the disk and the unit of two copies.
     Chunk(u32, u32, &'a [[u8; 4]]),
     /// The stale marks of a chunk, by file and number: those of its first extents, bit k for copy k.
@@ -118,7 +120,8 @@ pub fn read(
 /// Puts a record, or takes one away.
 pub fn apply(alloc: Global, records: &mut Records, edit: Edit) -> Result<(), Fail> {
     match edit {
-        Edit::Head(copies, size) => put_head(alloc, records, copies, size),
+        Edit::Head(copies, size) => put_head(alloc, records, 256, copies, size, (2, 3)),
+        Edit::Second(copies, size) => put_second(alloc, records, copies, size),
         Edit::Chunk(file, chunk, homes) => put_chunk(alloc, records, (file, chunk), homes),
         Edit::Marks(file, chunk, marks) => put_marks(alloc, records, (file, chunk), marks),
         Edit::Node(number, parent, kind, file, name) => {
@@ -189,7 +192,15 @@ fn put_settings(alloc: Global, records: &mut Records) -> Result<(), Fail> {
     insert(records, key, value)
 }
 
-fn put_head(alloc: Global, records: &mut Records, copies: u8, size: u64) -> Result<(), Fail> {
+/// Puts the head of a file with this system node and alias node.
+fn put_head(
+    alloc: Global,
+    records: &mut Records,
+    file: u32,
+    copies: u8,
+    size: u64,
+    names: (u32, u32),
+) -> Result<(), Fail> {
     let Ok(Some(kind)) = Name::read(alloc, b"DATAFILE", 30) else {
         return Err(Fail::from("a type"));
     };
@@ -199,16 +210,22 @@ fn put_head(alloc: Global, records: &mut Records, copies: u8, size: u64) -> Resu
         kind,
         size,
         incarnation: 1,
-        system: 2,
-        alias: 3,
+        system: names.0,
+        alias: names.1,
     };
-    if !head.is_allowed(256) {
+    if !head.is_allowed(file) {
         return Err(Fail::from("a head"));
     }
-    let Ok((key, value)) = record_of(alloc, 256, &head) else {
+    let Ok((key, value)) = record_of(alloc, file, &head) else {
         return Err(Fail::from("memory"));
     };
     insert(records, key, value)
+}
+
+/// Puts file 257 without extents.
+fn put_second(alloc: Global, records: &mut Records, copies: u8, size: u64) -> Result<(), Fail> {
+    put_head(alloc, records, 257, copies, size, (4, 0))?;
+    put_node(alloc, records, 4, (1, NodeKind::System, 257), b"u.257.2")
 }
 
 fn put_chunk(
