@@ -4,6 +4,8 @@
 #[cfg(test)]
 mod disk_units;
 #[cfg(test)]
+mod files;
+#[cfg(test)]
 mod making;
 #[cfg(test)]
 mod operations;
