@@ -9,3 +9,5 @@ mod files;
 mod making;
 #[cfg(test)]
 mod operations;
+#[cfg(test)]
+mod tree;
