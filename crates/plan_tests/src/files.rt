@@ -68,7 +68,7 @@ fn shorten(alloc: Global, group: &mut Catalog, size: u64) -> Result<(), Fail> {
     let Some(head) = group.file(256) else {
         return Err(Fail::from("a file"));
     };
-    if head.size < size || !is_on_file(group) || !group.shape().is_allowed() {
+    if head.size < size || !is_on_file(group) {
         return Err(Fail::from("a greater size"));
     }
     let Ok(change) = group.plan_size(alloc, 256, size) else {

@@ -10,7 +10,7 @@ ghost use Rattle.catalog.specs.FilePlans.{HasSoMany, IsRemovalPlan, IsSizePlan, 
 
 use crate::catalog::Catalog;
 use crate::checking::file_key;
-use crate::plans::making::{no_memory, one_put};
+use crate::plans::making::{no_memory, one_put, two_put};
 use crate::plans::operations::{PENDING, fits};
 use crate::reading::node_key;
 use asm_base::{Change, Key, List, NoMemory, Refusal, Shape, Value};
@@ -21,10 +21,9 @@ use striping::{Layout, extents_for};
 
 impl Catalog {
     /// The change by which a file has another size, in bytes. To a greater size it ends the pending operation, and to a
-    /// smaller one it begins the file's shrinking. The shape is one that a creation may give, the file has a head, and where
-    /// it grows, all extents that it has then are there.
+    /// smaller one it begins the file's shrinking. The file has a head, and where it grows, all extents that it has then are
+    /// there.
     pub fn plan_size(&self, alloc: Global, file: u32, size: u64) -> Result<Change, Refusal>
-        requires shape { IsTrue (is_shape self.now.shape) }
         requires file { IsTrue (is_file self.now.tables.files file) }
         requires extents { MayGrow self.now.shape self.now.tables file size }
         ensures planned { IfOk result (λ change. IsSizePlan self.now file size change.put change.gone) }
@@ -44,12 +43,12 @@ impl Catalog {
         head: &FileHead,
         size: u64,
     ) -> Result<Change, NoMemory>
-        requires shape { IsTrue (is_shape self.now.shape) }
         requires file { head_at self.now.tables.files file ≡ Some head.now }
         requires extents { MayGrow self.now.shape self.now.tables file size }
         ensures { IfOk result (λ change. IsSizePlan self.now file size change.put change.gone) }
     {
         self.keeps_rules();
+        self.has_shape();
         let sized = resized(head, size)?;
         let entry = record_of(alloc, file, &sized)?;
         if head.size < size {
@@ -161,18 +160,4 @@ fn put_and_gone(alloc: Global, entry: (Key, Value), key: Key) -> Result<Change, 
     let mut gone = List::new(alloc);
     gone.push(key)?;
     Ok(Change { put, gone })
-}
-
-/// A change that puts two records.
-fn two_put(alloc: Global, first: (Key, Value), second: (Key, Value)) -> Result<Change, NoMemory>
-    ensures put { IfOk result (λ change. change.put ≡ first ∷ second ∷ []) }
-    ensures gone { IfOk result (λ change. change.gone ≡ []) }
-{
-    let mut put = List::new(alloc);
-    put.push(first)?;
-    put.push(second)?;
-    Ok(Change {
-        put,
-        gone: List::new(alloc),
-    })
 }

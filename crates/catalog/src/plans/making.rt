@@ -1,6 +1,7 @@
 //! Changes of one record.
 
-ghost use Rattle.std.specs.Prelude.{◌≡◌, ◌∷◌, [], IfErr, IfOk};
+ghost use Rattle.std.specs.Prelude.{◌≡◌, ◌∷◌, [], IfErr, IfOk, IsTrue};
+ghost use Rattle.asm_group.specs.Shape.{is_shape};
 ghost use Rattle.catalog.specs.Faults.{IsCatalog};
 ghost use Rattle.asm_base.specs.declared.refusal.Refusal.TheVariants.{NoMemory as WithoutMemory};
 
@@ -77,6 +78,13 @@ impl Catalog {
     /// Shows that the rules hold, and does nothing.
     pub(crate) fn keeps_rules(&self)
         ensures { IsCatalog self.now }
+    {
+        let _parts = &self.parts;
+    }
+
+    /// Shows that the shape is one that a creation may give, and does nothing.
+    pub(crate) fn has_shape(&self)
+        ensures { IsTrue (is_shape self.now.shape) }
     {
         let _parts = &self.parts;
     }

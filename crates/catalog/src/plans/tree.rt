@@ -1,8 +1,8 @@
 //! The plan of an edit of the tree of names.
 
-ghost use Rattle.std.specs.Prelude.{◌≡◌, ◌⊎◌, ◌<◌, ◌^◌, ◌∷◌, ◌+◌, [], IfErr, IfOk, IsTrue, None, Ok, Some, true};
+ghost use Rattle.std.specs.Prelude.{◌≡◌, ◌⊎◌, ◌<◌, ◌^◌, ◌+◌, [], IfErr, IfOk, IsTrue, None, Ok, Some, true};
 ghost use Rattle.asm_group.specs.TreeEdits as edits;
-ghost use Rattle.asm_group.specs.declared.NodeKind.TheVariants.{Alias, Directory};
+ghost use Rattle.asm_group.specs.declared.NodeKind.TheVariants.{Alias};
 ghost use Rattle.asm_base.specs.Refusals.{said};
 ghost use Rattle.asm_base.specs.declared.refusal.Refusal.TheVariants.{DirectoryFull, NoMemory as WithoutMemory};
 ghost use Rattle.alias_tree.specs.Edits.{ChangesNodes, IsChange, IsRefusal, cause_said, edit_meant, is_edit, nodes_after};
@@ -14,7 +14,7 @@ ghost use Rattle.catalog.specs.Rules.{blocks_used};
 ghost use Rattle.catalog.specs.TreePlans.{IsFull, IsNewAlias, IsTreePlan, IsTreeRefusal, KeepsName, MayChange, MayGo, MayPut, aliased_head, heads_after, heads_with, heads_without, keeps_files, with_alias};
 
 use crate::catalog::Catalog;
-use crate::plans::making::{no_memory, one_gone, one_put};
+use crate::plans::making::{no_memory, one_gone, one_put, two_put};
 use crate::reading::node_key;
 use alias_tree::{Node, TreeChange, TreeEdit, TreeError, node_record};
 use asm_base::{Change, Key, NoMemory, NodeKind, Refusal, Value};
@@ -173,16 +173,6 @@ fn with_alias(head: &FileHead, alias: u32) -> Result<FileHead, NoMemory>
         system: head.system,
         alias,
     })
-}
-
-/// A change that puts two records.
-fn two_put(alloc: Global, first: (Key, Value), second: (Key, Value)) -> Result<Change, NoMemory>
-    ensures put { IfOk result (λ change. change.put ≡ first ∷ second ∷ []) }
-    ensures gone { IfOk result (λ change. change.gone ≡ []) }
-{
-    let mut change = one_put(alloc, first)?;
-    change.put.push(second)?;
-    Ok(change)
 }
 
 /// The same refusal, as that of a command.
