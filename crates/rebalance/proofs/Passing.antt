@@ -171,6 +171,18 @@ module _ (at : Stage) (es : List Entry) (c : Catalogued) (t : Sums) (tables : Ar
   pub none_is_said : IsClearBefore at es c t None → None ≡ group_says at es c t
   none_is_said clear = sym (none_say c.tables.extents (λ x h. clear_among None clear x h refl))
 
+  pub due_none : (place found : Option Chunk) → place ≡ None → found ≡ None → IsClearBefore at es c t place → found ≡ first_due at es c t
+  due_none place found end none clear = none ∙ none_is_first (subst (λ (o : Option Chunk). IsClearBefore at es c t o) end clear)
+
+  pub due_some : (place found : Option Chunk) (p : Chunk) → place ≡ Some p → IsClearBefore at es c t place → found ≡ first_due_of at es c t (chunks_from c.tables.extents p) → found ≡ first_due at es c t
+  due_some place found p here clear is = due_is_first p found (subst (λ (o : Option Chunk). IsClearBefore at es c t o) here clear) is
+
+  pub said_none : (place : Option Chunk) (next : Option CodeNext) → place ≡ None → next ≡ None → IsClearBefore at es c t place → option_map next_meant next ≡ group_says at es c t
+  said_none place next end none clear = ap (option_map next_meant) none ∙ none_is_said (subst (λ (o : Option Chunk). IsClearBefore at es c t o) end clear)
+
+  pub said_some : (place : Option Chunk) (p : Chunk) (next : Option CodeNext) → place ≡ Some p → IsClearBefore at es c t place → option_map next_meant next ≡ says_of at es c t (chunks_from c.tables.extents p) → option_map next_meant next ≡ group_says at es c t
+  said_some place p next here clear is = said_is_first p next (subst (λ (o : Option Chunk). IsClearBefore at es c t o) here clear) is
+
 -- the same of equal entries and sums
 pub along : (P : List Entry → Sums → Type 0) (es fs : List Entry) (t u : Sums) → es ≡ fs → t ≡ u → P es t → P fs u
 along P es fs t u e f p = subst (λ (s : Sums). P fs s) f (subst (λ (xs : List Entry). P xs t) e p)

@@ -11,7 +11,7 @@ all_said-requires-clause-tables c = c.units.ensures.rules.rules.tables
 
 pub all_said-requires-clause-cursor : goal.all_said-requires-clause-cursor
 all_said-requires-clause-cursor c =
-    along (λ (es : List Entry) (t : Sums). AreClear es c.args.catalog.now t c.args.cursor.old) _ _ _ _ (sym c.entries-disks.ensures.entries)
+    along (λ (es : List Entry) (t : Sums). AreClear es c.args.catalog.now t c.args.cursor.now) _ _ _ _ (sym c.entries-disks.ensures.entries)
     (sym (sums_given c.args.catalog.now.units c.units.result.now c.args.status.now.entries c.of-shares.result c.units.ensures.units c.of-shares.ensures.value)) c.requires.cursor
 
 pub returns-clause-next : goal.returns-clause-next
