@@ -66,7 +66,7 @@ folded_last [] e = absurd (true≢false e)
 folded_last (x ∷ []) e = refl
 folded_last (x ∷ y ∷ path) e = ap (λ (p : Path). folded x ∷ p) (folded_last (y ∷ path) (not_root y path))
 
-root_is : (path : Path) → is_root path ≡ true → path ≡ []
+pub root_is : (path : Path) → is_root path ≡ true → path ≡ []
 root_is [] e = refl
 root_is (x ∷ path) e = absurd (true≢false (sym e ∙ not_root x path))
 

@@ -76,7 +76,7 @@ node_missing nodes path o n t e is some none =
 -- ---- a node is put
 
 -- a node that hangs at a new name is one of the formats
-parent_small : (nodes : List Numbered) (parent : ℕ) → IsTable nodes → MayHang nodes parent → parent < 2 ^ 32
+pub parent_small : (nodes : List Numbered) (parent : ℕ) → IsTable nodes → MayHang nodes parent → parent < 2 ^ 32
 parent_small nodes parent t hang = elim hang [
   | inl z ↦ (let e : parent ≡ 0 = z in omega arith)
   | inr (above, f, d) ↦ (number_is_some parent above (item_at nodes parent above t.items f)).1

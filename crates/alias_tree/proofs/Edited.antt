@@ -30,13 +30,13 @@ use Rattle.alias_tree.proofs.Ways.{by_last, child_at, no_root}
 -- ---- a node is put
 
 -- where a node is put, with what that rests on
-record Placed (old : List Numbered) (path : Path) (n : ℕ) (node : Node) : Type 0 where
-  there : node_at (with_node old n node) n ≡ Some node
-  gone : OneGone (with_node old n node) old n
-  root : is_at (nat_cmp n) 0 ≡ false
-  at : number_by (with_node old n node) 0 (folded_path path) ≡ Some n
+pub record Placed (old : List Numbered) (path : Path) (n : ℕ) (node : Node) : Type 0 where
+  pub there : node_at (with_node old n node) n ≡ Some node
+  pub gone : OneGone (with_node old n node) old n
+  pub root : is_at (nat_cmp n) 0 ≡ false
+  pub at : number_by (with_node old n node) 0 (folded_path path) ≡ Some n
 
-placed : (old : List Numbered) (path : Path) (n : ℕ) (node : Node) → IsTable old → IsTable (with_node old n node) → IsNew old path → HangsAt old path node → node_at old n ≡ None → Placed old path n node
+pub placed : (old : List Numbered) (path : Path) (n : ℕ) (node : Node) → IsTable old → IsTable (with_node old n node) → IsNew old path → HangsAt old path node → node_at old n ≡ None → Placed old path n node
 placed old path n node t u new hangs free = record { there = there; gone = gone; root = root; at = at } where
   there : node_at (with_node old n node) n ≡ Some node
   there = at_with old n node n ∙ rw (at_self n) refl
@@ -68,10 +68,10 @@ put_tree old path n node t u new hangs free =
 pub put_number : (old : List Numbered) (path : Path) (n : ℕ) (node : Node) → IsTable old → IsTable (with_node old n node) → first_cause (e.new_name_causes (tree_of old) path) ≡ None → HangsAt old path node → node_at old n ≡ None → number_of (with_node old n node) path ≡ Some n
 put_number old path n node t u none hangs free = number_is (with_node old n node) path ∙ (placed old path n node t u (new_name old path t none) hangs free).at
 
-abbrev entry_named : Bytes → NodeKind → ℕ → TreeEntry
+abbrev pub entry_named : Bytes → NodeKind → ℕ → TreeEntry
 entry_named name kind file = record { name = name; node = node_kind kind file }
 
-entry_as : (node : Node) (name : Bytes) (kind : NodeKind) (file : ℕ) → node.name ≡ name → node.kind ≡ kind → node.file ≡ file → entry_of_node node ≡ entry_named name kind file
+pub entry_as : (node : Node) (name : Bytes) (kind : NodeKind) (file : ℕ) → node.name ≡ name → node.kind ≡ kind → node.file ≡ file → entry_of_node node ≡ entry_named name kind file
 entry_as node name kind file a b c =
     ap (λ (x : Bytes). entry_named x node.kind node.file) a ∙ (ap (λ (k : NodeKind). entry_named name k node.file) b ∙ ap (λ (f : ℕ). entry_named name kind f) c)
 

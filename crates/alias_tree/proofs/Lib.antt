@@ -24,3 +24,6 @@ pub mod FoundFaults
 pub mod OpenLaws
 pub mod FileNumbers
 pub mod PlanLaws
+pub mod FreeNumbers
+pub mod Fronts
+pub mod NewNodes

@@ -6,3 +6,4 @@ pub mod Edits
 pub mod FileNames
 pub mod Faults
 pub mod Opening
+pub mod Filing

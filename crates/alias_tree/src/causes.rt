@@ -194,7 +194,7 @@ fn is_node(node: Option<&Node>) -> bool
     }
 }
 
-fn is_directory(node: Option<&Node>) -> bool
+pub(crate) fn is_directory(node: Option<&Node>) -> bool
     ensures { result ≡ is_dir_entry (option_map entry_of_node (option_copied node.entry)) }
 {
     match node {

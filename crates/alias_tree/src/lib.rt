@@ -7,6 +7,7 @@ mod changing;
 mod editing;
 mod faults;
 mod files;
+mod filing;
 mod index;
 mod node;
 mod nodes;

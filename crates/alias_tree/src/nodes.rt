@@ -1,12 +1,13 @@
 //! The nodes by number.
 
-ghost use Rattle.std.specs.Prelude.{◌≡◌, ◌<◌, ◌^◌, ◌++◌, [], length, map, IfOk, IfSome, OnErr, OnOk, Some, None, if◌then◌else◌, is_some, ◌==◌, IsTrue, true, not, find};
+ghost use Rattle.std.specs.Prelude.{◌≡◌, ℕ, ◌<◌, ◌≤◌, ◌^◌, ◌++◌, [], length, map, IfOk, IfSome, OnErr, OnOk, Some, None, if◌then◌else◌, is_some, ◌==◌, IsTrue, true, not, find};
 ghost use Rattle.std.specs.Bool.{OnTrue};
 ghost use Rattle.std.specs.List.{list_all, list_any};
 ghost use Rattle.asm_group.specs.TreeEdits.{is_alias_of, names_file};
 ghost use Rattle.asm_formats.specs.Nodes.{node_kind};
 ghost use Rattle.alias_tree.specs.Edits.{IsLeastFree, is_name_of};
 ghost use Rattle.alias_tree.specs.FileNames.{IsLow, name_of_node};
+ghost use Rattle.alias_tree.specs.Filing.{IsFreeAbove};
 ghost use Rattle.alias_tree.specs.Nodes.{node_at};
 ghost use Rattle.std.specs.Option.{option_copied, option_map};
 ghost use Rattle.std.specs.Ordering.{nat_cmp};
@@ -121,6 +122,14 @@ impl Nodes {
         ensures small { IfSome result (λ n. n < 2 ^ 32) }
     {
         first_free(&self.map, self.low)
+    }
+
+    /// The least number above another that no node has.
+    pub(crate) fn free_above(&self, before: u32) -> Option<u32>
+        ensures free { IfSome result (IsFreeAbove self.now before) }
+        ensures small { IfSome result (λ n. n < 2 ^ 32) }
+    {
+        first_from(&self.map, self.low.max(before.checked_add(1)?))
     }
 
     /// Whether a node is a user alias of the file.
@@ -290,12 +299,23 @@ fn name_at(map: &BTreeMap<u32, Node>, number: u32) -> Option<FileName>
 }
 
 /// The least number that no node has, which isn't below `low`.
+#[tactic(auto, using(crate::proofs::FreeNumbers::least_free))]
 fn first_free(map: &BTreeMap<u32, Node>, low: u32) -> Option<u32>
     requires { IsLow map.now.entries low }
     ensures least { IfSome result (IsLeastFree map.now.entries) }
     ensures small { IfSome result (λ n. n < 2 ^ 32) }
 {
-    let mut number = low;
+    first_from(map, low)
+}
+
+/// The least number from another on that no node has.
+fn first_from(map: &BTreeMap<u32, Node>, from: u32) -> Option<u32>
+    ensures free { IfSome result (λ n. node_at map.now.entries n ≡ None) }
+    ensures from { IfSome result (λ n. from ≤ n) }
+    ensures small { IfSome result (λ n. n < 2 ^ 32) }
+    ensures least { IfSome result (λ n. (k : ℕ) → from ≤ k → k < n → IsTrue (is_some (node_at map.now.entries k))) }
+{
+    let mut number = from;
     while map.get(&number).is_some() {
         number = number.checked_add(1)?;
     }

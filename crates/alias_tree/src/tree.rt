@@ -42,6 +42,7 @@ impl Model for AliasTree {
 impl AliasTree {
     ghost use Rattle.std.specs.Prelude.{List as Items};
     ghost use Rattle.alias_tree.specs.Edits.{IsLeastFree, is_name_of, without_all};
+    ghost use Rattle.alias_tree.specs.Filing.{IsFreeAbove};
     ghost use Rattle.asm_formats.specs.Nodes.{entry_of_node, node_kind};
     ghost use Rattle.alias_tree.specs.Trees.{node_by, tree_of};
     ghost use Rattle.alias_tree.specs.Nodes.{AreByName, IsTable, KeepsRule, Numbered, are_distinct, child, is_mine, is_under, node_at, number_from, number_of, record_of, with_node, without_node};
@@ -249,6 +250,14 @@ impl AliasTree {
         self.nodes.free_number()
     }
 
+    /// The least number above another that no node has.
+    pub(crate) fn free_above(&self, before: u32) -> Option<u32>
+        ensures free { IfSome result (IsFreeAbove self.now before) }
+        ensures small { IfSome result (λ n. n < 2 ^ 32) }
+    {
+        self.nodes.free_above(before)
+    }
+
     /// Whether a name stands for the file.
     pub(crate) fn is_named(&self, file: u32) -> bool
         ensures { result ≡ leads_to (tree_of self.now) (names_file file) }
@@ -269,7 +278,7 @@ impl AliasTree {
 
     /// The node of this parent and name.
     #[tactic(auto, using(crate::proofs::Children::child_is, crate::proofs::Children::no_child))]
-    fn child(&self, parent: u32, name: &Name) -> Option<u32>
+    pub(crate) fn child(&self, parent: u32, name: &Name) -> Option<u32>
         ensures { result ≡ child self.now parent (folded name.now) }
     {
         let places = &self.places;

@@ -1,13 +1,13 @@
-use Rattle.std.proofs.Common.{◌<◌, ◌-◌, ◌^◌, ℕ}
+use Rattle.std.proofs.Common.{◌<◌, ◌≤◌, ◌-◌, ◌^◌, ℕ}
 use Rattle.std.specs.Prelude.{IsTrue, is_some}
 use Rattle.alias_tree.specs.Nodes.{node_at}
-use Rattle.alias_tree.proofs.nodes.first_free.Given as goal
+use Rattle.alias_tree.proofs.nodes.first_from.Given as goal
 
 abbrev pub invariant-loop-number : goal.invariant-loop-number
 invariant-loop-number l = record {
-  some : 0 < l.number;
+  from : l.from ≤ l.number;
   small : l.number < 2 ^ 32;
-  taken : (k : ℕ) → 0 < k → k < l.number → IsTrue (is_some (node_at l.map.entries k));
+  taken : (k : ℕ) → l.from ≤ k → k < l.number → IsTrue (is_some (node_at l.map.entries k));
 }
 
 abbrev pub decreases-loop-number : goal.decreases-loop-number

@@ -1,0 +1,195 @@
+//! What the system name of a new file changes.
+
+ghost use Rattle.std.specs.Prelude.{◌≡◌, ◌<◌, ◌≤◌, ◌^◌, ◌++◌, ◌∷◌, [], IfErr, IfOk, IsTrue, OnOk, None, Ok, length};
+ghost use Rattle.std.specs.List.{All};
+ghost use Rattle.std.specs.Option.{option_map};
+ghost use Rattle.asm_group.specs.Names.{is_part};
+ghost use Rattle.asm_group.specs.Causes.{first_cause};
+ghost use Rattle.asm_group.specs.TreeEdits.{last_part, up};
+ghost use Rattle.alias_tree.specs.Edits.{IsRefusal, are_parts, cause_said};
+ghost use Rattle.alias_tree.specs.Filing.{IsFiling, IsFree, IsFreeAbove, IsFront, file_causes, filed, may_hang, with_file, with_nodes};
+ghost use Rattle.alias_tree.specs.Nodes.{IsTable, node_at};
+ghost use Rattle.alias_tree.specs.Trees.{tree_of};
+
+use crate::causes::{above, is_directory};
+use crate::editing::TreeError;
+use crate::node::Node;
+use crate::tree::AliasTree;
+use asm_base::{Name, NoMemory, NodeKind, Path};
+use std::alloc::Global;
+
+/// The directories of a path that are there.
+#[derive(Clone, Copy)]
+pub(crate) struct Front {
+    /// How many they are, from the top.
+    there: usize,
+    /// The node of the last of them, or 0 for the root.
+    number: u32,
+}
+
+impl AliasTree {
+    ghost use Rattle.alias_tree.specs.Nodes.{Numbered};
+
+    /// What the system name of a new file changes, of which nothing is done: the nodes of the directories
+    /// that are missing above it, from the top, and then the node of the name. Each takes the least number
+    /// that is free. A path costs a look-up for each of its parts.
+    ///
+    /// NotDirectory: a directory of the path is there as a file. NameTaken: the path is there.
+    pub fn plan_file(
+        &self,
+        alloc: Global,
+        path: &Path,
+        file: u32,
+    ) -> Result<Vec<(u32, Node)>, TreeError>
+        requires parts { IsTrue (are_parts path.now.parts) }
+        requires some { 0 < length path.now.parts }
+        // The nodes with these are those of the tree of names with the file and the missing directories.
+        ensures done { IfOk result (λ made. filed (tree_of self.now) path.now.parts file ≡ Ok (tree_of (with_nodes self.now made.items))) }
+        ensures table { IfOk result (λ made. IsTable (with_nodes self.now made.items)) }
+        // Directories come first, and the name last.
+        ensures nodes { IfOk result (λ made. IsFiling self.now made.items path.now.parts file) }
+        ensures few { IfOk result (λ made. length made.items ≤ length path.now.parts) }
+        // None of them was there.
+        ensures fresh { IfOk result (λ made. All (λ (x : Numbered). node_at self.now x.0 ≡ None) made.items) }
+        ensures refused { IfErr result (IsRefusal (filed (tree_of self.now) path.now.parts file)) }
+    {
+        self.keeps_rule();
+        let front = self.front(above(path));
+        if let Some(cause) = self.file_refusal(path, front) {
+            return Err(cause);
+        }
+        match self.nodes_for(alloc, path, front, file) {
+            Ok(made) => Ok(made),
+            Err(NoMemory) => Err(TreeError::NoMemory),
+        }
+    }
+
+    /// The directories that are there.
+    #[tactic(auto, using(crate::proofs::Fronts::reach_none, crate::proofs::Fronts::front_missing, crate::proofs::Fronts::front_whole))]
+    fn front(&self, dirs: &[Name]) -> Front
+        ensures { IsFront self.now dirs.now result.there result.number }
+    {
+        self.keeps_rule();
+        let mut number = 0;
+        for there in 0..dirs.len() {
+            match self.child(number, &dirs[there]) {
+                Some(next) => number = next,
+                None => return Front { there, number },
+            }
+        }
+        Front {
+            there: dirs.len(),
+            number,
+        }
+    }
+
+    /// Why a new file can't have the name.
+    fn file_refusal(&self, path: &Path, front: Front) -> Option<TreeError>
+        requires some { 0 < length path.now.parts }
+        requires front { IsFront self.now (up path.now.parts) front.there front.number }
+        ensures { option_map cause_said result ≡ first_cause (file_causes (tree_of self.now) path.now.parts) }
+    {
+        self.keeps_rule();
+        if !self.may_hang(front.number) {
+            return Some(TreeError::NotDirectory);
+        }
+        if front.there < above(path).len() {
+            return None;
+        }
+        match self.child(front.number, last(path)) {
+            Some(_) => Some(TreeError::NameTaken),
+            None => None,
+        }
+    }
+
+    /// Whether names may hang below a node.
+    fn may_hang(&self, number: u32) -> bool
+        ensures { result ≡ may_hang self.now number }
+    {
+        number == 0 || is_directory(self.get(number))
+    }
+
+    /// The nodes of the directories that are missing, and that of the name.
+    fn nodes_for(
+        &self,
+        alloc: Global,
+        path: &Path,
+        front: Front,
+        file: u32,
+    ) -> Result<Vec<(u32, Node)>, NoMemory>
+        requires parts { IsTrue (are_parts path.now.parts) }
+        requires some { 0 < length path.now.parts }
+        requires front { IsFront self.now (up path.now.parts) front.there front.number }
+        requires free { first_cause (file_causes (tree_of self.now) path.now.parts) ≡ None }
+        ensures tree { IfOk result (λ made. tree_of (with_nodes self.now made.items) ≡ with_file (tree_of self.now) path.now.parts file) }
+        ensures table { IfOk result (λ made. IsTable (with_nodes self.now made.items)) }
+        ensures nodes { IfOk result (λ made. IsFiling self.now made.items path.now.parts file) }
+        ensures few { IfOk result (λ made. length made.items ≤ length path.now.parts) }
+        ensures fresh { IfOk result (λ made. All (λ (x : Numbered). node_at self.now x.0 ≡ None) made.items) }
+    {
+        self.keeps_rule();
+        let dirs = above(path);
+        let mut made = Vec::new(alloc);
+        let mut parent = front.number;
+        let mut before = 0;
+        for i in front.there..dirs.len() {
+            let (number, node) = self.node_below(parent, before, &dirs[i], NodeKind::Directory, 0)?;
+            push(&mut made, number, node)?;
+            parent = number;
+            before = number;
+        }
+        let (number, node) = self.node_below(parent, before, last(path), NodeKind::System, file)?;
+        push(&mut made, number, node)?;
+        Ok(made)
+    }
+
+    /// A new node, with the least free number above another.
+    fn node_below(
+        &self,
+        parent: u32,
+        before: u32,
+        name: &Name,
+        kind: NodeKind,
+        file: u32,
+    ) -> Result<(u32, Node), NoMemory>
+        ensures free { IfOk result (λ m. IsFreeAbove self.now before m.0) }
+        ensures small { IfOk result (λ m. m.0 < 2 ^ 32) }
+        ensures parent_is { IfOk result (λ m. m.1.parent ≡ parent) }
+        ensures name_is { IfOk result (λ m. m.1.name ≡ name.now) }
+        ensures kind_is { IfOk result (λ m. m.1.kind ≡ kind) }
+        ensures file_is { IfOk result (λ m. m.1.file ≡ file) }
+    {
+        let Some(number) = self.free_above(before) else {
+            return Err(NoMemory);
+        };
+        let node = Node {
+            parent,
+            kind,
+            file,
+            name: name.copy()?,
+        };
+        Ok((number, node))
+    }
+}
+
+/// The last part of a path.
+#[tactic(auto, using(crate::proofs::Paths::last_of))]
+fn last(path: &Path) -> &Name
+    requires { 0 < length path.now.parts }
+    ensures { result.now ≡ last_part path.now.parts }
+{
+    let Some((last, _above)) = path.parts.as_slice().split_last() else {
+        unreachable!()
+    };
+    last
+}
+
+/// Puts a node behind others.
+fn push(made: &mut Vec<(u32, Node)>, number: u32, node: Node) -> Result<(), NoMemory>
+    ensures { OnOk result (made.new.items ≡ made.old.items ++ (number, node) ∷ []) }
+{
+    match made.push((number, node)) {
+        Ok(()) => Ok(()),
+        Err(_) => Err(NoMemory),
+    }
+}
