@@ -13,7 +13,7 @@ use Rattle.asm_group.specs.TreeEdits.{Tree, up, last_part, is_root, is_there, is
 use Rattle.asm_formats.specs.Items.{Node}
 use Rattle.asm_formats.specs.Nodes.{entry_of_node}
 use Rattle.asm_base.proofs.Exact.{some_is}
-use Rattle.alias_tree.specs.Filing.{with_dir, with_dirs, is_no_dir, has_no_dir, is_below_file, file_causes, may_hang, Reaches, IsFront, IsFree}
+use Rattle.alias_tree.specs.Filing.{missing_dirs, with_dir, with_dirs, is_no_dir, has_no_dir, is_below_file, file_causes, may_hang, Reaches, IsFront, IsFree}
 use Rattle.alias_tree.specs.Nodes.{Numbered, node_at, child, is_directory, IsTable}
 use Rattle.alias_tree.specs.Trees.{tree_of, number_by}
 use Rattle.alias_tree.proofs.Allowed.{number_there, dir_node, folded_last, not_root, root_is}
@@ -36,7 +36,7 @@ more_root (y ∷ front) x = not_root y (front ++ x ∷ [])
 pub number_more : (nodes : List Numbered) (front : Path) (x : Bytes) (a : ℕ) → number_by nodes 0 (folded_path front) ≡ Some a → number_by nodes 0 (folded_path (front ++ x ∷ [])) ≡ child nodes a (folded x)
 number_more nodes front x a at = ap (λ (p : Path). number_by nodes 0 p) (folded_more front x) ∙ by_last nodes (folded_path front) (folded x) 0 a at
 
-number_none : (nodes : List Numbered) (front : Path) (x : Bytes) → number_by nodes 0 (folded_path front) ≡ None → number_by nodes 0 (folded_path (front ++ x ∷ [])) ≡ None
+pub number_none : (nodes : List Numbered) (front : Path) (x : Bytes) → number_by nodes 0 (folded_path front) ≡ None → number_by nodes 0 (folded_path (front ++ x ∷ [])) ≡ None
 number_none nodes front x none =
     ap (λ (p : Path). number_by nodes 0 p) (folded_more front x)
     ∙ (by_append nodes (folded_path front) (folded x ∷ []) 0 ∙ ap (λ (o : Option ℕ). option_and_then (λ m. number_by nodes m (folded x ∷ [])) o) none)
@@ -137,10 +137,10 @@ leads_nowhere nodes front rest none =
 -- ---- the walk down
 
 pub reach_none : (nodes : List Numbered) (dirs : Path) → Reaches nodes dirs 0 0
-reach_none nodes dirs = record { at = refl; no_dir = refl; made = refl }
+reach_none nodes dirs = record { at = refl; no_dir = refl; missing = refl; made = refl }
 
 pub reach_more : (nodes : List Numbered) (dirs : Path) (i a m : ℕ) (part : Bytes) → IsTable nodes → Reaches nodes dirs i a → i < length dirs → part ≡ get_or dirs i part → child nodes a (folded part) ≡ Some m → Reaches nodes dirs (i + 1) m
-reach_more nodes dirs i a m part t r h is c = record { at = ap (λ (p : Path). number_by nodes 0 (folded_path p)) front ∙ at; no_dir = no_dir; made = made } where
+reach_more nodes dirs i a m part t r h is c = record { at = ap (λ (p : Path). number_by nodes 0 (folded_path p)) front ∙ at; no_dir = no_dir; missing = missing; made = made } where
   front : take (i + 1) dirs ≡ take i dirs ++ part ∷ []
   front = take_more i dirs part h ∙ ap (λ (x : Bytes). take i dirs ++ x ∷ []) (sym is)
 
@@ -160,6 +160,14 @@ reach_more nodes dirs i a m part t r h is c = record { at = ap (λ (p : Path). n
   no_dir =
       ap (λ (p : Path). is_no_dir (tree_of nodes) p || has_no_dir (tree_of nodes) p (drop (i + 1) dirs)) front
       ∙ (sym (ap (λ (b : Bool). b || has_no_dir (tree_of nodes) (take i dirs) (drop i dirs)) dir ∙ ap (λ (q : Path). has_no_dir (tree_of nodes) (take i dirs) q) left) ∙ r.no_dir)
+
+  here : missing_dirs (tree_of nodes) (take i dirs) (part ∷ drop (i + 1) dirs) ≡ missing_dirs (tree_of nodes) (take i dirs ++ part ∷ []) (drop (i + 1) dirs)
+  here = rw there (omega arith)
+
+  missing : missing_dirs (tree_of nodes) (take (i + 1) dirs) (drop (i + 1) dirs) ≡ missing_dirs (tree_of nodes) [] dirs
+  missing =
+      ap (λ (p : Path). missing_dirs (tree_of nodes) p (drop (i + 1) dirs)) front
+      ∙ (sym here ∙ (ap (λ (q : Path). missing_dirs (tree_of nodes) (take i dirs) q) (sym left) ∙ r.missing))
 
   stays : with_dir (tree_of nodes) (take i dirs ++ part ∷ []) ≡ tree_of nodes
   stays = rw there refl
@@ -197,7 +205,7 @@ pub some_root : (path : Path) → 0 < length path → is_root path ≡ false
 some_root [] h = absurd (omega arith)
 some_root (x ∷ path) h = not_root x path
 
-first_missing : (nodes : List Numbered) (dirs : Path) (k a : ℕ) → IsFront nodes dirs k a → k < length dirs → number_by nodes 0 (folded_path (take k dirs ++ get_or dirs k [] ∷ [])) ≡ None
+pub first_missing : (nodes : List Numbered) (dirs : Path) (k a : ℕ) → IsFront nodes dirs k a → k < length dirs → number_by nodes 0 (folded_path (take k dirs ++ get_or dirs k [] ∷ [])) ≡ None
 first_missing nodes dirs k a f h = number_more nodes (take k dirs) (get_or dirs k []) a f.reach.at ∙ f.missing [] h
 
 no_below : (nodes : List Numbered) (dirs : Path) (k a : ℕ) → IsTable nodes → IsFront nodes dirs k a → may_hang nodes a ≡ true → has_no_dir (tree_of nodes) [] dirs ≡ false

@@ -15,13 +15,13 @@ use Rattle.asm_group.specs.TreeEdits.{Tree, up, last_part, is_root}
 use Rattle.asm_formats.specs.Items.{Node, node_item, is_item}
 use Rattle.asm_formats.specs.Nodes.{entry_of_node}
 use Rattle.alias_tree.specs.Edits.{are_parts, HangsAt}
-use Rattle.alias_tree.specs.Filing.{file_causes, with_dir, with_dirs, with_file, with_nodes, may_hang, IsFiling, IsFree, IsFreeAbove, IsFront}
+use Rattle.alias_tree.specs.Filing.{missing_dirs, nodes_missing, file_causes, with_dir, with_dirs, with_file, with_nodes, may_hang, IsFiling, IsFree, IsFreeAbove, IsFront}
 use Rattle.alias_tree.specs.Nodes.{Numbered, node_at, number_of, with_node, child, kind_is_directory, IsTable}
 use Rattle.alias_tree.specs.Trees.{tree_of, number_by}
 use Rattle.alias_tree.proofs.Allowed.{IsNew, folded_last, last_is_part, number_is}
 use Rattle.alias_tree.proofs.Done.{parent_small}
 use Rattle.alias_tree.proofs.Edited.{put_tree, placed, entry_as}
-use Rattle.alias_tree.proofs.Fronts.{absent, drop_first, may_is, more_root, name_may, name_new, number_more, some_root, take_more, whole_path}
+use Rattle.alias_tree.proofs.Fronts.{number_none, absent, drop_first, may_is, more_root, name_may, name_new, number_more, some_root, take_more, whole_path}
 use Rattle.alias_tree.proofs.IndexLaws.{either, at_self, not_at}
 use Rattle.alias_tree.proofs.Keeping.{MayHang, at_with, none_below_new, put_keeps_table}
 use Rattle.alias_tree.proofs.Paths.{last_append, up_append}
@@ -106,6 +106,7 @@ with_more nodes (x ∷ made) n node = with_more (with_node nodes x.0 x.1) made n
 
 -- some of the directories that were missing are made
 pub record SoFar (nodes made : List Numbered) (path : Path) (i parent before : ℕ) : Type 0 where
+  pub before_table : IsTable nodes
   pub table : IsTable (with_nodes nodes made)
   pub at : number_by (with_nodes nodes made) 0 (folded_path (take i (up path))) ≡ Some parent
   pub may : MayHang (with_nodes nodes made) parent
@@ -116,9 +117,13 @@ pub record SoFar (nodes made : List Numbered) (path : Path) (i parent before : �
   pub fresh : All (λ (x : Numbered). node_at nodes x.0 ≡ None) made
   pub dirs : All (λ (x : Numbered). x.1.kind ≡ Directory) made
   pub few : length made ≤ i
+  -- the next directory was missing
+  pub away : (d : Bytes) → i < length (up path) → number_by nodes 0 (folded_path (take i (up path) ++ get_or (up path) i d ∷ [])) ≡ None
+  pub count : length made + missing_dirs (tree_of nodes) (take i (up path)) (drop i (up path)) ≡ missing_dirs (tree_of nodes) [] (up path)
 
 pub so_far_none : (nodes : List Numbered) (path : Path) (k a : ℕ) → IsTable nodes → IsFront nodes (up path) k a → may_hang nodes a ≡ true → IsFree nodes path k a → SoFar nodes [] path k a 0
 so_far_none nodes path k a t f may free = record {
+  before_table = t;
   table = t;
   at = f.reach.at;
   may = may_is nodes a may;
@@ -129,6 +134,8 @@ so_far_none nodes path k a t f may free = record {
   fresh = All-nil (λ (x : Numbered). node_at nodes x.0 ≡ None);
   dirs = All-nil (λ (x : Numbered). x.1.kind ≡ Directory);
   few = omega arith;
+  away = λ d less. number_more nodes (take k (up path)) (get_or (up path) k d) a f.reach.at ∙ f.missing d less;
+  count = (let m = f.reach.missing in omega arith);
 }
 
 All-one : (P : Numbered → Type 0) (x : Numbered) → P x → All P (x ∷ [])
@@ -161,6 +168,7 @@ above_more nodes made path i parent before n node s less k past =
 pub dir_more : (nodes made : List Numbered) (path : Path) (i parent before n : ℕ) (part : Bytes) (node : Node) → SoFar nodes made path i parent before → are_parts path ≡ true → i < length (up path) → part ≡ get_or (up path) i part
     → IsFreeAbove nodes before n → n < 2 ^ 32 → node.parent ≡ parent → node.name ≡ part → node.kind ≡ Directory → node.file ≡ 0 → SoFar nodes (made ++ (n, node) ∷ []) path (i + 1) n n
 dir_more nodes made path i parent before n part node s parts h is f small parent_is name_is kind_is file_is = record {
+  before_table = s.before_table;
   table = subst IsTable (sym more) put.table;
   at = ap (λ (ns : List Numbered). number_by ns 0 (folded_path (take (i + 1) (up path)))) more ∙ (ap (λ (q : Path). number_by (with_node old n node) 0 (folded_path q)) front ∙ put.at);
   may = inr (node, ap (λ (ns : List Numbered). node_at ns n) more ∙ put.there, ap kind_is_directory kind_is);
@@ -171,6 +179,8 @@ dir_more nodes made path i parent before n part node s parts h is f small parent
   fresh = All-append (λ (x : Numbered). node_at nodes x.0 ≡ None) made ((n, node) ∷ []) s.fresh (All-one (λ (x : Numbered). node_at nodes x.0 ≡ None) (n, node) f.free);
   dirs = All-append (λ (x : Numbered). x.1.kind ≡ Directory) made ((n, node) ∷ []) s.dirs (All-one (λ (x : Numbered). x.1.kind ≡ Directory) (n, node) kind_is);
   few = (let l = s.few in omega (arith, length-append made ((n, node) ∷ [])));
+  away = λ d less. ap (λ (q : Path). number_by nodes 0 (folded_path (q ++ get_or (up path) (i + 1) d ∷ []))) front ∙ number_none nodes (take i (up path) ++ part ∷ []) (get_or (up path) (i + 1) d) lost;
+  count = count;
 } where
   old : List Numbered
   old = with_nodes nodes made
@@ -183,6 +193,17 @@ dir_more nodes made path i parent before n part node s parts h is f small parent
 
   left : drop i (up path) ≡ part ∷ drop (i + 1) (up path)
   left = drop_first i (up path) part h ∙ ap (λ (x : Bytes). x ∷ drop (i + 1) (up path)) (sym is)
+
+  lost : number_by nodes 0 (folded_path (take i (up path) ++ part ∷ [])) ≡ None
+  lost = ap (λ (x : Bytes). number_by nodes 0 (folded_path (take i (up path) ++ x ∷ []))) is ∙ s.away part h
+
+  one_less : missing_dirs (tree_of nodes) (take i (up path)) (drop i (up path)) ≡ 1 + missing_dirs (tree_of nodes) (take (i + 1) (up path)) (drop (i + 1) (up path))
+  one_less =
+      ap (λ (q : Path). missing_dirs (tree_of nodes) (take i (up path)) q) left
+      ∙ (rw (absent nodes (take i (up path) ++ part ∷ []) s.before_table (more_root (take i (up path)) part) lost) refl ∙ ap (λ (q : Path). 1 + missing_dirs (tree_of nodes) q (drop (i + 1) (up path))) (sym front))
+
+  count : length (made ++ (n, node) ∷ []) + missing_dirs (tree_of nodes) (take (i + 1) (up path)) (drop (i + 1) (up path)) ≡ missing_dirs (tree_of nodes) [] (up path)
+  count = let c = s.count in omega (arith, length-append made ((n, node) ∷ []), one_less)
 
   missing : child (with_nodes nodes made) parent (folded part) ≡ None
   missing = ap (λ (x : Bytes). child (with_nodes nodes made) parent (folded x)) is ∙ s.missing part h
@@ -225,6 +246,7 @@ pub record AllMade (nodes made : List Numbered) (path : Path) (file : ℕ) : Typ
   pub tree : tree_of (with_nodes nodes made) ≡ with_file (tree_of nodes) path file
   pub filing : IsFiling nodes made path file
   pub few : length made ≤ length path
+  pub count : length made ≡ nodes_missing (tree_of nodes) path
   pub fresh : All (λ (x : Numbered). node_at nodes x.0 ≡ None) made
 
 pub name_more : (nodes made : List Numbered) (path : Path) (i parent before n file : ℕ) (node : Node) → SoFar nodes made path i parent before → are_parts path ≡ true → 0 < length path → i ≡ length (up path)
@@ -234,6 +256,7 @@ name_more nodes made path i parent before n file node s parts some end f small p
   tree = tree;
   filing = record { dirs = made; number = n; node = node; split = refl; dirs_are = s.dirs; kind_is = kind_is; file_is = file_is; name_is = name_is; at = at };
   few = (let l = s.few in let one : length path ≡ length (up path) + 1 = ap (λ (q : Path). length q) whole ∙ length-append (up path) (last_part path ∷ []) in omega (arith, length-append made ((n, node) ∷ [])));
+  count = (let c = s.count in let none : missing_dirs (tree_of nodes) (take i (up path)) (drop i (up path)) ≡ 0 = ap (λ (q : Path). missing_dirs (tree_of nodes) (take i (up path)) q) left in omega (arith, length-append made ((n, node) ∷ []), none));
   fresh = All-append (λ (x : Numbered). node_at nodes x.0 ≡ None) made ((n, node) ∷ []) s.fresh (All-one (λ (x : Numbered). node_at nodes x.0 ≡ None) (n, node) f.free);
 } where
   root : is_root path ≡ false

@@ -1,5 +1,5 @@
 -- What the system name of a new file makes of the tree of names, and of its nodes.
-use Rattle.std.specs.Prelude.{◌≡◌, ℕ, ◌<◌, ◌≤◌, ◌==◌, Bool, false, ◌&&◌, ◌||◌, not, List, [], ◌∷◌, ◌++◌, length, take, drop, get_or, Some, None, IsTrue, Result, is_some, if◌then◌else◌}
+use Rattle.std.specs.Prelude.{◌≡◌, ℕ, ◌+◌, ◌<◌, ◌≤◌, ◌==◌, Bool, false, ◌&&◌, ◌||◌, not, List, [], ◌∷◌, ◌++◌, length, take, drop, get_or, Some, None, IsTrue, Result, is_some, if◌then◌else◌}
 use Rattle.std.specs.List.{All}
 use Rattle.std.specs.Option.{option_map}
 use Rattle.asm_group.specs.declared.NodeKind.TheVariants as kind
@@ -37,6 +37,15 @@ is_no_dir t path = is_there t path && not (is_dir t path)
 abbrev pub has_no_dir : Tree → Path → Path → Bool
 has_no_dir t front [] = false
 has_no_dir t front (part ∷ parts) = is_no_dir t (front ++ part ∷ []) || has_no_dir t (front ++ part ∷ []) parts
+
+-- how many of these parts are missing, below the front of a path
+abbrev pub missing_dirs : Tree → Path → Path → ℕ
+missing_dirs t front [] = 0
+missing_dirs t front (part ∷ parts) = (if is_there t (front ++ part ∷ []) then 0 else 1) + missing_dirs t (front ++ part ∷ []) parts
+
+-- the nodes that the name of a new file makes: those of the directories that are missing, and its own
+abbrev pub nodes_missing : Tree → Path → ℕ
+nodes_missing t path = missing_dirs t [] (up path) + 1
 
 -- a directory of the path is there as a file
 abbrev pub is_below_file : Tree → Path → Bool
@@ -84,6 +93,7 @@ may_hang nodes number = (number == 0) || is_dir_entry (option_map entry_of_node 
 pub record Reaches (nodes : List Numbered) (dirs : Path) (there number : ℕ) : Type 0 where
   pub at : number_by nodes 0 (folded_path (take there dirs)) ≡ Some number
   pub no_dir : (is_no_dir (tree_of nodes) (take there dirs) || has_no_dir (tree_of nodes) (take there dirs) (drop there dirs)) ≡ has_no_dir (tree_of nodes) [] dirs
+  pub missing : missing_dirs (tree_of nodes) (take there dirs) (drop there dirs) ≡ missing_dirs (tree_of nodes) [] dirs
   pub made : with_dirs (tree_of nodes) (take there dirs) (drop there dirs) ≡ with_dirs (tree_of nodes) [] dirs
 
 -- these are all that are there

@@ -7,7 +7,7 @@ ghost use Rattle.asm_group.specs.Names.{is_part};
 ghost use Rattle.asm_group.specs.Causes.{first_cause};
 ghost use Rattle.asm_group.specs.TreeEdits.{last_part, up};
 ghost use Rattle.alias_tree.specs.Edits.{IsRefusal, are_parts, cause_said};
-ghost use Rattle.alias_tree.specs.Filing.{IsFiling, IsFree, IsFreeAbove, IsFront, file_causes, filed, may_hang, with_file, with_nodes};
+ghost use Rattle.alias_tree.specs.Filing.{IsFiling, IsFree, IsFreeAbove, IsFront, file_causes, filed, may_hang, nodes_missing, with_file, with_nodes};
 ghost use Rattle.alias_tree.specs.Nodes.{IsTable, node_at};
 ghost use Rattle.alias_tree.specs.Trees.{tree_of};
 
@@ -49,6 +49,8 @@ impl AliasTree {
         // Directories come first, and the name last.
         ensures nodes { IfOk result (λ made. IsFiling self.now made.items path.now.parts file) }
         ensures few { IfOk result (λ made. length made.items ≤ length path.now.parts) }
+        // They are those of the missing directories, and that of the name.
+        ensures count { IfOk result (λ made. length made.items ≡ nodes_missing (tree_of self.now) path.now.parts) }
         // None of them was there.
         ensures fresh { IfOk result (λ made. All (λ (x : Numbered). node_at self.now x.0 ≡ None) made.items) }
         ensures refused { IfErr result (IsRefusal (filed (tree_of self.now) path.now.parts file)) }
@@ -125,6 +127,7 @@ impl AliasTree {
         ensures table { IfOk result (λ made. IsTable (with_nodes self.now made.items)) }
         ensures nodes { IfOk result (λ made. IsFiling self.now made.items path.now.parts file) }
         ensures few { IfOk result (λ made. length made.items ≤ length path.now.parts) }
+        ensures count { IfOk result (λ made. length made.items ≡ nodes_missing (tree_of self.now) path.now.parts) }
         ensures fresh { IfOk result (λ made. All (λ (x : Numbered). node_at self.now x.0 ≡ None) made.items) }
     {
         self.keeps_rule();

@@ -39,3 +39,6 @@ returns-clause-few c = (all c).few
 
 pub returns-clause-fresh : goal.returns-clause-fresh
 returns-clause-fresh c = (all c).fresh
+
+pub returns-clause-count : goal.returns-clause-count
+returns-clause-count c = (all c).count
