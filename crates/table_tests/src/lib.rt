@@ -12,6 +12,8 @@ mod name_edits;
 #[cfg(test)]
 mod names;
 #[cfg(test)]
+mod new_names;
+#[cfg(test)]
 mod operations;
 #[cfg(test)]
 mod stale_marks;
