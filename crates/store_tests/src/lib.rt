@@ -5,7 +5,15 @@
 #[cfg(test)]
 mod copies;
 #[cfg(test)]
+mod costs;
+#[cfg(test)]
+mod counting;
+#[cfg(test)]
 mod loads;
+#[cfg(test)]
+mod many;
+#[cfg(test)]
+mod stale;
 #[cfg(test)]
 mod stops;
 #[cfg(test)]

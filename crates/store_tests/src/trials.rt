@@ -52,7 +52,7 @@ pub fn is_there<B: Bay>(bay: &mut B, copy: DirCopy) -> bool
 }
 
 /// A change that does nothing.
-fn no_change(alloc: Global) -> Change
+pub fn no_change(alloc: Global) -> Change
     ensures put { result.put ≡ [] }
     ensures gone { result.gone ≡ [] }
 {
@@ -73,8 +73,9 @@ pub fn rebalance(alloc: Global) -> Result<Change, NoMemory>
     Ok(change)
 }
 
-/// A store without records on both copies. None where it may not be asked, or isn't made.
-pub fn create_on_two<B: Bay>(alloc: Global, bay: &mut B) -> Option<Store>
+/// A store of the first records on both copies. None where it may not be asked, or isn't made.
+pub fn create_with<B: Bay>(alloc: Global, bay: &mut B, first: &Change) -> Option<Store>
+    requires { ArePutItems first.now.put }
     ensures { IfSome result (λ store. Keeps store (B.state bay.new)) }
 {
     if !is_there(bay, FIRST) {
@@ -83,11 +84,18 @@ pub fn create_on_two<B: Bay>(alloc: Global, bay: &mut B) -> Option<Store>
     if !is_there(bay, SECOND) {
         return None;
     }
-    let nothing = no_change(alloc);
-    match Store::create(alloc, bay, &[FIRST, SECOND], &nothing) {
+    match Store::create(alloc, bay, &[FIRST, SECOND], first) {
         Ok(store) => Some(store),
         Err(_) => None,
     }
+}
+
+/// A store without records on both copies. None where it may not be asked, or isn't made.
+pub fn create_on_two<B: Bay>(alloc: Global, bay: &mut B) -> Option<Store>
+    ensures { IfSome result (λ store. Keeps store (B.state bay.new)) }
+{
+    let nothing = no_change(alloc);
+    create_with(alloc, bay, &nothing)
 }
 
 /// A store of one record on the first copy, which is then brought to the second, whatever that held. None where it may not
