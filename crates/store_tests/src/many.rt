@@ -1,13 +1,10 @@
 // Many commits of many records, and what a stop at each call of the last one leaves.
-ghost use Rattle.std.specs.Prelude.{◌≡◌, ◌≤◌, true, IfSome};
-ghost use Rattle.bay.specs.Image.{Same};
-ghost use Rattle.bay.specs.State.{KeepsAttached, IsSlot};
-ghost use Rattle.bay.specs.Moments.{Durable, Runs};
-ghost use Rattle.change_directory.specs.Places.{IsCopy};
+ghost use Rattle.std.specs.Prelude.{◌≤◌, ◌<◌, IfSome};
+ghost use Rattle.bay_mem.specs.MemState.{state_of};
 ghost use Rattle.directory_store.specs.Stores.{Keeps};
 
 use crate::stale::{stale_change, stale_key};
-use crate::trials::{FIRST, SECOND, create_on_two, is_there};
+use crate::trials::{FIRST, SECOND, create_on_two, is_there, load_one};
 use asm_base::{Records, Value};
 use bay::Bay;
 use bay_mem::MemBay;
@@ -129,33 +126,15 @@ fn disks_of(alloc: Global, first: &[u8], second: &[u8]) -> Result<MemBay, Fail> 
     Ok(bay)
 }
 
-/// Settles what a copy's disk holds.
-fn settle<B: Bay>(bay: &mut B, copy: DirCopy) -> bool
-    requires { IsCopy (B.state bay.old) copy }
-    ensures settled { result ≡ true → Durable copy.slot (B.state bay.new) }
-    ensures attached { KeepsAttached (B.state bay.old) (B.state bay.new) }
-    ensures runs { Runs (IsSlot copy.slot) Same (B.state bay.old) (B.state bay.new) }
-{
-    match bay.sync(copy.slot) {
-        Ok(()) => true,
-        Err(_) => false,
-    }
-}
-
-/// Loads the store of both copies, whose disks are settled first. None where it may not be asked, or isn't loaded.
-fn load_settled<B: Bay>(alloc: Global, bay: &mut B) -> Option<Store>
-    ensures { IfSome result (λ store. Keeps store (B.state bay.new)) }
+/// Loads the store of both copies on disks in memory, where a stop leaves what they hold. None where it may not be asked,
+/// or isn't loaded.
+fn load_kept(alloc: Global, bay: &mut MemBay) -> Option<Store>
+    ensures { IfSome result (λ store. Keeps store (state_of bay.new)) }
 {
     if !is_there(bay, FIRST) {
         return None;
     }
     if !is_there(bay, SECOND) {
-        return None;
-    }
-    if !settle(bay, FIRST) {
-        return None;
-    }
-    if !settle(bay, SECOND) {
         return None;
     }
     match Store::load(alloc, bay, &[FIRST, SECOND]) {
@@ -174,7 +153,7 @@ fn last_commit(
 ) -> Result<(MemBay, u64), Fail> {
     let mut bay = disks_of(alloc, first, second)?;
     bay.stop_after(calls);
-    let mut store = load_settled(alloc, &mut bay).ok_or("load")?;
+    let mut store = load_kept(alloc, &mut bay).ok_or("load")?;
     let begin = bay.calls();
     let last = batch_of(COMMITS);
     let change = stale_change(alloc, last.first, last.count, last.mark)?;
@@ -189,11 +168,11 @@ fn has_either(
     copy: DirCopy,
     before: &Marks,
     after: &Marks,
-) -> Result<bool, Fail> {
-    if !is_there(bay, copy) {
-        return Err(Fail::from("a disk"));
-    }
-    let store = Store::load(alloc, bay, &[copy]).map_err(|_| "a copy")?;
+) -> Result<bool, Fail>
+    requires { copy.number < 64 }
+{
+    let store = load_one(alloc, bay, copy).ok_or("a disk")?;
+    let store = store.map_err(|_| "a copy")?;
     if have_marks(store.content(), after) {
         return Ok(true);
     }

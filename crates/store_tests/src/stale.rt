@@ -35,12 +35,19 @@ fn put_stale(alloc: Global, change: &mut Change, chunk: u32, mark: u8) -> Result
     ensures put { OnOk result (length change.new.put ≡ length change.old.put + 1) }
     ensures gone { change.new.gone ≡ change.old.gone }
 {
-    let made = stale_record(alloc, chunk, mark).map_err(|_| "memory")?;
-    let record = made.ok_or("a record")?;
-    change.put.push(record).map_err(|_| Fail::from("memory"))
+    let Ok(made) = stale_record(alloc, chunk, mark) else {
+        return Err(Fail::from("memory"));
+    };
+    let Some(record) = made else {
+        return Err(Fail::from("a record"));
+    };
+    match change.put.push(record) {
+        Ok(()) => Ok(()),
+        Err(_) => Err(Fail::from("memory")),
+    }
 }
 
-/// A change that puts the records of so many of 100 chunks from one on, round the end, with one mark.
+/// A change that puts the records of so many of 101 chunks from one on, round the end, with one mark.
 pub fn stale_change(alloc: Global, first: u32, count: u32, mark: u8) -> Result<Change, Fail>
     ensures items { IfOk result (λ change. ArePutItems change.put) }
     ensures few { IfOk result (λ change. length change.put + length change.gone ≤ count) }

@@ -1,5 +1,5 @@
 // Two copies on disks in memory, and what is asked of them.
-ghost use Rattle.std.specs.Prelude.{◌≡◌, ◌≤◌, ◌+◌, ◌==◌, ◌&&◌, [], nat_le, true, length, IfOk, IfSome};
+ghost use Rattle.std.specs.Prelude.{◌≡◌, ◌≤◌, ◌<◌, ◌+◌, ◌==◌, ◌&&◌, [], nat_le, true, length, IfOk, IfSome};
 ghost use Rattle.change_directory.specs.Places.{IsCopy};
 ghost use Rattle.change_directory.specs.declared.copy.DirCopy.{DirCopy as Copy};
 ghost use Rattle.directory_store.specs.Contents.{ArePutItems};
@@ -119,6 +119,20 @@ pub fn create_and_copy<B: Bay>(alloc: Global, bay: &mut B) -> Option<Store>
         Ok(()) => Some(store),
         Err(_) => None,
     }
+}
+
+/// Loads the store of one copy. None where it isn't there.
+pub fn load_one<B: Bay>(
+    alloc: Global,
+    bay: &mut B,
+    copy: DirCopy,
+) -> Option<Result<Store, LoadError>>
+    requires { copy.number < 64 }
+{
+    if !is_there(bay, copy) {
+        return None;
+    }
+    Some(Store::load(alloc, bay, &[copy]))
 }
 
 /// Loads the store of both copies. None where one isn't there.
