@@ -23,8 +23,8 @@ fn set_power(alloc: Global, group: &mut Catalog, power: Option<u16>) -> Result<(
 }
 
 /// Whether a file has a head, or the operation is on it.
-fn is_owner(group: &Catalog, file: u32, op: Option<Pending>) -> bool
-    ensures { result ≡ (is_file group.now.tables.files file || is_pending file op) }
+fn is_owner(group: &Catalog, file: u32, op: &Option<Pending>) -> bool
+    ensures { result ≡ (is_file group.now.tables.files file || is_pending file op.now) }
 {
     let of_operation = match op {
         Some(op) => op.file == file,
@@ -34,8 +34,8 @@ fn is_owner(group: &Catalog, file: u32, op: Option<Pending>) -> bool
 }
 
 /// Whether each chunk is one of a file or of the operation.
-fn are_owned(group: &Catalog, op: Option<Pending>) -> bool
-    ensures { OnTrue result (AreOwned (record group.now.tables { operations = record group.now.tables.operations { pending = op } })) }
+fn are_owned(group: &Catalog, op: &Option<Pending>) -> bool
+    ensures { OnTrue result (AreOwned (record group.now.tables { operations = record group.now.tables.operations { pending = op.now } })) }
 {
     for (at, _) in group.chunks() {
         if !is_owner(group, at.0, op) {
@@ -51,7 +51,7 @@ fn begin(alloc: Global, group: &mut Catalog) -> Result<(), Fail> {
         file: 257,
         kept: 0,
     };
-    if !are_owned(group, Some(op)) {
+    if !are_owned(group, &Some(op)) {
         return Err(Fail::from("a chunk of no file"));
     }
     let Ok(change) = group.plan_begin(alloc, op) else {
@@ -61,7 +61,7 @@ fn begin(alloc: Global, group: &mut Catalog) -> Result<(), Fail> {
 }
 
 fn end(alloc: Global, group: &mut Catalog) -> Result<(), Fail> {
-    if !are_owned(group, None) {
+    if !are_owned(group, &None) {
         return Err(Fail::from("a chunk of no file"));
     }
     let Ok(change) = group.plan_end(alloc) else {
