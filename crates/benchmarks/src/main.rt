@@ -4,7 +4,6 @@
 
 mod disk;
 mod files;
-mod moves;
 mod names;
 mod paths;
 mod records;
@@ -45,12 +44,7 @@ fn show(alloc: Global, rt: &HostRuntime) -> io::Result<()> {
     )?;
     let take = disk::last_unit(alloc, rt)?;
     let of_allowed = percent(take, Duration::from_millis(1));
-    println!(rt; "taking the last unit of 16,777,216: {of_allowed} % of a millisecond")?;
-    let (all, rest) = moves::searches(alloc, rt)?;
-    let times = ratio(all, rest, 1);
-    println!(rt;
-        "the next move of 100,000 extents by a search of all: {times} times the time from a cursor"
-    )
+    println!(rt; "taking the last unit of 16,777,216: {of_allowed} % of a millisecond")
 }
 
 /// The first time in percent of the second.
