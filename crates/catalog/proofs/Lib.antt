@@ -40,4 +40,5 @@ pub mod MovePlans
 pub mod ReleasePlans
 pub mod AppendPlans
 pub mod MoveItems
+pub mod RecopyItems
 pub mod DiskUnitLaws

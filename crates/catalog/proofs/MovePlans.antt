@@ -115,7 +115,7 @@ module _ (homes : Homes) (copy : ℕ) (h : Home) (three : length homes ≡ 3) (l
   moved_marks : (marks : ℕ) → are_marks_of (marks, homes) ≡ true → are_marks_of (marks, moved_homes) ≡ true
   moved_marks marks old = three_hold (λ k o. not (has_bit marks k) || is_some o) (or_true (not (has_bit marks copy))) old
 
-  moved_home : has_home moved_homes ≡ true
+  pub moved_home : has_home moved_homes ≡ true
   moved_home = by copy lt refl where
     at_copy : is_some (get_or moved_homes copy None) ≡ true
     at_copy = ap is_some (get_or-set_same homes copy (Some h) None copy_inside)
@@ -133,7 +133,7 @@ all_set test [] p x ok all = refl
 all_set test (y ∷ xs) zero x ok all = rw ok (and_parts (test y) (list_all test xs) all).1
 all_set test (y ∷ xs) (suc p) x ok all = let a = and_parts (test y) (list_all test xs) all in rw a.0 (all_set test xs p x ok a.1)
 
-all_at : {A : Type 0} (test : A → Bool) (xs : List A) (p : ℕ) (d : A) → list_all test xs ≡ true → p < length xs → test (get_or xs p d) ≡ true
+pub all_at : {A : Type 0} (test : A → Bool) (xs : List A) (p : ℕ) (d : A) → list_all test xs ≡ true → p < length xs → test (get_or xs p d) ≡ true
 all_at test [] p d all lt = absurd (omega (arith, lt))
 all_at test (y ∷ xs) zero d all lt = (and_parts (test y) (list_all test xs) all).0
 all_at test (y ∷ xs) (suc p) d all lt = all_at test xs p d (and_parts (test y) (list_all test xs) all).1 (omega (arith, lt))
@@ -190,7 +190,7 @@ home_fits c h n is unit free = by (home_taken c.units h n) refl free where
       let disk = slice_get_within c.units h.disk t.map_before t.there in
       rw (lt-ltb h.disk 255 (omega (arith, disk, units_long c is)), lt-ltb h.unit (2 ^ 32) unit) refl
 
-homes_allowed : (f n : ℕ) (xs : List Homes) → is_item (chunk_item f n xs) ≡ true → list_all is_homes xs ≡ true
+pub homes_allowed : (f n : ℕ) (xs : List Homes) → is_item (chunk_item f n xs) ≡ true → list_all is_homes xs ≡ true
 unfolding is_item
 homes_allowed f n xs ok =
     let a = and_parts (ltb f (2 ^ 32)) _ ok in

@@ -21,7 +21,7 @@ either false = inr refl
 
 -- ---- one home
 
-all_in : (p : ℕ → Bool) (at n : ℕ) → list_all p (range_with_len at n) ≡ true → (k : ℕ) → at ≤ k → k < at + n → p k ≡ true
+pub all_in : (p : ℕ → Bool) (at n : ℕ) → list_all p (range_with_len at n) ≡ true → (k : ℕ) → at ≤ k → k < at + n → p k ≡ true
 all_in p at zero e k low high = absurd (omega (arith, low, high))
 all_in p at (suc n) e k low high =
     let parts = and_parts (p at) (list_all p (range_with_len (at + 1) n)) e in

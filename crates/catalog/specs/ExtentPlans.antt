@@ -7,7 +7,7 @@ use Rattle.asm_base.specs.declared.refusal.Refusal.{Refusal}
 use Rattle.asm_base.specs.declared.refusal.Refusal.TheVariants as cause
 use Rattle.asm_formats.specs.Items.{FileHead, Home, Homes, Item, chunk_len}
 use Rattle.asm_placement.specs.Layout.{units_of}
-use Rattle.asm_placement.specs.Moves.{with_home, without_bit}
+use Rattle.asm_placement.specs.Moves.{with_current, with_home, without_bit}
 use Rattle.asm_placement.specs.Placed.{placed_extents}
 use Rattle.extent_map.specs.Extents.{HasExtent, chunk_at, chunk_or_blank, count_in, follows, has_extent, has_home, with_chunk, with_extent, with_more, without_chunk}
 use Rattle.file_directory.specs.Files.{head_at, is_file}
@@ -141,3 +141,13 @@ pub record MayRelease (s : Shape) (t : Tables) (f n : ℕ) : Type 0 where
 -- The items after a committed move of a copy are those of the tables that the plan leads to.
 abbrev pub MovesItems : Type 0
 MovesItems = (c : Catalogued) (f i copy : ℕ) (h : Home) (items : List Item) → IsCatalog c → MayMove c f i copy h → h.unit < 2 ^ 32 → AreItemsOf c.tables items → AreItemsOf (with_move c.tables f i copy h) (with_home f i copy h items)
+
+-- The items after a copy that is there was written anew in place are those of the tables that the plan which clears its mark leads to.
+abbrev pub ClearsItems : Type 0
+ClearsItems =
+    (c : Catalogued) (f i copy : ℕ) (items : List Item) → IsCatalog c → IsTrue (is_some (home_at c.tables f i copy)) → AreItemsOf c.tables items
+    → AreItemsOf (with_marks_changed c.tables f i 0 (2 ^ copy)) (with_current f i copy items)
+
+-- A plan that moves the copy to the home that it has leads to the same tables.
+abbrev pub StaysInPlace : Type 0
+StaysInPlace = (c : Catalogued) (f i copy : ℕ) (h : Home) → IsCatalog c → home_at c.tables f i copy ≡ Some h → with_move c.tables f i copy h ≡ with_marks_changed c.tables f i 0 (2 ^ copy)

@@ -6,7 +6,7 @@ ghost use Rattle.asm_formats.specs.Status.{Entry as StatusEntry};
 ghost use Rattle.asm_base.specs.Records.{Entry};
 ghost use Rattle.catalog.specs.Tables.{Catalogued};
 ghost use Rattle.catalog.specs.Faults.{IsAtFault, IsCatalogOf};
-ghost use Rattle.catalog.specs.ExtentPlans.{MovesItems};
+ghost use Rattle.catalog.specs.ExtentPlans.{ClearsItems, MovesItems, StaysInPlace};
 ghost use Rattle.catalog.specs.Items.{ItemsOfRecords, ItemsSayTables, UnitsOfItems};
 
 /// Where a record is at fault, no value is a catalog of the records.
@@ -33,4 +33,11 @@ pub fn units_are_of_items()
 /// to.
 pub fn a_planned_move_is_a_move()
     ensures { MovesItems }
+{}
+
+/// The items after a copy was written anew in place, as a committed move leaves them, are those of the tables that the plan
+/// which clears the copy's mark leads to; and so does the plan of a move to the home that the copy has.
+pub fn a_planned_clearing_is_a_recopy()
+    ensures clears { ClearsItems }
+    ensures stays { StaysInPlace }
 {}

@@ -32,6 +32,6 @@ pub use changing::a_change_leaves_one_set_of_tables;
 pub use disk_info::DiskInfo;
 pub use error::CatalogError;
 pub use laws::{
-    a_fault_leaves_no_catalog, a_planned_move_is_a_move, items_are_of_tables, items_say_tables,
-    units_are_of_items,
+    a_fault_leaves_no_catalog, a_planned_clearing_is_a_recopy, a_planned_move_is_a_move,
+    items_are_of_tables, items_say_tables, units_are_of_items,
 };
