@@ -9,3 +9,5 @@ pub mod Verdicts
 pub mod OwnCopies
 pub mod Passing
 pub mod SettingBack
+pub mod Falling
+pub mod Planning

@@ -72,7 +72,7 @@ or_false : (b : Bool) → (b || false) ≡ b
 or_false true = refl
 or_false false = refl
 
-same_home : (hs : Homes) → length hs ≡ 3 → copies.has_home hs ≡ has_home hs
+pub same_home : (hs : Homes) → length hs ≡ 3 → copies.has_home hs ≡ has_home hs
 same_home (a ∷ b ∷ c ∷ []) three = ap (λ (x : Bool). is_some a || (is_some b || x)) (or_false (is_some c))
 same_home [] three = absurd (omega (arith, three))
 same_home (a ∷ []) three = absurd (omega (arith, three))

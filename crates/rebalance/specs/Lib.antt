@@ -7,3 +7,4 @@ pub mod Stages
 pub mod Searching
 pub mod Due
 pub mod Cursors
+pub mod Falling

@@ -9,6 +9,7 @@ mod due;
 mod extent;
 mod groups;
 mod homes;
+mod laws;
 mod moves;
 mod next;
 mod shares;
@@ -17,6 +18,7 @@ mod tables;
 
 pub use cursor::Cursor;
 pub use extent::Extent;
+pub use laws::{next_moves_may_be_planned, planned_moves_lower_the_work};
 pub use moves::{Move, Next};
 pub use next::{next_move, next_move_from, share};
 pub use shares::Shares;

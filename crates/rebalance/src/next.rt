@@ -9,6 +9,7 @@ ghost use Rattle.asm_placement.specs.Space.{share};
 ghost use Rattle.catalog.specs.Faults.{IsCatalog};
 ghost use Rattle.catalog.specs.Items.{AreItemsOf};
 ghost use Rattle.catalog.specs.Tables.{AreTables};
+ghost use Rattle.rebalance.specs.Falling.{Falls};
 ghost use Rattle.rebalance.specs.Moves.{next_meant};
 ghost use Rattle.extent_map.specs.Extents.{chunks_from};
 ghost use Rattle.rebalance.specs.Sums.{sums_at};
@@ -32,10 +33,12 @@ use status_table::{PstEntry, PstRecord};
 /// a Forced disk gets a home, and one on a Dropping disk or in the failure group of an earlier copy another one, on the
 /// first disk in order that may take it; a directory copy is added; the status tables move; an extent without a usable copy
 /// is lost; a copy that must go elsewhere has no space; a copy shifts from a disk above its share to one below; else all is
-/// done. It takes no memory, and goes over all extents once for each stage that has nothing to say.
+/// done. Each move lowers the work that is left, where no copy lies on a quorum disk. It takes no memory, and goes over all
+/// extents once for each stage that has nothing to say.
 pub fn next_move(catalog: &Catalog, status: &PstRecord) -> Next
     requires { IsStatusOf catalog.now status.now }
     ensures is_next { (items : List Item) → AreItemsOf catalog.now.tables items → next_meant result ≡ next catalog.now.shape status.now items }
+    ensures falls { Falls catalog.now status.now (next_meant result) }
 {
     let mut cursor = Cursor::start();
     next_move_from(catalog, status, &mut cursor)
@@ -48,6 +51,7 @@ pub fn next_move_from(catalog: &Catalog, status: &PstRecord, cursor: &mut Cursor
     requires status { IsStatusOf catalog.now status.now }
     requires cursor { IsCursor catalog.now status.now cursor.old }
     ensures is_next { (items : List Item) → AreItemsOf catalog.now.tables items → next_meant result ≡ next catalog.now.shape status.now items }
+    ensures falls { Falls catalog.now status.now (next_meant result) }
     ensures cursor { IsCursor catalog.now status.now cursor.new }
     ensures gone_on { HasGoneOn status.now.entries catalog.now status.now (sums_at catalog.now.units status.now.entries) cursor.new }
 {

@@ -1,0 +1,50 @@
+-- That the work which a rebalance has left falls with each move.
+use Rattle.std.specs.Prelude.{◌≡◌, ◌^◌, ◌<◌, List, IsTrue}
+use Rattle.std.specs.List.{list_all}
+use Rattle.asm_formats.specs.Status.{Status}
+use Rattle.asm_formats.specs.Items.{Item}
+use Rattle.asm_placement.specs.Copies.{all_copies, entry_at_home, home}
+use Rattle.asm_placement.specs.Moves.{items_after, record_after}
+use Rattle.asm_placement.specs.Rebalancing.{Move, Next, directory, fill, move, next, recopy, shift, tables}
+use Rattle.asm_placement.specs.Work.{IsLess, is_regular, work}
+use Rattle.catalog.specs.ExtentPlans.{MayMark, MayMove, with_marks_changed, with_move}
+use Rattle.catalog.specs.Faults.{IsCatalog}
+use Rattle.catalog.specs.Items.{AreItemsOf}
+use Rattle.catalog.specs.Tables.{Catalogued, Tables}
+use Rattle.rebalance.specs.Searching.{IsStatusOf}
+
+-- no copy lies on a quorum disk
+abbrev pub AreOnRegularDisks : Status → List Item → Type 0
+AreOnRegularDisks r items = IsTrue (list_all (λ x. is_regular (entry_at_home r.entries (home x))) (all_copies items))
+
+-- Where the next is a move, the work that is left once it is committed is less.
+abbrev pub Falls : Catalogued → Status → Next → Type 0
+Falls c r n = (m : Move) (items : List Item) → n ≡ move m → AreItemsOf c.tables items → AreOnRegularDisks r items → IsLess (work c.shape (record_after m r) (items_after m items)) (work c.shape r items)
+
+-- ---- in the words of plans
+
+-- the tables that the plan of a move leads to: directory copies and status tables aren't in them
+abbrev pub planned : Move → Tables → Tables
+planned (recopy f i copy) t = with_marks_changed t f i 0 (2 ^ copy)
+planned (fill f i copy h) t = with_move t f i copy h
+planned (shift f i copy h) t = with_move t f i copy h
+planned (directory d) t = t
+planned (tables to) t = t
+
+-- what the plan of a move asks of the catalog
+abbrev pub MayBePlanned : Catalogued → Move → Type 0
+MayBePlanned c (recopy f i copy) = MayMark c.tables f i 0 × (copy < 3)
+MayBePlanned c (fill f i copy h) = MayMove c f i copy h
+MayBePlanned c (shift f i copy h) = MayMove c f i copy h
+MayBePlanned c (directory d) = Unit {0}
+MayBePlanned c (tables to) = Unit {0}
+
+-- The next move may be planned.
+abbrev pub NextMayBePlanned : Type 0
+NextMayBePlanned = (c : Catalogued) (r : Status) (m : Move) (items : List Item) → IsCatalog c → IsStatusOf c r → AreItemsOf c.tables items → next c.shape r items ≡ move m → MayBePlanned c m
+
+-- The work that is left by the items of the tables that the plan of the next move leads to is less.
+abbrev pub PlannedWorkFalls : Type 0
+PlannedWorkFalls =
+    (c : Catalogued) (r : Status) (m : Move) (items later : List Item) → IsCatalog c → IsStatusOf c r → AreItemsOf c.tables items → AreOnRegularDisks r items → next c.shape r items ≡ move m
+    → AreItemsOf (planned m c.tables) later → IsLess (work c.shape (record_after m r) later) (work c.shape r items)

@@ -1,0 +1,14 @@
+//! What holds of every next move.
+
+ghost use Rattle.rebalance.specs.Falling.{NextMayBePlanned, PlannedWorkFalls};
+
+/// The catalog's plan of the next move may be made: where a copy is written anew, that which clears its mark, and where it
+/// gets a home, that which moves it there.
+pub fn next_moves_may_be_planned()
+    ensures { NextMayBePlanned }
+{}
+
+/// By the tables that this plan leads to, and the record after the move, less work is left.
+pub fn planned_moves_lower_the_work()
+    ensures { PlannedWorkFalls }
+{}
