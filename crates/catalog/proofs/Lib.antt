@@ -2,6 +2,7 @@ pub mod DiskLaws
 pub mod ExtentCounts
 pub mod FaultLaws
 pub mod FileLaws
+pub mod HavingItems
 pub mod HomeUnits
 pub mod ItemLaws
 pub mod ItemLists

@@ -133,16 +133,16 @@ each_of P [] x all h = absurd h
 each_of P (y ∷ xs) x all (inl e) = subst P (sym e) all.0
 each_of P (y ∷ xs) x all (inr h) = each_of P xs x all.1 h
 
-left_among : {A : Type 0} (xs ys : List A) (x : A) → IsAmong xs x → IsAmong (xs ++ ys) x
+pub left_among : {A : Type 0} (xs ys : List A) (x : A) → IsAmong xs x → IsAmong (xs ++ ys) x
 left_among [] ys x h = absurd h
 left_among (z ∷ xs) ys x (inl e) = inl e
 left_among (z ∷ xs) ys x (inr h) = inr (left_among xs ys x h)
 
-right_among : {A : Type 0} (xs ys : List A) (x : A) → IsAmong ys x → IsAmong (xs ++ ys) x
+pub right_among : {A : Type 0} (xs ys : List A) (x : A) → IsAmong ys x → IsAmong (xs ++ ys) x
 right_among [] ys x h = h
 right_among (z ∷ xs) ys x h = inr (right_among xs ys x h)
 
-append_among : {A : Type 0} (xs ys : List A) (x : A) → IsAmong (xs ++ ys) x → IsAmong xs x ⊎ IsAmong ys x
+pub append_among : {A : Type 0} (xs ys : List A) (x : A) → IsAmong (xs ++ ys) x → IsAmong xs x ⊎ IsAmong ys x
 append_among [] ys x h = inr h
 append_among (z ∷ xs) ys x (inl e) = inl (inl e)
 append_among (z ∷ xs) ys x (inr h) = elim (append_among xs ys x h) [ inl l ↦ inl (inr l) | inr r ↦ inr r ]
@@ -313,7 +313,7 @@ of_entry item_of p content xs i same all ok mine h =
     let m = map_among (λ y. item_record (item_of y)) xs (item_record i) (subst (λ (es : List Entry). IsAmong es (item_record i)) same kept) in
     (m.0, m.1, same_record i (item_of m.0) ok (each_of (λ x. is_item (item_of x) ≡ true) xs m.0 all m.1) m.2)
 
-of_two : (t : Tables) (i : Item) → IsAmong (templates_item t.templates.templates ∷ settings_item t.templates.settings ∷ []) i → IsOf t i
+pub of_two : (t : Tables) (i : Item) → IsAmong (templates_item t.templates.templates ∷ settings_item t.templates.settings ∷ []) i → IsOf t i
 of_two t i (inl e) = the_templates e
 of_two t i (inr (inl e)) = the_settings e
 of_two t i (inr (inr h)) = absurd h

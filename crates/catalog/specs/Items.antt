@@ -30,6 +30,14 @@ pub record AreItemsOf (t : Tables) (items : List Item) : Type 0 where
   pub from_table : (k : Key) (i : Item) → item_at t k ≡ Some i → IsAmong items i
   pub to_table : (i : Item) → IsAmong items i → item_at t (key i) ≡ Some i
 
+-- All tables have items.
+abbrev pub TablesHaveItems : Type 0
+TablesHaveItems = (t : Tables) → AreTables t → (items : List Item) × AreItemsOf t items
+
+-- Two lists of the items of some tables are one list.
+abbrev pub ItemsAreOneList : Type 0
+ItemsAreOneList = (t : Tables) (a b : List Item) → AreItemsOf t a → AreItemsOf t b → a ≡ b
+
 -- ---- by the records
 
 -- an item of the formats with this key and this value

@@ -7,11 +7,17 @@ ghost use Rattle.asm_base.specs.Records.{Entry};
 ghost use Rattle.catalog.specs.Tables.{Catalogued};
 ghost use Rattle.catalog.specs.Faults.{IsAtFault, IsCatalogOf};
 ghost use Rattle.catalog.specs.ExtentPlans.{ClearsItems, MovesItems, StaysInPlace};
-ghost use Rattle.catalog.specs.Items.{ItemsOfRecords, ItemsSayTables, UnitsOfItems};
+ghost use Rattle.catalog.specs.Items.{ItemsAreOneList, ItemsOfRecords, ItemsSayTables, TablesHaveItems, UnitsOfItems};
 
 /// Where a record is at fault, no value is a catalog of the records.
 pub fn a_fault_leaves_no_catalog()
     ensures { (content : Items Entry) (es : Items StatusEntry) (c : Catalogued) (k : Key) → IsAtFault content c.shape es k → ¬ IsCatalogOf content es c }
+{}
+
+/// All tables have items, and these are one list only.
+pub fn tables_have_items()
+    ensures there { TablesHaveItems }
+    ensures one { ItemsAreOneList }
 {}
 
 /// The items of a group's records are those of the tables that have these records.

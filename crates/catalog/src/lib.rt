@@ -33,5 +33,5 @@ pub use disk_info::DiskInfo;
 pub use error::CatalogError;
 pub use laws::{
     a_fault_leaves_no_catalog, a_planned_clearing_is_a_recopy, a_planned_move_is_a_move,
-    items_are_of_tables, items_say_tables, units_are_of_items,
+    items_are_of_tables, items_say_tables, tables_have_items, units_are_of_items,
 };
