@@ -213,7 +213,7 @@ impl OpenParts {
         ensures gone { Sets (tables_of self.old) (tables_of self.new) (record { kind = 1; a = file; b = chunk + 1 }) None }
         ensures open { IsOpen self.new }
     {
-        let _ = self.extents.remove_record(file, chunk);
+        self.extents.remove_record(file, chunk);
     }
 
     fn remove_disk(&mut self, key: Key)

@@ -39,12 +39,12 @@ impl ExtentMap {
         Ok(true)
     }
 
-    /// Takes a chunk away, and tells whether it was there. In the midst of a change the extents of a file may have a gap.
+    /// Takes a chunk away, where it is there. In the midst of a change the extents of a file may have a gap.
     #[tactic(auto, using(crate::proofs::ChangeLaws::removed_keeps_chunks))]
-    pub fn remove_record(&mut self, file: u32, chunk: u32) -> bool
+    pub fn remove_record(&mut self, file: u32, chunk: u32)
         ensures gone { (c : Chunk) → value_at self.new c ≡ (if is_at (chunk_cmp (file, chunk)) c then None else value_at self.old c) }
         ensures chunks { AreChunks self.old → AreChunks self.new }
     {
-        self.take_away((file, chunk))
+        let _ = self.take_away((file, chunk));
     }
 }

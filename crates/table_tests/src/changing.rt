@@ -172,8 +172,9 @@ fn a_chunk_is_put_by_its_record(rt: HostRuntime) -> Result<(), Fail> {
         return Err(Fail::from("memory"));
     };
     assert!(rt; copy.chunk(256, 0).is_some());
-    assert!(rt; table.remove_record(256, 0));
-    assert!(rt; !table.remove_record(256, 0));
+    table.remove_record(256, 0);
+    assert!(rt; table.chunk(256, 0).is_none());
+    table.remove_record(256, 0);
     Ok(())
 }
 
