@@ -51,9 +51,10 @@ record Put (nodes : List Numbered) (front : Path) (x : Bytes) (n : ℕ) (node : 
   at : number_by (with_node nodes n node) 0 (folded_path (front ++ x ∷ [])) ≡ Some n
   there : node_at (with_node nodes n node) n ≡ Some node
   leaf : (name : Bytes) → child (with_node nodes n node) n name ≡ None
+  item : is_item (node_item n node) ≡ true
 
 put_below : (nodes : List Numbered) (front : Path) (x : Bytes) (parent n : ℕ) (node : Node) → Place nodes front x parent n node → Put nodes front x n node
-put_below nodes front x parent n node p = record { table = table; tree = put_tree nodes path n node p.table table new hangs p.free; at = (placed nodes path n node p.table table new hangs p.free).at; there = there; leaf = leaf } where
+put_below nodes front x parent n node p = record { table = table; tree = put_tree nodes path n node p.table table new hangs p.free; at = (placed nodes path n node p.table table new hangs p.free).at; there = there; leaf = leaf; item = ok } where
   path : Path
   path = front ++ x ∷ []
 
@@ -116,6 +117,7 @@ pub record SoFar (nodes made : List Numbered) (path : Path) (i parent before : �
   pub above : (k : ℕ) → before < k → node_at (with_nodes nodes made) k ≡ node_at nodes k
   pub fresh : All (λ (x : Numbered). node_at nodes x.0 ≡ None) made
   pub dirs : All (λ (x : Numbered). x.1.kind ≡ Directory) made
+  pub items : All (λ (x : Numbered). is_item (node_item x.0 x.1) ≡ true) made
   pub few : length made ≤ i
   -- the next directory was missing
   pub away : (d : Bytes) → i < length (up path) → number_by nodes 0 (folded_path (take i (up path) ++ get_or (up path) i d ∷ [])) ≡ None
@@ -133,6 +135,7 @@ so_far_none nodes path k a t f may free = record {
   above = λ k less. refl;
   fresh = All-nil (λ (x : Numbered). node_at nodes x.0 ≡ None);
   dirs = All-nil (λ (x : Numbered). x.1.kind ≡ Directory);
+  items = All-nil (λ (x : Numbered). is_item (node_item x.0 x.1) ≡ true);
   few = omega arith;
   away = λ d less. number_more nodes (take k (up path)) (get_or (up path) k d) a f.reach.at ∙ f.missing d less;
   count = (let m = f.reach.missing in omega arith);
@@ -178,6 +181,7 @@ dir_more nodes made path i parent before n part node s parts h is f small parent
   above = λ k past. ap (λ (ns : List Numbered). node_at ns k) more ∙ above_more nodes made path i parent before n node s f.above k past;
   fresh = All-append (λ (x : Numbered). node_at nodes x.0 ≡ None) made ((n, node) ∷ []) s.fresh (All-one (λ (x : Numbered). node_at nodes x.0 ≡ None) (n, node) f.free);
   dirs = All-append (λ (x : Numbered). x.1.kind ≡ Directory) made ((n, node) ∷ []) s.dirs (All-one (λ (x : Numbered). x.1.kind ≡ Directory) (n, node) kind_is);
+  items = All-append (λ (x : Numbered). is_item (node_item x.0 x.1) ≡ true) made ((n, node) ∷ []) s.items (All-one (λ (x : Numbered). is_item (node_item x.0 x.1) ≡ true) (n, node) put.item);
   few = (let l = s.few in omega (arith, length-append made ((n, node) ∷ [])));
   away = λ d less. ap (λ (q : Path). number_by nodes 0 (folded_path (q ++ get_or (up path) (i + 1) d ∷ []))) front ∙ number_none nodes (take i (up path) ++ part ∷ []) (get_or (up path) (i + 1) d) lost;
   count = count;
@@ -248,6 +252,7 @@ pub record AllMade (nodes made : List Numbered) (path : Path) (file : ℕ) : Typ
   pub few : length made ≤ length path
   pub count : length made ≡ nodes_missing (tree_of nodes) path
   pub fresh : All (λ (x : Numbered). node_at nodes x.0 ≡ None) made
+  pub items : All (λ (x : Numbered). is_item (node_item x.0 x.1) ≡ true) made
 
 pub name_more : (nodes made : List Numbered) (path : Path) (i parent before n file : ℕ) (node : Node) → SoFar nodes made path i parent before → are_parts path ≡ true → 0 < length path → i ≡ length (up path)
     → IsFreeAbove nodes before n → n < 2 ^ 32 → node.parent ≡ parent → node.name ≡ last_part path → node.kind ≡ System → node.file ≡ file → file < 2 ^ 32 → AllMade nodes (made ++ (n, node) ∷ []) path file
@@ -258,6 +263,7 @@ name_more nodes made path i parent before n file node s parts some end f small p
   few = (let l = s.few in let one : length path ≡ length (up path) + 1 = ap (λ (q : Path). length q) whole ∙ length-append (up path) (last_part path ∷ []) in omega (arith, length-append made ((n, node) ∷ [])));
   count = (let c = s.count in let none : missing_dirs (tree_of nodes) (take i (up path)) (drop i (up path)) ≡ 0 = ap (λ (q : Path). missing_dirs (tree_of nodes) (take i (up path)) q) left in omega (arith, length-append made ((n, node) ∷ []), none));
   fresh = All-append (λ (x : Numbered). node_at nodes x.0 ≡ None) made ((n, node) ∷ []) s.fresh (All-one (λ (x : Numbered). node_at nodes x.0 ≡ None) (n, node) f.free);
+  items = All-append (λ (x : Numbered). is_item (node_item x.0 x.1) ≡ true) made ((n, node) ∷ []) s.items (All-one (λ (x : Numbered). is_item (node_item x.0 x.1) ≡ true) (n, node) put.item);
 } where
   root : is_root path ≡ false
   root = some_root path some

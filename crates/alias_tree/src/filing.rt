@@ -1,11 +1,12 @@
 //! What the system name of a new file changes.
 
-ghost use Rattle.std.specs.Prelude.{◌≡◌, ◌<◌, ◌≤◌, ◌^◌, ◌++◌, ◌∷◌, [], IfErr, IfOk, IsTrue, OnOk, None, Ok, length};
+ghost use Rattle.std.specs.Prelude.{◌≡◌, ◌<◌, ◌≤◌, ◌^◌, ◌++◌, ◌∷◌, [], IfErr, IfOk, IsTrue, OnOk, None, Ok, length, true};
 ghost use Rattle.std.specs.List.{All};
 ghost use Rattle.std.specs.Option.{option_map};
 ghost use Rattle.asm_group.specs.Names.{is_part};
 ghost use Rattle.asm_group.specs.Causes.{first_cause};
 ghost use Rattle.asm_group.specs.TreeEdits.{last_part, up};
+ghost use Rattle.asm_formats.specs.Items.{is_item, node_item};
 ghost use Rattle.alias_tree.specs.Edits.{IsRefusal, are_parts, cause_said};
 ghost use Rattle.alias_tree.specs.Filing.{IsFiling, IsFree, IsFreeAbove, IsFront, file_causes, filed, may_hang, nodes_missing, with_file, with_nodes};
 ghost use Rattle.alias_tree.specs.Nodes.{IsTable, node_at};
@@ -53,6 +54,8 @@ impl AliasTree {
         ensures count { IfOk result (λ made. length made.items ≡ nodes_missing (tree_of self.now) path.now.parts) }
         // None of them was there.
         ensures fresh { IfOk result (λ made. All (λ (x : Numbered). node_at self.now x.0 ≡ None) made.items) }
+        // Each is one of the formats.
+        ensures items { IfOk result (λ made. All (λ (x : Numbered). is_item (node_item x.0 x.1) ≡ true) made.items) }
         ensures refused { IfErr result (IsRefusal (filed (tree_of self.now) path.now.parts file)) }
     {
         self.keeps_rule();
@@ -129,6 +132,7 @@ impl AliasTree {
         ensures few { IfOk result (λ made. length made.items ≤ length path.now.parts) }
         ensures count { IfOk result (λ made. length made.items ≡ nodes_missing (tree_of self.now) path.now.parts) }
         ensures fresh { IfOk result (λ made. All (λ (x : Numbered). node_at self.now x.0 ≡ None) made.items) }
+        ensures items { IfOk result (λ made. All (λ (x : Numbered). is_item (node_item x.0 x.1) ≡ true) made.items) }
     {
         self.keeps_rule();
         let dirs = above(path);

@@ -42,3 +42,6 @@ returns-clause-fresh c = (all c).fresh
 
 pub returns-clause-count : goal.returns-clause-count
 returns-clause-count c = (all c).count
+
+pub returns-clause-items : goal.returns-clause-items
+returns-clause-items c = (all c).items
