@@ -31,6 +31,9 @@ pub mod NumberedEntries
 pub mod Owners
 pub mod SizePlans
 pub mod RemovalPlans
+pub mod NamePlans
+pub mod NameLaws
+pub mod NewNames
 pub mod NextFile
 pub mod ApplyingLaws
 pub mod EntryLaws

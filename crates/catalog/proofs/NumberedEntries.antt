@@ -1,21 +1,16 @@
 -- Entries by number, of which one is put or goes: what all of them pass, and what stands at each number then.
-use Rattle.std.proofs.Common.{◌≡◌, ◌≤◌, ℕ, suc, Ordering, Bool, true, false, cond, List, [], ◌∷◌, length, Option, Some, None, refl, sym, ap, subst, ◌∙◌, arith, inl, inr, ◌⊎◌}
-use Rattle.std.specs.Prelude.{not}
+use Rattle.std.proofs.Common.{◌≡◌, ℕ, Ordering, Bool, true, false, List, [], ◌∷◌, Some, None, refl, sym, subst, inl, inr}
 use Rattle.std.specs.List.{AllByRecursion}
 use Rattle.std.specs.Ordering.{nat_cmp}
 use Rattle.std.specs.declared.cmp.Ordering.TheVariants.{Less, Equal, Greater}
 use Rattle.std.specs.BTreeMap.{is_at, insert_entry}
-use Rattle.std.specs.Map.{lookup, remove_entry}
-use Rattle.std.specs.Cmp.{Equal-is}
+use Rattle.std.specs.Map.{remove_entry}
 use Rattle.std.specs.FinMap.{nat_cmp-IsAntisymmetric}
-use Rattle.std.proofs.lemmas.Cmp.{eq_by_cmp_equiv, nat_cmp_total}
-use Rattle.std.proofs.lemmas.Bool.{true≢false}
 use Rattle.std.proofs.lemmas.Option.{none-some}
 use Rattle.asm_formats.specs.Among.{IsAmong}
 use Rattle.asm_base.proofs.Exact.{some_is}
-use Rattle.extent_map.proofs.Lookups.{put_here, put_other}
 use Rattle.catalog.specs.Rules.{first_wrong}
-use Rattle.catalog.proofs.NumberedLists.{all_there, at, either, number_is, put_at}
+use Rattle.catalog.proofs.NumberedLists.{at, either, number_is}
 
 pub number_other : (m n : ℕ) → (m ≡ n → ⊥) → is_at (nat_cmp m) n ≡ false
 number_other m n apart = elim (either (is_at (nat_cmp m) n)) [ inl hit ↦ absurd (apart (number_is m n hit)) | inr miss ↦ miss ]
@@ -38,6 +33,12 @@ module _ {K X : Type 0} where
   passes_where a b (e ∷ es) keeps none =
       let p = first_passes a e es none in
       passes_more b e es (keeps e (inl refl) p.0) (passes_where a b es (λ x m. keeps x (inr m)) p.1)
+
+  pub passes_each : (test : K × X → Bool) (es : List (K × X)) → first_wrong test es ≡ None → (x : K × X) → IsAmong es x → test x ≡ true
+  passes_each test [] none x m = absurd m
+  passes_each test (e ∷ es) none x m =
+      let p = first_passes test e es none in
+      elim m [ inl same ↦ subst (λ (y : K × X). test y ≡ true) (sym same) p.0 | inr more ↦ passes_each test es p.1 x more ]
 
 -- ---- by number
 

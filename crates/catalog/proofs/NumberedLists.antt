@@ -75,6 +75,15 @@ module _ {X : Type 0} where
     by Equal q more = rw q refl
     by Greater q more = rw q (ap suc (more (rw q at there)))
 
+  -- one more at most
+  pub put_few : (k : ℕ) (v : X) (es : List (ℕ × X)) → length (insert_entry nat_cmp es k v) ≤ suc (length es)
+  put_few k v [] = omega arith
+  put_few k v (e ∷ es) = by (nat_cmp k e.0) refl (put_few k v es) where
+    by : (o : Ordering) → nat_cmp k e.0 ≡ o → length (insert_entry nat_cmp es k v) ≤ suc (length es) → length (insert_entry nat_cmp (e ∷ es) k v) ≤ suc (length (e ∷ es))
+    by Less q more = rw q (omega arith)
+    by Equal q more = rw q (omega arith)
+    by Greater q more = rw q (omega (arith, more))
+
   pub gone_few : (test : ℕ → Bool) (es : List (ℕ × X)) → length (remove_entry test es) ≤ length es
   gone_few test [] = omega arith
   gone_few test (e ∷ es) = by (test e.0) refl (gone_few test es) where

@@ -1,34 +1,31 @@
 -- Plans of another size of a file.
-use Rattle.std.proofs.Common.{◌≡◌, ◌<◌, ◌≤◌, ◌+◌, ◌^◌, ℕ, Bool, true, false, cond, ltb, eqb, List, [], ◌∷◌, length, Option, Some, None, refl, sym, ap, subst, ◌∙◌, arith, inl, inr, ◌⊎◌}
-use Rattle.std.specs.Prelude.{◌&&◌, ◌||◌, ◌↔◌, IsTrue, is_some}
-use Rattle.std.specs.Option.{option_map}
+use Rattle.std.proofs.Common.{◌≡◌, ◌<◌, ◌≤◌, ◌+◌, ◌^◌, ℕ, Bool, true, cond, ltb, List, [], ◌∷◌, length, Option, Some, None, refl, sym, ap, subst, ◌∙◌, arith, inl, inr}
+use Rattle.std.specs.Prelude.{◌||◌, IsTrue, is_some}
 use Rattle.std.specs.List.{AllByRecursion}
 use Rattle.std.specs.Ordering.{nat_cmp}
 use Rattle.std.specs.BTreeMap.{is_at}
 use Rattle.std.proofs.lemmas.Bool.{and_parts, lt-ltb, ltb-false, ltb-true}
-use Rattle.std.proofs.lemmas.Option.{none-some}
 use Rattle.asm_group.specs.Names.{is_part}
 use Rattle.asm_group.specs.Shape.{Shape}
 use Rattle.asm_group.specs.declared.NodeKind.{NodeKind}
 use Rattle.asm_group.specs.declared.NodeKind.TheVariants.{Directory, System, Alias}
 use Rattle.asm_group.specs.declared.PendingKind.TheVariants.{Shrink}
 use Rattle.asm_formats.specs.Among.{IsAmong}
-use Rattle.asm_formats.specs.Items.{FileHead, Homes, Key, Pending, file_item, is_item, is_redundancy, pending_item}
+use Rattle.asm_formats.specs.Items.{FileHead, Key, Pending, file_item, is_item, is_redundancy, pending_item}
 use Rattle.asm_formats.specs.Values.{value}
 use Rattle.asm_base.specs.Records.{Entry, is_key}
 use Rattle.asm_base.specs.Tables.{item_record}
 use Rattle.asm_placement.specs.Layout.{first_of_set, start}
 use Rattle.page_map.specs.Changes.{value_after}
-use Rattle.file_directory.specs.Changing as files
 use Rattle.file_directory.specs.Files.{File, IsTable, head_at, record_of, with_head}
 use Rattle.file_directory.proofs.Laws.{put_keeps_table}
-use Rattle.extent_map.specs.Extents.{Chunked, extent_at}
+use Rattle.extent_map.specs.Extents.{Chunked}
 use Rattle.alias_tree.specs.Nodes.{Numbered}
 use Rattle.operations_directory.specs.Operations as operations
 use Rattle.operations_directory.proofs.ChangeLaws as operation_laws
-use Rattle.catalog.specs.Changing.{IsAfter, Sets}
+use Rattle.catalog.specs.Changing.{Sets}
 use Rattle.catalog.specs.Faults.{IsCatalog, file_key}
-use Rattle.catalog.specs.FilePlans.{HasSoMany, IsPendingAfter, IsSizePlan, MayGrow, is_on_file, sized, with_size}
+use Rattle.catalog.specs.FilePlans.{HasSoMany, IsSizePlan, MayGrow, is_on_file, sized, with_size}
 use Rattle.catalog.specs.Plans.{AreOwned, IsPlan}
 use Rattle.catalog.specs.Rules.{HasExtents, KeepsRules, are_within_head, blocks_used, first_wrong, has_names, is_directory, is_due, is_named_back, is_owned, is_pending, keeps_copies, names_back}
 use Rattle.catalog.specs.Tables.{AreTables, Catalogued, Tables, records_of}
@@ -36,7 +33,8 @@ use Rattle.catalog.proofs.NumberedLists.{all_there, either, number_is, put_at, t
 use Rattle.catalog.proofs.NumberedEntries.{found_passes, passes_where, put_all, put_passes}
 use Rattle.catalog.proofs.Owners.{of_file}
 use Rattle.catalog.proofs.PlanLaws.{or_false, pending_key}
-use Rattle.catalog.proofs.SetLaws.{files_set, operations_set}
+use Rattle.catalog.proofs.SetLaws.{operations_set}
+use Rattle.catalog.proofs.TreePlans.{head_put}
 
 -- ---- the head
 
@@ -139,16 +137,7 @@ module _ (s : Shape) (t : Tables) (f : ℕ) (head : FileHead) (size : ℕ) (pend
   head_value = value (file_item f (with_size head size))
 
   head_set : Sets t head_only (file_key f) (Some head_value)
-  head_set = files_set t (with_head t.files f (with_size head size)) (file_key f) (Some head_value) refl refl each where
-    each : (g : ℕ) → files.value_at (with_head t.files f (with_size head size)) g ≡ cond (is_at (nat_cmp f) g) (Some head_value) (files.value_at t.files g)
-    each g = elim (either (is_at (nat_cmp f) g)) [
-      | inl hit ↦
-          let new : head_at (with_head t.files f (with_size head size)) g ≡ Some (with_size head size) = put_at f (with_size head size) t.files g ∙ rw hit refl in
-          rw (hit, new) (ap (λ (m : ℕ). Some (value (file_item m (with_size head size)))) (sym (number_is f g hit)))
-      | inr miss ↦
-          let old : head_at (with_head t.files f (with_size head size)) g ≡ head_at t.files g = put_at f (with_size head size) t.files g ∙ rw miss refl in
-          rw (miss, old) refl
-    ]
+  head_set = head_put t f (with_size head size)
 
 -- ---- the three plans
 

@@ -38,7 +38,7 @@ use Rattle.catalog.proofs.SetLaws.{files_set, nodes_set}
 -- ---- entries that are right
 
 module _ {K T : Type 0} where
-  first_right : (right : K × T → Bool) (xs : List (K × T)) → AllByRecursion (λ x. right x ≡ true) xs → first_wrong right xs ≡ None
+  pub first_right : (right : K × T → Bool) (xs : List (K × T)) → AllByRecursion (λ x. right x ≡ true) xs → first_wrong right xs ≡ None
   first_right right [] all = refl
   first_right right (x ∷ xs) all = rw all.0 (first_right right xs all.1)
 
@@ -126,7 +126,7 @@ after_two t mid u a b are one two = record {
   records = λ k. two k ∙ ap (λ (o : Option (List ℕ)). cond (is_key b.0 k) (Some b.1) o) (one k);
 }
 
-or_true : (b : Bool) → (b || true) ≡ true
+pub or_true : (b : Bool) → (b || true) ≡ true
 or_true true = refl
 or_true false = refl
 
@@ -143,7 +143,7 @@ after_put_gone t mid u a key are one two = record {
 
 -- ---- what stands at each number then
 
-node_put : (t : Tables) (n : ℕ) (x : Node) → Sets t (record t { nodes = with_node t.nodes n x }) (node_key n) (Some (value (node_item n x)))
+pub node_put : (t : Tables) (n : ℕ) (x : Node) → Sets t (record t { nodes = with_node t.nodes n x }) (node_key n) (Some (value (node_item n x)))
 node_put t n x = nodes_set t (with_node t.nodes n x) (node_key n) (Some (value (node_item n x))) refl refl set where
   set : (m : ℕ) → opening.value_at (with_node t.nodes n x) m ≡ cond (is_at (nat_cmp n) m) (Some (value (node_item n x))) (opening.value_at t.nodes m)
   set m = elim (either (is_at (nat_cmp n) m)) [
@@ -163,7 +163,7 @@ node_gone t n a = nodes_set t (without_node t.nodes n) (node_key n) None refl re
     | inr miss ↦ let there : node_at (without_node t.nodes n) m ≡ node_at t.nodes m = at_without t.nodes n m a.nodes.items.0 ∙ rw miss refl in rw (miss, there) refl
   ]
 
-head_put : (t : Tables) (f : ℕ) (h : FileHead) → Sets t (record t { files = with_head t.files f h }) (file_key f) (Some (value (file_item f h)))
+pub head_put : (t : Tables) (f : ℕ) (h : FileHead) → Sets t (record t { files = with_head t.files f h }) (file_key f) (Some (value (file_item f h)))
 head_put t f h = files_set t (with_head t.files f h) (file_key f) (Some (value (file_item f h))) refl refl set where
   set : (g : ℕ) → changing.value_at (with_head t.files f h) g ≡ cond (is_at (nat_cmp f) g) (Some (value (file_item f h))) (changing.value_at t.files g)
   set g = elim (either (is_at (nat_cmp f) g)) [
@@ -177,20 +177,20 @@ head_put t f h = files_set t (with_head t.files f h) (file_key f) (Some (value (
 
 -- ---- names
 
-or_more : (a b c : Bool) → (b ≡ true → c ≡ true) → (a || b) ≡ true → (a || c) ≡ true
+pub or_more : (a b c : Bool) → (b ≡ true → c ≡ true) → (a || b) ≡ true → (a || c) ≡ true
 or_more true b c more e = refl
 or_more false b c more e = more e
 
-both_true : (a b : Bool) → a ≡ true → b ≡ true → (a && b) ≡ true
+pub both_true : (a b : Bool) → a ≡ true → b ≡ true → (a && b) ≡ true
 both_true a b p q = rw (p, q) refl
 
-named_dir : (u : Tables) (m : ℕ) (y : Node) → y.kind ≡ Directory → is_named_back u (m, y) ≡ true
+pub named_dir : (u : Tables) (m : ℕ) (y : Node) → y.kind ≡ Directory → is_named_back u (m, y) ≡ true
 named_dir u m y e = rw e refl
 
-abbrev Stays : Tables → Tables → NodeKind → ℕ → Type 0
+abbrev pub Stays : Tables → Tables → NodeKind → ℕ → Type 0
 Stays t u kind f = (m : ℕ) → is_name kind f (node_at t.nodes m) ≡ true → is_name kind f (node_at u.nodes m) ≡ true
 
-has_stay : (t u : Tables) (f : ℕ) (h : FileHead) → Stays t u System f → Stays t u Alias f → has_names t (f, h) ≡ true → has_names u (f, h) ≡ true
+pub has_stay : (t u : Tables) (f : ℕ) (h : FileHead) → Stays t u System f → Stays t u Alias f → has_names t (f, h) ≡ true → has_names u (f, h) ≡ true
 has_stay t u f h system alias e =
     let p = and_parts (names_file t f System h.system) (names_file t f Alias h.alias) e in
     both_true (names_file u f System h.system) (names_file u f Alias h.alias)
@@ -210,7 +210,7 @@ module _ (s : Shape) (t : Tables) (r : KeepsRules s t) where
   pub named_of : (n : ℕ) (x : Node) → node_at t.nodes n ≡ Some x → is_named_back t (n, x) ≡ true
   named_of n x at = all_there (λ (y : Numbered). is_named_back t y ≡ true) t.nodes (all_right (is_named_back t) t.nodes r.nodes) n x at
 
-  has_of : (f : ℕ) (h : FileHead) → head_at t.files f ≡ Some h → has_names t (f, h) ≡ true
+  pub has_of : (f : ℕ) (h : FileHead) → head_at t.files f ≡ Some h → has_names t (f, h) ≡ true
   has_of f h at = all_there (λ (y : File). has_names t y ≡ true) t.files (all_right (has_names t) t.files r.names) f h at
 
   -- nodes that were there name the files that they named, but aliases of one file

@@ -13,3 +13,4 @@ pub mod Numbers
 pub mod TreePlans
 pub mod ExtentPlans
 pub mod FilePlans
+pub mod NamePlans

@@ -8,6 +8,7 @@ ghost use Rattle.catalog.specs.Tables.{Catalogued};
 ghost use Rattle.catalog.specs.Faults.{IsAtFault, IsCatalogOf};
 ghost use Rattle.catalog.specs.ExtentPlans.{ClearsItems, MovesItems, StaysInPlace};
 ghost use Rattle.catalog.specs.Items.{ItemsAreOneList, ItemsOfRecords, ItemsSayTables, TablesHaveItems, UnitsOfItems};
+ghost use Rattle.catalog.specs.NamePlans.{FilesAsWorld, RefusesAsWorld};
 
 /// Where a record is at fault, no value is a catalog of the records.
 pub fn a_fault_leaves_no_catalog()
@@ -46,4 +47,14 @@ pub fn a_planned_move_is_a_move()
 pub fn a_planned_clearing_is_a_recopy()
     ensures clears { ClearsItems }
     ensures stays { StaysInPlace }
+{}
+
+/// The tree of names with a new file, to which its plan leads, is that of the world's group with the file.
+pub fn a_new_name_is_the_worlds()
+    ensures { FilesAsWorld }
+{}
+
+/// A new file is refused in the world by its template and its size, and then by the causes by which the plan of its name is.
+pub fn a_new_file_is_refused_as_its_name()
+    ensures { RefusesAsWorld }
 {}

@@ -67,7 +67,7 @@ impl Catalog {
 }
 
 /// The record of the settings.
-fn settings_record(alloc: Global, settings: &Settings) -> Result<(Key, Value), NoMemory>
+pub(crate) fn settings_record(alloc: Global, settings: &Settings) -> Result<(Key, Value), NoMemory>
     requires { is_item (settings_item settings.now) ≡ true }
     ensures { IfOk result (λ made. made ≡ item_record (settings_item settings.now)) }
 {

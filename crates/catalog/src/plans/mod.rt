@@ -7,6 +7,8 @@ mod files;
 mod making;
 mod marks;
 mod moves;
+mod names;
 mod operations;
+mod system_path;
 mod templates;
 mod tree;

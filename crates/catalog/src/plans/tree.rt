@@ -177,7 +177,7 @@ fn with_alias(head: &FileHead, alias: u32) -> Result<FileHead, NoMemory>
 
 /// The same refusal, as that of a command.
 #[tactic(auto, unfolding(asm_base::specs::Refusals::said))]
-fn refusal_of(error: TreeError) -> Refusal
+pub(crate) fn refusal_of(error: TreeError) -> Refusal
     ensures { said (λ n. []) result ≡ cause_said error }
 {
     match error {

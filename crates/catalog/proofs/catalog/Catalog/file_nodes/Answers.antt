@@ -1,0 +1,12 @@
+use Rattle.std.proofs.Common.{◌≡◌, subst}
+use Rattle.std.specs.Prelude.{IfOk, Ok}
+use Rattle.alias_tree.specs.Filing.{filed, with_nodes}
+use Rattle.alias_tree.specs.Trees.{tree_of}
+use Rattle.catalog.specs.Tables.{Catalogued}
+use Rattle.catalog.specs.declared.catalog.Catalog.TheInside.{Inside}
+use Rattle.catalog.proofs.catalog.Catalog.file_nodes.Goals as goal
+
+pub returns-clause-done : goal.returns-clause-done
+returns-clause-done c =
+    subst (λ (x : Catalogued). IfOk c.plan_file.result (λ made. filed (tree_of x.tables.nodes) c.args.path.now.parts c.args.file ≡ Ok (tree_of (with_nodes x.tables.nodes made.items)))) c.self.view_is
+    (subst (λ (x : Inside). IfOk c.plan_file.result (λ made. filed (tree_of x.parts.nodes) c.args.path.now.parts c.args.file ≡ Ok (tree_of (with_nodes x.parts.nodes made.items)))) c.self-inside.view_is c.plan_file.ensures.done)

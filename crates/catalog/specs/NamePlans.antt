@@ -1,0 +1,162 @@
+-- What the plan of a new file's name asks, and what it leads to.
+use Rattle.std.specs.Prelude.{◌≡◌, ◌⊎◌, ℕ, ◌+◌, ◌-◌, ◌^◌, ◌<◌, ◌≤◌, ◌==◌, ◌||◌, not, min, Bool, true, List, [], ◌∷◌, length, Option, Some, None, is_none, Result, Ok, Err, if◌then◌else◌}
+use Rattle.std.specs.List.{All, list_all}
+use Rattle.asm_group.specs.declared.PendingKind.TheVariants.{Create}
+use Rattle.asm_group.specs.declared.Stripe.{Stripe}
+use Rattle.asm_group.specs.Group.{File as WorldFile, Group}
+use Rattle.asm_group.specs.Names.{Bytes, Path, is_part}
+use Rattle.asm_group.specs.Refusal as r
+use Rattle.asm_group.specs.TreeEdits.{Tree}
+use Rattle.asm_formats.specs.Items.{FileHead, Key, Pending, Settings, is_item, is_redundancy, node_item}
+use Rattle.asm_placement.specs.Layout.{has_extent}
+use Rattle.asm_base.specs.Records.{Entry}
+use Rattle.asm_base.specs.Refusals.{said}
+use Rattle.asm_base.specs.declared.refusal.Refusal.{Refusal}
+use Rattle.asm_base.specs.declared.refusal.Refusal.TheVariants as cause
+use Rattle.asm_world.specs.Files as world
+use Rattle.asm_world.specs.Files.{NewName, new_file_causes, new_name, new_path, next_number, is_sectors, template_for}
+use Rattle.file_directory.specs.Files.{head_at, with_head}
+use Rattle.extent_map.specs.Extents.{Chunked, extent_at}
+use Rattle.alias_tree.specs.Edits.{are_parts}
+use Rattle.alias_tree.specs.Filing.{IsFiling, file_causes, filed, nodes_missing, with_nodes}
+use Rattle.alias_tree.specs.Filing as of_tree
+use Rattle.alias_tree.specs.Nodes.{IsTable, Numbered, node_at}
+use Rattle.alias_tree.specs.Trees.{tree_of}
+use Rattle.catalog.specs.Plans.{IsPlan}
+use Rattle.catalog.specs.Rules.{are_within, blocks_used, has_copies}
+use Rattle.catalog.specs.Rules as rules
+use Rattle.catalog.specs.Tables.{Catalogued, Tables}
+use Rattle.catalog.specs.declared.plans.system_path.NameParts.{NameParts}
+
+-- ---- the file that is made
+
+-- a chunk has no home of the file at a copy number that isn't below these copies
+abbrev pub is_within_file : ℕ → ℕ → Chunked → Bool
+is_within_file f copies x = not (x.0.0 == f) || list_all (are_within copies) x.1
+
+-- A file is being made that has no head yet, and its extents are those of a file of this size, with so many copies and this stripe.
+pub record IsCreated (c : Catalogued) (size copies : ℕ) (stripe : Stripe) : Type 0 where
+  pub file : ℕ
+  pub kept : ℕ
+  pub pending : c.tables.operations.pending ≡ Some (record { kind = Create; file = file; kept = kept })
+  pub new : head_at c.tables.files file ≡ None
+  -- one, two or three
+  pub redundancy : is_redundancy copies ≡ true
+  -- each extent that the size asks for is there with all its copies, and no extent of the file has more
+  pub extents : (i : ℕ) → has_extent stripe c.shape.au c.shape.step size i ≡ true → has_copies copies (extent_at c.tables.extents file i) ≡ true
+  pub within : rules.first_wrong (is_within_file file copies) c.tables.extents ≡ None
+
+-- the file of an operation; 0 where there is none
+abbrev pub file_of : Option Pending → ℕ
+file_of None = 0
+file_of (Some op) = op.file
+
+-- the file that the pending operation is on
+abbrev pub made_file : Tables → ℕ
+made_file t = file_of t.operations.pending
+
+-- ---- its name
+
+-- The name of a new file, where one may have the path: its parts have at most 80 bytes, and it is as new_name asks.
+abbrev pub name_at : Path → Option NewName
+name_at path = if are_parts path then new_name path else None
+
+-- a name with parts of the grammar, of so many bytes at most
+pub record HasParts (name : NewName) : Type 0 where
+  pub db : is_part 80 name.db ≡ true
+  pub type_name : is_part 30 name.type_name ≡ true
+  pub tag : is_part 48 name.tag ≡ true
+
+-- the name that the code's parts are
+abbrev pub name_meant : NameParts → NewName
+name_meant parts = record { db = parts.db.now; type_name = parts.kind.now; tag = parts.tag.now }
+
+-- the path of the system name, which has the file's number and the next incarnation behind the tag
+abbrev pub system_path : Tables → NewName → Path
+system_path t name = new_path name (made_file t) t.templates.settings.incarnation
+
+-- The tree of names with the file's, and with each directory above it that is missing; or why it can't be there.
+abbrev pub filed_as : Tables → Option NewName → Result Tree r.Refusal
+filed_as t None = Err r.NoTemplate
+filed_as t (Some name) = filed (tree_of t.nodes) (system_path t name) (made_file t)
+
+-- The nodes of a new file's name: with them the tree is that with the name, and none of them was there.
+pub record AreNewNodes (nodes made : List Numbered) (path : Path) (file : ℕ) : Type 0 where
+  pub filed : filed (tree_of nodes) path file ≡ Ok (tree_of (with_nodes nodes made))
+  pub filing : IsFiling nodes made path file
+  pub table : IsTable (with_nodes nodes made)
+  pub fresh : All (λ (x : Numbered). node_at nodes x.0 ≡ None) made
+  pub items : All (λ (x : Numbered). is_item (node_item x.0 x.1) ≡ true) made
+  pub count : length made ≡ nodes_missing (tree_of nodes) path
+  pub few : length made ≤ 3
+
+-- ---- the tables with it
+
+-- the incarnation after one, which stays once it is the greatest
+abbrev pub next_incarnation : ℕ → ℕ
+next_incarnation n = min (n + 1) (2 ^ 64 - 1)
+
+abbrev pub settings_next : Settings → Settings
+settings_next s = record s { incarnation = next_incarnation s.incarnation }
+
+-- the head of the file, whose system name is this node
+abbrev pub new_head : Tables → NewName → ℕ → ℕ → Stripe → ℕ → FileHead
+new_head t name size copies stripe system = record {
+  copies = copies;
+  stripe = stripe;
+  type_name = name.type_name;
+  size = size;
+  incarnation = t.templates.settings.incarnation;
+  system = system;
+  alias = 0;
+}
+
+-- the tables with the head of a file and these nodes, and the next incarnation; no operation is pending
+abbrev pub named : Tables → ℕ → FileHead → List Numbered → Tables
+named t f head made = record t {
+  files = with_head t.files f head;
+  nodes = with_nodes t.nodes made;
+  templates = record t.templates { settings = settings_next t.templates.settings };
+  operations = record t.operations { pending = None };
+}
+
+-- ---- the answers
+
+-- The change leads to the catalog's tables with the file and its name.
+pub record IsNamePlan (c : Catalogued) (path : Path) (size copies : ℕ) (stripe : Stripe) (put : List Entry) (gone : List Key) : Type 0 where
+  pub name : NewName
+  pub name_is : name_at path ≡ Some name
+  pub made : List Numbered
+  pub filed : filed (tree_of c.tables.nodes) (system_path c.tables name) (made_file c.tables) ≡ Ok (tree_of (with_nodes c.tables.nodes made))
+  pub filing : IsFiling c.tables.nodes made (system_path c.tables name) (made_file c.tables)
+  pub plan : IsPlan c put gone (named c.tables (made_file c.tables) (new_head c.tables name size copies stripe filing.number) made)
+  -- a head, at most three nodes and the settings; and the pending operation
+  pub puts : length put ≤ 5
+  pub goes : length gone ≡ 1
+
+-- The name could be there, and the head and the nodes that are missing want more blocks than are free.
+pub record LacksRoom (c : Catalogued) (path : Path) (need free : ℕ) : Type 0 where
+  pub name : NewName
+  pub name_is : name_at path ≡ Some name
+  pub filed : (u : Tree) × (filed (tree_of c.tables.nodes) (system_path c.tables name) (made_file c.tables) ≡ Ok u)
+  pub need_is : need ≡ nodes_missing (tree_of c.tables.nodes) (system_path c.tables name) + 1
+  pub free_is : free + blocks_used c.tables + 2 ≡ c.shape.dir_blocks
+  pub few : free < need
+
+-- want of memory, why the name can't be there, or want of blocks
+abbrev pub IsNameRefusal : Catalogued → Path → Refusal → Type 0
+IsNameRefusal c path refusal =
+    (said (λ n. []) refusal ≡ r.NoMemory)
+    ⊎ ((filed_as c.tables (name_at path) ≡ Err (said (λ n. []) refusal))
+    ⊎ ((need : ℕ) × (free : ℕ) × (refusal ≡ cause.DirectoryFull need free) × LacksRoom c path need free))
+
+-- ---- a new file as asm_world speaks of it
+
+-- The tree of a group with a new file is its tree with the name.
+abbrev pub FilesAsWorld : Type 0
+FilesAsWorld = (g : Group) (name : NewName) (n : ℕ) (f : WorldFile) → (world.with_file g name n f).tree ≡ of_tree.with_file g.tree (new_path name n f.incarnation) n
+
+-- A new file is refused by its template and its size, and then as its name is.
+abbrev pub RefusesAsWorld : Type 0
+RefusesAsWorld = (g : Group) (name : NewName) (size : ℕ) (template : Option Bytes)
+    → new_file_causes g (Some name) size template ≡ (is_none (template_for g name template), r.NoTemplate) ∷ (not (is_sectors g size), r.NotSectors) ∷ file_causes g.tree (new_path name (next_number g) g.next)
