@@ -8,6 +8,7 @@ pub mod ItemLaws
 pub mod ItemLists
 pub mod NoCatalog
 pub mod PlacingLaws
+pub mod ReadableLaws
 pub mod ReadingLaws
 pub mod StoreLaws
 pub mod TableItems

@@ -4,6 +4,7 @@ pub mod Rules
 pub mod Placing
 pub mod Giving
 pub mod Faults
+pub mod Readable
 pub mod Changing
 pub mod Applying
 pub mod Spares

@@ -1,15 +1,19 @@
 //! The tables of a group, read from its records.
 
-ghost use Rattle.std.specs.Prelude.{◌≡◌, ◌<◌, ◌+◌, ◌^◌, List as Items, map, IfErr, IfOk, IfSome, None, Some};
+ghost use Rattle.std.specs.Prelude.{◌≡◌, ◌<◌, ◌+◌, ◌^◌, List as Items, map, IfErr, IfNone, IfOk, IfSome, None, Some};
 ghost use Rattle.std.specs.Option.{is_some};
+ghost use Rattle.std.specs.List.Sorted.{IsStrictlySortedBy};
 ghost use Rattle.asm_group.specs.Shape.{Shape};
 ghost use Rattle.asm_formats.specs.Status.{Entry};
-ghost use Rattle.asm_base.specs.Records.{of_kinds, record_at};
+ghost use Rattle.asm_base.specs.Records.{key_cmp, keys_of, of_kinds, record_at};
 ghost use Rattle.alias_tree.specs.Nodes as nodes;
+ghost use Rattle.alias_tree.specs.Faults.{IsWithoutFault};
 ghost use Rattle.extent_map.specs.Extents as extent_table;
+ghost use Rattle.extent_map.specs.Faults.{IsWithoutGap};
 ghost use Rattle.template_directory.specs.Tables as template_table;
 ghost use Rattle.catalog.specs.Tables.{AreTables, HasRecords, first_unreadable, is_record};
 ghost use Rattle.catalog.specs.Faults.{IsAtFault, IsGap, IsLoose, Names, key_of_chunk, node_key, settings_key, templates_key};
+ghost use Rattle.catalog.specs.Readable.{AreReadable, HasNeeded};
 
 use crate::disks::DiskTable;
 use crate::error::CatalogError;
@@ -40,7 +44,7 @@ pub(crate) const SETTINGS: Key = Key {
 
 impl Parts {
     /// The tables whose records these are. It takes time in proportion to the records, times the logarithm of their number.
-    #[tactic(auto, using(crate::proofs::ReadingLaws::unreadable_at, crate::proofs::ReadingLaws::absent_at, crate::proofs::ReadingLaws::gap_at, crate::proofs::ReadingLaws::loose_at))]
+    #[tactic(auto, using(crate::proofs::ReadingLaws::unreadable_at, crate::proofs::ReadingLaws::absent_at, crate::proofs::ReadingLaws::gap_at, crate::proofs::ReadingLaws::loose_at, crate::proofs::ReadableLaws::readable_is))]
     pub(crate) fn from_records(alloc: Global, content: &Records) -> Result<Parts, CatalogError>
         ensures records { IfOk result (HasRecords content.now) }
         ensures tables { IfOk result AreTables }
@@ -60,13 +64,15 @@ impl Parts {
 
 /// The tables of which no record can be at fault once each record is of the formats and those of templates and settings
 /// are there.
+#[tactic(auto, using(crate::proofs::ReadableLaws::files_read, crate::proofs::ReadableLaws::templates_read, crate::proofs::ReadableLaws::operations_read, crate::proofs::ReadableLaws::disks_read))]
 fn read_others(
     alloc: Global,
     content: &Records,
     extents: ExtentMap,
     tree: AliasTree,
 ) -> Result<Parts, CatalogError>
-    requires all { first_unreadable content.now ≡ None }
+    requires readable { AreReadable content.now }
+    requires needed { HasNeeded content.now }
     requires extents { extent_table.IsTable extents }
     requires chunks { of_kinds extent_table.is_chunk content.now ≡ map extent_table.record_of extents }
     requires nodes { of_kinds nodes.is_mine content.now ≡ map nodes.record_of tree }
@@ -75,19 +81,19 @@ fn read_others(
     ensures err { IfErr result (λ e. e ≡ WithoutMemory) }
 {
     let Some(files) = FileTable::from_records(alloc, content)? else {
-        return Err(CatalogError::NoMemory);
+        unreachable!()
     };
     let Some(templates) = TemplateTable::from_records(alloc, content)? else {
-        return Err(CatalogError::NoMemory);
+        unreachable!()
     };
     let Some(stale) = StaleTable::from_records(alloc, content)? else {
-        return Err(CatalogError::NoMemory);
+        unreachable!()
     };
     let Some(operations) = OperationTable::from_records(content)? else {
-        return Err(CatalogError::NoMemory);
+        unreachable!()
     };
     let Some(disks) = DiskTable::from_records(alloc, content)? else {
-        return Err(CatalogError::NoMemory);
+        unreachable!()
     };
     tree.keeps_rule();
     Ok(Parts {
@@ -105,7 +111,8 @@ ghost use Rattle.catalog.specs.declared.error.CatalogError.TheVariants.{NoMemory
 
 /// The key of the first record that isn't of the formats.
 fn unreadable(content: &Records) -> Option<Key>
-    ensures { result ≡ first_unreadable content.now }
+    ensures first { result ≡ first_unreadable content.now }
+    ensures ordered { IsStrictlySortedBy key_cmp (keys_of content.now) }
 {
     for (key, value) in content.iter() {
         if !is_record(*key, value) {
@@ -122,8 +129,10 @@ fn is_record(key: Key, value: &Value) -> bool
 }
 
 /// The key of the templates or of the settings, where their record isn't there.
+#[tactic(auto, using(crate::proofs::ReadableLaws::needed_is))]
 fn absent(content: &Records) -> Option<Key>
-    ensures { IfSome result (λ k. (record_at content.now k ≡ None) × IsNeeded k) }
+    ensures absent { IfSome result (λ k. (record_at content.now k ≡ None) × IsNeeded k) }
+    ensures none { IfNone result (HasNeeded content.now) }
 {
     if content.get(TEMPLATES).is_none() {
         return Some(TEMPLATES);
@@ -136,7 +145,9 @@ fn absent(content: &Records) -> Option<Key>
 
 ghost use Rattle.catalog.specs.Faults.{IsNeeded};
 
+#[tactic(auto, using(crate::proofs::ReadableLaws::extents_read))]
 fn read_extents(alloc: Global, content: &Records) -> Result<ExtentMap, CatalogError>
+    requires { AreReadable content.now }
     ensures table { IfOk result extent_table.IsTable }
     ensures records { IfOk result (λ t. of_kinds extent_table.is_chunk content.now ≡ map extent_table.record_of t) }
     ensures fault { IfErr result (Names (IsGap content.now)) }
@@ -146,13 +157,14 @@ fn read_extents(alloc: Global, content: &Records) -> Result<ExtentMap, CatalogEr
     }
     match gap(alloc, content)? {
         Some(key) => Err(CatalogError::Damaged { key }),
-        None => Err(CatalogError::NoMemory),
+        None => unreachable!(),
     }
 }
 
 #[tactic(auto, using(crate::proofs::ReadingLaws::gap_numbered))]
 fn gap(alloc: Global, content: &Records) -> Result<Option<Key>, NoMemory>
-    ensures { IfOk result (λ key. IfSome key (IsGap content.now)) }
+    ensures gap { IfOk result (λ key. IfSome key (IsGap content.now)) }
+    ensures none { IfOk result (λ key. IfNone key (IsWithoutGap content.now)) }
 {
     match ExtentMap::gap_in(alloc, content)? {
         None => Ok(None),
@@ -172,7 +184,9 @@ pub(crate) fn chunk_key(at: (u32, u32)) -> Key
     }
 }
 
+#[tactic(auto, using(crate::proofs::ReadableLaws::tree_read))]
 fn read_tree(alloc: Global, content: &Records) -> Result<AliasTree, CatalogError>
+    requires { AreReadable content.now }
     ensures records { IfOk result (λ t. of_kinds nodes.is_mine content.now ≡ map nodes.record_of t) }
     ensures fault { IfErr result (Names (IsLoose content.now)) }
 {
@@ -183,7 +197,7 @@ fn read_tree(alloc: Global, content: &Records) -> Result<AliasTree, CatalogError
         Some(number) => Err(CatalogError::Damaged {
             key: node_key(number),
         }),
-        None => Err(CatalogError::NoMemory),
+        None => unreachable!(),
     }
 }
 
