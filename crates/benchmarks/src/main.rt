@@ -4,6 +4,7 @@
 
 mod disk;
 mod files;
+mod moves;
 mod names;
 mod paths;
 mod records;
@@ -44,7 +45,12 @@ fn show(alloc: Global, rt: &HostRuntime) -> io::Result<()> {
     )?;
     let take = disk::last_unit(alloc, rt)?;
     let of_allowed = percent(take, Duration::from_millis(1));
-    println!(rt; "taking the last unit of 16,777,216: {of_allowed} % of a millisecond")
+    println!(rt; "taking the last unit of 16,777,216: {of_allowed} % of a millisecond")?;
+    let (all, rest) = moves::searches(alloc, rt)?;
+    let times = ratio(all, rest, 1);
+    println!(rt;
+        "the next move beside 100,000 extents, once a move was made: a search of all takes {times} times the time from the cursor"
+    )
 }
 
 /// The first time in percent of the second.

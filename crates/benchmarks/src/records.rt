@@ -20,14 +20,24 @@ pub fn put(
     number: u32,
     bytes: &[u8],
 ) -> io::Result<()> {
+    put_at(alloc, records, (kind, number, 0), bytes)
+}
+
+/// Puts the record of a key, of its kind and two numbers.
+pub fn put_at(
+    alloc: Global,
+    records: &mut Records,
+    at: (u16, u32, u32),
+    bytes: &[u8],
+) -> io::Result<()> {
     if bytes.len() > 4_064 {
         return Err(unexpected());
     }
     let value = Value::from_slice(alloc, bytes).map_err(out_of_memory)?;
     let key = Key {
-        kind,
-        a: number,
-        b: 0,
+        kind: at.0,
+        a: at.1,
+        b: at.2,
     };
     records.insert(key, value).map_err(out_of_memory)
 }
