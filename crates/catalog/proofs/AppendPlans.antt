@@ -1,15 +1,15 @@
 -- Plans by which a chunk gets extents.
-use Rattle.std.proofs.Common.{◌≡◌, ◌≤◌, ◌<◌, ◌+◌, ◌-◌, ◌*◌, ◌^◌, ℕ, zero, suc, Bool, true, false, cond, eqb, ltb, List, [], ◌∷◌, ◌++◌, length, take, drop, get_or, replicate, append_assoc, Option, Some, None, refl, sym, ap, subst, ◌∙◌, arith, inl, inr, ◌⊎◌}
+use Rattle.std.proofs.Common.{◌≡◌, ◌≤◌, ◌<◌, ◌+◌, ◌*◌, ◌^◌, ℕ, zero, suc, Bool, true, false, cond, eqb, ltb, List, [], ◌∷◌, ◌++◌, length, take, drop, get_or, replicate, append_assoc, Option, Some, None, refl, sym, ap, subst, ◌∙◌, arith, inl, inr, ◌⊎◌}
 use Rattle.std.specs.Prelude.{◌&&◌, ◌||◌, not}
 use Rattle.std.specs.List.{AllByRecursion, list_all, zip}
 use Rattle.std.specs.Option.{is_some, unwrap_or}
 use Rattle.std.specs.BTreeMap.{is_at}
 use Rattle.std.proofs.lemmas.Bool.{and_parts, cases_lt, eq-eqb, lt-ltb, true≢false}
-use Rattle.std.proofs.lemmas.List.{get_or_append_left, get_or-append_right, get_or-drop, get_or-take, length-append, length-drop, length-replicate, length-set, length-take, append-nil}
-use Rattle.std.proofs.lemmas.List.Sums.{prefix_len-le-length, prefix_len_stops}
+use Rattle.std.proofs.lemmas.List.{get_or_append_left, get_or-drop, get_or-take, length-drop, length-replicate, length-set, append-nil}
+use Rattle.std.proofs.lemmas.List.Sums.{prefix_len_stops}
 use Rattle.std.proofs.lemmas.Option.{none-some, slice_get_within}
 use Rattle.std.proofs.Math.ListN.{take-append-drop}
-use Rattle.asm_formats.specs.Items.{FileHead, Home, Homes, Key, is_home, is_homes, is_item, marks_item}
+use Rattle.asm_formats.specs.Items.{FileHead, Homes, Key, is_home, is_homes, is_item, marks_item}
 use Rattle.asm_formats.specs.Sets.{has_bit}
 use Rattle.asm_formats.specs.Status.{Entry as StatusEntry}
 use Rattle.asm_placement.specs.Layout.{units_of}
@@ -23,8 +23,8 @@ use Rattle.extent_map.proofs.ChunkEnds.{base_fits, base_stands, fills_chunks, fr
 use Rattle.extent_map.proofs.FileEnds.{blank_by, has_at}
 use Rattle.extent_map.proofs.Laws.{chunk_total, same_chunk}
 use Rattle.extent_map.proofs.Lookups.{new_longer, put_here, put_other, put_same, there_as_long}
-use Rattle.extent_map.proofs.Numbering.{Stands, found_self, full_at}
-use Rattle.extent_map.proofs.Values.{IsHome, IsHomes}
+use Rattle.extent_map.proofs.Numbering.{Stands, found_self}
+use Rattle.extent_map.proofs.Values.{IsHomes}
 use Rattle.staleness_directory.specs.Marks as stale
 use Rattle.staleness_directory.specs.Marks.{Marked, marks_at, with_marks}
 use Rattle.staleness_directory.proofs.Laws as stale_laws

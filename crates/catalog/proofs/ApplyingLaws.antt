@@ -1,20 +1,18 @@
 -- A change of a catalog.
 use Rattle.std.proofs.Common.{◌≡◌, List, Option, Some, None, refl, sym, ap, subst, ◌∙◌}
-use Rattle.std.specs.Prelude.{ℕ, Err, IfNone, IfOk, IsTrue, Ok, Result, Vec}
+use Rattle.std.specs.Prelude.{ℕ, Err, IfNone, IfOk, Ok, Result, Vec}
 use Rattle.std.specs.declared.alloc.Global.{Global}
 use Rattle.asm_base.proofs.Exact.{some_is}
 use Rattle.asm_base.specs.Records.{Entry}
 use Rattle.asm_base.specs.declared.records.Change.{Change}
 use Rattle.asm_formats.specs.Items.{Key}
 use Rattle.asm_formats.specs.Status as status
-use Rattle.asm_group.specs.Shape.{Shape, is_shape}
+use Rattle.asm_group.specs.Shape.{Shape}
 use Rattle.allocator.specs.UnitMaps.{UnitMap}
 use Rattle.catalog.specs.Applying.{AreDisksReady, IsReady, Leaves}
 use Rattle.catalog.specs.Changing.{IsAfter}
-use Rattle.catalog.specs.Faults.{IsCatalog}
 use Rattle.extent_map.specs.Extents.{Chunk, Chunked}
 use Rattle.catalog.specs.Placing.{HasUnits, after_chunks, misplaced, unused_maps}
-use Rattle.catalog.specs.Rules.{KeepsRules}
 use Rattle.catalog.specs.Spares.{IsKept, IsSpareOf, ready_tables, units_in}
 use Rattle.catalog.specs.Tables.{AreTables, Catalogued, Tables}
 use Rattle.catalog.specs.declared.spare.Spare.{Spare}

@@ -1,5 +1,5 @@
 -- Plans of the settings.
-use Rattle.std.proofs.Common.{◌≡◌, true, List, [], ◌∷◌, Option, Some, None, refl, sym, arith}
+use Rattle.std.proofs.Common.{◌≡◌, true, List, [], ◌∷◌, Some, refl, sym, arith}
 use Rattle.asm_group.specs.Names.{Bytes}
 use Rattle.asm_formats.specs.Items.{Key, Settings, is_item, settings_item}
 use Rattle.asm_formats.specs.Values.{value}

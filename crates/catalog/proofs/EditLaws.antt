@@ -1,5 +1,5 @@
 -- Tables in which a chunk has other extents and other stale marks, or goes with its marks.
-use Rattle.std.proofs.Common.{◌≡◌, ◌≤◌, ◌<◌, ◌+◌, ◌/◌, ◌%◌, ℕ, Bool, true, false, cond, get_or, List, [], ◌∷◌, length, Option, Some, None, refl, sym, ap, subst, ◌∙◌, arith, inl, inr, ◌⊎◌}
+use Rattle.std.proofs.Common.{◌≡◌, ◌≤◌, ◌<◌, ◌+◌, ◌/◌, ◌%◌, ℕ, Bool, true, false, cond, get_or, List, [], ◌∷◌, length, Option, Some, None, refl, sym, ap, ◌∙◌, arith, inl, inr}
 use Rattle.std.specs.Prelude.{◌||◌}
 use Rattle.std.specs.List.{AllByRecursion, list_all, zip}
 use Rattle.std.specs.Option.{is_some, option_and_then, option_map}
@@ -13,7 +13,7 @@ use Rattle.asm_formats.specs.Status as status
 use Rattle.asm_formats.specs.Values.{value}
 use Rattle.asm_base.specs.Records.{Entry, is_key}
 use Rattle.allocator.specs.UnitMaps.{UnitMap}
-use Rattle.file_directory.specs.Files.{File, head_at, is_file}
+use Rattle.file_directory.specs.Files.{head_at, is_file}
 use Rattle.extent_map.specs.Changing as extents
 use Rattle.extent_map.specs.Extents.{Chunk, Chunked, chunk_at, chunk_cmp, chunk_key, has_home}
 use Rattle.extent_map.specs.Extents as extent_map

@@ -1,8 +1,5 @@
 -- Homes of an extent and of a chunk that are given back.
-use Rattle.std.proofs.Common.{◌≡◌, ℕ, suc, ◌+◌, ◌*◌, ◌<◌, ◌≤◌, List, [], ◌∷◌, ◌++◌, drop, length, get_or, add-one, Option, Some, None, refl, sym, ap, subst, ◌∙◌, arith}
-use Rattle.std.proofs.lemmas.List.{drop_more}
-use Rattle.std.proofs.Math.ListN.{drop_of_length-le}
-use Rattle.std.specs.Option.{option_and_then}
+use Rattle.std.proofs.Common.{◌≡◌, ℕ, suc, ◌+◌, ◌<◌, ◌≤◌, List, [], ◌∷◌, ◌++◌, drop, length, get_or, add-one, Option, Some, sym, ap, subst, ◌∙◌}
 use Rattle.asm_base.proofs.Exact.{bind_some, some_is}
 use Rattle.asm_formats.specs.Items.{Home, Homes}
 use Rattle.asm_placement.specs.Layout.{units_of}

@@ -1,19 +1,16 @@
 -- Plans of stale marks.
-use Rattle.std.proofs.Common.{◌≡◌, ◌≤◌, ◌<◌, ◌+◌, ◌-◌, ◌/◌, ◌%◌, ◌^◌, ℕ, zero, suc, Bool, true, false, eqb, ltb, List, [], ◌∷◌, length, get_or, replicate, Option, Some, None, refl, sym, ap, subst, ◌∙◌, arith, inl, inr, ◌⊎◌}
-use Rattle.std.specs.Prelude.{◌&&◌, ◌||◌, not, bit_and, bit_or, slice_set}
+use Rattle.std.proofs.Common.{◌≡◌, ◌<◌, ◌+◌, ◌-◌, ◌/◌, ◌%◌, ◌^◌, ℕ, zero, suc, Bool, true, false, eqb, ltb, List, [], ◌∷◌, length, get_or, replicate, Option, Some, None, refl, sym, ap, subst, ◌∙◌, arith}
+use Rattle.std.specs.Prelude.{◌&&◌, ◌||◌, not, bit_and, slice_set}
 use Rattle.std.specs.Int.{bit_at}
 use Rattle.std.specs.List.{list_all, zip}
 use Rattle.std.specs.Option.{is_some, unwrap_or}
-use Rattle.std.specs.BTreeMap.{is_at}
 use Rattle.std.proofs.lemmas.Bool.{and_parts, eq-eqb, eqb-false, eqb-true, lt-ltb, ltb-true, ne_eqb}
 use Rattle.std.proofs.lemmas.List.{length-set}
 use Rattle.std.proofs.lemmas.Nat.{and_le_l, or_lt}
 use Rattle.std.proofs.lemmas.Nat.Bits.{bit_at-lt, bit_at_and, bit_at_or}
-use Rattle.std.proofs.lemmas.Option.{none-some}
 use Rattle.asm_formats.specs.Items.{Homes, Key, is_item, marks_item}
 use Rattle.asm_formats.specs.Sets.{has_bit}
 use Rattle.asm_base.specs.Records.{Entry}
-use Rattle.asm_base.specs.Tables.{item_record}
 use Rattle.asm_base.proofs.Exact.{some_is}
 use Rattle.extent_map.specs.Extents.{Chunk, chunk_at, chunk_cmp}
 use Rattle.extent_map.proofs.Laws.{chunk_total, same_chunk}
@@ -21,11 +18,11 @@ use Rattle.extent_map.proofs.Lookups.{put_here, put_other, there_as_long}
 use Rattle.extent_map.proofs.Numbering.{found_self, size_of}
 use Rattle.staleness_directory.specs.Marks.{Marked, item_of, marks_at, record_of, with_marks}
 use Rattle.staleness_directory.proofs.Laws as stale_laws
-use Rattle.catalog.specs.ExtentPlans.{MayMark, homes_at, marks_changed, marks_or_none, with_marks_at, with_marks_changed}
+use Rattle.catalog.specs.ExtentPlans.{MayMark, homes_at, marks_changed, marks_or_none, with_marks_changed}
 use Rattle.catalog.specs.Changing.{IsAfter}
 use Rattle.catalog.specs.Faults.{IsCatalog}
 use Rattle.catalog.specs.Plans.{IsPlan}
-use Rattle.catalog.specs.Rules.{KeepsRules, are_marks_of, is_mark_of, marks_of}
+use Rattle.catalog.specs.Rules.{are_marks_of, is_mark_of, marks_of}
 use Rattle.catalog.specs.Tables.{AreTables, Catalogued, Tables}
 use Rattle.catalog.proofs.EditLaws.{IsEdited, IsRightChunk, changed, chunk_right, edited_plan, marks_set}
 use Rattle.catalog.proofs.EntryLaws.{both, holds_at, three_true}

@@ -1,18 +1,17 @@
 -- A move that is planned is the move that asm_placement speaks of.
-use Rattle.std.proofs.Common.{◌≡◌, ◌<◌, ◌+◌, ◌-◌, ◌/◌, ◌%◌, ◌^◌, ℕ, Bool, true, false, cond, eqb, List, [], ◌∷◌, map, get_or, Option, Some, None, refl, sym, ap, subst, ◌∙◌, inl, inr, ◌⊎◌}
+use Rattle.std.proofs.Common.{◌≡◌, ◌<◌, ◌-◌, ◌/◌, ◌%◌, ◌^◌, ℕ, Bool, true, false, cond, eqb, List, [], ◌∷◌, map, get_or, Option, Some, None, refl, sym, ap, subst, ◌∙◌, inl, inr}
 use Rattle.std.specs.Prelude.{◌&&◌, slice_set}
 use Rattle.std.specs.Option.{option_map}
 use Rattle.std.specs.BTreeMap.{is_at}
 use Rattle.std.proofs.lemmas.Bool.{and_parts, cond_both, eq-eqb, eqb-true, true≢false}
 use Rattle.asm_formats.specs.Among.{IsAmong}
 use Rattle.asm_formats.specs.Items.{Home, Homes, Item, Key, chunk_item, disk_item, file_item, key, key_rank, marks_item, node_item, pending_item, rebalance_item, settings_item, templates_item}
-use Rattle.asm_formats.specs.PageLaws.{are_in_order}
 use Rattle.asm_formats.specs.Status.{ascends_from}
 use Rattle.asm_placement.specs.Moves.{moved_item, unmarked_item, with_current, with_home, without_bit}
 use Rattle.asm_base.proofs.Exact.{some_is}
 use Rattle.extent_map.specs.Extents.{Chunk, chunk_at, chunk_cmp}
 use Rattle.extent_map.proofs.Laws.{chunk_total, same_chunk}
-use Rattle.extent_map.proofs.Lookups.{both_ways, key_is}
+use Rattle.extent_map.proofs.Lookups.{key_is}
 use Rattle.extent_map.proofs.Numbering.{found_self}
 use Rattle.file_directory.specs.Files.{head_at}
 use Rattle.alias_tree.specs.Nodes.{node_at}

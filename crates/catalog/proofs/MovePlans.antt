@@ -1,46 +1,43 @@
 -- Plans of a copy's new home.
-use Rattle.std.proofs.Common.{◌≡◌, ◌≤◌, ◌<◌, ◌+◌, ◌*◌, ◌/◌, ◌%◌, ◌^◌, ℕ, zero, suc, Bool, true, false, cond, eqb, ltb, List, [], ◌∷◌, length, get_or, replicate, Option, Some, None, refl, sym, ap, subst, ◌∙◌, arith, inl, inr, ◌⊎◌}
+use Rattle.std.proofs.Common.{◌≡◌, ◌<◌, ◌+◌, ◌*◌, ◌/◌, ◌%◌, ◌^◌, ℕ, zero, suc, Bool, true, false, cond, eqb, ltb, List, [], ◌∷◌, length, get_or, replicate, Option, Some, None, refl, sym, ap, subst, ◌∙◌, arith, inl, inr}
 use Rattle.std.specs.Prelude.{◌&&◌, ◌||◌, not, bit_xor, slice_set}
 use Rattle.std.specs.Int.{bit_at}
-use Rattle.std.specs.List.{list_all, slice_get, zip}
+use Rattle.std.specs.List.{list_all, zip}
 use Rattle.std.specs.Option.{is_some, unwrap_or}
 use Rattle.std.specs.BTreeMap.{insert_entry, is_at}
 use Rattle.std.specs.Map.{set_value}
-use Rattle.std.proofs.lemmas.Bool.{and_parts, cases_eq, eq-eqb, eqb-true, lt-ltb, ltb-true, ne_eqb, true≢false}
+use Rattle.std.proofs.lemmas.Bool.{and_parts, cases_eq, eq-eqb, eqb-true, lt-ltb, true≢false}
 use Rattle.std.proofs.lemmas.List.{get_or-set_other, get_or-set_same, length-set, set-get_or}
 use Rattle.std.proofs.lemmas.List.FromFn.{length-map-range_with_len}
 use Rattle.std.proofs.lemmas.Map.{length-set_value}
 use Rattle.std.proofs.lemmas.Nat.{xor_lt}
 use Rattle.std.proofs.lemmas.Nat.Bits.{bit_at-lt, bit_at-pow_other, bit_at_xor}
-use Rattle.std.proofs.lemmas.Option.{none-some, slice_get_within}
-use Rattle.asm_group.specs.Shape.{Shape}
+use Rattle.std.proofs.lemmas.Option.{slice_get_within}
 use Rattle.asm_formats.specs.Items.{FileHead, Home, Homes, Key, chunk_item, is_home, is_homes, is_item}
 use Rattle.asm_formats.specs.Regions.{reserved_units}
 use Rattle.asm_formats.specs.Sets.{has_bit}
 use Rattle.asm_formats.specs.Status.{Entry as StatusEntry}
 use Rattle.asm_placement.specs.Layout.{units_of}
 use Rattle.asm_placement.specs.Moves.{without_bit}
-use Rattle.asm_placement.specs.Placed.{placed_extents}
 use Rattle.asm_base.specs.Records.{Entry}
 use Rattle.asm_base.proofs.Exact.{some_is}
 use Rattle.allocator.specs.UnitMaps.{UnitMap, unused}
 use Rattle.file_directory.specs.Files.{head_at}
-use Rattle.extent_map.specs.Extents.{Chunk, Chunked, HasExtent, IsTable, absent, chunk_at, chunk_cmp, chunk_or_blank, has_extent, has_home, item_of, record_of, with_extent}
+use Rattle.extent_map.specs.Extents.{Chunk, Chunked, IsTable, absent, chunk_at, chunk_cmp, chunk_or_blank, has_home, record_of, with_extent}
 use Rattle.extent_map.proofs.ChunkEnds.{replaces_extents}
 use Rattle.extent_map.proofs.FileEnds.{item_at}
 use Rattle.extent_map.proofs.Laws.{chunk_total, same_chunk}
 use Rattle.extent_map.proofs.Lookups.{put_here, put_other, put_same, set_here, set_other, there_as_long}
 use Rattle.extent_map.proofs.Numbering.{found_self, the_chunk}
-use Rattle.extent_map.proofs.Values.{IsHomes, chunk_fits}
 use Rattle.staleness_directory.specs.Marks as stale
 use Rattle.staleness_directory.specs.Marks.{Marked, marks_at, with_marks}
 use Rattle.staleness_directory.proofs.Laws as stale_laws
 use Rattle.catalog.specs.Changing.{IsAfter}
-use Rattle.catalog.specs.ExtentPlans.{MayMove, home_at, homes_at, homes_moved, is_copy_of, marks_or_none, with_move}
+use Rattle.catalog.specs.ExtentPlans.{MayMove, homes_at, homes_moved, is_copy_of, marks_or_none, with_move}
 use Rattle.catalog.specs.Faults.{IsCatalog}
-use Rattle.catalog.specs.Placing.{HasUnits, after_chunks, after_homes, disk_units, home_taken, homes_of, unused_maps}
+use Rattle.catalog.specs.Placing.{HasUnits, after_homes, disk_units, home_taken, homes_of, unused_maps}
 use Rattle.catalog.specs.Plans.{IsPlan}
-use Rattle.catalog.specs.Rules.{are_marks_of, are_on_disks, are_within, are_within_head, has_copies, is_copied, is_mark_of, is_within, marks_of}
+use Rattle.catalog.specs.Rules.{are_marks_of, are_on_disks, are_within, are_within_head, has_copies, is_mark_of, marks_of}
 use Rattle.catalog.specs.Tables.{AreTables, Catalogued, Tables}
 use Rattle.catalog.proofs.EditLaws.{IsEdited, IsRightChunk, after_two, changed, chunk_right, due_by, edited_plan, extent_in, homes_set, marks_set}
 use Rattle.catalog.proofs.EntryLaws.{both, three_true}

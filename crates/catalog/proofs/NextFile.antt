@@ -1,9 +1,8 @@
 -- The next file number.
-use Rattle.std.proofs.Common.{◌≡◌, ◌<◌, ◌≤◌, ◌+◌, ◌^◌, ℕ, zero, suc, Bool, true, false, eqb, Option, Some, None, refl, sym, ap, subst, ◌∙◌, arith, inl, inr, ◌⊎◌}
-use Rattle.std.specs.Prelude.{◌||◌, IsTrue}
+use Rattle.std.proofs.Common.{◌≡◌, ◌<◌, ◌≤◌, ◌+◌, ◌^◌, ℕ, zero, suc, Bool, true, false, Option, Some, None, refl, sym, ap, subst, ◌∙◌, arith, inl, inr, ◌⊎◌}
 use Rattle.std.proofs.lemmas.Bool.{eqb-true, ne_eqb, true≢false}
 use Rattle.asm_formats.specs.Items.{Pending}
-use Rattle.file_directory.specs.Files.{File, IsFreeFrom, is_file}
+use Rattle.file_directory.specs.Files.{IsFreeFrom, is_file}
 use Rattle.catalog.specs.Numbers.{IsNextFile, IsUntaken, is_taken}
 use Rattle.catalog.specs.Rules.{is_pending}
 use Rattle.catalog.specs.Tables.{Tables}

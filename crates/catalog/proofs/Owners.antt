@@ -1,9 +1,9 @@
 -- The owner of a chunk where the pending operation is on a file that has a head.
 use Rattle.std.proofs.Common.{◌≡◌, ℕ, Bool, true, false, eqb, List, Option, Some, None, refl, sym, subst, ◌∙◌}
-use Rattle.std.specs.Prelude.{◌||◌, is_some}
-use Rattle.std.proofs.lemmas.Bool.{eqb-true, true≢false}
+use Rattle.std.specs.Prelude.{◌||◌}
+use Rattle.std.proofs.lemmas.Bool.{eqb-true}
 use Rattle.asm_formats.specs.Items.{Pending}
-use Rattle.file_directory.specs.Files.{File, head_at, is_file}
+use Rattle.file_directory.specs.Files.{File, is_file}
 use Rattle.catalog.specs.FilePlans.{is_on_file}
 use Rattle.catalog.specs.Rules.{is_pending}
 

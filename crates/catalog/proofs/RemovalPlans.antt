@@ -1,7 +1,6 @@
 -- Plans of the removal of a file.
-use Rattle.std.proofs.Common.{◌≡◌, ◌<◌, ◌≤◌, ◌+◌, ◌^◌, ℕ, Bool, true, false, cond, ltb, eqb, List, [], ◌∷◌, length, Option, Some, None, refl, sym, ap, subst, ◌∙◌, arith, inl, inr, ◌⊎◌}
+use Rattle.std.proofs.Common.{◌≡◌, ◌<◌, ◌≤◌, ◌^◌, ℕ, Bool, true, false, cond, ltb, eqb, List, [], ◌∷◌, length, Option, Some, None, refl, sym, ap, subst, ◌∙◌, arith, inl, inr, ◌⊎◌}
 use Rattle.std.specs.Prelude.{◌&&◌, ◌||◌, IsTrue, is_some}
-use Rattle.std.specs.List.{AllByRecursion}
 use Rattle.std.specs.Ordering.{nat_cmp}
 use Rattle.std.specs.BTreeMap.{is_at}
 use Rattle.std.proofs.lemmas.Bool.{and_parts, and_from, eqb-true, eq-eqb, ltb-true, true≢false}
@@ -16,7 +15,6 @@ use Rattle.asm_formats.specs.Items.{FileHead, Key, Node, Pending, file_item, is_
 use Rattle.asm_formats.specs.Values.{value}
 use Rattle.asm_base.specs.Records.{Entry, is_key}
 use Rattle.asm_base.specs.Tables.{IsItemTable, item_record}
-use Rattle.page_map.specs.Changes.{is_gone, value_after}
 use Rattle.file_directory.specs.Files.{File, head_at, is_file, without_file}
 use Rattle.file_directory.proofs.Laws.{remove_keeps_table}
 use Rattle.extent_map.specs.Extents.{Chunked}
@@ -27,11 +25,10 @@ use Rattle.alias_tree.proofs.OpenLaws.{record_gone}
 use Rattle.alias_tree.proofs.Readings.{number_is_some}
 use Rattle.operations_directory.specs.Operations as operations
 use Rattle.operations_directory.proofs.ChangeLaws as operation_laws
-use Rattle.catalog.specs.Changing.{IsAfter, Sets}
 use Rattle.catalog.specs.Faults.{IsCatalog, file_key, node_key}
-use Rattle.catalog.specs.FilePlans.{IsRemovalPlan, is_on_file, removal_of, removed, without_names}
+use Rattle.catalog.specs.FilePlans.{IsRemovalPlan, is_on_file, removal_of, without_names}
 use Rattle.catalog.specs.Plans.{AreOwned, IsPlan}
-use Rattle.catalog.specs.Rules.{HasExtents, KeepsRules, are_within_head, blocks_used, first_wrong, has_names, is_directory, is_name, is_named_back, kind_eq, is_owned, is_pending, keeps_copies, names_back, names_file}
+use Rattle.catalog.specs.Rules.{HasExtents, KeepsRules, are_within_head, first_wrong, has_names, is_directory, is_name, is_named_back, kind_eq, is_owned, keeps_copies, names_back, names_file}
 use Rattle.catalog.specs.Tables.{AreTables, Catalogued, Tables, records_of}
 use Rattle.catalog.proofs.NumberedLists.{all_there, either, gone_at, gone_few, number_is, number_itself}
 use Rattle.catalog.proofs.NumberedEntries.{found_passes, passes_where, rest_all, rest_passes}

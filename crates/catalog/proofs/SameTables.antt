@@ -13,21 +13,17 @@ use Rattle.std.specs.declared.cmp.Ordering.TheVariants.{Less, Equal, Greater}
 use Rattle.std.proofs.Math.Dec.{T}
 use Rattle.std.proofs.lemmas.Bool.{ne_eqb}
 use Rattle.std.proofs.lemmas.Cmp.{nat_cmp_total}
-use Rattle.asm_formats.specs.Items.{Item, Key, DiskInfo, FileHead, Homes, Node, Pending as PendingOperation, Settings, chunk_item, disk_item, file_item, is_item, key, marks_item, node_item, pending_item, rebalance_item, settings_item, templates_item}
-use Rattle.asm_group.specs.Group.{Template}
+use Rattle.asm_formats.specs.Items.{Item, Key, Homes, Pending as PendingOperation, chunk_item, disk_item, file_item, is_item, key, marks_item, node_item, pending_item, rebalance_item, settings_item, templates_item}
 use Rattle.asm_formats.specs.Values.{decoded_item, value}
 use Rattle.asm_formats.proofs.Bodies.{item_codec}
 use Rattle.asm_base.specs.Records.{Ascend}
-use Rattle.asm_base.specs.Tables.{IsItemTable}
 use Rattle.asm_base.proofs.Exact.{some_is}
 use Rattle.staleness_directory.specs.Marks as marks
-use Rattle.staleness_directory.specs.Changing as marks_changing
 use Rattle.staleness_directory.proofs.Laws as marks_laws
 use Rattle.extent_map.specs.Extents as extents
 use Rattle.extent_map.specs.Changing as extents_changing
 use Rattle.extent_map.proofs.Laws as extents_laws
 use Rattle.operations_directory.specs.Operations.{IsTable as AreOperations, Operations}
-use Rattle.template_directory.specs.Tables as templates
 use Rattle.catalog.specs.Changing.{AreItems}
 use Rattle.catalog.specs.Tables.{Tables, item_at, records_of}
 

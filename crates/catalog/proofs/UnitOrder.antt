@@ -1,15 +1,15 @@
 -- Homes may be taken in any order, and what was taken last may be given back.
-use Rattle.std.proofs.Common.{◌≡◌, ℕ, zero, suc, ◌+◌, ◌-◌, ◌<◌, ◌≤◌, Bool, true, false, cond, eqb, leb, ltb, get_or, take, drop, replicate, length, List, [], ◌∷◌, ◌++◌, Option, Some, None, refl, sym, ap, subst, ◌∙◌, arith, inl, inr, ◌⊎◌}
+use Rattle.std.proofs.Common.{◌≡◌, ℕ, zero, suc, ◌+◌, ◌<◌, ◌≤◌, Bool, true, false, cond, leb, ltb, get_or, take, drop, replicate, length, List, [], ◌∷◌, ◌++◌, Option, Some, refl, sym, ap, subst, ◌∙◌, arith, inl, inr}
 use Rattle.std.specs.Prelude.{◌&&◌, not, slice_set}
 use Rattle.std.specs.List.{slice_get}
 use Rattle.std.specs.Option.{option_and_then}
-use Rattle.std.proofs.lemmas.Bool.{cases_eq, cases_lt, eqb-true, eqb-false, leb-true, ltb-true, le-leb, lt-leb, lt-ltb, le-ltb, true≢false}
+use Rattle.std.proofs.lemmas.Bool.{cases_eq, cases_lt, leb-true, ltb-true, le-leb, lt-leb, lt-ltb, le-ltb, true≢false}
 use Rattle.std.proofs.lemmas.List.{append-nil, length-take, length-drop, length-append, length-replicate, get_or_default, get_or_past, get_or-set_same, get_or-set_other, set-set, same_lists}
 use Rattle.std.proofs.lemmas.Option.{slice_get_within, get_or_from_slice_get}
 use Rattle.std.proofs.Math.ListN.{take-append-drop, length-set, set}
 use Rattle.asm_formats.specs.Items.{Home}
 use Rattle.asm_placement.specs.Placed.{Placed}
-use Rattle.allocator.specs.UnitMaps.{IsFreeRun, IsUsedRun, UnitMap, is_free, with_run}
+use Rattle.allocator.specs.UnitMaps.{IsUsedRun, UnitMap, is_free, with_run}
 use Rattle.asm_base.proofs.Exact.{bind_some, some_is}
 use Rattle.catalog.specs.Placing.{after_homes, home_taken, is_run_free, marked}
 use Rattle.catalog.proofs.HomeUnits.{Takes, and_false, is_in, not_true, replaced, set_here, set_other, takes, three_true}

@@ -1,5 +1,5 @@
 -- When a change may be applied to a catalog.
-use Rattle.std.specs.Prelude.{◌≡◌, List, Option, Some}
+use Rattle.std.specs.Prelude.{◌≡◌, List, Some}
 use Rattle.asm_formats.specs.Items.{Key}
 use Rattle.asm_formats.specs.Status as status
 use Rattle.asm_base.specs.Records.{Entry}

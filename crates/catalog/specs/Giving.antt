@@ -1,5 +1,5 @@
 -- The units of some chunks of a table.
-use Rattle.std.specs.Prelude.{◌≡◌, ℕ, Bool, ◌&&◌, not, List, ◌++◌, ◌<◌, map, filter, take, true, false, Option, Some}
+use Rattle.std.specs.Prelude.{◌≡◌, ℕ, Bool, ◌&&◌, not, List, ◌++◌, ◌<◌, map, filter, take, true, false, Some}
 use Rattle.std.specs.BTreeMap.{is_at}
 use Rattle.asm_formats.specs.Items.{Key}
 use Rattle.asm_base.specs.Records.{Entry}

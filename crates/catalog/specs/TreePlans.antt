@@ -1,7 +1,7 @@
 -- What a plan of an edit of the tree of names is.
 use Rattle.std.specs.Prelude.{◌≡◌, ◌⊎◌, ℕ, ◌+◌, Bool, true, false, List, [], Option, Some, None, Ok, Err, if◌then◌else◌}
 use Rattle.asm_group.specs.Refusal as r
-use Rattle.asm_group.specs.TreeEdits.{Tree, TreeEdit, MakeDir, DropDir, RenameDir, AddAlias, RenameAlias, DropAlias, AddFile, DropFile, edited, file_at}
+use Rattle.asm_group.specs.TreeEdits.{Tree, TreeEdit, MakeDir, AddAlias, DropAlias, AddFile, DropFile, edited, file_at}
 use Rattle.asm_group.specs.declared.NodeKind.{NodeKind}
 use Rattle.asm_group.specs.declared.NodeKind.TheVariants.{Directory, Alias}
 use Rattle.asm_formats.specs.Items.{FileHead, Key, Node}

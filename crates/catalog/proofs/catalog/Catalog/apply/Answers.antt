@@ -1,5 +1,5 @@
 use Rattle.std.proofs.Common.{None, ◌∙◌, sym}
-use Rattle.catalog.specs.Spares.{ready_tables, units_in}
+use Rattle.catalog.specs.Spares.{units_in}
 use Rattle.catalog.proofs.ApplyingLaws.{kept_after, units_kept}
 use Rattle.catalog.proofs.catalog.Catalog.apply.Goals as goal
 

@@ -1,4 +1,4 @@
-use Rattle.std.proofs.Common.{◌≡◌, true, ap, sym, subst, ◌∙◌, ◌<◌, ◌^◌, arith}
+use Rattle.std.proofs.Common.{◌≡◌, true, ap, sym, subst, ◌∙◌}
 use Rattle.std.specs.Option.{option_copied}
 use Rattle.asm_formats.specs.Items.{FileHead, Node, file_item, is_item}
 use Rattle.catalog.proofs.TreePlans.{alias_gone, alias_headed, head_is_item}

@@ -1,4 +1,4 @@
-use Rattle.std.proofs.Common.{sym, ap, ◌∙◌}
+use Rattle.std.proofs.Common.{ap, ◌∙◌}
 use Rattle.std.specs.Option.{option_map}
 use Rattle.asm_formats.specs.Items.{DiskInfo}
 use Rattle.catalog.proofs.DiskLaws.{disk_is_item_inside}
