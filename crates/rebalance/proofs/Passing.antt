@@ -1,8 +1,8 @@
 -- Chunks with nothing due say nothing, so the search may pass over them.
-use Rattle.std.proofs.Common.{◌≡◌, ℕ, zero, suc, ◌+◌, ◌*◌, ◌<◌, Bool, true, false, cond, not, ◌&&◌, ◌||◌, List, [], ◌∷◌, refl, sym, ap, subst, ◌∙◌, Option, Some, None, inl, inr}
+use Rattle.std.proofs.Common.{◌≡◌, ℕ, zero, suc, ◌*◌, Bool, true, false, cond, ◌&&◌, List, [], ◌∷◌, refl, sym, ap, subst, ◌∙◌, Option, Some, None, inl, inr}
 use Rattle.std.specs.Prelude.{find, nat_lt, ◌^◌}
-use Rattle.std.specs.Option.{is_none, is_some, option_map, option_or}
-use Rattle.std.specs.Ordering.{is_le, is_lt, ordering_reverse}
+use Rattle.std.specs.Option.{is_some, option_map, option_or}
+use Rattle.std.specs.Ordering.{is_lt, ordering_reverse}
 use Rattle.std.specs.declared.cmp.Ordering.{Ordering}
 use Rattle.std.specs.declared.cmp.Ordering.TheVariants.{Less, Equal, Greater}
 use Rattle.std.proofs.lemmas.Bool.{or_parts}
@@ -11,10 +11,9 @@ use Rattle.asm_formats.specs.Among.{IsAmong}
 use Rattle.asm_formats.specs.Status.{Entry}
 use Rattle.asm_formats.specs.Items.{FileHead, Home, Homes}
 use Rattle.asm_base.specs.Records.{Ascend}
-use Rattle.asm_placement.specs.Copies.{wants_fill, wants_shift}
 use Rattle.asm_placement.specs.Rebalancing.{Next, move, shift, when}
 use Rattle.allocator.specs.UnitMaps.{UnitMap}
-use Rattle.extent_map.specs.Extents.{Chunk, Chunked, chunk_at, chunk_cmp, chunks_from, has_home, is_before}
+use Rattle.extent_map.specs.Extents.{Chunk, Chunked, chunk_cmp, chunks_from, has_home, is_before}
 use Rattle.extent_map.proofs.Laws.{chunk_total}
 use Rattle.file_directory.specs.Files.{head_at}
 use Rattle.catalog.specs.Tables.{AreTables, Catalogued, Tables}
@@ -27,7 +26,7 @@ use Rattle.rebalance.specs.Sums.{Sums}
 use Rattle.rebalance.specs.Extents.{any_from, first_from}
 use Rattle.rebalance.specs.Moves.{next_meant}
 use Rattle.rebalance.specs.Stages.{balancing_at, said_at}
-use Rattle.rebalance.specs.Searching.{extent_of, extent_says, first_of_chunk, first_of_chunks, first_of_extents, group_says, said_there, says_of, with_copies}
+use Rattle.rebalance.specs.Searching.{extent_of, extent_says, first_of_chunk, first_of_extents, group_says, said_there, says_of, with_copies}
 use Rattle.rebalance.specs.Due.{any_of_chunk, any_of_extents, any_with, first_due, first_due_of, is_due, is_due_at, is_due_in, passes_there}
 use Rattle.rebalance.specs.Cursors.{IsClearBefore, is_passed}
 

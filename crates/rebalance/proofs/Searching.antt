@@ -1,21 +1,19 @@
 -- What the search over the tables of a group finds is the next move of its items.
-use Rattle.std.proofs.Common.{◌≡◌, ℕ, zero, suc, ◌+◌, ◌*◌, ◌<◌, ◌≤◌, ◌^◌, Bool, true, false, not, ◌&&◌, ◌||◌, List, [], ◌∷◌, ◌++◌, length, drop, get_or, refl, sym, ap, subst, ◌∙◌, Option, Some, None, arith, add-one, ltb, eqb, inl, inr}
+use Rattle.std.proofs.Common.{◌≡◌, ℕ, zero, suc, ◌+◌, ◌*◌, ◌<◌, ◌≤◌, ◌^◌, Bool, true, false, not, ◌&&◌, ◌||◌, List, [], ◌∷◌, length, get_or, refl, sym, ap, subst, ◌∙◌, Option, Some, None, arith, ltb, eqb, inl, inr}
 use Rattle.std.specs.Prelude.{flat_map, ◌/◌, ◌%◌}
-use Rattle.std.specs.List.{list_all, list_any}
+use Rattle.std.specs.List.{list_all}
 use Rattle.std.specs.Option.{is_some, option_map, option_or, unwrap_or}
-use Rattle.std.proofs.lemmas.Bool.{and_parts, and_from, cond_both, eqb-true, lt-ltb}
-use Rattle.std.proofs.lemmas.List.{drop_more, drop_all}
+use Rattle.std.proofs.lemmas.Bool.{and_parts, eqb-true, lt-ltb}
 use Rattle.std.proofs.lemmas.Nat.{div-add-mod'}
 use Rattle.asm_group.specs.Shape.{Shape}
 use Rattle.asm_formats.specs.Among.{IsAmong}
-use Rattle.asm_formats.specs.Status.{Entry, Status, ascends_from, entry_of, is_entry, is_status}
-use Rattle.asm_formats.specs.Items.{FileHead, Home, Homes, Item, chunk_item, chunk_len, is_homes, is_item}
+use Rattle.asm_formats.specs.Status.{Entry, Status, entry_of}
+use Rattle.asm_formats.specs.Items.{FileHead, Homes, Item, chunk_item, is_homes, is_item}
 use Rattle.asm_placement.specs.Copies as copies
 use Rattle.asm_placement.specs.Copies.{Copy, all_copies, copies_at, copies_from, file_copies}
-use Rattle.asm_placement.specs.DiskSets.{numbers}
 use Rattle.asm_placement.specs.Layout.{units_of}
 use Rattle.asm_placement.specs.Tables.{homes_in}
-use Rattle.asm_placement.specs.Rebalancing.{Next, done, first_of, next, next_directory, next_tables, when}
+use Rattle.asm_placement.specs.Rebalancing.{Next, done, first_of, next, next_directory, next_tables}
 use Rattle.asm_placement.specs.Space.{share}
 use Rattle.asm_placement.proofs.MovedCopies.{in_chunk}
 use Rattle.allocator.specs.UnitMaps.{UnitMap}
@@ -35,18 +33,17 @@ use Rattle.catalog.proofs.UnitLaws.{units_are}
 use Rattle.status_table.proofs.Allowed.{parts_of}
 use Rattle.rebalance.specs.declared.extent.Extent.{Extent}
 use Rattle.rebalance.specs.declared.moves.Next.{Next as CodeNext}
-use Rattle.rebalance.specs.declared.moves.Next.TheVariants as ending
 use Rattle.rebalance.specs.declared.stages.Stage.{Stage}
 use Rattle.rebalance.specs.declared.stages.Stage.TheVariants as stage
-use Rattle.rebalance.specs.Extents.{IsExtentOf, copies_of}
+use Rattle.rebalance.specs.Extents.{IsExtentOf}
 use Rattle.rebalance.specs.Moves.{next_meant}
 use Rattle.rebalance.specs.Selections.{AreNumbered}
-use Rattle.rebalance.specs.Sums.{Sums, share_at, sums_at, sums_of}
+use Rattle.rebalance.specs.Sums.{Sums, sums_at, sums_of}
 use Rattle.rebalance.specs.Stages.{StagesAreNext, first_said, said}
-use Rattle.rebalance.specs.Searching.{IsStatusOf, all_said, extent_of, extent_says, first_of_chunk, first_of_chunks, first_of_extents, group_says, next_in, rest_said, said_there, work_said, with_copies}
+use Rattle.rebalance.specs.Searching.{IsStatusOf, all_said, extent_of, extent_says, first_of_chunk, first_of_chunks, first_of_extents, group_says, next_in, rest_said, with_copies}
 use Rattle.rebalance.proofs.OwnCopies.{own_copies}
 use Rattle.rebalance.proofs.Selected.{status_numbered}
-use Rattle.rebalance.proofs.Sharing.{share_placed, sums_placed}
+use Rattle.rebalance.proofs.Sharing.{sums_placed}
 use Rattle.rebalance.proofs.Verdicts.{first_parts, said_agrees}
 
 -- ---- what is given

@@ -1,7 +1,7 @@
 -- A cursor that is set back for a change of the tables is one of the tables after it.
-use Rattle.std.proofs.Common.{◌≡◌, ℕ, suc, ◌+◌, ◌*◌, ◌<◌, ◌≤◌, Bool, true, false, ◌&&◌, ◌||◌, cond, List, [], ◌∷◌, length, refl, sym, ap, subst, ◌∙◌, Option, Some, None, arith}
+use Rattle.std.proofs.Common.{◌≡◌, ℕ, suc, ◌+◌, ◌*◌, ◌≤◌, Bool, true, false, ◌&&◌, ◌||◌, cond, List, [], ◌∷◌, length, refl, sym, ap, subst, ◌∙◌, Option, Some, None, arith}
 use Rattle.std.specs.Prelude.{nat_lt, ◌^◌, ◌/◌, ◌%◌, slice_index_or}
-use Rattle.std.specs.Option.{option_map, unwrap_or}
+use Rattle.std.specs.Option.{unwrap_or}
 use Rattle.std.specs.Ordering.{is_lt, nat_cmp, ordering_reverse, ordering_then}
 use Rattle.std.specs.declared.cmp.Ordering.{Ordering}
 use Rattle.std.specs.declared.cmp.Ordering.TheVariants.{Less, Equal, Greater}
@@ -10,10 +10,10 @@ use Rattle.asm_formats.specs.Status.{Entry, Status}
 use Rattle.asm_formats.specs.Items.{Homes, is_item}
 use Rattle.asm_placement.specs.Layout.{units_of}
 use Rattle.asm_placement.proofs.MovedCopies.{in_chunk}
-use Rattle.extent_map.specs.Extents.{Chunk, Chunked, chunk_at, chunk_cmp, has_home, is_before, item_of}
+use Rattle.extent_map.specs.Extents.{Chunk, Chunked, chunk_cmp, has_home, is_before, item_of}
 use Rattle.extent_map.proofs.Laws.{chunk_total}
 use Rattle.staleness_directory.specs.Marks.{marks_at}
-use Rattle.catalog.specs.Tables.{AreTables, Catalogued, Tables}
+use Rattle.catalog.specs.Tables.{Catalogued}
 use Rattle.catalog.specs.Rules.{marks_of}
 use Rattle.catalog.proofs.TableItems.{chunks_exact, each_of, found_is}
 use Rattle.rebalance.specs.declared.extent.Extent.{Extent}
@@ -21,7 +21,7 @@ use Rattle.rebalance.specs.declared.stages.Stage.{Stage}
 use Rattle.rebalance.specs.declared.stages.Stage.TheVariants as stage
 use Rattle.rebalance.specs.Sums.{Sums, sums_at}
 use Rattle.rebalance.specs.Searching.{extent_of}
-use Rattle.rebalance.specs.Due.{any_of_chunk, any_of_extents, any_with, is_due, is_due_in, passes_there}
+use Rattle.rebalance.specs.Due.{any_of_chunk, any_of_extents, any_with, is_due, passes_there}
 use Rattle.rebalance.proofs.Searching.{chunk_parts}
 use Rattle.rebalance.specs.Cursors.{AreClear, IsClearBefore, IsCursor, IsSameBefore, Places, copies_at, earlier, is_passed, set_back, start}
 

@@ -1,12 +1,11 @@
 -- The search for the next move over the tables of a group.
-use Rattle.std.specs.Prelude.{◌≡◌, ℕ, suc, ◌*◌, ◌^◌, ◌&&◌, nat_lt, List, [], ◌∷◌, unwrap_or, Option, Some, None, IsTrue}
+use Rattle.std.specs.Prelude.{ℕ, suc, ◌*◌, ◌^◌, ◌&&◌, nat_lt, List, [], ◌∷◌, unwrap_or, Option, Some, None, IsTrue}
 use Rattle.std.specs.Option.{option_map, option_or}
 use Rattle.asm_group.specs.Shape.{Shape}
 use Rattle.asm_formats.specs.Status.{Entry, Status, is_status}
-use Rattle.asm_formats.specs.Items.{FileHead, Homes, Item, chunk_len}
+use Rattle.asm_formats.specs.Items.{FileHead, Homes, chunk_len}
 use Rattle.asm_placement.specs.Layout.{units_of}
-use Rattle.asm_placement.specs.Rebalancing.{Next, done, next, next_directory, next_tables, when}
-use Rattle.asm_placement.specs.Space.{share}
+use Rattle.asm_placement.specs.Rebalancing.{Next, done, next_directory, next_tables, when}
 use Rattle.allocator.specs.UnitMaps.{UnitMap}
 use Rattle.extent_map.specs.Extents.{Chunked, has_home}
 use Rattle.file_directory.specs.Files.{head_at}

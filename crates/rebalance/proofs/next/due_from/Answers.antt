@@ -1,4 +1,3 @@
-use Rattle.std.proofs.Common.{◌≡◌, Some}
 use Rattle.rebalance.proofs.Passing.{due_none, due_some, first_is_clear}
 use Rattle.rebalance.proofs.next.due_from.Goals as goal
 

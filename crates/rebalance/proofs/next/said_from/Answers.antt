@@ -1,4 +1,3 @@
-use Rattle.std.proofs.Common.{◌≡◌, Some}
 use Rattle.rebalance.proofs.Passing.{said_none, said_some}
 use Rattle.rebalance.proofs.next.said_from.Goals as goal
 
