@@ -1,0 +1,3 @@
+pub mod FilesMade
+pub mod Planned
+pub mod SameHomes
