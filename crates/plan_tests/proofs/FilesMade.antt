@@ -1,5 +1,5 @@
 -- What plans of files lead to where no operation is pending, or one on a file.
-use Rattle.std.proofs.Common.{◌≡◌, ◌<◌, ℕ, true, List, Option, Some, sym, subst}
+use Rattle.std.proofs.Common.{◌≡◌, ◌<◌, ℕ, true, List, Some, subst}
 use Rattle.std.specs.Prelude.{◌↔◌}
 use Rattle.asm_group.specs.Names.{Bytes}
 use Rattle.asm_group.specs.Shape.{Shape}

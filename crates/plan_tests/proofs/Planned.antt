@@ -1,5 +1,5 @@
 -- Plans whose tables are known.
-use Rattle.std.proofs.Common.{◌≡◌, ℕ, List, Option}
+use Rattle.std.proofs.Common.{List}
 use Rattle.asm_group.specs.TemplateEdits.{TemplateEdit}
 use Rattle.asm_group.specs.TreeEdits as trees
 use Rattle.asm_formats.specs.Items.{Key}
