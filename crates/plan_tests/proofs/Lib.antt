@@ -1,3 +1,4 @@
+pub mod ExtentConditions
 pub mod FilesMade
 pub mod Planned
 pub mod SameHomes

@@ -6,6 +6,8 @@ mod attributes;
 #[cfg(test)]
 mod disk_units;
 #[cfg(test)]
+mod extents;
+#[cfg(test)]
 mod files;
 #[cfg(test)]
 mod making;
