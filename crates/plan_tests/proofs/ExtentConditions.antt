@@ -22,28 +22,26 @@ use Rattle.catalog.proofs.PlacingLaws.{from_all}
 
 -- ---- extents that are told
 
--- an extent that is told is there
-pub record IsTold (t : Tables) (f i : ℕ) (homes : Homes) : Type 0 where
+-- an extent that is told has its chunk and these homes
+record IsTold (t : Tables) (f i : ℕ) (homes : Homes) : Type 0 where
   pub chunk : is_some (chunk_at t.extents (f, i / 256)) ≡ true
   pub homes_are : homes_at t f i ≡ homes
-  pub there : has_extent t.extents f i ≡ true
 
-pub told : (t : Tables) (f i : ℕ) (homes : Homes) → Some homes ≡ extent_at t.extents f i → IsTold t f i homes
+told : (t : Tables) (f i : ℕ) (homes : Homes) → Some homes ≡ extent_at t.extents f i → IsTold t f i homes
 told t f i homes e = by (chunk_at t.extents (f, i / 256)) refl (sym e) where
-  inside : (xs : List Homes) → chunk_at t.extents (f, i / 256) ≡ Some xs → (b : Bool) → has_home (get_or xs (i % 256) []) ≡ b → cond b (Some (get_or xs (i % 256) [])) None ≡ Some homes → IsTold t f i homes
-  inside xs at true is e = record {
+  inside : (xs : List Homes) → chunk_at t.extents (f, i / 256) ≡ Some xs → (b : Bool) → cond b (Some (get_or xs (i % 256) [])) None ≡ Some homes → IsTold t f i homes
+  inside xs at true e = record {
     chunk = ap is_some at;
     homes_are = ap (λ (o : Option (List Homes)). get_or (unwrap_or o []) (i % 256) []) at ∙ some_is (get_or xs (i % 256) []) homes e;
-    there = ap (λ (o : Option (List Homes)). has_home (get_or (unwrap_or o []) (i % 256) [])) at ∙ is;
   }
-  inside xs at false is e = absurd cc
+  inside xs at false e = absurd cc
 
   by : (o : Option (List Homes)) → chunk_at t.extents (f, i / 256) ≡ o → option_and_then (λ xs. cond (has_home (get_or xs (i % 256) [])) (Some (get_or xs (i % 256) [])) None) o ≡ Some homes → IsTold t f i homes
   by None at e = absurd cc
-  by (Some xs) at e = inside xs at (has_home (get_or xs (i % 256) [])) refl e
+  by (Some xs) at e = inside xs at (has_home (get_or xs (i % 256) [])) e
 
 -- one that isn't told isn't there
-pub untold : (t : Tables) (f i : ℕ) → None ≡ extent_at t.extents f i → has_extent t.extents f i ≡ false
+untold : (t : Tables) (f i : ℕ) → None ≡ extent_at t.extents f i → has_extent t.extents f i ≡ false
 untold t f i e = by (chunk_at t.extents (f, i / 256)) (sym e) where
   inside : (xs : List Homes) (b : Bool) → has_home (get_or xs (i % 256) []) ≡ b → cond b (Some (get_or xs (i % 256) [])) None ≡ None → has_home (get_or xs (i % 256) []) ≡ false
   inside xs true is e = absurd cc

@@ -95,7 +95,7 @@ fn change_marks(
 fn marks_in(alloc: Global, group: &mut Catalog) -> Result<[u8; 5], Fail> {
     change_marks(alloc, group, extent(256, 2), 3, 0)?;
     let set = group.marks(extent(256, 2));
-    change_marks(alloc, group, extent(256, 2), 0, 1)?;
+    change_marks(alloc, group, extent(256, 2), 2, 3)?;
     let cleared = group.marks(extent(256, 2));
     let [first, second] = [group.marks(extent(256, 0)), group.marks(extent(256, 1))];
     change_marks(alloc, group, extent(256, 1), 0, 7)?;
@@ -107,7 +107,7 @@ fn marks_told(alloc: Global) -> Result<[u8; 5], Fail> {
     marks_in(alloc, &mut group)
 }
 
-/// Marks of an extent are set, and one of them is cleared. Those of the others stay.
+/// Marks of an extent are set, and then both are cleared, but one of them is set. Those of the others stay.
 #[test]
 fn marks(rt: HostRuntime) -> Result<(), Fail> {
     assert_eq!(rt; marks_told(rt.alloc())?, [3, 2, 0, 2, 0]);
