@@ -1,11 +1,14 @@
 // The laws by which a claim on images is carried over calls, for any bay, step and claim. Each function has an empty
 // body: its contract is the law.
-ghost use Rattle.std.specs.Prelude.{◌≡◌, ◌+◌, ◌-◌, ◌<◌, ◌++◌, ◌∷◌, [], ℕ, List, length};
+ghost use Rattle.std.specs.Prelude.{◌≡◌, ◌≢◌, ◌+◌, ◌-◌, ◌<◌, ◌++◌, ◌∷◌, [], ℕ, Bool, false, List, length, OnErr};
 ghost use Rattle.bay.specs.Image.{Image, Same};
-ghost use Rattle.bay.specs.Moments.{Runs, Ends, Holds, Durable, NowOnly, LeavesOnly, Joins, Gives};
+ghost use Rattle.bay.specs.Counts.{Rose};
+ghost use Rattle.bay.specs.Moments.{Runs, Ends, Holds, Durable, NowOnly, LeavesOnly, Joins, Within, Gives};
+ghost use Rattle.bay.specs.Calls.{Cost, cost, both_costs, CostsAtMost, Calls, Call, Done, Went};
+ghost use Rattle.bay.specs.Lists.{Tasks, Claims, OneMore, IsLocal, HasOwnSlot, own_cost, DoesOne, DoesEach};
 ghost use Rattle.bay.specs.Marks.{AtMarks};
 
-use crate::Bay;
+use crate::{Bay, Fault};
 
 /// Some slots.
 pub trait Slots {
@@ -80,4 +83,81 @@ pub fn new_marks<B: Bay, P: Claim>(bay: &B)
     ensures pushed { (marks : List ℕ) → AtMarks (B.state bay.now) marks P.says
         → NowOnly (B.state bay.now) (P.says (length marks)) → AtMarks (B.state bay.now) (marks ++ (B.state bay.now).calls ∷ []) P.says }
     ensures first { AtMarks (B.state bay.now) [] P.says }
+{}
+
+/// Calls are calls of a wider step, on more slots and at a greater cost.
+pub fn calls_widen<B: Bay, T: Slots, U: Slots, S: Step, W: Step>(start: &B, end: &B)
+    ensures { (least most : Cost) → ((s : ℕ) → T.among s → U.among s) → Within S.leads W.leads
+        → CostsAtMost least most
+        → Calls T.among S.leads least (B.state start.now) (B.state end.now)
+        → Calls U.among W.leads most (B.state start.now) (B.state end.now) }
+{}
+
+/// Calls that ended well and the calls after them are calls of the joined step, at both costs.
+pub fn calls_join<B: Bay, T: Slots, D: Step, S: Step, W: Step>(start: &B, middle: &B, end: &B)
+    ensures { (first second : Cost) → Joins D.leads S.leads W.leads
+        → Calls T.among W.leads first (B.state start.now) (B.state middle.now)
+        → Ends D.leads (B.state start.now) (B.state middle.now)
+        → Calls T.among S.leads second (B.state middle.now) (B.state end.now)
+        → Calls T.among W.leads (both_costs first second) (B.state start.now) (B.state end.now) }
+{}
+
+/// A call on one slot leaves the counts of every other slot, of faults and of bytes written. Where it
+/// failed the count of faults of its own slot rose.
+pub fn calls_stay_on_their_slot<B: Bay, S: Step, D: Step>(
+    start: &B,
+    end: &B,
+    slot: u32,
+    answer: Result<(), Fault>,
+)
+    ensures others { (most : Cost)
+        → Call answer slot S.leads (Done D.leads) most (B.state start.now) (B.state end.now)
+        → (s : ℕ) → s ≢ slot
+        → ((B.state end.now).faults s ≡ (B.state start.now).faults s)
+        × ((B.state end.now).written s ≡ (B.state start.now).written s) }
+    ensures cause { (most : Cost)
+        → Call answer slot S.leads (Done D.leads) most (B.state start.now) (B.state end.now)
+        → OnErr answer (Rose ((B.state start.now).faults slot) ((B.state end.now).faults slot)) }
+{}
+
+/// A call on a slot that ended well and the next one on it are one call with the second's answer, at
+/// the sum of their costs. `M` and `N` are what may be seen while they run, `D` and `E` what they
+/// have done; `W` and `F` are those of both.
+pub fn two_calls_are_one<B: Bay, M: Step, D: Step, N: Step, E: Step, W: Step, F: Step>(
+    start: &B,
+    middle: &B,
+    end: &B,
+    slot: u32,
+    answer: Result<(), Fault>,
+)
+    ensures { (first second : Cost) → Within M.leads W.leads
+        → Joins D.leads N.leads W.leads → Joins D.leads E.leads F.leads
+        → Went slot M.leads D.leads first (B.state start.now) (B.state middle.now)
+        → Call answer slot N.leads (Done E.leads) second (B.state middle.now) (B.state end.now)
+        → Call answer slot W.leads (Done F.leads) (both_costs first second)
+        (B.state start.now) (B.state end.now) }
+{}
+
+/// Things, by their numbers, on each of which a call is made.
+pub trait Things {
+    ghost tasks: { Tasks ℕ };
+
+    ghost claims: { Claims ℕ };
+
+    ghost among: { ℕ → Type 0 };
+}
+
+/// A call on each of several things that stand on slots of their own, past faults, is one call on
+/// all: at none of them, and at one before others.
+pub fn calls_on_each<B: Bay, T: Things>(start: &B, middle: &B, end: &B)
+    ensures none { (failed : ℕ → Bool)
+        → DoesEach T.tasks T.claims (λ x. ⊥) (cost 0 0) failed
+        (B.state start.now) (B.state start.now) }
+    ensures more { (x : ℕ) (most : Cost) (wrong : Bool) (rest all : ℕ → Bool)
+        → IsLocal T.tasks T.claims (OneMore x T.among) → HasOwnSlot T.tasks x T.among
+        → (all x ≡ false → wrong ≡ false) → ((y : ℕ) → T.among y → all y ≡ false → rest y ≡ false)
+        → DoesOne T.tasks T.claims x wrong (B.state start.now) (B.state middle.now)
+        → DoesEach T.tasks T.claims T.among most rest (B.state middle.now) (B.state end.now)
+        → DoesEach T.tasks T.claims (OneMore x T.among) (both_costs (own_cost T.tasks x) most) all
+        (B.state start.now) (B.state end.now) }
 {}
