@@ -7,10 +7,11 @@ mod program;
 #[cfg(test)]
 mod tests;
 
-use bay_file::{FileBay, StdSink, StdSource, SystemClock};
+use bay_file::{FileBay, StdSink, StdSource, SystemClock, hold_streams};
 use command_line::Notice;
 use program::run;
 use std::alloc::{AllocError, Global};
+use std::io::ErrorKind;
 use std::process::ExitCode;
 use std::{env, io};
 
@@ -18,12 +19,15 @@ fn main(rt: HostRuntime) -> ExitCode {
     let alloc = rt.alloc();
     match answer(alloc, &rt) {
         Ok(status) => ExitCode::from(status),
+        // A word isn't UTF-8.
+        Err(error) if error.kind() == ErrorKind::InvalidData => ExitCode::from(2),
         Err(_) => ExitCode::from(5),
     }
 }
 
 /// Answers a call by its words. The status comes of `run`, but for help and version.
 fn answer(alloc: Global, rt: &HostRuntime) -> io::Result<u8> {
+    hold_streams(rt)?;
     let words = words_of(alloc, rt)?;
     if let Some(notice) = Notice::asked(&words) {
         return Ok(tell(rt, notice));

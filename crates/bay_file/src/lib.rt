@@ -6,6 +6,7 @@
 mod clock;
 mod file_bay;
 mod file_host;
+mod held;
 mod image;
 mod path_faults;
 mod slot;
@@ -18,4 +19,5 @@ mod whole;
 pub use clock::SystemClock;
 pub use file_bay::FileBay;
 pub use file_host::FileHost;
+pub use held::hold_streams;
 pub use streams::{StdSink, StdSource};

@@ -1,5 +1,5 @@
 // Over real files, in the folder in which the tests run, and over readers and writers that fail.
-use crate::{FileBay, FileHost, StdSink, StdSource, SystemClock};
+use crate::{FileBay, FileHost, StdSink, StdSource, SystemClock, hold_streams};
 use bay::{Bay, BayError, Clock, Host, HostError, Sink, Source};
 use std::io::{ErrorKind, Read, Write};
 use std::{fs, io};
@@ -146,6 +146,7 @@ fn streams_pass_on_counts_and_faults(rt: HostRuntime) {
     // nothing taken of a piece that isn't empty
     assert!(rt; sink.write(b"b").is_err());
     assert!(rt; sink.write(b"b").is_err());
+    assert!(rt; hold_streams(&rt).is_ok());
     let mut out = StdSink::new(rt);
     assert_eq!(rt; out.write(b"").ok(), Some(0));
     let mut input = StdSource::new(rt);

@@ -18,29 +18,27 @@ usage: asm [--generate N] IMAGE...
        asm --version | -V
 
   IMAGE...       the images of disks, each a file or a device that is named once, at most 512.
-                 An image need not be there: CREATE DISK makes it. Statements name it by this path.
+                 Statements name it by this path. It is made beforehand: CREATE DISK isn't served yet.
   --generate N   reads no script and runs one made from the number N, over four images.
+                 It isn't served yet: words with it get status 2.
   --             what follows is an image, also where it begins with a hyphen.
 
 The script is read on standard input. A statement ends with ; and any other command with its line.
-Each command is answered by ok or by an error line on standard output. For example
+Each command is answered by ok or by an error line on standard output. These are served, more come:
 
-  asm disk0 disk1 disk2 <<'END'
-  CREATE DISK 'disk0' SIZE 64M;
-  CREATE DISK 'disk1' SIZE 64M;
-  CREATE DISK 'disk2' SIZE 64M;
-  CREATE DISKGROUP data NORMAL REDUNDANCY DISK 'disk0', 'disk1', 'disk2';
-  dbcreate +data/orcl/DATAFILE/users 8M
-  lsdg
-  lsdsk data
+  CREATE DISKGROUP name EXTERNAL REDUNDANCY DISK 'image';
+  ALTER DISKGROUP name DISMOUNT;
+  pwd
+
+Any other command or form of one is answered error 1 Syntax 0, and a text that is no command error 1
+Syntax and the place where it parts from all commands. For example
+
+  truncate -s 64M disk0
+  asm disk0 <<'END'
+  CREATE DISKGROUP data EXTERNAL REDUNDANCY DISK 'disk0';
   END
 
-and in a later run
-
-  asm disk0 disk1 disk2 <<'END'
-  ALTER DISKGROUP data MOUNT;
-  ls +data/orcl/DATAFILE
-  END
+is answered ok with status 0. The same call again is answered error 6 DiskTaken disk0 with status 1.
 
 status: 0 every command was answered ok
         1 some command was refused

@@ -6,6 +6,9 @@ use group_disks::create_group;
 use std::alloc::Global;
 use std::test::*;
 
+// The most device calls of a creation on one image, which it makes where all gates are open.
+const MOST_CALLS: u64 = 82;
+
 // Creates the group DATA on the image of this path, among those of one slot.
 fn create(
     alloc: Global,
@@ -26,11 +29,36 @@ fn create(
     Ok(create_group(alloc, bay, &paths, &name, path, 7, &mut ids))
 }
 
+// Opens the gate in a block, one of those of a disk of 64 MB, whatever stands behind it. Two calls.
+fn open_gate(bay: &mut MemBay, block: u64) -> bool {
+    match bay.attach(0, "d0") {
+        Ok(size) if size >= 67_108_864 && block < 16_384 => {
+            bay.write(0, block * 4_096, &[0xa5; 512]).is_ok()
+        }
+        _ => false,
+    }
+}
+
 #[test]
 fn new_group_takes_few_calls(rt: HostRuntime) -> Result<(), Fail> {
     let mut bay = MemBay::new(rt.alloc(), &[Some(67_108_864)]).map_err(|_| "memory")?;
     assert!(rt; matches!(create(rt.alloc(), &mut bay, b"d0")?, (Some(7), Ok(()))));
-    assert!(rt; bay.calls() <= 80);
+    assert!(rt; bay.calls() <= MOST_CALLS);
+    Ok(())
+}
+
+// Each open gate is closed by a write and a sync more. Those of the header, of two claims and two status records, and of two
+// logs behind 1,024 pages are all that there are.
+#[test]
+fn open_gates_take_few_calls_more(rt: HostRuntime) -> Result<(), Fail> {
+    let mut bay = MemBay::new(rt.alloc(), &[Some(67_108_864)]).map_err(|_| "memory")?;
+    for block in [0, 2, 4, 6, 8, 1_034, 1_100] {
+        assert!(rt; open_gate(&mut bay, block));
+    }
+    let before = bay.calls();
+    assert!(rt; matches!(create(rt.alloc(), &mut bay, b"d0")?, (Some(7), Ok(()))));
+    let calls = bay.calls().saturating_sub(before);
+    assert!(rt; calls <= MOST_CALLS);
     Ok(())
 }
 
