@@ -8,7 +8,7 @@ use Rattle.asm_world.specs.Below.{Found}
 use Rattle.asm_world.specs.Between.{groups_between}
 use Rattle.asm_world.specs.Command.{Command}
 use Rattle.asm_world.specs.Reply.{Reply, Rebalanced, Resynced, Event, Expired, ExpiryEnds, Moved, Synced, SyncEnds, MoveEnds}
-use Rattle.asm_world.specs.Run.{Outside, State, Entry, Move, Answers, Starts, Expires, Slices, Rests, Phase, Expiry, IsExpiry, Due, DueSlice, DueResync, DueRebalance, IsResynced, IsRebalanced, IsSlice, IsDueSlice, Does, IsMove, IsRun, IsHeld, IsThere, HeldBy, end_of, entry_text, marks_at, marks_of}
+use Rattle.asm_world.specs.Run.{Outside, State, Entry, Move, Answers, Starts, Expires, Slices, Rests, Phase, Expiry, IsExpiry, Due, DueSlice, DueResync, DueRebalance, IsResynced, IsRebalanced, IsSlice, IsDueSlice, Does, IsMove, IsRun, IsRunWhile, AllMoves, CallsRise, IsHeld, IsThere, HeldBy, end_of, entry_text, marks_at, marks_of}
 use Rattle.asm_world.specs.RunLaws.{AtAnswer, IsQuiet, is_answer, Grows, RisesFrom}
 use Rattle.asm_world.specs.World.{World, groups_of}
 
@@ -146,6 +146,82 @@ rises_behind (Expires event) whole low calls ns h r = rises_lower low calls ns h
 rises_behind (Slices event) whole low calls ns h r = rises_lower low calls ns h r
 rises_behind Rests whole low calls ns h r = rises_lower low calls ns h r
 
+pub marks_rise_by : {C : Type 0} (s : State C) (history : List (Entry C)) → CallsRise s history → RisesFrom s.calls (marks_of history)
+marks_rise_by s [] rise = tt
+marks_rise_by s (e ∷ history) rise = rises_behind e.move (bytes_eq e.printed (entry_text e)) s.calls e.after.calls (marks_of history) rise.0 (marks_rise_by e.after history rise.1)
+
+pub calls_rise : {C I : Type 0} (out : Outside C I) (s : State C) (history : List (Entry C)) → IsRun out s history → CallsRise s history
+calls_rise out s [] run = tt
+calls_rise out s (e ∷ history) run = (run.0.calls, calls_rise out e.after history run.1)
+
 pub marks_rise : {C I : Type 0} (out : Outside C I) (s : State C) (history : List (Entry C)) → IsRun out s history → RisesFrom s.calls (marks_of history)
-marks_rise out s [] run = tt
-marks_rise out s (e ∷ history) run = rises_behind e.move (bytes_eq e.printed (entry_text e)) s.calls e.after.calls (marks_of history) run.0.calls (marks_rise out e.after history run.1)
+marks_rise out s history run = marks_rise_by s history (calls_rise out s history run)
+
+-- RISING CALLS
+
+pub rise_calls : {C : Type 0} (s : State C) (h : List (Entry C)) → CallsRise s h → s.calls ≤ (end_of s h).calls
+rise_calls s [] p = omega arith
+rise_calls s (e ∷ h) p =
+    let first : s.calls ≤ e.after.calls = p.0 in
+    let rest : e.after.calls ≤ (end_of e.after h).calls = rise_calls e.after h p.1 in
+    omega arith
+
+pub rise_joined : {C : Type 0} (s : State C) (h k : List (Entry C)) → CallsRise s h → CallsRise (end_of s h) k → CallsRise s (h ++ k)
+rise_joined s [] k p q = q
+rise_joined s (e ∷ h) k p q = (p.0, rise_joined e.after h k p.1 q)
+
+pub rise_split : {C : Type 0} (s : State C) (h k : List (Entry C)) → CallsRise s (h ++ k) → CallsRise s h × CallsRise (end_of s h) k
+rise_split s [] k p = (tt, p)
+rise_split s (e ∷ h) k p = let q = rise_split e.after h k p.1 in ((p.0, q.0), q.1)
+
+-- UP TO THE FIRST THAT DOESN'T MEET A PREMISE
+
+pub moves_joined : {C : Type 0} (premise : Move → Type 0) (h k : List (Entry C)) → AllMoves premise h → AllMoves premise k → AllMoves premise (h ++ k)
+moves_joined premise [] k p q = q
+moves_joined premise (e ∷ h) k p q = (p.0, moves_joined premise h k p.1 q)
+
+pub moves_split : {C : Type 0} (premise : Move → Type 0) (h k : List (Entry C)) → AllMoves premise (h ++ k) → AllMoves premise h × AllMoves premise k
+moves_split premise [] k p = (tt, p)
+moves_split premise (e ∷ h) k p = let q = moves_split premise h k p.1 in ((p.0, q.0), q.1)
+
+pub while_joined : {C I : Type 0} (out : Outside C I) (premise : Move → Type 0) (s : State C) (h k : List (Entry C))
+    → IsRunWhile out premise s h → (AllMoves premise h → IsRunWhile out premise (end_of s h) k) → IsRunWhile out premise s (h ++ k)
+while_joined out premise s [] k p q = q tt
+while_joined out premise s (e ∷ h) k p q = λ meets. let r = p meets in (r.0, while_joined out premise e.after h k r.1 (λ all. q (meets, all)))
+
+pub while_front : {C I : Type 0} (out : Outside C I) (premise : Move → Type 0) (s : State C) (h k : List (Entry C)) → IsRunWhile out premise s (h ++ k) → IsRunWhile out premise s h
+while_front out premise s [] k p = tt
+while_front out premise s (e ∷ h) k p = λ meets. let r = p meets in (r.0, while_front out premise e.after h k r.1)
+
+pub while_rest : {C I : Type 0} (out : Outside C I) (premise : Move → Type 0) (s : State C) (h k : List (Entry C)) → IsRunWhile out premise s (h ++ k) → AllMoves premise h
+    → IsRunWhile out premise (end_of s h) k
+while_rest out premise s [] k p all = p
+while_rest out premise s (e ∷ h) k p all = while_rest out premise e.after h k (p all.0).1 all.1
+
+pub while_run : {C I : Type 0} (out : Outside C I) (premise : Move → Type 0) (s : State C) (h : List (Entry C)) → AllMoves premise h → IsRunWhile out premise s h → IsRun out s h
+while_run out premise s [] all run = tt
+while_run out premise s (e ∷ h) all run = let r = run all.0 in (r.0, while_run out premise e.after h all.1 r.1)
+
+pub run_while : {C I : Type 0} (out : Outside C I) (premise : Move → Type 0) (s : State C) (h : List (Entry C)) → IsRun out s h → IsRunWhile out premise s h
+run_while out premise s [] run = tt
+run_while out premise s (e ∷ h) run = λ meets. (run.0, run_while out premise e.after h run.1)
+
+-- what is told later of ended moments changes nothing
+move_past : {C I : Type 0} (out : Outside C I) (later : ℕ → I → Type 0) (s : State C) (move : Move) (t : State C)
+    → ((m : ℕ) (image : I) → m < t.calls → later m image → out.leaves m image) → IsMove out s move t → IsMove (record out { leaves = later }) s move t
+move_past out later s move t past p = record {
+  does = p.does;
+  caused = p.caused;
+  calls = p.calls;
+  images = λ m image from to left. p.images m image from to (past m image to left);
+  there = λ m image from to left. p.there m image from to (past m image to left);
+}
+
+pub while_past : {C I : Type 0} (out : Outside C I) (later : ℕ → I → Type 0) (premise : Move → Type 0) (s : State C) (h : List (Entry C))
+    → ((m : ℕ) (image : I) → m < (end_of s h).calls → later m image → out.leaves m image) → CallsRise s h
+    → IsRunWhile out premise s h → IsRunWhile (record out { leaves = later }) premise s h
+while_past out later premise s [] past rise p = tt
+while_past out later premise s (e ∷ h) past rise p = λ meets.
+    let q = p meets in
+    let rest : e.after.calls ≤ (end_of e.after h).calls = rise_calls e.after h rise.1 in
+    (move_past out later s e.move e.after (λ m image to left. past m image (omega arith) left) q.0, while_past out later premise e.after h past rise.1 q.1)

@@ -6,3 +6,4 @@ pub mod Spelling
 pub mod Canon
 pub mod EditLemmas
 pub mod Wholes
+pub mod Memory

@@ -256,6 +256,21 @@ abbrev pub IsRun : {Counts Image : Type 0} → Outside Counts Image → State Co
 IsRun out s [] = ⊤
 IsRun out s (e ∷ es) = IsMove out s e.move e.after × IsRun out e.after es
 
+-- a premise on each of these moves
+abbrev pub AllMoves : {Counts : Type 0} → (Move → Type 0) → List (Entry Counts) → Type 0
+AllMoves premise [] = ⊤
+AllMoves premise (e ∷ es) = premise e.move × AllMoves premise es
+
+-- The moves before the first that doesn't meet the premise are a run.
+abbrev pub IsRunWhile : {Counts Image : Type 0} → Outside Counts Image → (Move → Type 0) → State Counts → List (Entry Counts) → Type 0
+IsRunWhile out premise s [] = ⊤
+IsRunWhile out premise s (e ∷ es) = premise e.move → IsMove out s e.move e.after × IsRunWhile out premise e.after es
+
+-- the count of calls on the disks never falls, whatever the moves are
+abbrev pub CallsRise : {Counts : Type 0} → State Counts → List (Entry Counts) → Type 0
+CallsRise s [] = ⊤
+CallsRise s (e ∷ es) = (s.calls ≤ e.after.calls) × CallsRise e.after es
+
 -- the state after a run
 abbrev pub end_of : {Counts : Type 0} → State Counts → List (Entry Counts) → State Counts
 end_of s [] = s

@@ -2,11 +2,15 @@
 use Rattle.std.specs.Prelude.{◌⊎◌, ◌≡◌, ◌↔◌, ⊤, ℕ, ◌<◌, ◌≤◌, Bool, true, false, List, [], ◌∷◌, ◌++◌}
 use Rattle.asm_group.specs.Names.{Bytes}
 use Rattle.asm_group.specs.Group.{Group}
-use Rattle.asm_world.specs.Below.{Found}
+use Rattle.asm_group.specs.Refusal.{NoMemory}
+use Rattle.asm_world.specs.Below.{Below, Found}
 use Rattle.asm_world.specs.Between.{groups_between}
-use Rattle.asm_world.specs.Reply.{Reply}
-use Rattle.asm_world.specs.World.{groups_of}
-use Rattle.asm_world.specs.Run.{Outside, State, Entry, Move, Answers, Starts, Expires, Slices, Rests, IsMove, IsRun, IsThere, HeldBy, end_of, marks_of}
+use Rattle.asm_world.specs.Command.{Command}
+use Rattle.asm_world.specs.Reply.{Reply, Refused}
+use Rattle.asm_world.specs.Step.{Step}
+use Rattle.asm_world.specs.Waits.{HasLines}
+use Rattle.asm_world.specs.World.{World, groups_of}
+use Rattle.asm_world.specs.Run.{Outside, State, Entry, Move, Answers, Starts, Expires, Slices, Rests, IsMove, IsRun, IsRunWhile, AllMoves, CallsRise, IsThere, HeldBy, end_of, marks_of}
 
 -- A run of some moves and then of others is a run of them all, and each run of them all is that.
 abbrev pub RunsJoin : {Counts Image : Type 0} → Outside Counts Image → Type 0
@@ -78,3 +82,50 @@ RisesFrom low (n ∷ ns) = (low ≤ n) × RisesFrom n ns
 -- Marks never fall.
 abbrev pub MarksRise : {Counts Image : Type 0} → Outside Counts Image → Type 0
 MarksRise {Counts = Counts} out = (s : State Counts) (history : List (Entry Counts)) → IsRun out s history → RisesFrom s.calls (marks_of history)
+
+-- ---- moves up to the first that doesn't meet a premise
+
+-- All of some moves and of others meet it exactly where all of both do.
+abbrev pub PremisesJoin : Type 0 → (Move → Type 0) → Type 0
+PremisesJoin Counts premise = (first rest : List (Entry Counts)) → (AllMoves premise first × AllMoves premise rest) ↔ AllMoves premise (first ++ rest)
+
+-- They are a run in some moves, and in others behind these if all of these meet it, exactly where they are in all of both.
+abbrev pub WhilesJoin : {Counts Image : Type 0} → Outside Counts Image → (Move → Type 0) → Type 0
+WhilesJoin {Counts = Counts} out premise = (s : State Counts) (first rest : List (Entry Counts))
+    → (IsRunWhile out premise s first × (AllMoves premise first → IsRunWhile out premise (end_of s first) rest)) ↔ IsRunWhile out premise s (first ++ rest)
+
+-- Where all moves meet it, this says that they are a run.
+abbrev pub WhilesAreRuns : {Counts Image : Type 0} → Outside Counts Image → (Move → Type 0) → Type 0
+WhilesAreRuns {Counts = Counts} out premise = (s : State Counts) (history : List (Entry Counts))
+    → AllMoves premise history → IsRunWhile out premise s history ↔ IsRun out s history
+
+-- What is told later of ended moments changes nothing, as long as it allows no more images.
+abbrev pub WhilesStay : {Counts Image : Type 0} → Outside Counts Image → (Move → Type 0) → (ℕ → Image → Type 0) → Type 0
+WhilesStay {Counts = Counts} {Image = Image} out premise later = (s : State Counts) (history : List (Entry Counts))
+    → ((m : ℕ) (image : Image) → m < (end_of s history).calls → later m image → out.leaves m image)
+    → CallsRise s history → IsRunWhile out premise s history → IsRunWhile (record out { leaves = later }) premise s history
+
+-- ---- counts of calls
+
+-- What holds of the counts of calls of all moves, proved or not.
+pub record CallsGrow (Counts : Type 0) : Type 0 where
+  -- the count at the end is at least the first
+  pub reaches : (s : State Counts) (history : List (Entry Counts)) → CallsRise s history → s.calls ≤ (end_of s history).calls
+  -- one row of moves behind another
+  pub join : (s : State Counts) (first rest : List (Entry Counts)) → (CallsRise s first × CallsRise (end_of s first) rest) ↔ CallsRise s (first ++ rest)
+  -- then marks never fall
+  pub marks : (s : State Counts) (history : List (Entry Counts)) → CallsRise s history → RisesFrom s.calls (marks_of history)
+
+-- a run is such a row
+abbrev pub RunsCallMore : {Counts Image : Type 0} → Outside Counts Image → Type 0
+RunsCallMore {Counts = Counts} out = (s : State Counts) (history : List (Entry Counts)) → IsRun out s history → CallsRise s history
+
+-- ---- want of memory
+
+-- Want of memory may be the answer to any command: it may leave the world, and then it has no lines.
+pub record MemoryMayBeShort (below : Below) (w : World) (command : Command) : Type 0 where
+  pub stays : Step below w command (Refused [] NoMemory) w
+  pub no_lines : HasLines below w command (Refused [] NoMemory)
+
+abbrev pub MemoryIsShortAnywhere : Type 0
+MemoryIsShortAnywhere = (below : Below) (w : World) (command : Command) → MemoryMayBeShort below w command

@@ -1,10 +1,22 @@
 // Laws of all runs. Each function has an empty body: its contract is the law.
-ghost use Rattle.asm_world.specs.Run.{Outside};
+ghost use Rattle.std.specs.Prelude.{ℕ};
+ghost use Rattle.asm_world.specs.Run.{Outside, Move};
 ghost use Rattle.asm_world.specs.RunLaws.{RunsJoin, MomentsAreHeld, MountedAreThere, QuietMovesLeaveGroups, QuietMomentsAreHeld, HistoriesSplit, BetweenReplies, MarksRise};
+ghost use Rattle.asm_world.specs.RunLaws.{PremisesJoin, WhilesJoin, WhilesAreRuns, WhilesStay, CallsGrow, RunsCallMore, MemoryIsShortAnywhere};
 
 /// What runs are measured against, where C is counted of the outside, and I is an image of all disks.
 pub trait Measure<C, I> {
     ghost outside: { Outside C I };
+}
+
+/// A premise on moves, up to the first of which that doesn't meet it something is said.
+pub trait Premise {
+    ghost meets: { Move → Type 0 };
+}
+
+/// Which images a stop may leave, as it is told later.
+pub trait Later<I> {
+    ghost leaves: { ℕ → I → Type 0 };
 }
 
 /// A run of some moves and then of others is a run of them all, and each run of them all is that.
@@ -47,4 +59,39 @@ pub fn quiet_moments_are_held<C, I, M: Measure<C, I>>()
 /// In a row of moves no command is answered, or there is a first answer.
 pub fn histories_split<C>()
     ensures { HistoriesSplit C }
+{}
+
+/// All of some moves and of others meet a premise exactly where all of both do.
+pub fn premises_join<C, P: Premise>()
+    ensures { PremisesJoin C P.meets }
+{}
+
+/// Up to the first that doesn't meet a premise, moves are a run in two rows one after another exactly where they are in both.
+pub fn whiles_join<C, I, M: Measure<C, I>, P: Premise>()
+    ensures { WhilesJoin M.outside P.meets }
+{}
+
+/// Where all moves meet the premise, they are a run up to the first that doesn't exactly where they are a run.
+pub fn whiles_are_runs<C, I, M: Measure<C, I>, P: Premise>()
+    ensures { WhilesAreRuns M.outside P.meets }
+{}
+
+/// What is told later of moments that have ended changes nothing.
+pub fn whiles_stay<C, I, M: Measure<C, I>, P: Premise, L: Later<I>>()
+    ensures { WhilesStay M.outside P.meets L.leaves }
+{}
+
+/// Where the count of calls never falls, in one row of moves after another, marks never fall.
+pub fn calls_grow<C>()
+    ensures { CallsGrow C }
+{}
+
+/// In a run the count of calls never falls.
+pub fn runs_call_more<C, I, M: Measure<C, I>>()
+    ensures { RunsCallMore M.outside }
+{}
+
+/// Want of memory may be the answer to any command, and leave the world.
+pub fn memory_is_short_anywhere()
+    ensures { MemoryIsShortAnywhere }
 {}
