@@ -9,19 +9,19 @@ use Rattle.asm_group.specs.Names.{Bytes}
 use Rattle.asm_images.proofs.Spans.{widen_keeps}
 use Rattle.asm_images.specs.Bridge.{disks_in}
 use Rattle.asm_placement.proofs.Membership.{among_left}
-use Rattle.asm_world.proofs.Histories.{split, end_append, moments, mounted_are_there, quiet_leaves, quiet_held, between}
+use Rattle.asm_world.proofs.Histories.{split, end_append, moments, mounted_are_there, quiet_leaves, quiet_held, between, while_front, while_run}
 use Rattle.asm_world.specs.Below.{Found}
 use Rattle.asm_world.specs.Between.{groups_between}
 use Rattle.asm_world.specs.Reply.{Reply}
-use Rattle.asm_world.specs.Run.{State, Entry, Move, Answers, IsMove, IsRun, IsHeldNow, end_of}
+use Rattle.asm_world.specs.Run.{State, Entry, Move, AllMoves, Answers, IsMove, IsRun, IsRunWhile, IsHeldNow, end_of}
 use Rattle.asm_world.specs.RunLaws.{Grows, IsQuiet}
 use Rattle.asm_world.specs.World.{World, SessionEntry, groups_of, has_mounted, is_mounted}
 use Rattle.group_disks.specs.Creating.{Allows}
 use Rattle.group_disks.specs.Found.{Counts, counts_of}
 use Rattle.session.specs.Acts.{Holding}
-use Rattle.session.specs.Claims.{held_outside, StandsFor}
+use Rattle.session.specs.Claims.{held_outside, StandsFor, IsProvedApart}
 use Rattle.session.specs.Meaning.{meaning}
-use Rattle.asm.specs.Crash.{StartsAs, IsCrashSafe}
+use Rattle.asm.specs.Crash.{StartsAs, AreHeld, IsCrashSafe}
 
 -- an image that stands for some groups stands for more
 allows-more : (paths : List Bytes) (leaves : ℕ → Image → Type 0) → Grows (held_outside paths leaves)
@@ -76,32 +76,50 @@ to_end paths leaves first before quiet run q now m image id from to left =
           (subst R reaches now image id (subst L same left))
     ]
 
+are-held : (paths : List Bytes) (leaves : ℕ → Image → Type 0) (first : State Counts) (history : List (Entry Counts)) → IsRun (held_outside paths leaves) first history
+    → AreHeld paths leaves first history
+are-held paths leaves first history run =
+    let R : List (Entry Counts) → Type 0 = λ es. IsRun (held_outside paths leaves) first es in
+    record {
+      to_next = λ before quiet others answer found text reply cut q is m image id from to left.
+          to_next paths leaves first before quiet others answer found text reply (subst R cut run) q is m image id from to left;
+      moments = λ before rest cut m image from to left.
+          let T : List (Entry Counts) → Type 0 = λ es. m < (end_of first es).calls in
+          moments (held_outside paths leaves) first before rest m image (subst R cut run) from (subst T cut to) left;
+      there = λ before rest e cut m image id from to left was is.
+          mounted_are_there (held_outside paths leaves) first before rest e m image (subst R cut run) from to left id was is;
+    }
+
+pub held-before : (paths : List Bytes) (new : BayState) (first : State Counts) (history : List (Entry Counts)) (known : ℕ → Bool) (given : ℕ) (w : World)
+    → Holding known paths first history given new w → (before rest : List (Entry Counts)) → history ≡ before ++ rest → AllMoves (IsProvedApart known) before
+    → AreHeld paths new.leaves first before
+held-before paths new first history known given w h before rest cut all =
+    let R : List (Entry Counts) → Type 0 = λ es. IsRunWhile (held_outside paths new.leaves) (IsProvedApart known) first es in
+    are-held paths new.leaves first before (while_run (held_outside paths new.leaves) (IsProvedApart known) first before all
+    (while_front (held_outside paths new.leaves) (IsProvedApart known) first before rest (subst R cut h.held)))
+
 pub crash-safe : (paths : List Bytes) (new : BayState) (first end : State Counts) (history : List (Entry Counts)) (known : ℕ → Bool) (given : ℕ)
-    → end_of first history ≡ end → end.calls ≡ new.calls → Holding known paths first history given new end.world → IsCrashSafe paths new.leaves first history
-crash-safe paths new first end history known given ends calls h =
+    → end_of first history ≡ end → end.calls ≡ new.calls → AllMoves (IsProvedApart known) history → Holding known paths first history given new end.world → IsCrashSafe paths new.leaves first history
+crash-safe paths new first end history known given ends calls all h =
+    let run = while_run (held_outside paths new.leaves) (IsProvedApart known) first history all h.held in
+    let stands = h.now all in
     let now : IsHeldNow (held_outside paths new.leaves) (end_of first history) = λ image id left.
     let N : State Counts → Type 0 = λ s. new.leaves s.calls image in
     let L : ℕ → Type 0 = λ n. new.leaves n image in
     let G : State Counts → Type 0 = λ s. Allows id (groups_of s.world id) image in
-    subst G (sym ends) (h.now.allows image id (subst L calls (subst N ends left))) in
+    subst G (sym ends) (stands.allows image id (subst L calls (subst N ends left))) in
     let R : List (Entry Counts) → Type 0 = λ es. IsRun (held_outside paths new.leaves) first es in
     let H : List (Entry Counts) → Type 0 = λ es. IsHeldNow (held_outside paths new.leaves) (end_of first es) in
     record {
-      to_next = λ before quiet others answer found text reply cut q is m image id from to left.
-          to_next paths new.leaves first before quiet others answer found text reply (subst R cut h.held) q is m image id from to left;
+      held = are-held paths new.leaves first history run;
       to_end = λ before quiet cut q m image id from to left.
           let T : List (Entry Counts) → Type 0 = λ es. m ≤ (end_of first es).calls in
-          to_end paths new.leaves first before quiet (subst R cut h.held) q (subst H cut now) m image id from (subst T cut to) left;
-      moments = λ before rest cut m image from to left.
-          let T : List (Entry Counts) → Type 0 = λ es. m < (end_of first es).calls in
-          moments (held_outside paths new.leaves) first before rest m image (subst R cut h.held) from (subst T cut to) left;
-      there = λ before rest e cut m image id from to left was is.
-          mounted_are_there (held_outside paths new.leaves) first before rest e m image (subst R cut h.held) from to left id was is;
+          to_end paths new.leaves first before quiet (subst R cut run) q (subst H cut now) m image id from (subst T cut to) left;
       there_now = λ image id left is.
           let N : State Counts → Type 0 = λ s. new.leaves s.calls image in
           let L : ℕ → Type 0 = λ n. new.leaves n image in
           let M : State Counts → Type 0 = λ s. has_mounted s.world id ≡ true in
-          let k = h.now.mounted id (subst M ends is) in
+          let k = stands.mounted id (subst M ends is) in
           (k.1 image (subst L calls (subst N ends left))).standing;
       now = now;
     }

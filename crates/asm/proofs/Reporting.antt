@@ -1,12 +1,13 @@
 -- From what was served to the transcript of the whole run.
 use Rattle.std.proofs.Common.{◌≡◌, ◌≢◌, ◌⊎◌, ◌||◌, ℕ, ◌+◌, ◌<◌, ◌≤◌, Bool, true, false, if◌then◌else◌, MatchBool, List, [], ◌∷◌, ◌++◌, length, take, Option, Some, None, Result, Ok, Err, inl, inr, refl, sym, ◌∙◌, ap, subst, arith}
 use Rattle.std.proofs.lemmas.List.{append-nil, take_all}
+use Rattle.std.specs.Str.{bytes_eq}
 use Rattle.std.specs.Io.KnownBytes.{Consumes, IsAtEnd}
 use Rattle.bay.proofs.Known.{Appends-none}
 use Rattle.bay.specs.State.{BayState}
 use Rattle.asm_group.specs.Names.{Bytes}
-use Rattle.asm_world.proofs.Histories.{marks_rise}
-use Rattle.asm_world.specs.Run.{State, Phase, Resting, Entry, IsRun, IsPrinted, IsPrintedToCut, end_of, answered, marks_of, has_refusal}
+use Rattle.asm_world.specs.Run.{State, Phase, Resting, Entry, Move, Starts, Expires, Answers, Slices, Rests, IsPrinted, IsPrintedToCut, end_of, entry_text, answered, marks_at, marks_of, has_refusal}
+use Rattle.asm_world.proofs.Histories.{marks_rise_by}
 use Rattle.asm_world.specs.RunLaws.{RisesFrom}
 use Rattle.asm_world.specs.World.{World}
 use Rattle.group_disks.specs.Found.{Counts, counts_of}
@@ -14,12 +15,12 @@ use Rattle.script.specs.Script.{cut, commands_of, ended_commands}
 use Rattle.session.specs.declared.stop.Stop.{Stop}
 use Rattle.session.specs.declared.stop.Stop.TheVariants.{ReadFault, WriteFault, NoMemory, TooLong}
 use Rattle.session.specs.Acts.{Scene, scene, Acts}
-use Rattle.session.specs.Claims.{outside, held_outside, Premises}
 use Rattle.session.specs.Quiet.{quiet}
 use Rattle.session.specs.Serves.{limit, IsFront, IsAnswered, Serves, is_whole}
 use Rattle.asm.specs.Crash.{StartsAs}
 use Rattle.asm.specs.Headline.{first_state, status_number, Outcome, Transcript}
-use Rattle.asm.proofs.Crashes.{starts-stands, crash-safe}
+use Rattle.asm.proofs.Crashes.{starts-stands, held-before, crash-safe}
+use Rattle.asm_world.specs.Below.{GroupBelow}
 
 cut-from_printed : (h : List (Entry Counts)) → IsPrinted h → IsPrintedToCut h
 cut-from_printed [] p = tt
@@ -139,13 +140,13 @@ outcome-of (Err NoMemory) refused script commands history left end a e printed r
 -- ---- the transcript
 
 pub transcript-of : {C : Type 0} (gives : C → ℕ → C → Type 0) (paths : List Bytes) (served : Result (Unit {0}) Stop) (status : ℕ) (marks : List ℕ) (left left' taken taken' : Option Bytes)
-    (clock clock' : C) (old new : BayState) (given' time' : ℕ) (phase : Phase) (w w' : World) (marks' : List ℕ) (refused : Bool) →
+    (clock clock' : C) (old new : BayState) (given' time' : ℕ) (phase : Phase) (w w' : World) (below' : ℕ → GroupBelow) (marks' : List ℕ) (refused : Bool) →
     w.session ≡ [] → status ≡ status_number served refused → marks ≡ marks' → (is_whole served ≡ true → phase ≡ Resting) →
-    Serves gives paths served left left' (scene w Resting 0 0 old taken clock [] false) (scene w' phase time' given' new taken' clock' marks' refused) →
+    Serves gives paths served left left' (scene w quiet Resting 0 0 old taken clock [] false) (scene w' below' phase time' given' new taken' clock' marks' refused) →
     Transcript gives paths status marks left left' taken taken' clock clock' old new w
-transcript-of gives paths served status marks left left' taken taken' clock clock' old new given' time' phase w w' marks' refused none is_status is_marks rest s =
+transcript-of gives paths served status marks left left' taken taken' clock clock' old new given' time' phase w w' below' marks' refused none is_status is_marks rest s =
     let p = s.acts in
-    let end : State Counts = record { world = w'; below = quiet; phase = phase; time = time'; calls = new.calls; counts = counts_of new } in
+    let end : State Counts = record { world = w'; below = below'; phase = phase; time = time'; calls = new.calls; counts = counts_of new } in
     let all : marks ≡ marks_of p.history = is_marks ∙ p.marks_grow in
     let P : List ℕ → Type 0 = λ ms. RisesFrom old.calls ms in
     let Q : ℕ → Type 0 = λ n. Outcome n s.taken p.history left' end in
@@ -164,9 +165,11 @@ transcript-of gives paths served status marks left left' taken taken' clock cloc
       counts_are = refl;
       past = p.past;
       marks_are = all;
-      marks_rise = subst P (sym all) (marks_rise (outside paths new.leaves) (first_state w old) p.history p.run);
-      crash = λ known starts premises.
-          crash-safe paths new (first_state w old) end p.history known given' p.ends refl (p.holds known (starts-stands (length paths) known old w none starts) premises);
+      marks_rise = subst P (sym all) (marks_rise_by (first_state w old) p.history p.calls_rise);
+      crash_before = λ known starts before rest cut.
+          held-before paths new (first_state w old) p.history known given' w' (p.holds known (starts-stands (length paths) known old w none starts)) before rest cut;
+      crash = λ known starts all.
+          crash-safe paths new (first_state w old) end p.history known given' p.ends refl all (p.holds known (starts-stands (length paths) known old w none starts));
       outcome = subst Q (sym is_status) (outcome-of served refused s.taken s.commands p.history left' end s.are_answered p.commands_are p.printed rest p.refusal);
     }
 
@@ -197,8 +200,10 @@ transcript-none gives paths status marks left taken clock bay w first is none =
       past = λ m image before is. is;
       marks_are = none;
       marks_rise = subst P (sym none) tt;
-      crash = λ known starts premises.
-          crash-safe paths bay (first_state w bay) (first_state w bay) [] known 0 refl refl (record { held = tt; now = starts-stands (length paths) known bay w first starts });
+      crash_before = λ known starts before rest cut.
+          held-before paths bay (first_state w bay) [] known 0 w (record { held = tt; now = λ all. starts-stands (length paths) known bay w first starts }) before rest cut;
+      crash = λ known starts all.
+          crash-safe paths bay (first_state w bay) (first_state w bay) [] known 0 refl refl all (record { held = tt; now = λ all. starts-stands (length paths) known bay w first starts });
       outcome = record {
         usage = λ _. (refl, refl);
         short = omega arith;

@@ -1,21 +1,22 @@
 -- What a whole run of the program did.
-use Rattle.std.specs.Prelude.{◌≡◌, ◌≢◌, ℕ, ◌+◌, ◌≤◌, Bool, true, false, List, [], length, take, Option, Result, Ok, Err}
+use Rattle.std.specs.Prelude.{◌≡◌, ◌≢◌, ℕ, ◌+◌, ◌≤◌, Bool, true, false, List, [], ◌++◌, length, take, Option, Result, Ok, Err}
 use Rattle.std.specs.Io.KnownBytes.{Appends, Consumes, IsAtEnd}
 use Rattle.bay.specs.Readings.{Readings}
 use Rattle.bay.specs.State.{BayState}
 use Rattle.asm_group.specs.Names.{Bytes}
-use Rattle.asm_world.specs.Run.{State, Resting, Entry, IsRun, IsFull, IsPrinted, IsPrintedToCut, end_of, output_of, answered, times_of, marks_of, has_refusal}
+use Rattle.asm_world.specs.Run.{State, Resting, Entry, AllMoves, IsRunWhile, IsFull, IsPrinted, IsPrintedToCut, end_of, output_of, answered, times_of, marks_of, has_refusal}
 use Rattle.asm_world.specs.RunLaws.{RisesFrom}
 use Rattle.asm_world.specs.World.{World}
 use Rattle.group_disks.specs.Found.{Counts, counts_of}
 use Rattle.script.specs.Script.{commands_of, ended_commands}
 use Rattle.session.specs.declared.stop.Stop.{Stop}
 use Rattle.session.specs.declared.stop.Stop.TheVariants.{ReadFault, WriteFault, NoMemory, TooLong}
-use Rattle.session.specs.Claims.{outside, Premises}
+use Rattle.session.specs.Claims.{outside, IsProvedApart}
 use Rattle.session.specs.Effects.{Past}
+use Rattle.session.specs.Proved.{IsProved}
 use Rattle.session.specs.Quiet.{quiet}
 use Rattle.session.specs.Serves.{limit, IsFront}
-use Rattle.asm.specs.Crash.{StartsAs, IsCrashSafe}
+use Rattle.asm.specs.Crash.{StartsAs, AreHeld, IsCrashSafe}
 
 -- the status of a script that was read
 abbrev pub status_number : Result (Unit {0}) Stop → Bool → ℕ
@@ -69,8 +70,8 @@ pub record Transcript {C : Type 0} (gives : C → ℕ → C → Type 0) (paths :
   pub written : Appends taken taken' (output_of history)
   pub full : IsFull history
   pub printed : IsPrintedToCut history
-  -- each move is one that the world may make, and each reply has its cause
-  pub run : IsRun (outside paths new.leaves) (first_state w old) history
+  -- Up to the first that isn't proved, each move is one that the world may make, and each reply has its cause.
+  pub run : IsRunWhile (outside paths new.leaves) IsProved (first_state w old) history
   pub ends : end_of (first_state w old) history ≡ end
   pub times : Readings gives clock (times_of history) clock'
   pub calls_are : end.calls ≡ new.calls
@@ -78,6 +79,10 @@ pub record Transcript {C : Type 0} (gives : C → ℕ → C → Type 0) (paths :
   pub past : Past old new
   pub marks_are : marks ≡ marks_of history
   pub marks_rise : RisesFrom old.calls marks
-  -- Where the images at the start stand for the world, and each creation keeps the premises, each stop in the run leaves groups between.
-  pub crash : (known : ℕ → Bool) → StartsAs known old w → Premises known history → IsCrashSafe paths new.leaves (first_state w old) history
+  -- Where the images at the start stand for the world, each stop in the first moves leaves groups between, as long as these are proved,
+  -- and each creation among them keeps the premises.
+  pub crash_before : (known : ℕ → Bool) → StartsAs known old w → (before rest : List (Entry Counts)) → history ≡ before ++ rest → AllMoves (IsProvedApart known) before
+      → AreHeld paths new.leaves (first_state w old) before
+  -- the same of all moves, and of what a stop now leaves
+  pub crash : (known : ℕ → Bool) → StartsAs known old w → AllMoves (IsProvedApart known) history → IsCrashSafe paths new.leaves (first_state w old) history
   pub outcome : Outcome status script history left' end

@@ -7,7 +7,7 @@ mod program;
 #[cfg(test)]
 mod tests;
 
-use bay_file::{FileBay, StdSink, StdSource, SystemClock, hold_streams};
+use bay_file::{FileBay, FileHost, StdSink, StdSource, SystemClock, hold_streams};
 use command_line::Notice;
 use program::run;
 use std::alloc::{AllocError, Global};
@@ -37,11 +37,12 @@ fn answer(alloc: Global, rt: &HostRuntime) -> io::Result<u8> {
 
 /// Runs standard input on the images of files, and answers on standard output.
 fn run_words(alloc: Global, rt: &HostRuntime, words: &[String]) -> io::Result<u8> {
-    let mut bay = FileBay::new(rt.clone()?);
+    let bay = FileBay::new(rt.clone()?);
+    let host = FileHost::new(rt.clone()?);
     let mut source = StdSource::new(rt.clone()?);
-    let mut sink = StdSink::new(rt.clone()?);
-    let mut clock = SystemClock::new(rt.clone()?);
-    let report = run(alloc, words, &mut bay, &mut source, &mut sink, &mut clock);
+    let sink = StdSink::new(rt.clone()?);
+    let clock = SystemClock::new(rt.clone()?);
+    let report = run(alloc, words, bay, host, &mut source, sink, clock);
     Ok(report.status)
 }
 

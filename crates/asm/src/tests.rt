@@ -2,7 +2,7 @@
 use crate::formats_reader::{Stands, what_stands};
 use crate::program::{Report, run};
 use bay::Bay;
-use bay_mem::{MemBay, MemClock, MemSink, MemSource};
+use bay_mem::{MemBay, MemClock, MemHost, MemSink, MemSource};
 use std::alloc::{AllocError, Global};
 use std::test::Fail;
 
@@ -38,15 +38,15 @@ fn ran(
     alloc: Global,
     line: &str,
     script: &[u8],
-    bay: &mut MemBay,
+    bay: MemBay,
     faults: &Faults,
-) -> Result<(Report, MemSink), Fail> {
+) -> Result<Report<MemBay, MemHost, MemSink, MemClock>, Fail> {
     let words = words_of(alloc, line)?;
+    let host = MemHost::new(alloc, &[]).map_err(|_| "memory")?;
     let mut source = MemSource::new(alloc, script, faults.reads).map_err(|_| "memory")?;
-    let mut sink = MemSink::new(alloc, faults.writes).map_err(|_| "memory")?;
-    let mut clock = MemClock::new(alloc, &[43_200]).map_err(|_| "memory")?;
-    let report = run(alloc, &words, bay, &mut source, &mut sink, &mut clock);
-    Ok((report, sink))
+    let sink = MemSink::new(alloc, faults.writes).map_err(|_| "memory")?;
+    let clock = MemClock::new(alloc, &[43_200]).map_err(|_| "memory")?;
+    Ok(run(alloc, &words, bay, host, &mut source, sink, clock))
 }
 
 fn bay_of(alloc: Global, size: u64) -> Result<MemBay, Fail> {
@@ -63,10 +63,12 @@ fn words_that_name_no_images_are_refused(rt: HostRuntime) -> Result<(), Fail> {
         "--generate 7 a b c d",
         "--help",
     ] {
-        let mut bay = bay_of(alloc, 25 * MB)?;
-        let (report, sink) = ran(alloc, line, CREATE, &mut bay, &NONE)?;
+        let bay = bay_of(alloc, 25 * MB)?;
+        let report = ran(alloc, line, CREATE, bay, &NONE)?;
         assert_eq!(rt; report.status, 2, "at {line}");
-        assert!(rt; report.replies == 0 && sink.bytes().is_empty() && bay.calls() == 0);
+        assert!(rt;
+            report.replies == 0 && report.sink.bytes().is_empty() && report.bay.calls() == 0
+        );
     }
     Ok(())
 }
@@ -123,7 +125,7 @@ fn scripts_are_answered(rt: HostRuntime) -> Result<(), Fail> {
             megabytes: 25,
             script: b"pwd\nDROP DISKGROUP 'x;';",
             status: 1,
-            output: b"error 1 Syntax 0\nerror 1 Syntax 15\n",
+            output: b"+\nok\nerror 1 Syntax 15\n",
             replies: 2,
         },
         Row {
@@ -141,6 +143,20 @@ fn scripts_are_answered(rt: HostRuntime) -> Result<(), Fail> {
             replies: 1,
         },
         Row {
+            megabytes: 25,
+            script: b"pwd\nCREATE DISKGROUP DATA EXTERNAL REDUNDANCY DISK '/d0';\npwd\nlsx\n",
+            status: 1,
+            output: b"+\nok\nok\n+\nok\nerror 1 Syntax 2\n",
+            replies: 4,
+        },
+        Row {
+            megabytes: 25,
+            script: b"CREATE DISKGROUP DATA EXTERNAL REDUNDANCY DISK '/d0';\nALTER DISKGROUP data DISMOUNT;\nALTER DISKGROUP data DISMOUNT;\nCREATE DISKGROUP DATA EXTERNAL REDUNDANCY DISK '/d0';\n",
+            status: 1,
+            output: b"ok\nok\nerror 2 NoGroup\nerror 6 DiskTaken /d0\n",
+            replies: 4,
+        },
+        Row {
             megabytes: 24,
             script: b"CREATE DISKGROUP G23456789012345678901234567890 EXTERNAL REDUNDANCY DISK '/d0';",
             status: 1,
@@ -150,13 +166,13 @@ fn scripts_are_answered(rt: HostRuntime) -> Result<(), Fail> {
     ];
     let alloc = rt.alloc();
     for row in rows {
-        let mut bay = bay_of(alloc, row.megabytes * MB)?;
-        let (report, sink) = ran(alloc, "/d0", row.script, &mut bay, &NONE)?;
-        assert_eq!(rt; sink.bytes(), row.output);
+        let bay = bay_of(alloc, row.megabytes * MB)?;
+        let report = ran(alloc, "/d0", row.script, bay, &NONE)?;
+        assert_eq!(rt; report.sink.bytes(), row.output);
         assert_eq!(rt; report.status, row.status);
         assert_eq!(rt; report.replies, row.replies);
         if let Some(last) = report.marks.last() {
-            assert_eq!(rt; *last, bay.calls());
+            assert_eq!(rt; *last, report.bay.calls());
         }
     }
     Ok(())
@@ -169,7 +185,7 @@ fn texts_are_refused_at_their_places(rt: HostRuntime) -> Result<(), Fail> {
     let rows: [(&[u8], &[u8]); 12] = [
         (b"ALTER DISKGROUP data ADD", b"error 1 Syntax 24\n"),
         (b"pwd\r\n", b"error 1 Syntax 3\n"),
-        (b"pwd \n", b"error 1 Syntax 0\n"),
+        (b"ls \n", b"error 1 Syntax 0\n"),
         (b"lsx", b"error 1 Syntax 2\n"),
         (b"LS", b"error 1 Syntax 0\n"),
         (b"CREx", b"error 1 Syntax 3\n"),
@@ -193,10 +209,10 @@ fn texts_are_refused_at_their_places(rt: HostRuntime) -> Result<(), Fail> {
         ),
     ];
     for (script, output) in rows {
-        let mut bay = bay_of(alloc, 25 * MB)?;
-        let (report, sink) = ran(alloc, "/d0", script, &mut bay, &NONE)?;
-        assert_eq!(rt; sink.bytes(), output);
-        assert!(rt; report.status == 1 && report.replies == 1 && bay.calls() == 0);
+        let bay = bay_of(alloc, 25 * MB)?;
+        let report = ran(alloc, "/d0", script, bay, &NONE)?;
+        assert_eq!(rt; report.sink.bytes(), output);
+        assert!(rt; report.status == 1 && report.replies == 1 && report.bay.calls() == 0);
     }
     Ok(())
 }
@@ -206,10 +222,10 @@ fn every_prefix_of_a_statement_is_refused_at_its_length(rt: HostRuntime) -> Resu
     let alloc = rt.alloc();
     let text = b"ALTER DISKGROUP data DROP DISK d1 FORCE;";
     for len in 1..40usize {
-        let mut bay = bay_of(alloc, 25 * MB)?;
-        let (report, sink) = ran(alloc, "/d0", &text[..len], &mut bay, &NONE)?;
+        let bay = bay_of(alloc, 25 * MB)?;
+        let report = ran(alloc, "/d0", &text[..len], bay, &NONE)?;
         let line = format!(in alloc; "error 1 Syntax {len}\n")?;
-        assert_eq!(rt; sink.bytes(), line.as_bytes());
+        assert_eq!(rt; report.sink.bytes(), line.as_bytes());
         assert_eq!(rt; report.status, 1);
     }
     Ok(())
@@ -223,9 +239,9 @@ fn one_statement_has_many_spellings(rt: HostRuntime) -> Result<(), Fail> {
         b"create\tdiskgroup Data\nexternal redundancy\ndisk'/d0';".as_slice(),
         b"CREATE DISKGROUP DATA EXTERNAL REDUNDANCY REGULAR DISK '/d0' NOFORCE;".as_slice(),
     ] {
-        let mut bay = bay_of(alloc, 25 * MB)?;
-        let (report, sink) = ran(alloc, "/d0", script, &mut bay, &NONE)?;
-        assert_eq!(rt; sink.bytes(), b"ok\n".as_slice());
+        let bay = bay_of(alloc, 25 * MB)?;
+        let report = ran(alloc, "/d0", script, bay, &NONE)?;
+        assert_eq!(rt; report.sink.bytes(), b"ok\n".as_slice());
         assert_eq!(rt; report.status, 0);
     }
     Ok(())
@@ -234,11 +250,12 @@ fn one_statement_has_many_spellings(rt: HostRuntime) -> Result<(), Fail> {
 #[test]
 fn groups_stay_over_runs(rt: HostRuntime) -> Result<(), Fail> {
     let alloc = rt.alloc();
-    let mut bay = bay_of(alloc, 25 * MB)?;
-    let (_first, _ok) = ran(alloc, "/d0", CREATE, &mut bay, &NONE)?;
+    let bay = bay_of(alloc, 25 * MB)?;
+    let first = ran(alloc, "/d0", CREATE, bay, &NONE)?;
+    let mut bay = first.bay;
     bay.restart();
-    let (report, sink) = ran(alloc, "/d0", CREATE, &mut bay, &NONE)?;
-    assert_eq!(rt; sink.bytes(), b"error 6 DiskTaken /d0\n".as_slice());
+    let report = ran(alloc, "/d0", CREATE, bay, &NONE)?;
+    assert_eq!(rt; report.sink.bytes(), b"error 6 DiskTaken /d0\n".as_slice());
     assert_eq!(rt; report.status, 1);
     Ok(())
 }
@@ -246,39 +263,39 @@ fn groups_stay_over_runs(rt: HostRuntime) -> Result<(), Fail> {
 #[test]
 fn failing_streams_end_the_run(rt: HostRuntime) -> Result<(), Fail> {
     let alloc = rt.alloc();
-    let mut bay = bay_of(alloc, 25 * MB)?;
+    let bay = bay_of(alloc, 25 * MB)?;
     let reads = Faults {
         reads: &[2],
         ..NONE
     };
-    let (report, sink) = ran(alloc, "/d0", b"pwd\nls", &mut bay, &reads)?;
+    let report = ran(alloc, "/d0", b"lsdg\nls", bay, &reads)?;
     assert!(rt; report.status == 3 && report.replies == 1);
-    assert_eq!(rt; sink.bytes(), b"error 1 Syntax 0\n".as_slice());
+    assert_eq!(rt; report.sink.bytes(), b"error 1 Syntax 0\n".as_slice());
     let writes = Faults {
         writes: &[2],
         ..NONE
     };
-    let (report, sink) = ran(alloc, "/d0", b"pwd\nls\nls\n", &mut bay, &writes)?;
+    let report = ran(alloc, "/d0", b"lsdg\nls\nls\n", report.bay, &writes)?;
     assert!(rt; report.status == 4 && report.replies == 1);
-    assert_eq!(rt; sink.bytes(), b"error 1 Syntax 0\n".as_slice());
+    assert_eq!(rt; report.sink.bytes(), b"error 1 Syntax 0\n".as_slice());
     Ok(())
 }
 
 // How many calls a creation makes on a disk of zeros.
 fn calls_of_creation(alloc: Global) -> Result<u64, Fail> {
-    let mut bay = bay_of(alloc, 25 * MB)?;
-    let (_report, _sink) = ran(alloc, "/d0", CREATE, &mut bay, &NONE)?;
-    Ok(bay.calls())
+    let bay = bay_of(alloc, 25 * MB)?;
+    let report = ran(alloc, "/d0", CREATE, bay, &NONE)?;
+    Ok(report.bay.calls())
 }
 
 // The directory region, of 1,024 record blocks, is zeroed in large writes; of the rest of the disk little is written.
 #[test]
 fn creation_writes_little(rt: HostRuntime) -> Result<(), Fail> {
-    let mut bay = bay_of(rt.alloc(), 64 * MB)?;
-    let (report, _sink) = ran(rt.alloc(), "/d0", CREATE, &mut bay, &NONE)?;
+    let bay = bay_of(rt.alloc(), 64 * MB)?;
+    let report = ran(rt.alloc(), "/d0", CREATE, bay, &NONE)?;
     assert_eq!(rt; report.status, 0);
-    assert!(rt; bay.calls() <= 80);
-    assert!(rt; bay.written(0) <= 4 * MB + 128 * 1_024);
+    assert!(rt; report.bay.calls() <= 80);
+    assert!(rt; report.bay.written(0) <= 4 * MB + 128 * 1_024);
     Ok(())
 }
 
@@ -290,9 +307,9 @@ fn failing_calls_are_answered(rt: HostRuntime) -> Result<(), Fail> {
     for call in 1..=calls {
         let mut bay = bay_of(alloc, 25 * MB)?;
         bay.fail_at(call).map_err(|_| "memory")?;
-        let (report, sink) = ran(alloc, "/d0", CREATE, &mut bay, &NONE)?;
-        let no_disk = sink.bytes() == b"error 5 NoDisk /d0\n".as_slice();
-        let fault = sink.bytes() == b"error 31 WriteFault DATA_0000\n".as_slice();
+        let report = ran(alloc, "/d0", CREATE, bay, &NONE)?;
+        let no_disk = report.sink.bytes() == b"error 5 NoDisk /d0\n".as_slice();
+        let fault = report.sink.bytes() == b"error 31 WriteFault DATA_0000\n".as_slice();
         assert!(rt; if call == 1 { no_disk } else { fault }, "at call {call}");
         assert_eq!(rt; report.status, 1, "at call {call}");
     }
@@ -310,7 +327,8 @@ fn stops_leave_the_group_or_none(rt: HostRuntime) -> Result<(), Fail> {
     for stop in (0..=calls).rev() {
         let mut bay = bay_of(alloc, 25 * MB)?;
         bay.stop_after(stop);
-        let (report, _sink) = ran(alloc, "/d0", CREATE, &mut bay, &NONE)?;
+        let report = ran(alloc, "/d0", CREATE, bay, &NONE)?;
+        let mut bay = report.bay;
         bay.restart();
         let stands = what_stands(alloc, &mut bay).map_err(|_| "memory")?;
         assert!(rt; stands != Stands::Otherwise, "at call {stop}");
@@ -318,9 +336,9 @@ fn stops_leave_the_group_or_none(rt: HostRuntime) -> Result<(), Fail> {
         assert!(rt; !is_there || stood, "at call {stop}");
         assert!(rt; is_there || report.status == 1, "at call {stop}");
         stood = is_there;
-        let (_again, sink) = ran(alloc, "/d0", OTHER, &mut bay, &NONE)?;
-        let free = sink.bytes() == b"ok\n".as_slice();
-        let taken = sink.bytes() == b"error 6 DiskTaken /d0\n".as_slice();
+        let again = ran(alloc, "/d0", OTHER, bay, &NONE)?;
+        let free = again.sink.bytes() == b"ok\n".as_slice();
+        let taken = again.sink.bytes() == b"error 6 DiskTaken /d0\n".as_slice();
         assert!(rt; free || taken, "at call {stop}");
         assert!(rt; free || was_taken, "at call {stop}");
         assert!(rt; taken || !is_there, "at call {stop}");

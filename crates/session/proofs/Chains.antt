@@ -8,54 +8,13 @@ use Rattle.bay.specs.Image.{Image}
 use Rattle.bay.specs.Readings.{Readings}
 use Rattle.bay.proofs.Known.{Appends-none, Appends-more}
 use Rattle.asm_group.specs.Names.{Bytes}
-use Rattle.asm_world.specs.Run.{Outside, State, Entry, Move, Full, IsMove, IsRun, end_of, entry_text, IsFull, IsPrinted, IsPrintedToCut, output_of, commands_at, answered, times_at, times_of, marks_at, marks_of, refuses, has_refusal}
-use Rattle.asm_world.proofs.Histories.{joined, end_append}
+use Rattle.asm_world.specs.Run.{Outside, State, Entry, Move, Full, IsMove, end_of, entry_text, IsFull, IsPrinted, IsPrintedToCut, output_of, commands_at, answered, times_at, times_of, marks_at, marks_of, refuses, has_refusal}
+use Rattle.asm_world.proofs.Histories.{end_append, rise_calls, rise_joined, moves_split, while_joined, while_past}
 use Rattle.group_disks.specs.Found.{Counts}
-use Rattle.session.specs.Claims.{outside, held_outside, StandsFor, CreatesApart, Premises}
+use Rattle.session.specs.Claims.{outside, held_outside, StandsFor, IsProvedApart}
 use Rattle.session.specs.Effects.{Past}
+use Rattle.session.specs.Proved.{IsProved}
 use Rattle.session.specs.Acts.{Scene, state_of, Acts}
-
-pub run-calls : {I : Type 0} (out : Outside Counts I) (s : State Counts) (h : List (Entry Counts)) → IsRun out s h → s.calls ≤ (end_of s h).calls
-run-calls out s [] p = omega arith
-run-calls out s (e ∷ h) p =
-    let first : s.calls ≤ e.after.calls = p.0.calls in
-    let rest : e.after.calls ≤ (end_of e.after h).calls = run-calls out e.after h p.1 in
-    omega arith
-
--- what is told later of ended moments changes nothing
-pub run-past : (paths : List Bytes) (old new : ℕ → Image → Type 0) (s : State Counts) (h : List (Entry Counts))
-    → ((m : ℕ) (image : Image) → m < (end_of s h).calls → new m image → old m image) → IsRun (outside paths old) s h → IsRun (outside paths new) s h
-run-past paths old new s [] past p = tt
-run-past paths old new s (e ∷ h) past p =
-    let rest : e.after.calls ≤ (end_of e.after h).calls = run-calls (outside paths old) e.after h p.1 in (
-      record {
-        does = p.0.does;
-        caused = p.0.caused;
-        calls = p.0.calls;
-        images = λ m image from to left. p.0.images m image from to (past m image (omega arith) left);
-        there = λ m image from to left. p.0.there m image from to (past m image (omega arith) left);
-      },
-      run-past paths old new e.after h past p.1,
-    )
-
-pub held-past : (paths : List Bytes) (old new : ℕ → Image → Type 0) (s : State Counts) (h : List (Entry Counts))
-    → ((m : ℕ) (image : Image) → m < (end_of s h).calls → new m image → old m image) → IsRun (held_outside paths old) s h → IsRun (held_outside paths new) s h
-held-past paths old new s [] past p = tt
-held-past paths old new s (e ∷ h) past p =
-    let rest : e.after.calls ≤ (end_of e.after h).calls = run-calls (held_outside paths old) e.after h p.1 in (
-      record {
-        does = p.0.does;
-        caused = p.0.caused;
-        calls = p.0.calls;
-        images = λ m image from to left. p.0.images m image from to (past m image (omega arith) left);
-        there = λ m image from to left. p.0.there m image from to (past m image (omega arith) left);
-      },
-      held-past paths old new e.after h past p.1,
-    )
-
-premises-split : (known : ℕ → Bool) (h k : List (Entry Counts)) → Premises known (h ++ k) → Premises known h × Premises known k
-premises-split known [] k p = (tt, p)
-premises-split known (e ∷ h) k p = let q = premises-split known h k p.1 in ((p.0, q.0), q.1)
 
 full-append : (h k : List (Entry Counts)) → IsFull h → IsFull k → IsFull (h ++ k)
 full-append [] k p q = q
@@ -100,10 +59,11 @@ pub acts-none : {C : Type 0} (gives : C → ℕ → C → Type 0) (paths : List 
 acts-none gives paths a = record {
   history = [];
   run = tt;
+  calls_rise = tt;
   ends = refl;
   commands_are = refl;
   past = λ m image before left. left;
-  holds = λ known stands premises. record { held = tt; now = stands };
+  holds = λ known stands. record { held = tt; now = λ all. stands };
   full = tt;
   printed = tt;
   written = Appends-none a.taken;
@@ -117,20 +77,24 @@ pub acts-then : {C : Type 0} (gives : C → ℕ → C → Type 0) (paths : List 
 acts-then gives paths whole xs ys a b c p q =
     let until : (end_of (state_of a) p.history).calls ≡ b.bay.calls = ap (λ (s : State Counts). s.calls) p.ends in
     let past : (m : ℕ) (image : Image) → m < (end_of (state_of a) p.history).calls → c.bay.leaves m image → b.bay.leaves m image = λ m image before. q.past m image (omega arith) in
-    let reaches : a.bay.calls ≤ b.bay.calls = omega (arith, run-calls (outside paths b.bay.leaves) (state_of a) p.history p.run) in
+    let reaches : a.bay.calls ≤ b.bay.calls = omega (arith, rise_calls (state_of a) p.history p.calls_rise) in
     record {
       history = p.history ++ q.history;
-      run = joined (outside paths c.bay.leaves) (state_of a) p.history q.history (run-past paths b.bay.leaves c.bay.leaves (state_of a) p.history past p.run, rw p.ends q.run);
+      run = while_joined (outside paths c.bay.leaves) IsProved (state_of a) p.history q.history
+          (while_past (outside paths b.bay.leaves) c.bay.leaves IsProved (state_of a) p.history past p.calls_rise p.run) (λ all. rw p.ends q.run);
+      calls_rise = rise_joined (state_of a) p.history q.history p.calls_rise (rw p.ends q.calls_rise);
       ends = end_append (state_of a) p.history q.history ∙ ap (λ s. end_of s q.history) p.ends ∙ q.ends;
       commands_are = flat_map-append (λ e. commands_at e.move) p.history q.history ∙ ap (λ zs. zs ++ answered q.history) p.commands_are ∙ ap (λ zs. xs ++ zs) q.commands_are;
       past = λ m image before left. p.past m image before (q.past m image (omega arith) left);
-      holds = λ known stands premises.
-          let split = premises-split known p.history q.history premises in
-          let first = p.holds known stands split.0 in
-          let second = q.holds known first.now split.1 in
+      holds = λ known stands.
+          let first = p.holds known stands in
           record {
-            held = joined (held_outside paths c.bay.leaves) (state_of a) p.history q.history (held-past paths b.bay.leaves c.bay.leaves (state_of a) p.history past first.held, rw p.ends second.held);
-            now = second.now;
+            held = while_joined (held_outside paths c.bay.leaves) (IsProvedApart known) (state_of a) p.history q.history
+                (while_past (held_outside paths b.bay.leaves) c.bay.leaves (IsProvedApart known) (state_of a) p.history past p.calls_rise first.held)
+                (λ all. rw p.ends (q.holds known (first.now all)).held);
+            now = λ all.
+                let split = moves_split (IsProvedApart known) p.history q.history all in
+                (q.holds known (first.now split.0)).now split.1;
           };
       full = full-append p.history q.history p.full q.full;
       printed = either-append whole p.history q.history p.printed q.printed;
@@ -146,6 +110,7 @@ pub acts-cut : {C : Type 0} (gives : C → ℕ → C → Type 0) (paths : List B
 acts-cut gives paths xs a b p = record {
   history = p.history;
   run = p.run;
+  calls_rise = p.calls_rise;
   ends = p.ends;
   commands_are = p.commands_are;
   past = p.past;
@@ -170,9 +135,10 @@ entry move printed after = record { move = move; style = Full; printed = printed
 
 -- what one move needs to be one of a part of the program
 pub record OneMove {C : Type 0} (gives : C → ℕ → C → Type 0) (paths : List Bytes) (whole : Bool) (move : Move) (text : List ℕ) (old new : Scene C) : Type 0 where
-  pub does : IsMove (outside paths new.bay.leaves) (state_of old) move (state_of new)
+  pub does : IsProved move → IsMove (outside paths new.bay.leaves) (state_of old) move (state_of new)
+  pub calls : old.bay.calls ≤ new.bay.calls
   pub past : Past old.bay new.bay
-  pub holds : (known : ℕ → Bool) → StandsFor (length paths) known old.given old.bay old.world → CreatesApart known move
+  pub holds : (known : ℕ → Bool) → StandsFor (length paths) known old.given old.bay old.world → IsProvedApart known move
       → IsMove (held_outside paths new.bay.leaves) (state_of old) move (state_of new) × StandsFor (length paths) known new.given new.bay new.world
   pub texts : MatchBool whole (text ≡ entry_text (entry move text (state_of new))) ((rest : List ℕ) × (entry_text (entry move text (state_of new)) ≡ text ++ rest))
   pub written : Appends old.taken new.taken text
@@ -184,11 +150,12 @@ pub acts-one : {C : Type 0} (gives : C → ℕ → C → Type 0) (paths : List B
     OneMove gives paths whole move text old new → Acts gives paths whole (commands_at move) old new
 acts-one gives paths whole move text old new one = record {
   history = entry move text (state_of new) ∷ [];
-  run = (one.does, tt);
+  run = λ proved. (one.does proved, tt);
+  calls_rise = (one.calls, tt);
   ends = refl;
   commands_are = append-nil (commands_at move);
   past = one.past;
-  holds = λ known stands premises. let both = one.holds known stands premises.0 in record { held = (both.0, tt); now = both.1 };
+  holds = λ known stands. record { held = λ meets. ((one.holds known stands meets).0, tt); now = λ all. (one.holds known stands all.0).1 };
   full = (refl, tt);
   printed = one-printed whole move text (state_of new) one.texts;
   written = rw append-nil one.written;

@@ -6,27 +6,32 @@ use Rattle.std.specs.Io.KnownBytes.{Appends}
 use Rattle.std.proofs.lemmas.List.{append-nil, length-append}
 use Rattle.std.proofs.lemmas.Slice.Eq.{bytes_eq-Decides}
 use Rattle.bay.specs.State.{BayState}
+use Rattle.bay.specs.declared.disk.Bay as Bay
+use Rattle.bay.specs.declared.host.Host as Host
+use Rattle.bay.specs.declared.stream.Sink as Sink
+use Rattle.bay.specs.declared.stream.Clock as Clock
 use Rattle.bay.specs.Readings.{Readings}
 use Rattle.bay.proofs.Known.{Appends-none}
 use Rattle.asm_group.specs.Names.{Bytes}
 use Rattle.asm_group.specs.Refusal as r
-use Rattle.asm_world.specs.Below.{Found}
+use Rattle.asm_world.specs.Below.{Found, GroupBelow}
 use Rattle.asm_world.specs.Reply.{Reply, Refused}
 use Rattle.asm_world.specs.Text.{reply_text}
 use Rattle.asm_world.specs.World.{World, SessionEntry, entry_in, is_mounted}
 use Rattle.asm_world.specs.Run.{Phase, Resting, Expiring, Slicing, Starts, Answers, Rests, AnswersAt, next_expiry, next_slice, below_of_entry, expiring_of, due_resync, due_rebalance, slices_of, mounted_groups, phase_after, is_refusal, times_of}
-use Rattle.session.specs.Acts.{scene, state_of, Acts, unread}
+use Rattle.session.specs.Acts.{scene, state_of, Acts}
 use Rattle.asm_world.specs.Waits.{HasLines}
 use Rattle.group_disks.specs.Found.{Counts, counts_of}
-use Rattle.session.specs.Counts.{ReplyCause}
 use Rattle.session.specs.Meaning.{meaning}
-use Rattle.session.specs.Effects.{HasEffect, below_with}
+use Rattle.session.specs.Effects.{HasEffect, IsServed, below_with}
 use Rattle.session.specs.Quiet.{quiet}
-use Rattle.session.specs.Sessions.{SessionView, Knows}
-use Rattle.session.specs.Stops.{IsReplyOrNoMemory, IsPart}
+use Rattle.session.specs.Desks.{paths_on}
+use Rattle.session.specs.Programs.{scene_of, AnswersOne, RunsOne}
+use Rattle.session.specs.Stops.{IsReplyOrNoMemory}
+use Rattle.session.specs.declared.program.Program.{Program}
 use Rattle.session.specs.declared.stop.Stop.{Stop}
-use Rattle.session.proofs.Chains.{acts-one, acts-then, or-false}
-use Rattle.session.proofs.Reading.{ReadAs, creates, refuses_at, read_as}
+use Rattle.session.proofs.Chains.{acts-none, acts-one, acts-then, acts-cut, or-false}
+use Rattle.asm_world.proofs.Memory.{no_lines}
 
 -- ---- nothing is due
 
@@ -76,11 +81,12 @@ pushed marks marks' x calls (Err y) e ok is = absurd cc
 
 -- ---- the moves
 
-pub acts-starts : {C : Type 0} (gives : C → ℕ → C → Type 0) (paths : List Bytes) (w : World) (time time' given : ℕ) (bay : BayState) (taken : Option (List ℕ)) (clock clock' : C) (marks : List ℕ) (refused : Bool)
-    → gives clock time' clock' → Acts gives paths true [] (scene w Resting time given bay taken clock marks refused) (scene w (Expiring (mounted_groups w.session)) time' given bay taken clock' marks refused)
-acts-starts gives paths w time time' given bay taken clock clock' marks refused g = acts-one gives paths true (Starts time') []
-    (scene w Resting time given bay taken clock marks refused) (scene w (Expiring (mounted_groups w.session)) time' given bay taken clock' marks refused) (record {
-      does = record { does = record { before = refl; after = refl; world = refl; time_is = refl }; caused = tt; calls = omega arith; images = λ m image from before left id. tt; there = λ m image from before left id was is. tt };
+pub acts-starts : {C : Type 0} (gives : C → ℕ → C → Type 0) (paths : List Bytes) (w : World) (below : ℕ → GroupBelow) (time time' given : ℕ) (bay : BayState) (taken : Option (List ℕ)) (clock clock' : C) (marks : List ℕ) (refused : Bool)
+    → gives clock time' clock' → Acts gives paths true [] (scene w below Resting time given bay taken clock marks refused) (scene w below (Expiring (mounted_groups w.session)) time' given bay taken clock' marks refused)
+acts-starts gives paths w below time time' given bay taken clock clock' marks refused g = acts-one gives paths true (Starts time') []
+    (scene w below Resting time given bay taken clock marks refused) (scene w below (Expiring (mounted_groups w.session)) time' given bay taken clock' marks refused) (record {
+      does = λ _. record { does = record { before = refl; after = refl; world = refl; time_is = refl }; caused = tt; calls = omega arith; images = λ m image from before left id. tt; there = λ m image from before left id was is. tt };
+      calls = omega arith;
       past = λ m image before left. left;
       holds = λ known stands apart. (record { does = record { before = refl; after = refl; world = refl; time_is = refl }; caused = tt; calls = omega arith; images = λ m image from before left id. absurd (omega (arith, from, before)); there = λ m image from before left id was is. absurd (omega (arith, from, before)) }, stands);
       texts = refl;
@@ -90,13 +96,14 @@ acts-starts gives paths w time time' given bay taken clock clock' marks refused 
       refusal = sym (or-false refused);
     })
 
-pub acts-rests : {C : Type 0} (gives : C → ℕ → C → Type 0) (paths : List Bytes) (w : World) (time given : ℕ) (bay : BayState) (taken : Option (List ℕ)) (clock : C) (marks : List ℕ) (refused : Bool)
-    → Acts gives paths true [] (scene w (Slicing (slices_of (mounted_groups w.session))) time given bay taken clock marks refused) (scene w Resting time given bay taken clock marks refused)
-acts-rests gives paths w time given bay taken clock marks refused = acts-one gives paths true Rests []
-    (scene w (Slicing (slices_of (mounted_groups w.session))) time given bay taken clock marks refused) (scene w Resting time given bay taken clock marks refused) (record {
-      does = record { does = record { slices = slices_of (mounted_groups w.session); before = refl; none_due = none_due w (mounted_groups w.session); after = refl; world = refl; time = refl }; caused = tt; calls = omega arith; images = λ m image from before left id. tt; there = λ m image from before left id was is. tt };
+pub acts-rests : {C : Type 0} (gives : C → ℕ → C → Type 0) (paths : List Bytes) (w : World) (below : ℕ → GroupBelow) (time given : ℕ) (bay : BayState) (taken : Option (List ℕ)) (clock : C) (marks : List ℕ) (refused : Bool)
+    → next_slice w below (slices_of (mounted_groups w.session)) ≡ None → Acts gives paths true [] (scene w below (Slicing (slices_of (mounted_groups w.session))) time given bay taken clock marks refused) (scene w below Resting time given bay taken clock marks refused)
+acts-rests gives paths w below time given bay taken clock marks refused due = acts-one gives paths true Rests []
+    (scene w below (Slicing (slices_of (mounted_groups w.session))) time given bay taken clock marks refused) (scene w below Resting time given bay taken clock marks refused) (record {
+      does = λ _. record { does = record { slices = slices_of (mounted_groups w.session); before = refl; none_due = due; after = refl; world = refl; time = refl }; caused = tt; calls = omega arith; images = λ m image from before left id. tt; there = λ m image from before left id was is. tt };
+      calls = omega arith;
       past = λ m image before left. left;
-      holds = λ known stands apart. (record { does = record { slices = slices_of (mounted_groups w.session); before = refl; none_due = none_due w (mounted_groups w.session); after = refl; world = refl; time = refl }; caused = tt; calls = omega arith; images = λ m image from before left id. absurd (omega (arith, from, before)); there = λ m image from before left id was is. absurd (omega (arith, from, before)) }, stands);
+      holds = λ known stands apart. (record { does = record { slices = slices_of (mounted_groups w.session); before = refl; none_due = due; after = refl; world = refl; time = refl }; caused = tt; calls = omega arith; images = λ m image from before left id. absurd (omega (arith, from, before)); there = λ m image from before left id was is. absurd (omega (arith, from, before)) }, stands);
       texts = refl;
       written = Appends-none taken;
       readings = refl;
@@ -104,19 +111,21 @@ acts-rests gives paths w time given bay taken clock marks refused = acts-one giv
       refusal = sym (or-false refused);
     })
 
-pub acts-answers : {C : Type 0} (gives : C → ℕ → C → Type 0) (paths : List Bytes) (whole : Bool) (found : Found) (text : Bytes) (reply : Reply) (sent : Bytes) (w w' : World) (time given given' : ℕ) (old new : BayState)
-    (taken taken' : Option (List ℕ)) (clock : C) (marks marks' : List ℕ) (refused refused' : Bool) → HasEffect paths found text reply given given' old new w w' → Appends taken taken' sent
+pub acts-answers : {C : Type 0} (gives : C → ℕ → C → Type 0) (paths : List Bytes) (whole : Bool) (found : Found) (text : Bytes) (reply : Reply) (sent : Bytes) (w w' : World) (below below' : ℕ → GroupBelow) (time given given' : ℕ) (old new : BayState)
+    (taken taken' : Option (List ℕ)) (clock : C) (marks marks' : List ℕ) (refused refused' : Bool) → next_expiry w below (mounted_groups w.session) ≡ None → IsServed paths found text reply given given' old new below w w' → Appends taken taken' sent
     → marks' ≡ marks ++ (if bytes_eq sent (reply_text reply) then new.calls ∷ [] else []) → refused' ≡ (refused || is_refusal reply)
     → MatchBool whole (sent ≡ reply_text reply) ((rest : List ℕ) × (reply_text reply ≡ sent ++ rest))
-    → Acts gives paths whole (text ∷ []) (scene w (Expiring (mounted_groups w.session)) time given old taken clock marks refused) (scene w' (phase_after reply w') time given' new taken' clock marks' refused')
-acts-answers gives paths whole found text reply sent w w' time given given' old new taken taken' clock marks marks' refused refused' effect written marked refusal texts =
+    → Acts gives paths whole (text ∷ []) (scene w below (Expiring (mounted_groups w.session)) time given old taken clock marks refused) (scene w' below' (phase_after reply w') time given' new taken' clock marks' refused')
+acts-answers gives paths whole found text reply sent w w' below below' time given given' old new taken taken' clock marks marks' refused refused' none served written marked refusal texts =
     let move = Answers found text reply in
-    let answers : AnswersAt meaning found text reply (state_of (scene w (Expiring (mounted_groups w.session)) time given old taken clock marks refused)) (state_of (scene w' (phase_after reply w') time given' new taken' clock marks' refused')) = record { groups = mounted_groups w.session; before = refl; none_expires = none_expires w (mounted_groups w.session); step = effect.step; cause = effect.cause; lines = effect.lines; after = refl; time = refl } in
-    acts-one gives paths whole move sent (scene w (Expiring (mounted_groups w.session)) time given old taken clock marks refused) (scene w' (phase_after reply w') time given' new taken' clock marks' refused') (record {
-      does = record { does = answers; caused = (effect.ids_read, effect.made, effect.counted); calls = effect.calls; images = λ m image from before left id. tt; there = λ m image from before left id was is. tt };
-      past = effect.past;
-      holds = λ known stands apart. let keeps = effect.keeps known stands apart in
-          (record { does = answers; caused = (effect.ids_read, effect.made, effect.counted); calls = effect.calls; images = λ m image from before left id. keeps.held m image id from before left; there = λ m image from before left id was is. keeps.there m image id from before left was is }, keeps.now);
+    let answers : HasEffect paths found text reply given given' old new below w w' → AnswersAt meaning found text reply (state_of (scene w below (Expiring (mounted_groups w.session)) time given old taken clock marks refused)) (state_of (scene w' below' (phase_after reply w') time given' new taken' clock marks' refused')) = λ effect. record { groups = mounted_groups w.session; before = refl; none_expires = none; step = effect.step; cause = effect.cause; lines = effect.lines; after = refl; time = refl } in
+    acts-one gives paths whole move sent (scene w below (Expiring (mounted_groups w.session)) time given old taken clock marks refused) (scene w' below' (phase_after reply w') time given' new taken' clock marks' refused') (record {
+      does = λ proved. let effect = served.effect proved in
+          record { does = answers effect; caused = (effect.ids_read, effect.made, effect.counted); calls = served.calls; images = λ m image from before left id. tt; there = λ m image from before left id was is. tt };
+      calls = served.calls;
+      past = served.past;
+      holds = λ known stands meets. let effect = served.effect meets.0 in let keeps = effect.keeps known stands meets.1 in
+          (record { does = answers effect; caused = (effect.ids_read, effect.made, effect.counted); calls = served.calls; images = λ m image from before left id. keeps.held m image id from before left; there = λ m image from before left id was is. keeps.there m image id from before left was is }, keeps.now);
       texts = texts;
       written = written;
       readings = refl;
@@ -124,84 +133,78 @@ acts-answers gives paths whole found text reply sent w w' time given given' old 
       refusal = refusal;
     })
 
-no_memory_lines : (found : Found) (text : Bytes) (w : World) → ReadAs text → HasLines (below_with found) w (meaning text) (Refused [] r.NoMemory)
-no_memory_lines found text w (creates name path e) = rw e refl
-no_memory_lines found text w (refuses_at at e) = rw e refl
-
-no_memory_counted : (paths : List Bytes) (text : Bytes) → ReadAs text → (s t : Counts) → ReplyCause paths text (Refused [] r.NoMemory) s t
-no_memory_counted paths text (creates name path e) s t = rw e tt
-no_memory_counted paths text (refuses_at at e) s t = rw e tt
-
--- the reply that was printed, where it isn't the one that the command was given
-pub effect-printed : (paths : List Bytes) (found : Found) (text : Bytes) (reply printed : Reply) (given given' : ℕ) (old new : BayState) (w w' : World) → IsReplyOrNoMemory reply printed
-    → HasEffect paths found text reply given given' old new w w' → HasEffect paths found text printed given given' old new w w'
-effect-printed paths found text reply printed given given' old new w w' (inl e) effect = rw e effect
-effect-printed paths found text reply printed given given' old new w w' (inr (refuses, e)) effect = rw e (record {
+-- want of memory in place of a refusal
+short-effect : (paths : List Bytes) (found : Found) (text : Bytes) (reply : Reply) (given given' : ℕ) (old new : BayState) {below : ℕ → GroupBelow} (w w' : World) → is_refusal reply ≡ true
+    → HasEffect paths found text reply given given' old new below w w' → HasEffect paths found text (Refused [] r.NoMemory) given given' old new below w w'
+short-effect paths found text reply given given' old new {below = below} w w' refuses effect = record {
   step = effect.no_memory refuses;
   no_memory = λ is. effect.no_memory refuses;
   cause = tt;
-  lines = no_memory_lines found text w (read_as text);
+  lines = no_lines (below_with below found) w (meaning text);
   ids_read = effect.ids_read;
   made = effect.made;
-  counted = no_memory_counted paths text (read_as text) (counts_of old) (counts_of new);
+  counted = tt;
   calls = effect.calls;
   past = effect.past;
   keeps = effect.keeps;
-})
+}
+
+-- the reply that was printed, where it isn't the one that the command was given
+pub effect-printed : (paths : List Bytes) (found : Found) (text : Bytes) (reply printed : Reply) (given given' : ℕ) (old new : BayState) {below : ℕ → GroupBelow} (w w' : World) → IsReplyOrNoMemory reply printed
+    → IsServed paths found text reply given given' old new below w w' → IsServed paths found text printed given given' old new below w w'
+effect-printed paths found text reply printed given given' old new w w' (inl e) served = rw e served
+effect-printed paths found text reply printed given given' old new w w' (inr (refuses, e)) served = record {
+  calls = served.calls;
+  past = served.past;
+  effect = λ proved. rw e (short-effect paths found text reply given given' old new w w' refuses (served.effect proved));
+}
 
 -- ---- a whole command
 
--- where no clock was read, the readings of any are none
-unread-none : {C : Type 0} (gives : C → ℕ → C → Type 0) (clock : C) (times : List ℕ) → Readings unread tt times tt → Readings gives clock times clock
-unread-none gives clock [] r = refl
-unread-none gives clock (t ∷ ts) r = absurd r.1
+-- nothing was done, and the marks are the same
+pub acts-unmarked : {C : Type 0} (gives : C → ℕ → C → Type 0) (paths : List Bytes) (w : World) (below : ℕ → GroupBelow) (phase : Phase) (time given : ℕ) (bay : BayState) (taken : Option (List ℕ)) (clock : C) (marks marks' : List ℕ) (refused : Bool)
+    → marks' ≡ marks → Acts gives paths false [] (scene w below phase time given bay taken clock marks refused) (scene w below phase time given bay taken clock marks' refused)
+acts-unmarked gives paths w below phase time given bay taken clock marks marks' refused same =
+    let P : List ℕ → Type 0 = λ ms. Acts gives paths false [] (scene w below phase time given bay taken clock marks refused) (scene w below phase time given bay taken clock ms refused) in
+    subst P (sym same) (acts-cut gives paths [] _ _ (acts-none gives paths (scene w below phase time given bay taken clock marks refused)))
 
--- the same with a clock beside it
-acts-clock : {C : Type 0} (gives : C → ℕ → C → Type 0) (clock : C) (paths : List Bytes) (whole : Bool) (commands : List Bytes) (w w' : World) (phase phase' : Phase) (time time' given given' : ℕ) (old new : BayState)
-    (taken taken' : Option (List ℕ)) (marks marks' : List ℕ) (refused refused' : Bool)
-    → Acts unread paths whole commands (scene w phase time given old taken tt marks refused) (scene w' phase' time' given' new taken' tt marks' refused')
-    → Acts gives paths whole commands (scene w phase time given old taken clock marks refused) (scene w' phase' time' given' new taken' clock marks' refused')
-acts-clock gives clock paths whole commands w w' phase phase' time time' given given' old new taken taken' marks marks' refused refused' a = record {
-  history = a.history;
-  run = a.run;
-  ends = a.ends;
-  commands_are = a.commands_are;
-  past = a.past;
-  holds = a.holds;
-  full = a.full;
-  printed = a.printed;
-  written = a.written;
-  readings = unread-none gives clock (times_of a.history) a.readings;
-  marks_grow = a.marks_grow;
-  refusal = a.refusal;
-}
-
--- what answering a command comes to
-abbrev pub Answered : List Bytes → Bytes → Result (Unit {0}) Stop → SessionView → World → ℕ → ℕ → ℕ → BayState → BayState → Option (List ℕ) → Option (List ℕ) → List ℕ → List ℕ → Bool → Bool → Type 0
-Answered paths command result session' w time given given' old new taken taken' marks marks' refused refused' =
-    (w' : World) × (phase : Phase) × Knows session' w' × OnOk result (phase ≡ Slicing (slices_of (mounted_groups w'.session)))
-    × Acts unread paths (is_ok result) (command ∷ []) (scene w (Expiring (mounted_groups w.session)) time given old taken tt marks refused) (scene w' phase time given' new taken' tt marks' refused')
-
-pub command-acts : {C : Type 0} (gives : C → ℕ → C → Type 0) (clock clock' : C) (paths : List Bytes) (command : Bytes) (result : Result (Unit {0}) Stop) (session' : SessionView) (w : World) (time time' given given' : ℕ) (old new : BayState)
-    (taken taken' : Option (List ℕ)) (marks marks' : List ℕ) (refused refused' : Bool) → gives clock time' clock' → Answered paths command result session' w time' given given' old new taken taken' marks marks' refused refused'
-    → (w' : World) × (phase : Phase) × (time'' : ℕ) × (commands : List (List ℕ)) × Knows session' w' × OnOk result (phase ≡ Resting) × IsPart (is_ok result) command commands
-    × Acts gives paths (is_ok result) commands (scene w Resting time given old taken clock marks refused) (scene w' phase time'' given' new taken' clock' marks' refused')
-command-acts gives clock clock' paths command (Ok done) session' w time time' given given' old new taken taken' marks marks' refused refused' g a =
-    let start = acts-starts gives paths w time time' given old taken clock clock' marks refused g in
-    let slicing = Slicing (slices_of (mounted_groups a.0.session)) in
-    let P : Phase → Type 0 = λ phase. Acts gives paths true (command ∷ []) (scene w (Expiring (mounted_groups w.session)) time' given old taken clock' marks refused) (scene a.0 phase time' given' new taken' clock' marks' refused') in
-    let middle = subst P a.3 (acts-clock gives clock' paths true (command ∷ []) w a.0 (Expiring (mounted_groups w.session)) a.1 time' time' given given' old new taken taken' marks marks' refused refused' a.4) in
-    let rest = acts-rests gives paths a.0 time' given' new taken' clock' marks' refused' in (
-      a.0,
-      Resting,
-      time',
-      command ∷ [],
-      a.2,
-      refl,
-      refl,
-      acts-then gives paths true (command ∷ []) [] _ _ _ (acts-then gives paths true [] (command ∷ []) _ _ _ start middle) rest,
-    )
-command-acts gives clock clock' paths command (Err stop) session' w time time' given given' old new taken taken' marks marks' refused refused' g a =
-    let start = acts-starts gives paths w time time' given old taken clock clock' marks refused g in
-    let middle = acts-clock gives clock' paths false (command ∷ []) w a.0 (Expiring (mounted_groups w.session)) a.1 time' time' given given' old new taken taken' marks marks' refused refused' a.4 in
-    (a.0, a.1, time', command ∷ [], a.2, tt, inr refl, acts-then gives paths false [] (command ∷ []) _ _ _ start middle)
+module _ {B H K C : Type 0} {bay : Bay.Ghosts B} {host : Host.Ghosts H} {sink : Sink.Ghosts K} {clock : Clock.Ghosts C} (text : Bytes) (w : World) (below : ℕ → GroupBelow) (time : ℕ) where
+  -- a command and the moves around it, from the program as it was when the clock had been read
+  pub command-acts : (result : Result (Unit {0}) Stop) (old start new : Program B H K C bay host sink clock) (time' : ℕ) → clock.gives old.clock time' start.clock
+      → paths_on start.desk ≡ paths_on old.desk → start.desk.session.given ≡ old.desk.session.given → bay.state start.desk.bay ≡ bay.state old.desk.bay → sink.taken start.sink ≡ sink.taken old.sink
+      → start.marks.items ≡ old.marks.items → start.refused ≡ old.refused
+      → AnswersOne result text start new w below time' → RunsOne result text old new w below time
+  command-acts (Ok done) old start new time' g paths given at_bay at_sink marks refused a =
+      let first = acts-starts clock.gives (paths_on old.desk) w below time time' old.desk.session.given (bay.state old.desk.bay) (sink.taken old.sink) old.clock start.clock old.marks.items old.refused g in
+      let phase_is : a.phase ≡ Slicing (slices_of (mounted_groups a.w'.session)) = a.rests in
+      let middle : Acts clock.gives (paths_on old.desk) true (text ∷ []) (scene w below (Expiring (mounted_groups w.session)) time' old.desk.session.given (bay.state old.desk.bay) (sink.taken old.sink) start.clock old.marks.items old.refused)
+      (scene_of a.w' a.below' (Slicing (slices_of (mounted_groups a.w'.session))) time' new) =
+      rw (← phase_is, ← paths, ← given, ← at_bay, ← at_sink, ← marks, ← refused) a.acts in
+      let rest = acts-rests clock.gives (paths_on old.desk) a.w' a.below' time' new.desk.session.given (bay.state new.desk.bay) (sink.taken new.sink) new.clock new.marks.items new.refused (rw a.knows.still (none_due a.w' (mounted_groups a.w'.session))) in
+      record {
+        w' = a.w';
+        below' = a.below';
+        phase = Resting;
+        time' = time';
+        commands = text ∷ [];
+        knows = a.knows;
+        rests = refl;
+        part = refl;
+        acts = acts-then clock.gives (paths_on old.desk) true (text ∷ []) [] _ _ _ (acts-then clock.gives (paths_on old.desk) true [] (text ∷ []) _ _ _ first middle) rest;
+      }
+  command-acts (Err stop) old start new time' g paths given at_bay at_sink marks refused a =
+      let first = acts-starts clock.gives (paths_on old.desk) w below time time' old.desk.session.given (bay.state old.desk.bay) (sink.taken old.sink) old.clock start.clock old.marks.items old.refused g in
+      let middle : Acts clock.gives (paths_on old.desk) false (text ∷ []) (scene w below (Expiring (mounted_groups w.session)) time' old.desk.session.given (bay.state old.desk.bay) (sink.taken old.sink) start.clock old.marks.items old.refused)
+      (scene_of a.w' a.below' a.phase time' new) =
+      rw (← paths, ← given, ← at_bay, ← at_sink, ← marks, ← refused) a.acts in
+      record {
+        w' = a.w';
+        below' = a.below';
+        phase = a.phase;
+        time' = time';
+        commands = text ∷ [];
+        knows = a.knows;
+        rests = tt;
+        part = inr refl;
+        acts = acts-then clock.gives (paths_on old.desk) false [] (text ∷ []) _ _ _ first middle;
+      }

@@ -12,13 +12,15 @@ use Rattle.bay.specs.Image.{Same}
 use Rattle.bay.specs.State.{BayState, IsSound}
 use Rattle.bay.specs.Moments.{Runs}
 use Rattle.bay.specs.Counts.{last_count}
+use Rattle.bay.proofs.Calls.{started}
+use Rattle.bay.proofs.Images.{same-refl}
 use Rattle.asm_group.specs.Names.{Bytes}
 use Rattle.asm_group.specs.NewGroup.{new_group}
 use Rattle.asm_group.specs.Refusal as r
-use Rattle.asm_world.specs.Below.{Found}
+use Rattle.asm_world.specs.Below.{Found, GroupBelow}
 use Rattle.asm_world.specs.Causes.{HasCause, mounted_count}
 use Rattle.asm_world.specs.Command.{Said, Unreadable}
-use Rattle.asm_world.specs.Reply.{Done, Refused}
+use Rattle.asm_world.specs.Reply.{Reply, Done, Refused}
 use Rattle.asm_world.specs.Settings as t
 use Rattle.asm_world.specs.Step.{Step, IsNewId, LeavesCreated, MadeGroup}
 use Rattle.asm_world.specs.Waits.{HasLines}
@@ -26,13 +28,15 @@ use Rattle.asm_world.specs.World.{World, SessionEntry, entry_in, has_mounted, is
 use Rattle.group_disks.specs.Found.{Counts, counts_of, AreIdsRead, RefusalCause, IsEarly}
 use Rattle.group_disks.specs.Creating.{HasCreated, made_group}
 use Rattle.session.specs.Claims.{StandsFor, IsApart}
-use Rattle.session.specs.Counts.{ReplyCause, IsMade}
-use Rattle.session.specs.Effects.{Keeps, HasEffect, below_with}
-use Rattle.session.specs.Meaning.{meaning, creation_of, creation_asked}
+use Rattle.session.specs.Counts.{ReplyCause}
+use Rattle.session.specs.Effects.{Keeps, HasEffect, IsServed, below_with}
+use Rattle.session.specs.Families.{IsMade}
+use Rattle.session.specs.Groups.{creation_of}
+use Rattle.session.specs.Meaning.{meaning}
 use Rattle.session.specs.Sessions.{AreGiven}
 use Rattle.session.proofs.Causes.{no_disk_cause, disk_taken_cause, too_small_cause, write_fault_cause, done_cause}
 use Rattle.session.proofs.Creation.{same_keeps, creation_keeps}
-use Rattle.session.proofs.Reading.{ReadAs, creates, refuses_at, read_as}
+use Rattle.asm_world.proofs.Memory.{stays, no_lines}
 
 abbrev pub unread : Found
 unread = record { ids = []; made = None }
@@ -41,19 +45,19 @@ unread = record { ids = []; made = None }
 pub none_read : (s t : Counts) → AreIdsRead [] s t
 none_read s t = record { each = λ i below. absurd (omega arith) }
 
--- want of memory leaves the world as it was
-stays_by : (found : Found) (text : Bytes) (w : World) → ReadAs text → Step (below_with found) w (meaning text) (Refused [] r.NoMemory) w
-stays_by found text w (creates name path e) = rw e (inl refl)
-stays_by found text w (refuses_at at e) = rw e (inl refl)
+-- a proved command is served
+pub served : (paths : List Bytes) (found : Found) (text : Bytes) (reply : Reply) (given given' : ℕ) (old new : BayState) {below : ℕ → GroupBelow} (w w' : World)
+    → HasEffect paths found text reply given given' old new below w w' → IsServed paths found text reply given given' old new below w w'
+served paths found text reply given given' old new w w' effect = record { calls = effect.calls; past = effect.past; effect = λ proved. effect }
 
 -- A command that wrote nothing was refused: what is asked of the refusal, and the rest follows.
-pub plain : (paths : List Bytes) (found : Found) (text : Bytes) (cause : r.Refusal) (given given' : ℕ) (slots : ℕ → Type 0) (old new : BayState) (w : World)
-    → Step (below_with found) w (meaning text) (Refused [] cause) w → HasCause (below_with found) w (meaning text) (Refused [] cause) → HasLines (below_with found) w (meaning text) (Refused [] cause)
-    → AreIdsRead found.ids (counts_of old) (counts_of new) → IsMade (creation_asked (meaning text)) found.made w → ReplyCause paths text (Refused [] cause) (counts_of old) (counts_of new)
-    → given ≤ given' → Runs slots Same old new → HasEffect paths found text (Refused [] cause) given given' old new w w
-plain paths found text cause given given' slots old new w step has lines read made counted more runs = record {
+pub plain : (paths : List Bytes) (found : Found) (text : Bytes) (cause : r.Refusal) (given given' : ℕ) (slots : ℕ → Type 0) (old new : BayState) {below : ℕ → GroupBelow} (w : World)
+    → Step (below_with below found) w (meaning text) (Refused [] cause) w → HasCause (below_with below found) w (meaning text) (Refused [] cause) → HasLines (below_with below found) w (meaning text) (Refused [] cause)
+    → AreIdsRead found.ids (counts_of old) (counts_of new) → IsMade (meaning text) found.made w → ReplyCause paths text (Refused [] cause) (counts_of old) (counts_of new)
+    → given ≤ given' → Runs slots Same old new → IsServed paths found text (Refused [] cause) given given' old new below w w
+plain paths found text cause given given' slots old new w step has lines read made counted more runs = served paths found text (Refused [] cause) given given' old new w w (record {
   step = step;
-  no_memory = λ is. stays_by found text w (read_as text);
+  no_memory = λ is. stays _ w (meaning text);
   cause = has;
   lines = lines;
   ids_read = read;
@@ -62,24 +66,36 @@ plain paths found text cause given given' slots old new w step has lines read ma
   calls = runs.later;
   past = λ m image before left. (runs.ended m image before).0 left;
   keeps = λ known stands apart. same_keeps (length paths) known given given' slots old new w more runs stands text;
-}
+})
 
 -- a text that is refused
-pub unreadable : (paths : List Bytes) (text : Bytes) (at : ℕ) (given given' : ℕ) (slots : ℕ → Type 0) (old new : BayState) (w : World) → meaning text ≡ Unreadable at → given ≤ given' → Runs slots Same old new
-    → HasEffect paths unread text (Refused [] (r.Syntax at)) given given' old new w w
-unreadable paths text at given given' slots old new w none more runs =
-    plain paths unread text (r.Syntax at) given given' slots old new w (rw none refl) (rw none refl) (rw none refl) (none_read (counts_of old) (counts_of new)) (rw none refl) (rw none tt) more runs
+pub unreadable : (paths : List Bytes) (text : Bytes) (at : ℕ) (given : ℕ) (old : BayState) {below : ℕ → GroupBelow} (w : World) → meaning text ≡ Unreadable at
+    → IsServed paths unread text (Refused [] (r.Syntax at)) given given old old below w w
+unreadable paths text at given old w none =
+    plain paths unread text (r.Syntax at) given given (λ s. ⊥) old old w (rw none refl) (rw none refl) (rw none refl) (none_read (counts_of old) (counts_of old)) tt (rw none tt) (omega arith) (started same-refl)
 
--- want of memory before the disks were asked
-pub no_memory : (paths : List Bytes) (text : Bytes) (given given' : ℕ) (slots : ℕ → Type 0) (old new : BayState) (w : World) → given ≤ given' → Runs slots Same old new
-    → HasEffect paths unread text (Refused [] r.NoMemory) given given' old new w w
-no_memory paths text given given' slots old new w more runs = by (read_as text)
-  where
-    by : ReadAs text → HasEffect paths unread text (Refused [] r.NoMemory) given given' old new w w
-    by (refuses_at at e) = plain paths unread text r.NoMemory given given' slots old new w (rw e (inl refl)) tt (rw e refl) (none_read (counts_of old) (counts_of new)) (rw e refl) (rw e tt) more runs
-    by (creates name path e) = plain paths unread text r.NoMemory given given' slots old new w (rw e (inl refl)) tt (rw e refl) (none_read (counts_of old) (counts_of new)) (rw e (λ id none. absurd cc)) (rw e tt) more runs
+-- want of memory before anything was done
+pub no_memory : (paths : List Bytes) (text : Bytes) (given : ℕ) (old : BayState) {below : ℕ → GroupBelow} (w : World) → IsServed paths unread text (Refused [] r.NoMemory) given given old old below w w
+no_memory paths text given old {below = below} w =
+    plain paths unread text r.NoMemory given given (λ s. ⊥) old old w (stays (below_with below unread) w (meaning text)) tt (no_lines (below_with below unread) w (meaning text)) (none_read (counts_of old) (counts_of old)) tt tt (omega arith) (started same-refl)
 
-or_parts : (a b : Bool) → (a || b) ≡ true → (a ≡ true) ⊎ (b ≡ true)
+-- a report, which was told without a device and changes nothing
+pub told : (paths : List Bytes) (text : Bytes) (lines : List Bytes) (given : ℕ) (old : BayState) {below : ℕ → GroupBelow} (w : World) → Step (below_with below unread) w (meaning text) (Done lines) w
+    → HasCause (below_with below unread) w (meaning text) (Done lines) → HasLines (below_with below unread) w (meaning text) (Done lines) → IsServed paths unread text (Done lines) given given old old below w w
+told paths text lines given old w step has line_of = served paths unread text (Done lines) given given old old w w (record {
+  step = step;
+  no_memory = λ is. absurd cc;
+  cause = has;
+  lines = line_of;
+  ids_read = none_read (counts_of old) (counts_of old);
+  made = tt;
+  counted = tt;
+  calls = omega arith;
+  past = λ m image before left. left;
+  keeps = λ known stands apart. same_keeps (length paths) known given given (λ s. ⊥) old old w (omega arith) (started same-refl) stands text;
+})
+
+pub or_parts : (a b : Bool) → (a || b) ≡ true → (a ≡ true) ⊎ (b ≡ true)
 or_parts true b is = inl refl
 or_parts false b is = inr is
 
@@ -98,34 +114,34 @@ entered (e ∷ session) name id i other is = ⊎_elim
 
 -- ---- a creation
 
-module _ (paths : List Bytes) (text name path : Bytes) (says : meaning text ≡ Said (creation_of name path)) (w : World) (few : nat_le 8 (mounted_count w) ≡ false) (absent : is_some (entry_in w name) ≡ false)
+module _ (paths : List Bytes) (text name path : Bytes) (says : meaning text ≡ Said (creation_of name path)) (below : ℕ → GroupBelow) (w : World) (few : nat_le 8 (mounted_count w) ≡ false) (absent : is_some (entry_in w name) ≡ false)
     (ids : List ℕ) (slots : ℕ → Type 0) (given given' : ℕ) (old new : BayState) (read : AreIdsRead ids (counts_of old) (counts_of new)) where
   -- it was refused before anything was written
   pub refused_early : (cause : r.Refusal) → IsEarly cause → RefusalCause paths path cause (counts_of old) (counts_of new) → given ≤ given' → Runs slots Same old new
-      → HasEffect paths (record { ids = ids; made = None }) text (Refused [] cause) given given' old new w w
+      → IsServed paths (record { ids = ids; made = None }) text (Refused [] cause) given given' old new below w w
   refused_early (r.NoDisk t) early counted more runs =
-      plain paths (record { ids = ids; made = None }) text (r.NoDisk t) given given' slots old new w (rw says refl) (rw says (no_disk_cause (record { ids = ids; made = None }) w name path few absent t)) (rw says refl) read
-      (rw says (λ id none. absurd cc)) (rw says counted) more runs
+      plain paths (record { ids = ids; made = None }) text (r.NoDisk t) given given' slots old new w (rw says refl) (rw says (no_disk_cause below (record { ids = ids; made = None }) w name path few absent t)) (rw says refl) read
+      tt (rw says counted) more runs
   refused_early (r.DiskTaken t) early counted more runs =
-      plain paths (record { ids = ids; made = None }) text (r.DiskTaken t) given given' slots old new w (rw says refl) (rw says (disk_taken_cause (record { ids = ids; made = None }) w name path few absent t)) (rw says refl) read
-      (rw says (λ id none. absurd cc)) (rw says counted) more runs
+      plain paths (record { ids = ids; made = None }) text (r.DiskTaken t) given given' slots old new w (rw says refl) (rw says (disk_taken_cause below (record { ids = ids; made = None }) w name path few absent t)) (rw says refl) read
+      tt (rw says counted) more runs
   refused_early (r.TooSmall d n) early counted more runs =
-      plain paths (record { ids = ids; made = None }) text (r.TooSmall d n) given given' slots old new w (rw says refl) (rw says (too_small_cause (record { ids = ids; made = None }) w name path few absent d n)) (rw says refl) read
-      (rw says (λ id none. absurd cc)) (rw says counted) more runs
+      plain paths (record { ids = ids; made = None }) text (r.TooSmall d n) given given' slots old new w (rw says refl) (rw says (too_small_cause below (record { ids = ids; made = None }) w name path few absent d n)) (rw says refl) read
+      tt (rw says counted) more runs
   refused_early other early counted more runs = absurd early
 
   -- it was refused without an id
   pub refused_unmade : (cause : r.Refusal) → RefusalCause paths path cause (counts_of old) (counts_of new) → given ≤ given' → Runs slots Same old new
-      → HasEffect paths (record { ids = ids; made = None }) text (Refused [] cause) given given' old new w w
+      → IsServed paths (record { ids = ids; made = None }) text (Refused [] cause) given given' old new below w w
   refused_unmade (r.NoDisk t) counted more runs = refused_early (r.NoDisk t) tt counted more runs
   refused_unmade (r.DiskTaken t) counted more runs = refused_early (r.DiskTaken t) tt counted more runs
   refused_unmade (r.TooSmall d n) counted more runs = refused_early (r.TooSmall d n) tt counted more runs
   refused_unmade (r.WriteFault d) counted more runs =
-      plain paths (record { ids = ids; made = None }) text (r.WriteFault d) given given' slots old new w (rw says (inl refl)) (rw says (write_fault_cause (record { ids = ids; made = None }) w name path few absent d)) (rw says refl) read
-      (rw says (λ id none. absurd cc)) (rw says counted) more runs
+      plain paths (record { ids = ids; made = None }) text (r.WriteFault d) given given' slots old new w (rw says (inl refl)) (rw says (write_fault_cause below (record { ids = ids; made = None }) w name path few absent d)) (rw says refl) read
+      tt (rw says counted) more runs
   refused_unmade r.NoMemory counted more runs =
       plain paths (record { ids = ids; made = None }) text r.NoMemory given given' slots old new w (rw says (inl refl)) tt (rw says refl) read
-      (rw says (λ id none. absurd cc)) (rw says counted) more runs
+      tt tt more runs
   refused_unmade other counted more runs = absurd counted
 
   -- it came to write, under this id
@@ -137,18 +153,16 @@ module _ (paths : List Bytes) (text name path : Bytes) (says : meaning text ≡ 
     abbrev pub after : List SessionEntry → World
     after session = record (with_group w id (made_group name)) { session = session }
 
-    new_id : IsNewId (below_with found) w id
+    new_id : IsNewId (below_with below found) w id
     new_id = record {
       given = refl;
       not_in_session = λ short k d below same. absurd (omega (arith, entries k d below (omega arith)));
       above = above;
     }
 
-    has_group : (session : List SessionEntry) → IsMade (creation_asked (meaning text)) found.made (after session)
-    has_group session = rw says (λ i is.
-        let here : id ≡ i = same_Some id i is in
-        let P : ℕ → Type 0 = λ j. maps.get (maps.insert w.groups id (made_group name ∷ [])) j ≡ Some (made_group name ∷ []) in
-        subst P here (maps.get-insert nat_cmp_total w.groups id (made_group name ∷ []) id ∙ ap (λ (b : Bool). cond b (Some (made_group name ∷ [])) (maps.get w.groups id)) (unsigned_tied id id ∙ eq-eqb id id refl)))
+    has_group : (session : List SessionEntry) → IsMade (meaning text) found.made (after session)
+    has_group session = rw says (maps.get-insert nat_cmp_total w.groups id (made_group name ∷ []) id
+        ∙ ap (λ (b : Bool). cond b (Some (made_group name ∷ [])) (maps.get w.groups id)) (unsigned_tied id id ∙ eq-eqb id id refl))
 
     -- the id is in no entry of the session before
     was_absent : id < last_count → has_mounted w id ≡ true → ⊥
@@ -168,12 +182,12 @@ module _ (paths : List Bytes) (text name path : Bytes) (says : meaning text ≡ 
         creation_keeps (length paths) known given id (made_group name) found w (after session) refl refl apart fresh above text given' old new ok sound (omega (arith, next)) creation stays (is_done short) (was_absent short) stands
 
     -- the group was created
-    pub created : ok ≡ true → (session : List SessionEntry) → session ≡ w.session ++ mounted_entry name id ∷ [] → HasEffect paths found text (Done []) given given' old new w (after session)
+    pub created : ok ≡ true → (session : List SessionEntry) → session ≡ w.session ++ mounted_entry name id ∷ [] → IsServed paths found text (Done []) given given' old new below w (after session)
     unfolding new_group
-    created done session is = record {
+    created done session is = served paths found text (Done []) given given' old new w (after session) (record {
       step = rw (says, is) (record { id = id; g = made_group name; made_is = refl; is_new = new_id; is = refl }, refl);
       no_memory = λ is. absurd cc;
-      cause = rw says (done_cause found w name path few absent);
+      cause = rw says (done_cause below found w name path few absent);
       lines = rw says tt;
       ids_read = read;
       made = has_group session;
@@ -181,13 +195,13 @@ module _ (paths : List Bytes) (text name path : Bytes) (says : meaning text ≡ 
       calls = creation.moments.later;
       past = λ m image before left. (creation.moments.ended m image before).0 left;
       keeps = keeps_all session (λ i other there. entered w.session name id i other (ap (λ (l : List SessionEntry). list_any (λ (e : SessionEntry). is_mounted e && (e.id == i)) l) (sym is) ∙ there)) (λ short there. done);
-    }
+    })
 
     -- it was refused after something was written
-    written : (cause : r.Refusal) → LeavesCreated (below_with found) w (MadeGroup name (t.creation (Some External) [])) (after w.session) → HasCause (below_with found) w (meaning text) (Refused [] cause)
-        → Step (below_with found) w (meaning text) (Refused [] cause) (after w.session) → HasLines (below_with found) w (meaning text) (Refused [] cause) → ReplyCause paths text (Refused [] cause) (counts_of old) (counts_of new)
-        → HasEffect paths found text (Refused [] cause) given given' old new w (after w.session)
-    written cause leaves has step lines counted = record {
+    written : (cause : r.Refusal) → LeavesCreated (below_with below found) w (MadeGroup name (t.creation (Some External) [])) (after w.session) → HasCause (below_with below found) w (meaning text) (Refused [] cause)
+        → Step (below_with below found) w (meaning text) (Refused [] cause) (after w.session) → HasLines (below_with below found) w (meaning text) (Refused [] cause) → ReplyCause paths text (Refused [] cause) (counts_of old) (counts_of new)
+        → IsServed paths found text (Refused [] cause) given given' old new below w (after w.session)
+    written cause leaves has step lines counted = served paths found text (Refused [] cause) given given' old new w (after w.session) (record {
       step = step;
       no_memory = λ is. rw says (inr leaves);
       cause = has;
@@ -198,15 +212,15 @@ module _ (paths : List Bytes) (text name path : Bytes) (says : meaning text ≡ 
       calls = creation.moments.later;
       past = λ m image before left. (creation.moments.ended m image before).0 left;
       keeps = keeps_all w.session (λ i other there. there) (λ short there. absurd (was_absent short there));
-    }
+    })
 
-    pub leaves_created : LeavesCreated (below_with found) w (MadeGroup name (t.creation (Some External) [])) (after w.session)
+    pub leaves_created : LeavesCreated (below_with below found) w (MadeGroup name (t.creation (Some External) [])) (after w.session)
     leaves_created = record { id = id; g = made_group name; made_is = refl; is_new = new_id; is = refl }
 
-    pub refused_late : (cause : r.Refusal) → (IsEarly cause → ⊥) → RefusalCause paths path cause (counts_of old) (counts_of new) → HasEffect paths found text (Refused [] cause) given given' old new w (after w.session)
+    pub refused_late : (cause : r.Refusal) → (IsEarly cause → ⊥) → RefusalCause paths path cause (counts_of old) (counts_of new) → IsServed paths found text (Refused [] cause) given given' old new below w (after w.session)
     refused_late (r.NoDisk t) late counted = absurd (late tt)
     refused_late (r.DiskTaken t) late counted = absurd (late tt)
     refused_late (r.TooSmall d n) late counted = absurd (late tt)
-    refused_late (r.WriteFault d) late counted = written (r.WriteFault d) leaves_created (rw says (write_fault_cause found w name path few absent d)) (rw says (inr leaves_created)) (rw says refl) (rw says counted)
-    refused_late r.NoMemory late counted = written r.NoMemory leaves_created tt (rw says (inr leaves_created)) (rw says refl) (rw says tt)
+    refused_late (r.WriteFault d) late counted = written (r.WriteFault d) leaves_created (rw says (write_fault_cause below found w name path few absent d)) (rw says (inr leaves_created)) (rw says refl) (rw says counted)
+    refused_late r.NoMemory late counted = written r.NoMemory leaves_created tt (rw says (inr leaves_created)) (rw says refl) tt
     refused_late other late counted = absurd counted

@@ -5,16 +5,19 @@ use Rattle.bay.specs.State.{BayState}
 use Rattle.bay.specs.Readings.{Readings}
 use Rattle.asm_group.specs.Names.{Bytes}
 use Rattle.asm_world.specs.World.{World}
-use Rattle.asm_world.specs.Run.{State, Phase, Entry, IsRun, end_of, IsPrinted, IsPrintedToCut, IsFull, output_of, answered, times_of, marks_of, has_refusal}
+use Rattle.asm_world.specs.Run.{State, Phase, Entry, AllMoves, IsRunWhile, CallsRise, end_of, IsPrinted, IsPrintedToCut, IsFull, output_of, answered, times_of, marks_of, has_refusal}
 use Rattle.group_disks.specs.Found.{Counts, counts_of}
-use Rattle.session.specs.Claims.{outside, held_outside, StandsFor, Premises}
+use Rattle.session.specs.Claims.{outside, held_outside, StandsFor, IsProvedApart}
 use Rattle.session.specs.Effects.{Past}
-use Rattle.session.specs.Quiet.{quiet}
+use Rattle.session.specs.Proved.{IsProved}
+use Rattle.asm_world.specs.Below.{GroupBelow}
 
 -- All that a part of the program may change: the session, the least id that it hasn't given, the disks, what the sink has taken,
 -- the clock, the marks, and whether a reply was a refusal.
 pub record Scene (C : Type 0) : Type 1 where
   pub world : World
+  -- of the groups that are mounted, by their ids
+  pub below : ℕ → GroupBelow
   pub phase : Phase
   pub time : ℕ
   pub given : ℕ
@@ -24,34 +27,33 @@ pub record Scene (C : Type 0) : Type 1 where
   pub marks : List ℕ
   pub refused : Bool
 
-abbrev pub scene : {C : Type 0} → World → Phase → ℕ → ℕ → BayState → Option (List ℕ) → C → List ℕ → Bool → Scene C
-scene world phase time given bay taken clock marks refused =
-    record { world = world; phase = phase; time = time; given = given; bay = bay; taken = taken; clock = clock; marks = marks; refused = refused }
+abbrev pub scene : {C : Type 0} → World → (ℕ → GroupBelow) → Phase → ℕ → ℕ → BayState → Option (List ℕ) → C → List ℕ → Bool → Scene C
+scene world below phase time given bay taken clock marks refused =
+    record { world = world; below = below; phase = phase; time = time; given = given; bay = bay; taken = taken; clock = clock; marks = marks; refused = refused }
 
 -- the session's state in a scene
 abbrev pub state_of : {C : Type 0} → Scene C → State Counts
-state_of s = record { world = s.world; below = quiet; phase = s.phase; time = s.time; calls = s.bay.calls; counts = counts_of s.bay }
+state_of s = record { world = s.world; below = s.below; phase = s.phase; time = s.time; calls = s.bay.calls; counts = counts_of s.bay }
 
--- The images of each moment that ends in these moves stand for groups between, and those of the moment that lasts for the world's.
+-- Up to the first move that isn't proved, the images of each moment that ends in these moves stand for groups between; where all are
+-- proved, those of the moment that lasts stand for the world's.
 pub record Holding (known : ℕ → Bool) (paths : List Bytes) (s : State Counts) (history : List (Entry Counts)) (given : ℕ) (new : BayState) (world : World) : Type 0 where
-  pub held : IsRun (held_outside paths new.leaves) s history
-  pub now : StandsFor (length paths) known given new world
+  pub held : IsRunWhile (held_outside paths new.leaves) (IsProvedApart known) s history
+  pub now : AllMoves (IsProvedApart known) history → StandsFor (length paths) known given new world
 
--- A run that answers these commands leads from old to new. Its texts were printed whole, or up to a cut.
+-- Moves that answer these commands lead from old to new, and those before the first that isn't proved are a run. Their texts were
+-- printed whole, or up to a cut.
 pub record Acts {C : Type 0} (gives : C → ℕ → C → Type 0) (paths : List Bytes) (whole : Bool) (commands : List Bytes) (old new : Scene C) : Type 0 where
   pub history : List (Entry Counts)
-  pub run : IsRun (outside paths new.bay.leaves) (state_of old) history
+  pub run : IsRunWhile (outside paths new.bay.leaves) IsProved (state_of old) history
+  pub calls_rise : CallsRise (state_of old) history
   pub ends : end_of (state_of old) history ≡ state_of new
   pub commands_are : answered history ≡ commands
   pub past : Past old.bay new.bay
-  pub holds : (known : ℕ → Bool) → StandsFor (length paths) known old.given old.bay old.world → Premises known history → Holding known paths (state_of old) history new.given new.bay new.world
+  pub holds : (known : ℕ → Bool) → StandsFor (length paths) known old.given old.bay old.world → Holding known paths (state_of old) history new.given new.bay new.world
   pub full : IsFull history
   pub printed : MatchBool whole (IsPrinted history) (IsPrintedToCut history)
   pub written : Appends old.taken new.taken (output_of history)
   pub readings : Readings gives old.clock (times_of history) new.clock
   pub marks_grow : new.marks ≡ old.marks ++ marks_of history
   pub refusal : new.refused ≡ (old.refused || has_refusal history)
-
--- For parts of the program that are handed no clock: none is read.
-abbrev pub unread : Unit {0} → ℕ → Unit {0} → Type 0
-unread clock time clock' = ⊥

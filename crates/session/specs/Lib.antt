@@ -1,7 +1,16 @@
 pub mod Entries
+pub mod Groups
+pub mod Places
+pub mod Disks
+pub mod Files
+pub mod Names
+pub mod Settings
+pub mod Reports
+pub mod Families
 pub mod Meaning
 pub mod MeaningLaws
 pub mod Views
+pub mod Proved
 pub mod Reads
 pub mod Counts
 pub mod Claims
@@ -11,3 +20,5 @@ pub mod Stops
 pub mod Serves
 pub mod Quiet
 pub mod Effects
+pub mod Desks
+pub mod Programs

@@ -1,17 +1,30 @@
 //! The session: a script is read command by command, each is run on the disks, and its reply is printed.
 #![tactic(auto)]
 
+mod answer;
+mod commands;
+mod desk;
+mod disks;
+mod files;
 mod found;
+mod group_name;
+mod groups;
 mod laws;
+mod names;
+mod places;
+mod program;
 mod reader;
+mod refusing;
 mod reply;
+mod reports;
+mod running;
 mod server;
-mod service;
 mod session;
+mod settings;
 mod stop;
 
+pub use desk::Desk;
 pub use laws::meaning_is_of_the_languages;
-pub use server::serve;
-pub use service::Service;
+pub use program::Program;
 pub use session::Session;
 pub use stop::Stop;

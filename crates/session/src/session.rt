@@ -1,40 +1,24 @@
-// The groups of the session, and the commands on them.
-ghost use Rattle.std.specs.Prelude.{◌≡◌, ℕ, max, map, length, ◌≤◌, ◌<◌, ◌++◌, [], is_some, nat_le, false, IsTrue, IfSome, OnOk, OnErr};
-ghost use Rattle.std.specs.String.{string_bytes};
-ghost use Rattle.asm_group.specs.Names.{is_name};
+// The groups of the session.
+ghost use Rattle.std.specs.Prelude.{◌≡◌, max, min, ◌≤◌, ◌+◌, ◌++◌, [], ◌∷◌, false, is_some, nat_le, IfSome, OnOk, OnErr};
+ghost use Rattle.bay.specs.Counts.{last_count};
 ghost use Rattle.asm_world.specs.Causes.{mounted_count};
-ghost use Rattle.asm_world.specs.World.{World, entry_among};
-ghost use Rattle.asm_world.specs.Command.{Said};
-ghost use Rattle.session.specs.Meaning.{meaning, creation_of};
-ghost use Rattle.session.specs.Entries.{entry_view};
-ghost use Rattle.session.specs.Sessions.{Knows, given_after, entries_of};
-ghost use Rattle.session.specs.Effects.{HasEffect};
-ghost use Rattle.session.specs.Views.{reply_view, found_view, nothing_found};
+ghost use Rattle.asm_world.specs.World.{World, entry_among, mounted_entry, without_entry};
+ghost use Rattle.session.specs.Sessions.{AreGiven, given_after, entries_of};
 
-use crate::found::FoundIds;
-use crate::reader::{Command, read_command};
-use crate::reply::Reply;
-use asm_base::{Limited, Name, NoMemory, Refusal};
-use asmcmd::ReadError;
-use bay::Bay;
-use group_disks::create_group;
+use crate::group_name::{GroupName, SoughtName};
+use asm_base::{Name, NoMemory};
+use indexmap::IndexMap;
 use std::alloc::Global;
 use std::marker::Model;
 
 /// The most groups that are mounted.
-const MAX_GROUPS: usize = 8;
+pub const MAX_GROUPS: usize = 8;
 
-/// A group of the session: its name as it is spelt in the headers of its disks, and its id.
-#[derive(Drop)]
-struct GroupEntry {
-    name: Name,
-    id: u64,
-}
-
-/// The groups of the session in the order of mounting, the least id that was not given yet, and the greatest time seen, in seconds.
+/// The ids of the session's groups by their names, in the order of mounting, the least id that was not
+/// given yet, and the greatest time seen, in seconds.
 #[derive(Drop)]
 pub struct Session {
-    groups: Vec<GroupEntry>,
+    groups: IndexMap<GroupName, u64>,
     given: u64,
     time: u64,
 }
@@ -46,9 +30,9 @@ impl Model for Session {
 
     ghost Value = { SessionView };
 
-    ghost view = { λ s. record { entries = map entry_view s.groups.items; given = s.given; time = s.time } };
+    ghost view = { λ s. record { entries = map entry_view s.groups.entries; given = s.given; time = s.time } };
 
-    ghost invariant = { λ s. AreGiven (map entry_view s.groups.items) s.given };
+    ghost invariant = { λ s. AreGiven (map entry_view s.groups.entries) s.given };
 }
 
 impl Session {
@@ -58,7 +42,7 @@ impl Session {
         ensures time { result.time ≡ 0 }
     {
         Session {
-            groups: Vec::new(alloc),
+            groups: IndexMap::new(alloc),
             given: 0,
             time: 0,
         }
@@ -72,121 +56,39 @@ impl Session {
     }
 
     /// Whether a group of the name is in the session.
-    fn has(&self, name: &Name) -> bool
+    pub fn has(&self, name: &Name) -> bool
         ensures { result ≡ is_some (entry_among self.now.entries name.now) }
     {
-        has_group(&self.groups, name)
+        self.groups.contains_key(SoughtName { name })
     }
 
     /// Whether as many groups are mounted as there may be.
     #[tactic(auto, using(crate::proofs::Counting::mounted_are_all))]
-    fn is_full(&self) -> bool
-        ensures { (w : World) → Knows self.now w → result ≡ nat_le 8 (mounted_count w) }
+    pub fn is_full(&self) -> bool
+        ensures { (w : World) → w.session ≡ self.now.entries → result ≡ nat_le 8 (mounted_count w) }
     {
         self.groups.len() >= MAX_GROUPS
     }
 
     /// Makes room for one more group.
-    fn make_room(&mut self) -> Result<(), NoMemory>
+    pub fn make_room(&mut self) -> Result<(), NoMemory>
         ensures { self.new ≡ self.old }
     {
         self.groups.reserve(1).map_err(|_| NoMemory)
     }
 
-    /// Runs a command on the disks of the images at these paths. What it finds of ids is put into `found`.
-    pub fn run<B: Bay>(
-        &mut self,
-        alloc: Global,
-        bay: &mut B,
-        paths: &[String],
-        command: &[u8],
-        found: &mut FoundIds,
-    ) -> Reply
-        requires few { length paths.now ≤ 512 }
-        requires none { found_view found.old ≡ nothing_found }
-        ensures effect { (w : World) → Knows self.old w → (w' : World) × Knows self.new w'
-            × HasEffect (map string_bytes paths.now) (found_view found.new) command.now (reply_view result) self.old.given self.new.given (B.state bay.old) (B.state bay.new) w w' }
+    /// The least id that a new group may have: above all that were given, and the time seen in its
+    /// upper part.
+    pub fn next_id(&self) -> u64
+        ensures floor { self.now.given ≤ result }
+        ensures given { AreGiven self.now.entries self.now.given }
     {
-        match read_command(alloc, command) {
-            Ok(Command::CreateExternal { name, path }) => {
-                self.create(alloc, bay, paths, command, path.as_slice(), name, found)
-            }
-            Err(ReadError::Syntax { at }) => Reply::Refused(Refusal::Syntax { at }),
-            Err(ReadError::NoMemory) => Reply::Refused(Refusal::NoMemory),
-        }
-    }
-
-    /// CREATE DISKGROUP on one disk. Its refusals in order: TooMany, GroupExists, and then those of the disks.
-    fn create<B: Bay>(
-        &mut self,
-        alloc: Global,
-        bay: &mut B,
-        paths: &[String],
-        command: &[u8],
-        path: &[u8],
-        name: Name,
-        found: &mut FoundIds,
-    ) -> Reply
-        requires few { length paths.now ≤ 512 }
-        requires none { found_view found.old ≡ nothing_found }
-        requires says { meaning command.now ≡ Said (creation_of name path.now) }
-        requires name { IsTrue (is_name name) }
-        ensures effect { (w : World) → Knows self.old w → (w' : World) × Knows self.new w'
-            × HasEffect (map string_bytes paths.now) (found_view found.new) command.now (reply_view result) self.old.given self.new.given (B.state bay.old) (B.state bay.new) w w' }
-    {
-        if self.is_full() {
-            return Reply::Refused(Refusal::TooMany {
-                kind: Limited::Groups,
-                limit: MAX_GROUPS as u64,
-            });
-        }
-        if self.has(&name) {
-            return Reply::Refused(Refusal::GroupExists);
-        }
-        if self.make_room().is_err() {
-            return Reply::Refused(Refusal::NoMemory);
-        }
-        self.create_named(alloc, bay, paths, command, path, name, found)
-    }
-
-    /// The creation of a group whose name isn't in the session, for whose entry there is room.
-    fn create_named<B: Bay>(
-        &mut self,
-        alloc: Global,
-        bay: &mut B,
-        paths: &[String],
-        command: &[u8],
-        path: &[u8],
-        name: Name,
-        found: &mut FoundIds,
-    ) -> Reply
-        requires few { length paths.now ≤ 512 }
-        requires none { found_view found.old ≡ nothing_found }
-        requires says { meaning command.now ≡ Said (creation_of name path.now) }
-        requires name { IsTrue (is_name name) }
-        requires absent { is_some (entry_among self.old.entries name) ≡ false }
-        requires room { (w : World) → Knows self.old w → nat_le 8 (mounted_count w) ≡ false }
-        ensures effect { (w : World) → Knows self.old w → (w' : World) × Knows self.new w'
-            × HasEffect (map string_bytes paths.now) (found_view found.new) command.now (reply_view result) self.old.given self.new.given (B.state bay.old) (B.state bay.new) w w' }
-    {
-        let floor = self.time.saturating_mul(65_536).max(self.given);
-        let (made, answer) = create_group(alloc, bay, paths, &name, path, floor, &mut found.ids);
-        found.made = made;
-        match answer {
-            Ok(()) => match self.enter(name, made) {
-                Ok(()) => Reply::Done,
-                Err(NoMemory) => Reply::Refused(Refusal::NoMemory),
-            },
-            Err(refusal) => {
-                self.gave(made);
-                Reply::Refused(refusal)
-            }
-        }
+        self.time.saturating_mul(65_536).max(self.given)
     }
 
     /// Notes an id that was given.
     #[tactic(auto, using(crate::proofs::Giving::still_given))]
-    fn gave(&mut self, made: Option<u64>)
+    pub fn gave(&mut self, made: Option<u64>)
         requires { IfSome made (λ id. self.old.given ≤ id) }
         ensures { self.new ≡ record self.old { given = given_after self.old.given made } }
     {
@@ -195,32 +97,43 @@ impl Session {
         }
     }
 
-    /// Enters the new group last. There is room for it, where its name and its place were made before.
-    fn enter(&mut self, name: Name, made: Option<u64>) -> Result<(), NoMemory>
-        requires { IfSome made (λ id. self.old.given ≤ id) }
+    /// Enters the new group last. None of its name is there. There is room for it, where its place was
+    /// made before.
+    pub fn enter(&mut self, name: Name, made: Option<u64>) -> Result<(), NoMemory>
+        requires fresh { IfSome made (λ id. self.old.given ≤ id) }
+        requires absent { is_some (entry_among self.old.entries name) ≡ false }
         ensures given { self.new.given ≡ given_after self.old.given made }
         ensures entered { OnOk result (self.new.entries ≡ self.old.entries ++ entries_of name made) }
         ensures refused { OnErr result (self.new.entries ≡ self.old.entries) }
     {
         self.gave(made);
         match made {
-            Some(id) => self
-                .groups
-                .push(GroupEntry { name, id })
-                .map_err(|_| NoMemory),
+            Some(id) => self.add(name, id),
             None => Ok(()),
         }
     }
-}
 
-/// Whether a group of the name is among these.
-fn has_group(groups: &[GroupEntry], name: &Name) -> bool
-    ensures { result ≡ is_some (entry_among (map entry_view groups.now) name.now) }
-{
-    for group in groups {
-        if group.name.is_same(name) {
-            return true;
+    /// Adds a group whose id was given.
+    fn add(&mut self, name: Name, id: u64) -> Result<(), NoMemory>
+        requires given { self.old.given ≡ min (id + 1) last_count }
+        requires absent { is_some (entry_among self.old.entries name) ≡ false }
+        ensures given { self.new.given ≡ self.old.given }
+        ensures entered { OnOk result (self.new.entries ≡ self.old.entries ++ mounted_entry name id ∷ []) }
+        ensures refused { OnErr result (self.new.entries ≡ self.old.entries) }
+    {
+        let key = GroupName { name };
+        match self.groups.insert(key, id) {
+            Ok(_) => Ok(()),
+            Err(_) => Err(NoMemory),
         }
     }
-    false
+
+    /// Takes the group of a name out of the session, and says whether it was there.
+    pub fn leave(&mut self, name: &Name) -> bool
+        ensures found { result ≡ is_some (entry_among self.old.entries name.now) }
+        ensures left { self.new.entries ≡ without_entry self.old.entries name.now }
+        ensures given { self.new.given ≡ self.old.given }
+    {
+        self.groups.shift_remove(SoughtName { name }).is_some()
+    }
 }

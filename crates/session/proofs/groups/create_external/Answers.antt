@@ -1,0 +1,37 @@
+use Rattle.std.proofs.Common.{refl, sym, ◌∙◌}
+use Rattle.asm_base.specs.Refusals.{said}
+use Rattle.session.proofs.Desks.{from-same}
+use Rattle.session.proofs.Named.{too_many, exists_already}
+use Rattle.session.proofs.groups.create_external.Goals as goal
+
+pub returns-then-is_full : goal.returns-then-is_full
+unfolding said
+returns-then-is_full g c = record {
+  answers = record {
+    paths = refl;
+    host_stays = λ is. refl;
+    served = λ w below knows. (w, below, knows, rw (c.plain.ensures.reply, c.plain.ensures.found) (too_many _ c.args.text.now _ _ c.requires.says _ _ w (sym (c.is_full.ensures w knows.entries_are) ∙ c.if-is_full.true)));
+  };
+}
+
+pub returns-then-has : goal.returns-then-has
+unfolding said
+returns-then-has g c = record {
+  answers = record {
+    paths = refl;
+    host_stays = λ is. refl;
+    served = λ w below knows. (
+      w,
+      below,
+      knows,
+      rw (c.plain-then-has.ensures.reply, c.plain-then-has.ensures.found)
+          (exists_already _ c.args.text.now _ _ c.requires.says _ _ w (sym (c.is_full.ensures w knows.entries_are) ∙ c.if-is_full.false) (rw knows.entries_are (sym c.has.ensures ∙ c.if-has.true))),
+    );
+  };
+}
+
+pub returns-then-is_err : goal.returns-then-is_err
+returns-then-is_err g c = record { answers = from-same c.args.text.now _ c.args.desk.now _ _ refl refl c.make_room.ensures refl c.no_memory.ensures.answers }
+
+pub returns : goal.returns
+returns g c = record { answers = from-same c.args.text.now _ c.args.desk.now _ _ refl refl c.make_room.ensures refl c.form.ensures.answers }

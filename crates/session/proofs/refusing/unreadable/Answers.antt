@@ -1,0 +1,16 @@
+use Rattle.std.proofs.Common.{refl}
+use Rattle.asm_base.specs.Refusals.{said}
+use Rattle.asm_world.specs.Command.{Unreadable}
+use Rattle.session.proofs.Languages.{served_meaning}
+use Rattle.session.proofs.Outcomes.{unreadable}
+use Rattle.session.proofs.refusing.unreadable.Goals as goal
+
+pub returns : goal.returns
+unfolding said
+returns g c = record {
+  answers = record {
+    paths = refl;
+    host_stays = λ is. refl;
+    served = λ w below knows. (w, below, knows, rw (c.plain.ensures.reply, c.plain.ensures.found) (unreadable _ c.args.text.now c.args.at _ _ w (served_meaning c.args.text.now (Unreadable c.args.at) c.requires.asked refl)));
+  };
+}

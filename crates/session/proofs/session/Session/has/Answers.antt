@@ -1,0 +1,6 @@
+use Rattle.std.proofs.Common.{◌∙◌}
+use Rattle.session.proofs.Entries.{found_by_name}
+use Rattle.session.proofs.session.Session.has.Goals as goal
+
+pub returns : goal.returns
+returns c = c.contains_key.ensures ∙ found_by_name c.args.name.now _

@@ -1,0 +1,17 @@
+// The program and all that it works on.
+ghost use Rattle.std.specs.Prelude.{◌≤◌, length};
+
+use crate::desk::Desk;
+use bay::{Bay, Clock, Host, Sink};
+
+/// What commands work on, where replies go, the time, the marks of the replies, and whether one was a
+/// refusal.
+#[derive(Drop)]
+pub struct Program<B: Bay, H: Host, K: Sink, C: Clock> {
+    pub desk: Desk<B, H>,
+    pub sink: K,
+    pub clock: C,
+    pub marks: Vec<u64>,
+    pub refused: bool,
+    ghost few: { length desk.paths.items ≤ 512 },
+}

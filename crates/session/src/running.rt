@@ -1,0 +1,90 @@
+// One command after another: its reply and its mark.
+ghost use Rattle.std.specs.Prelude.{◌≡◌, ℕ, ◌<◌, ◌≤◌, false, [], length, map, vec_len, vec_capacity};
+ghost use Rattle.std.specs.String.{string_bytes};
+ghost use Rattle.asm_world.specs.Language.{command_of};
+ghost use Rattle.session.specs.Desks.{copies, paths_on};
+ghost use Rattle.session.specs.Programs.{EachWorld, AnswersOne, RunsOne};
+ghost use Rattle.session.specs.Stops.{StopsByOutput};
+
+use crate::commands::run_text;
+use crate::desk::Desk;
+use crate::program::Program;
+use crate::reply::{is_no_memory, is_refusal, print_reply};
+use crate::session::Session;
+use crate::stop::Stop;
+use bay::{Bay, Clock, Fault, Host, Sink};
+use std::alloc::Global;
+
+impl<B: Bay, H: Host, K: Sink, C: Clock> Program<B, H, K, C> {
+    /// No group is in the session, and nothing was answered.
+    pub fn new(
+        alloc: Global,
+        bay: B,
+        host: H,
+        sink: K,
+        clock: C,
+        paths: Vec<String>,
+    ) -> Program<B, H, K, C>
+        requires few { length paths.items ≤ 512 }
+        ensures session { (result.desk.session.entries ≡ []) × (result.desk.session.given ≡ 0) }
+        ensures marks { result.marks.items ≡ [] }
+        ensures refused { result.refused ≡ false }
+        ensures bay { result.desk.bay ≡ bay }
+        ensures host { result.desk.host ≡ host }
+        ensures sink { result.sink ≡ sink }
+        ensures clock { result.clock ≡ clock }
+        ensures paths { paths_on result.desk ≡ map string_bytes paths.items }
+    {
+        Program {
+            desk: Desk {
+                alloc,
+                session: Session::new(alloc),
+                bay,
+                host,
+                paths,
+            },
+            sink,
+            clock,
+            marks: Vec::new(alloc),
+            refused: false,
+        }
+    }
+
+    /// Runs a command and prints its reply. There is room for its mark.
+    fn answer(&mut self, text: &[u8]) -> Result<(), Stop>
+        requires room { vec_len self.old.marks < vec_capacity self.old.marks }
+        ensures paths { paths_on self.new.desk ≡ paths_on self.old.desk }
+        ensures host { copies (command_of text.now) ≡ false → self.new.desk.host ≡ self.old.desk.host }
+        ensures answers { EachWorld self.old (AnswersOne result text.now self.old self.new) }
+        ensures cause { StopsByOutput result (K.faults self.old.sink) (K.faults self.new.sink) }
+    {
+        let answer = run_text(&mut self.desk, text);
+        let (reply, printed) = print_reply(self.desk.alloc, &mut self.sink, answer.reply);
+        self.refused |= is_refusal(&reply);
+        let mark = self.desk.bay.calls();
+        match printed {
+            Ok(()) => {
+                let _ = self.marks.push(mark);
+            }
+            Err(Fault) => return Err(Stop::WriteFault),
+        }
+        if is_no_memory(&reply) {
+            return Err(Stop::NoMemory);
+        }
+        Ok(())
+    }
+
+    /// Runs one command whole: the clock is read, the command runs, and its reply is printed. Nothing
+    /// expires and no slice is due as long as no command works on the disks of a mounted group.
+    pub fn run_command(&mut self, text: &[u8]) -> Result<(), Stop>
+        ensures paths { paths_on self.new.desk ≡ paths_on self.old.desk }
+        ensures host { copies (command_of text.now) ≡ false → self.new.desk.host ≡ self.old.desk.host }
+        ensures runs { EachWorld self.old (RunsOne result text.now self.old self.new) }
+        ensures cause { StopsByOutput result (K.faults self.old.sink) (K.faults self.new.sink) }
+    {
+        self.marks.reserve(1)?;
+        let time = self.clock.now();
+        self.desk.session.see(time);
+        self.answer(text)
+    }
+}
