@@ -4,10 +4,10 @@ use Rattle.session.proofs.Entries.{found_by_name, left_without, still_given}
 use Rattle.session.proofs.session.Session.leave.Goals as goal
 
 pub returns-clause-found : goal.returns-clause-found
-returns-clause-found c = c.is_some.ensures ∙ ap is_some c.shift_remove.ensures.value ∙ found_by_name c.args.name.now c.self.inside.groups.entries
+returns-clause-found c = rw (← c.self.view_is) (c.is_some.ensures ∙ ap is_some c.shift_remove.ensures.value ∙ found_by_name c.args.name.now c.self.inside.groups.entries)
 
 pub returns-clause-left : goal.returns-clause-left
-returns-clause-left c = left_without c.args.name.now c.self.inside.groups.entries c.shift_remove.new.self.entries c.shift_remove.ensures.entries c.shift_remove.ensures.updates.1
+returns-clause-left c = rw (← c.self.view_is) (left_without c.args.name.now c.self.inside.groups.entries c.shift_remove.new.self.entries c.shift_remove.ensures.entries c.shift_remove.ensures.updates.1)
 
 pub invariant_of-self : goal.invariant_of-self
 invariant_of-self c = still_given (map entry_view c.self.inside.groups.entries) (map entry_view c.shift_remove.new.self.entries) c.self.inside.given c.args.name.now
