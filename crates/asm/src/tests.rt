@@ -151,6 +151,13 @@ fn scripts_are_answered(rt: HostRuntime) -> Result<(), Fail> {
         },
         Row {
             megabytes: 25,
+            script: b"cd +\npwd\ncd +DATA\n",
+            status: 1,
+            output: b"ok\n+\nok\nerror 1 Syntax 0\n",
+            replies: 3,
+        },
+        Row {
+            megabytes: 25,
             script: b"CREATE DISKGROUP DATA EXTERNAL REDUNDANCY DISK '/d0';\nALTER DISKGROUP data DISMOUNT;\nALTER DISKGROUP data DISMOUNT;\nCREATE DISKGROUP DATA EXTERNAL REDUNDANCY DISK '/d0';\n",
             status: 1,
             output: b"ok\nok\nerror 2 NoGroup\nerror 6 DiskTaken /d0\n",

@@ -1,13 +1,19 @@
--- Where the session stands: cd and pwd. Its place is `+` as long as cd isn't served.
-use Rattle.std.specs.Prelude.{⊤, Bool, true, false, List, ℕ}
+-- Where the session stands: pwd, and cd to `+`. So its place is `+`.
+use Rattle.std.specs.Prelude.{⊤, ℕ, Bool, true, false, List, [], ◌∷◌}
+use Rattle.std.specs.Str.{bytes_eq}
 use Rattle.asm_group.specs.Names.{Bytes}
 use Rattle.asm_group.specs.Refusal as r
-use Rattle.asm_world.specs.Command.{Command, Asked, Pwd}
+use Rattle.asm_world.specs.Command.{Command, Asked, Cd, Pwd}
 use Rattle.asm_world.specs.World.{World}
 use Rattle.group_disks.specs.Found.{Counts}
 
+-- the path `+`
+abbrev pub is_top : Bytes → Bool
+is_top path = bytes_eq path (43 ∷ [])
+
 -- which of them run
 abbrev pub is_served : Command → Bool
+is_served (Asked (Cd path)) = is_top path
 is_served (Asked Pwd) = true
 is_served other = false
 

@@ -4,6 +4,7 @@ ghost use Rattle.std.specs.Prelude.{◌≡◌, IfOk, [], ◌∷◌};
 ghost use Rattle.asm_world.specs.Command.{Asked, Cd, Pwd};
 ghost use Rattle.asm_world.specs.Language.{command_of};
 ghost use Rattle.session.specs.Desks.{IsAnswered};
+ghost use Rattle.session.specs.Places.{is_top};
 
 use crate::answer::Answer;
 use crate::desk::Desk;
@@ -13,12 +14,21 @@ use asm_base::{List, NoMemory, Text};
 use bay::{Bay, Host};
 use std::alloc::Global;
 
-/// cd.
-pub fn cd<B: Bay, H: Host>(desk: &mut Desk<B, H>, text: &[u8], _path: Text) -> Answer
-    requires asked { command_of text.now ≡ Asked (Cd _path) }
+/// cd. It is served to `+` alone, where the session stands as long as it goes nowhere else.
+pub fn cd<B: Bay, H: Host>(desk: &mut Desk<B, H>, text: &[u8], path: Text) -> Answer
+    requires asked { command_of text.now ≡ Asked (Cd path) }
     ensures answers { IsAnswered text.now result desk.old desk.new }
 {
-    unserved(desk, text)
+    if !is_top(path.as_slice()) {
+        return unserved(desk, text);
+    }
+    Answer::plain(desk.alloc, Reply::Done(List::new(desk.alloc)))
+}
+
+fn is_top(path: &[u8]) -> bool
+    ensures { result ≡ is_top path.now }
+{
+    path == b"+".as_slice()
 }
 
 /// pwd: the line of the session's place.
