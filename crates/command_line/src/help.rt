@@ -29,6 +29,7 @@ Each command is answered by ok or by an error line on standard output. These are
   CREATE DISKGROUP name EXTERNAL REDUNDANCY DISK 'image';
   ALTER DISKGROUP name DISMOUNT;
   pwd
+  cd +
 
 Any other command or form of one is answered error 1 Syntax 0, and a text that is no command error 1
 Syntax and the place where it parts from all commands. For example
