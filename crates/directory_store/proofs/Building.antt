@@ -11,7 +11,7 @@ use Rattle.page_map.specs.Loaded.{AreFilled}
 use Rattle.std.proofs.lemmas.List.{append-nil}
 use Rattle.change_directory.specs.declared.copy.DirCopy.{DirCopy}
 use Rattle.directory_store.specs.declared.due.Due.{Due}
-use Rattle.directory_store.specs.Reading.{IsNewest, KeepsOne, PutsKept, copies_of, is_same_page, same_pages}
+use Rattle.directory_store.specs.Reading.{IsBehind, IsNewest, KeepsOne, PutsKept, copies_of, is_same_page, same_pages}
 use Rattle.asm_formats.specs.Logs.{PageImage}
 use Rattle.std.proofs.lemmas.List.{take_more}
 use Rattle.change_directory.specs.Logs.{image_of_page}
@@ -39,43 +39,43 @@ drop_end (x ∷ xs) (suc i) le = drop_end xs i (omega arith)
 
 -- ---- the greatest number
 
-most : (r : Reading) (before after : List Reading) (q : Reading) → IsAmong (before ++ r ∷ after) q → ((p : Reading) → IsAmong before p → p.number < r.number)
-    → ((p : Reading) → IsAmong after p → p.number ≤ r.number) → q.number ≤ r.number
-most r [] after q (inl e) small others = omega (arith, ap (λ (p : Reading). p.number) e)
-most r [] after q (inr h) small others = others q h
-most r (b ∷ before) after q (inl e) small others = omega (arith, ap (λ (p : Reading). p.number) e, small b (inl refl))
-most r (b ∷ before) after q (inr h) small others = most r before after q h (λ p among. small p (inr among)) others
+-- a reading is behind itself
+behind_self : (r : Reading) → IsBehind r r
+behind_self r = inr (refl, omega arith)
+
+-- what is behind one behind another is behind that
+behind-trans : (r q p : Reading) → IsBehind r q → IsBehind q p → IsBehind r p
+behind-trans r q p (inl a) (inl b) = inl (omega (arith, a, b))
+behind-trans r q p (inl a) (inr b) = inl (omega (arith, a, b.0))
+behind-trans r q p (inr a) (inl b) = inl (omega (arith, a.0, b))
+behind-trans r q p (inr a) (inr b) = inr (b.0 ∙ a.0, omega (arith, a.1, b.1))
+
+behind_most : (r q : Reading) → IsBehind r q → q.number ≤ r.number
+behind_most r q (inl a) = omega (arith, a)
+behind_most r q (inr a) = omega (arith, a.0)
 
 -- none of the readings has a greater number
 pub newest_most : (readings : List Reading) (r : Reading) → IsNewest readings r → (q : Reading) → IsAmong readings q → q.number ≤ r.number
-newest_most readings r is q among = most r is.before is.after q (subst (λ (l : List Reading). IsAmong l q) is.split among) is.smaller is.others
+newest_most readings r is q among = behind_most r q (is.others q among)
 
-pub newest_among : (readings : List Reading) (r : Reading) → IsNewest readings r → IsAmong readings r
-newest_among readings r is = subst (λ (l : List Reading). IsAmong l r) (sym is.split) (go is.before) where
-  go : (before : List Reading) → IsAmong (before ++ r ∷ is.after) r
-  go [] = inl refl
-  go (b ∷ before) = inr (go before)
-
-pub newest_first : (first : Reading) (rest : List Reading) (r : Reading) → IsNewest rest r → r.number ≤ first.number → IsNewest (first ∷ rest) first
-newest_first first rest r is le = record {
-  before = [];
-  after = rest;
-  split = refl;
-  smaller = λ q among. absurd among;
-  others = λ q among. omega (arith, le, newest_most rest r is q among);
+pub newest_first : (first : Reading) (rest : List Reading) (r : Reading) → IsNewest rest r → IsBehind first r → IsNewest (first ∷ rest) first
+newest_first first rest r is behind = record {
+  among = inl refl;
+  others = λ q among. ⊎_elim (λ (e : q ≡ first). subst (λ (p : Reading). IsBehind first p) (sym e) (behind_self first)) (λ there. behind-trans first r q behind (is.others q there)) among;
 }
 
-pub newest_later : (first : Reading) (rest : List Reading) (r : Reading) → IsNewest rest r → first.number < r.number → IsNewest (first ∷ rest) r
-newest_later first rest r is lt = record {
-  before = first ∷ is.before;
-  after = is.after;
-  split = ap (λ (l : List Reading). first ∷ l) is.split;
-  smaller = λ q among. ⊎_elim (λ (e : q ≡ first). omega (arith, ap (λ (p : Reading). p.number) e, lt)) (λ there. is.smaller q there) among;
-  others = is.others;
+pub newest_later : (first : Reading) (rest : List Reading) (r : Reading) → IsNewest rest r → IsBehind r first → IsNewest (first ∷ rest) r
+newest_later first rest r is behind = record {
+  among = inr is.among;
+  others = λ q among. ⊎_elim (λ (e : q ≡ first). subst (λ (p : Reading). IsBehind r p) (sym e) behind) (λ there. is.others q there) among;
 }
 
 pub newest_alone : (first : Reading) (rest : List Reading) → rest ≡ [] → IsNewest (first ∷ rest) first
-newest_alone first rest none = record { before = []; after = rest; split = refl; smaller = λ q among. absurd among; others = λ q among. absurd (subst (λ (l : List Reading). IsAmong l q) none among) }
+newest_alone first rest none = record {
+  among = inl refl;
+  others = λ q among. ⊎_elim (λ (e : q ≡ first). subst (λ (p : Reading). IsBehind first p) (sym e) (behind_self first))
+      (λ there. absurd (subst (λ (l : List Reading). IsAmong l q) none there)) among;
+}
 
 -- ---- pages as a load gives them
 

@@ -1,6 +1,6 @@
 -- A copy that is brought up: how it is read.
 use Rattle.std.proofs.Common.{◌≡◌, inl, inr, ⊎_elim, ℕ, ◌+◌, ◌<◌, ◌≤◌, Bool, true, false, List, [], ◌∷◌, ◌++◌, length, map, take, drop, get_or, refl, sym, ap, subst, ◌∙◌, Option, Some, None, arith}
-use Rattle.std.specs.Prelude.{◌&&◌, nat_le, nat_lt, IsSome}
+use Rattle.std.specs.Prelude.{◌&&◌, nat_le, nat_lt, IsSome, IsTrue}
 use Rattle.std.specs.List.{flat_map, list_all, range_with_len}
 use Rattle.std.proofs.lemmas.Bool.{true≢false, and_parts, leb-true, ltb-true}
 use Rattle.std.proofs.lemmas.List.{length-drop, map-append, map_more}
@@ -8,8 +8,8 @@ use Rattle.std.proofs.lemmas.Option.{none-some}
 use Rattle.bay.specs.Image.{Image, Same, ChangesOnly, window}
 use Rattle.bay.specs.State.{BayState, IsSound, IsSlot}
 use Rattle.bay.specs.Moments.{Runs, Ends, Durable, NowOnly}
-use Rattle.bay.proofs.Calls.{goes_on, now_only, stops, widened}
-use Rattle.bay.proofs.Images.{window-same}
+use Rattle.bay.proofs.Calls.{both_done, goes_on, stops, widened}
+use Rattle.bay.proofs.Images.{changes-same, changes-trans, window-same}
 use Rattle.asm_group.specs.Names.{Bytes}
 use Rattle.asm_base.specs.declared.block.Block.{Block}
 use Rattle.asm_formats.specs.Damage.{directory_damage}
@@ -24,14 +24,16 @@ use Rattle.change_directory.specs.Homes.{HasHomed, HomesOf, KeepsContent}
 use Rattle.change_directory.specs.Loads.{IsLoaded, number_of, due_page, filled_pages, open_slots}
 use Rattle.change_directory.specs.Logs.{are_pages, image_of_page}
 use Rattle.change_directory.specs.Places.{IsCopy}
-use Rattle.change_directory.specs.StoreLaws.{HasDue, HasOpen, HasRegion, IsReadAs, IsShaped, SameCopy, due_images, shown_by}
+use Rattle.change_directory.specs.StoreLaws.{HasDue, HasOpen, HasRegion, IsReadAs, IsShaped, RegionOf, SameCopy, due_images, shown_by}
 use Rattle.change_directory.specs.Told.{Told}
+use Rattle.change_directory.proofs.Keeping.{keeps_content}
 use Rattle.change_directory.proofs.Loaded.{loaded_is_content, loaded_is_due}
+use Rattle.change_directory.proofs.Regions.{steps_stay_inside}
 use Rattle.change_directory.proofs.Runs.{same_disk, same_content}
-use Rattle.directory_store.specs.Copies.{MayBecome}
-use Rattle.directory_store.specs.Copying.{IsReadable, IsRenewable}
+use Rattle.directory_store.specs.Copies.{MayMake}
+use Rattle.directory_store.specs.Copying.{IsReadable, IsRenewable, MayRenew}
 use Rattle.directory_store.proofs.CopyLaws.{homed_settles}
-use Rattle.directory_store.proofs.Renewing.{shut_is}
+use Rattle.directory_store.proofs.Renewing.{ends_knowing, knowing, shut_is}
 use Rattle.directory_store.proofs.Rows.{copy_stays}
 use Rattle.directory_store.proofs.Steps.{empty_list}
 
@@ -155,7 +157,20 @@ module _ (copy : DirCopy) (shape : IsShaped copy) where
 
 -- ---- the steps of a renewal
 
+-- while due pages are written home
+pub record MayHome (copy : DirCopy) (old new : Image) : Type 0 where
+  pub elsewhere : ChangesOnly (RegionOf copy) old new
+  pub content : KeepsContent copy old new
+
+-- once they are
+pub record IsReadied (copy : DirCopy) (old new : Image) : Type 0 where
+  pub home : MayHome copy old new
+  pub ready : IsReadable copy old → DecodesIn copy new × IsAtHome copy new
+
 module _ (copy : DirCopy) where
+  pub reads : {s t : BayState} → Runs (IsSlot copy.slot) Same s t → Runs (IsSlot copy.slot) (MayHome copy) s t
+  reads {s} {t} run = widened {step = Same} {whole = MayHome copy} (λ x y same. record { elsewhere = changes-same (RegionOf copy) x y same; content = same_content copy x y same }) run
+
   readable_same : (x y : Image) → IsReadable copy x → Same x y → IsReadable copy y
   readable_same x y is same =
       let lists = sym (same_disk copy x y same) in
@@ -165,24 +180,43 @@ module _ (copy : DirCopy) where
             (λ (home : IsAtHome copy x). inr (subst (λ (b : Bytes). IsCheckpointed copy.dir_blocks b) lists home)) is.whole;
       }
 
-  pub read_keeps : {s t : BayState} → Runs (IsSlot copy.slot) Same s t → Runs (IsSlot copy.slot) (KeepsContent copy) s t
-  read_keeps {s} {t} run = widened {step = Same} {whole = KeepsContent copy} (λ x y same. same_content copy x y same) run
+  -- the runs of pages that are due
+  module _ (due : List (ℕ × Block)) (shape : IsShaped copy) (ok : IsTrue (are_pages copy.dir_blocks due)) where
+    home_step : (x y z : Image) → Same x y → HasRegion copy y × IsRenewable copy due y → ChangesOnly (HomesOf copy due) y z → MayHome copy x z
+    home_step x y z same known step = record {
+      elsewhere = changes-trans (RegionOf copy) x y z (changes-same (RegionOf copy) x y same) (steps_stay_inside.homing copy due y z ok step);
+      content = keeps_content copy due ok shape.least y z known.0 step known.1.due_are ∙ same_content copy x y same;
+    }
 
-  pub homes_keep : {s t u : BayState} → Runs (IsSlot copy.slot) Same s t → Runs (IsSlot copy.slot) (KeepsContent copy) t u → Runs (IsSlot copy.slot) (KeepsContent copy) s u
-  homes_keep {s} {t} {u} run next = goes_on {done = KeepsContent copy} {step = KeepsContent copy} {whole = KeepsContent copy} (λ x y z first second. second ∙ first) (read_keeps run) (stops (read_keeps run)) next
+    known : {t : BayState} → NowOnly t (HasRegion copy) → NowOnly t (IsRenewable copy due) → NowOnly t (λ y. HasRegion copy y × IsRenewable copy due y)
+    known {t} sized renewable = record { now = λ y left. (sized.now y left, renewable.now y left) }
 
-  pub ready_now : {s t u : BayState} (due : List (ℕ × Block)) → NowOnly s (IsReadable copy) → Runs (IsSlot copy.slot) Same s t → NowOnly t (IsRenewable copy due) → Ends (HasHomed copy due) t u
-      → NowOnly u (λ x. DecodesIn copy x × IsAtHome copy x)
-  ready_now {s} {t} {u} due now run renewable ends =
-      let readable : NowOnly t (IsReadable copy) = now_only {P = IsReadable copy} {Q = IsReadable copy} (λ x y is same. readable_same x y is same) (stops run) now in
-      now_only {P = λ x. IsReadable copy x × IsRenewable copy due x} {Q = λ x. DecodesIn copy x × IsAtHome copy x}
-      (λ x y is did. is.1.homed is.0 y did) ends (record { now = λ x left. (readable.now x left, renewable.now x left) })
+    pub homes : {s t u : BayState} → IsSound t → NowOnly t (HasRegion copy) → NowOnly t (IsRenewable copy due) → Runs (IsSlot copy.slot) Same s t
+        → Runs (IsSlot copy.slot) (ChangesOnly (HomesOf copy due)) t u → Runs (IsSlot copy.slot) (MayHome copy) s u
+    homes {s} {t} {u} sound sized renewable run next = goes_on {done = Same} {step = λ y z. (HasRegion copy y × IsRenewable copy due y) × ChangesOnly (HomesOf copy due) y z} {whole = MayHome copy}
+        (λ x y z same step. home_step x y z same step.0 step.1) (reads run) (stops run) (knowing {P = λ y. HasRegion copy y × IsRenewable copy due y} sound (known sized renewable) next)
+
+    pub is_ready : {s t u : BayState} → IsSound t → NowOnly t (HasRegion copy) → NowOnly t (IsRenewable copy due) → Runs (IsSlot copy.slot) Same s t → Ends (HasHomed copy due) t u
+        → Ends (IsReadied copy) s u
+    is_ready {s} {t} {u} sound sized renewable run ends = both_done {first = Same} {second = λ y z. (HasRegion copy y × IsRenewable copy due y) × HasHomed copy due y z} {whole = IsReadied copy}
+        (λ x y z same did. record {
+          home = home_step x y z same did.0 did.1.elsewhere;
+          ready = λ readable. did.0.1.homed (readable_same x y readable same) z did.1;
+        }) (stops run) (ends_knowing {P = λ y. HasRegion copy y × IsRenewable copy due y} sound (known sized renewable) ends)
 
   module _ (number : ℕ) (page : ℕ → Bytes) where
-    pub keeps_or_becomes : {s u : BayState} → Runs (IsSlot copy.slot) (KeepsContent copy) s u → Runs (IsSlot copy.slot) (MayBecome copy number page) s u
-    keeps_or_becomes {s} {u} run = widened {step = KeepsContent copy} {whole = MayBecome copy number page} (λ x y same. inl same) run
+    pub homes_renew : {s u : BayState} → Runs (IsSlot copy.slot) (MayHome copy) s u → Runs (IsSlot copy.slot) (MayRenew copy number page) s u
+    homes_renew {s} {u} run = widened {step = MayHome copy} {whole = MayRenew copy number page} (λ x y step. record { elsewhere = step.elsewhere; content = λ readable. inl step.content }) run
 
-    pub renewed : {s u v : BayState} → Runs (IsSlot copy.slot) (KeepsContent copy) s u → Runs (IsSlot copy.slot) (MayBecome copy number page) u v → Runs (IsSlot copy.slot) (MayBecome copy number page) s v
-    renewed {s} {u} {v} run next = goes_on {done = KeepsContent copy} {step = MayBecome copy number page} {whole = MayBecome copy number page}
-        (λ x y z keeps step. ⊎_elim (λ (same : content_in copy z ≡ content_in copy y). inl (same ∙ keeps)) (λ new. inr new) step)
-        (keeps_or_becomes run) (stops run) next
+    pub renews : {s u v : BayState} → Runs (IsSlot copy.slot) (MayHome copy) s u → Ends (IsReadied copy) s u → Runs (IsSlot copy.slot) (MayMake copy number page) u v
+        → Runs (IsSlot copy.slot) (MayRenew copy number page) s v
+    renews {s} {u} {v} run ends next = goes_on {done = IsReadied copy} {step = MayMake copy number page} {whole = MayRenew copy number page}
+        (λ x y z readied step. record {
+          elsewhere = changes-trans (RegionOf copy) x y z readied.home.elsewhere step.elsewhere;
+          content = λ readable.
+              let ready = readied.ready readable in
+              ⊎_elim (λ (same : content_in copy z ≡ content_in copy y). inl (same ∙ readied.home.content)) (λ new. inr new) (step.content ready.0 ready.1);
+        }) (homes_renew run) ends next
+
+    pub renews_inside : {s v : BayState} → Runs (IsSlot copy.slot) (MayRenew copy number page) s v → Runs (IsSlot copy.slot) (ChangesOnly (RegionOf copy)) s v
+    renews_inside {s} {v} run = widened {step = MayRenew copy number page} {whole = ChangesOnly (RegionOf copy)} (λ x y step. step.elsewhere) run

@@ -3,6 +3,7 @@ pub mod Steps
 pub mod Rows
 pub mod Records
 pub mod Storing
+pub mod Present
 pub mod Renewing
 pub mod Lagging
 pub mod Joining
@@ -11,8 +12,7 @@ pub mod Trying
 pub mod ReadingCopies
 pub mod Building
 pub mod EqualPages
-pub mod FirstCopies
 pub mod Loads
-pub mod FirstTaken
+pub mod Taken
 pub mod LoadCauses
 pub mod Standing

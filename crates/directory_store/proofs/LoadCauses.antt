@@ -12,14 +12,13 @@ use Rattle.change_directory.specs.declared.copy.DirCopy.{DirCopy}
 use Rattle.change_directory.specs.Changes.{disk}
 use Rattle.change_directory.specs.Loads.{open_slots}
 use Rattle.change_directory.specs.StoreLaws.{IsShaped, counted, zero_page}
-use Rattle.directory_store.specs.Copies.{AreApart, AreNamed}
+use Rattle.directory_store.specs.Copies.{AreNamed}
 use Rattle.directory_store.specs.Loading.{HasTwins, LoadCause}
 use Rattle.directory_store.specs.Reading.{AreRead, HasTwin, IsBuildFault, IsMapFault, IsNewest, IsReadFault, IsReading, WasRead, block_in, copies_of}
 use Rattle.directory_store.specs.declared.error.LoadError.{LoadError}
 use Rattle.directory_store.specs.declared.error.LoadError.TheVariants.{DirectoriesLost, Damaged, NoMemory}
 use Rattle.directory_store.specs.declared.reading.Reading.{Reading}
-use Rattle.directory_store.proofs.Building.{newest_among}
-use Rattle.directory_store.proofs.FirstTaken.{first_of}
+use Rattle.directory_store.proofs.Taken.{least_of}
 use Rattle.directory_store.proofs.Loads.{block_row, copy_among, read_content}
 use Rattle.directory_store.proofs.ReadingCopies.{part_among}
 use Rattle.directory_store.proofs.Records.{image_found, all_are}
@@ -28,7 +27,7 @@ use Rattle.directory_store.proofs.Steps.{shaped}
 none_of : (readings : List Reading) (q : Reading) → readings ≡ [] → IsAmong readings q → ⊥
 none_of readings q e among = subst (λ (l : List Reading). IsAmong l q) e among
 
-module _ (copies : List DirCopy) (readings : List Reading) (s t : BayState) (named : AreNamed copies [] s) (apart : AreApart copies) (read : AreRead copies readings s t) where
+module _ (copies : List DirCopy) (readings : List Reading) (s t : BayState) (named : AreNamed copies [] s) (read : AreRead copies readings s t) where
   given_copy : (q : Reading) → IsAmong readings q → IsAmong copies q.copy
   given_copy q among = part_among (copies_of readings) copies read.parts q.copy (copy_among readings q among)
 
@@ -63,10 +62,14 @@ module _ (copies : List DirCopy) (readings : List Reading) (s t : BayState) (nam
   map_cause : (r : Reading) → IsNewest readings r → (e : LoadError) → IsMapFault r e → LoadCause copies s t e
   map_cause r newest DirectoriesLost fault = absurd fault
   map_cause r newest (Damaged slot block) fault =
-      let among = newest_among readings r newest in (
-        (r.copy, given_copy r among, fault.0),
-        inr (r.copy, fault.0, r.number, first_of copies readings s t named apart read r newest, (λ now holds image was. twins r among block fault.1 image (read.told r among now holds image was))),
-      )
+      inr (record {
+        copy = r.copy;
+        slot_is = fault.0;
+        number = r.number;
+        taken = least_of copies readings s t named read r newest;
+        twins = λ now holds image was. twins r newest.among block fault.1 image (read.told r newest.among now holds image was);
+        undamaged = read.undamaged;
+      })
   map_cause r newest NoMemory fault = tt
 
   pub build_cause : (e : LoadError) → IsBuildFault readings e → LoadCause copies s t e
@@ -76,5 +79,5 @@ module _ (copies : List DirCopy) (readings : List Reading) (s t : BayState) (nam
 
 pub read_cause : (copies : List DirCopy) (s t : BayState) (e : LoadError) → IsReadFault copies s t e → LoadCause copies s t e
 read_cause copies s t DirectoriesLost fault = absurd fault
-read_cause copies s t (Damaged slot block) fault = (fault.0, inl fault.1)
+read_cause copies s t (Damaged slot block) fault = inl fault
 read_cause copies s t NoMemory fault = tt

@@ -55,6 +55,9 @@ left_is failed copies c among = (
   not_true (has_bit failed c.number) (passes (λ (c : DirCopy). not (has_bit failed c.number)) copies c among),
 )
 
+pub is_left : (failed : ℕ) (copies : List DirCopy) (c : DirCopy) → IsAmong copies c → has_bit failed c.number ≡ false → IsAmong (others failed copies) c
+is_left failed copies c among away = filter_among (λ (c : DirCopy). not (has_bit failed c.number)) copies c (ap not away) among
+
 apart_left : (test : DirCopy → Bool) (copies : List DirCopy) → AreApart copies → AreApart (filter test copies)
 apart_left test [] apart = tt
 apart_left test (c ∷ copies) apart = go (apart_left test copies apart.1) (test c)
@@ -80,7 +83,7 @@ all_failed copies dues failed s t apart named alone none c among = go (has_bit f
     go true is =
         let one = alone c.number (named c among).number is in
         subst (λ (d : DirCopy). Rose (s.faults d.slot) (t.faults d.slot)) (same_copy copies apart one.0 c one.1 among one.2) one.3
-    go false is = absurd (subst (λ (l : List DirCopy). IsAmong l c) none (filter_among (λ (c : DirCopy). not (has_bit failed c.number)) copies c (ap not is) among))
+    go false is = absurd (subst (λ (l : List DirCopy). IsAmong l c) none (is_left failed copies c among is))
 
 -- ---- nothing changes
 

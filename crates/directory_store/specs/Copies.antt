@@ -1,6 +1,6 @@
 -- What the copies of a store hold, image by image.
 use Rattle.std.specs.Prelude.{◌≡◌, ◌≢◌, ◌⊎◌, ℕ, ◌+◌, ◌*◌, ◌/◌, ◌<◌, ◌≤◌, false, true, List, [], ◌∷◌, length, None, if◌then◌else◌, ◌==◌, IsTrue}
-use Rattle.bay.specs.Image.{Image}
+use Rattle.bay.specs.Image.{Image, ChangesOnly}
 use Rattle.bay.specs.State.{BayState}
 use Rattle.bay.specs.Counts.{Rose}
 use Rattle.asm_group.specs.Names.{Bytes}
@@ -10,8 +10,8 @@ use Rattle.asm_formats.specs.Sets.{has_bit}
 use Rattle.change_directory.specs.declared.copy.DirCopy.{DirCopy}
 use Rattle.change_directory.specs.Places.{IsCopy}
 use Rattle.change_directory.specs.Logs.{are_pages}
-use Rattle.change_directory.specs.Changes.{content_in, IsAtHome}
-use Rattle.change_directory.specs.Formatting.{AreShut}
+use Rattle.change_directory.specs.Changes.{content_in, DecodesIn, IsAtHome}
+use Rattle.change_directory.specs.Formatting.{AreShut, MayLoseContent}
 use Rattle.change_directory.specs.Laws.{ArePut}
 use Rattle.change_directory.specs.StoreLaws.{HasContent, HasDue, RegionOf, content_with}
 use Rattle.directory_store.specs.declared.due.Due.{Due}
@@ -77,6 +77,16 @@ FailedAlone copies failed s t =
 -- the content stays, is gone, or is that of these pages
 abbrev pub MayBecome : DirCopy → ℕ → (ℕ → Bytes) → Image → Image → Type 0
 MayBecome copy number page old new = (content_in copy new ≡ content_in copy old) ⊎ ((content_in copy new ≡ None) ⊎ (content_in copy new ≡ content_with copy number page))
+
+-- While a copy is emptied nothing outside its directory region changes. The content of one that is at home, with open log slots that decode, stays, or is gone.
+pub record MayEmpty (copy : DirCopy) (old new : Image) : Type 0 where
+  pub elsewhere : ChangesOnly (RegionOf copy) old new
+  pub content : DecodesIn copy old → IsAtHome copy old → MayLoseContent copy old new
+
+-- the same while a copy is made of these pages, whose content may also be there then
+pub record MayMake (copy : DirCopy) (number : ℕ) (page : ℕ → Bytes) (old new : Image) : Type 0 where
+  pub elsewhere : ChangesOnly (RegionOf copy) old new
+  pub content : DecodesIn copy old → IsAtHome copy old → MayBecome copy number page old new
 
 -- no log slot of the copies is open
 abbrev pub AllAreShut : List DirCopy → Image → Type 0

@@ -1,13 +1,16 @@
 -- A copy that is brought up beside those of a store.
 use Rattle.std.specs.Prelude.{◌≡◌, ◌⊎◌, ◌==◌, ℕ, ◌+◌, Bool, true, ◌&&◌, not, nat_le, nat_lt, filter, List, [], ◌∷◌, None}
-use Rattle.bay.specs.Image.{Image}
+use Rattle.bay.specs.Image.{Image, ChangesOnly}
+use Rattle.asm_group.specs.Names.{Bytes}
 use Rattle.asm_base.specs.declared.block.Block.{Block}
 use Rattle.asm_formats.specs.Damage.{directory_damage}
 use Rattle.change_directory.specs.declared.copy.DirCopy.{DirCopy}
 use Rattle.change_directory.specs.Changes.{disk, content_in, DecodesIn, IsAtHome}
 use Rattle.change_directory.specs.Homes.{AreDue, HasHomed}
+use Rattle.change_directory.specs.StoreLaws.{RegionOf}
 use Rattle.page_map.specs.Tables.{PageTable}
 use Rattle.directory_store.specs.Contents.{HasRecords}
+use Rattle.directory_store.specs.Copies.{MayBecome}
 use Rattle.directory_store.specs.declared.due.Due.{Due}
 
 -- the open log slots decode, and the copy isn't damaged, or each page counts as it stands at home
@@ -23,6 +26,16 @@ pub record IsRenewable (copy : DirCopy) (due : List (ℕ × Block)) (x : Image) 
 -- the content stays, is gone, or is that of these records
 abbrev pub MayTakeRecords : PageTable → ℕ → DirCopy → Image → Image → Type 0
 MayTakeRecords table number copy old new = (content_in copy new ≡ content_in copy old) ⊎ ((content_in copy new ≡ None) ⊎ HasRecords table number copy new)
+
+-- While a copy is brought up nothing outside its directory region changes, and of a readable one the content stays, is gone, or is that of these records.
+pub record MayBringUp (table : PageTable) (number : ℕ) (copy : DirCopy) (old new : Image) : Type 0 where
+  pub elsewhere : ChangesOnly (RegionOf copy) old new
+  pub content : IsReadable copy old → MayTakeRecords table number copy old new
+
+-- the same, of the content of these pages
+pub record MayRenew (copy : DirCopy) (number : ℕ) (page : ℕ → Bytes) (old new : Image) : Type 0 where
+  pub elsewhere : ChangesOnly (RegionOf copy) old new
+  pub content : IsReadable copy old → MayBecome copy number page old new
 
 -- the due pages of copies on other slots
 abbrev pub due_off : ℕ → List Due → List Due

@@ -6,3 +6,4 @@ pub mod Copying
 pub mod Reading
 pub mod Loading
 pub mod Places
+pub mod Laws

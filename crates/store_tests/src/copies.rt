@@ -64,6 +64,19 @@ fn new_copy_is_brought_up_and_takes_commits(rt: HostRuntime) -> Result<(), Fail>
 }
 
 #[test]
+fn store_tells_which_disks_have_its_copies(rt: HostRuntime) -> Result<(), Fail> {
+    let alloc = rt.alloc();
+    let mut bay = two_disks(alloc)?;
+    let mut store = create_and_copy(alloc, &mut bay).ok_or("copy")?;
+    assert!(rt; store.has(0) && store.has(1) && !store.has(2));
+    assert_eq!(rt; store.copies().len(), 2);
+    store.forget(1);
+    assert!(rt; store.has(0) && !store.has(1));
+    assert_eq!(rt; store.copies().len(), 1);
+    Ok(())
+}
+
+#[test]
 fn copy_of_another_content_is_brought_up(rt: HostRuntime) -> Result<(), Fail> {
     let alloc = rt.alloc();
     let mut bay = two_disks(alloc)?;

@@ -1,8 +1,8 @@
 // What a load of several copies takes, and what it refuses.
-use crate::trials::{REBALANCE, load_both};
+use crate::trials::{REBALANCE, load_both, load_turned};
 use bay::Bay;
 use bay_mem::MemBay;
-use directory_store::LoadError;
+use directory_store::{LoadError, Store};
 use std::alloc::Global;
 use std::test::Fail;
 
@@ -63,15 +63,26 @@ fn refusal(alloc: Global, bay: &mut MemBay) -> Result<Option<LoadError>, Fail> {
     Ok(load_both(alloc, bay).ok_or("disks")?.err())
 }
 
-// The power that both copies are loaded with.
-fn power(alloc: Global, bay: &mut MemBay) -> Result<u8, Fail> {
-    let store = load_both(alloc, bay).ok_or("disks")?.map_err(|_| "load")?;
+// The power of a store's active rebalance.
+fn power_of(store: &Store) -> Result<u8, Fail> {
     let value = store.content().get(REBALANCE).ok_or("a record")?;
     let bytes = value.as_bytes();
     if bytes.len() < 2 {
         return Err(Fail::from("two bytes"));
     }
     Ok(bytes[1])
+}
+
+// The power that both copies are loaded with.
+fn power(alloc: Global, bay: &mut MemBay) -> Result<u8, Fail> {
+    let store = load_both(alloc, bay).ok_or("disks")?.map_err(|_| "load")?;
+    power_of(&store)
+}
+
+// The same, of the copies in the other order.
+fn power_turned(alloc: Global, bay: &mut MemBay) -> Result<u8, Fail> {
+    let store = load_turned(alloc, bay).ok_or("disks")?;
+    power_of(&store.map_err(|_| "load")?)
 }
 
 #[test]
@@ -84,6 +95,26 @@ fn damage_in_one_copy_refuses(rt: HostRuntime) -> Result<(), Fail> {
             Some(LoadError::Damaged { slot: 1, block })
         );
     }
+    Ok(())
+}
+
+#[test]
+fn first_damaged_copy_in_the_order_given_is_named(rt: HostRuntime) -> Result<(), Fail> {
+    let mut bay = two_copies(rt.alloc())?;
+    put(&mut bay, 0, 140, &[7; 4096])?;
+    put(&mut bay, 1, 20, &[7; 4096])?;
+    assert_eq!(rt;
+        refusal(rt.alloc(), &mut bay)?,
+        Some(LoadError::Damaged {
+            slot: 0,
+            block: 140
+        })
+    );
+    let turned = load_turned(rt.alloc(), &mut bay).ok_or("disks")?;
+    assert_eq!(rt;
+        turned.err(),
+        Some(LoadError::Damaged { slot: 1, block: 20 })
+    );
     Ok(())
 }
 
@@ -123,6 +154,29 @@ fn greater_number_is_taken(rt: HostRuntime) -> Result<(), Fail> {
     assert_eq!(rt; power(rt.alloc(), &mut bay)?, 2);
     open_log(&mut bay, 0, 7, 3)?;
     assert_eq!(rt; power(rt.alloc(), &mut bay)?, 3);
+    Ok(())
+}
+
+#[test]
+fn least_disk_of_equal_numbers_is_taken(rt: HostRuntime) -> Result<(), Fail> {
+    let mut bay = two_disks(rt.alloc())?;
+    open_log(&mut bay, 0, 7, 1)?;
+    open_log(&mut bay, 1, 7, 2)?;
+    assert_eq!(rt; power(rt.alloc(), &mut bay)?, 1);
+    assert_eq!(rt; power_turned(rt.alloc(), &mut bay)?, 1);
+    Ok(())
+}
+
+#[test]
+fn two_pages_with_one_key_in_a_lagging_copy_are_no_damage(rt: HostRuntime) -> Result<(), Fail> {
+    let mut bay = two_disks(rt.alloc())?;
+    open_log(&mut bay, 0, 6, 1)?;
+    put(&mut bay, 0, 17, &power_page(1))?;
+    open_log(&mut bay, 1, 7, 2)?;
+    let store = load_both(rt.alloc(), &mut bay).ok_or("disks")?;
+    let store = store.map_err(|_| "load")?;
+    assert_eq!(rt; power_of(&store)?, 2);
+    assert!(rt; store.has(1) && !store.has(0));
     Ok(())
 }
 

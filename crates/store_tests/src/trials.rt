@@ -145,3 +145,14 @@ pub fn load_both<B: Bay>(alloc: Global, bay: &mut B) -> Option<Result<Store, Loa
     }
     Some(Store::load(alloc, bay, &[FIRST, SECOND]))
 }
+
+/// Loads the store of both copies, given in the other order. None where one isn't there.
+pub fn load_turned<B: Bay>(alloc: Global, bay: &mut B) -> Option<Result<Store, LoadError>> {
+    if !is_there(bay, FIRST) {
+        return None;
+    }
+    if !is_there(bay, SECOND) {
+        return None;
+    }
+    Some(Store::load(alloc, bay, &[SECOND, FIRST]))
+}

@@ -202,3 +202,6 @@ returns-then-is_empty-2-clause-refused g c =
     let first = c.index.result.now in
     let among : IsAmong c.self.inside.copies.items first = subst (λ (d : DirCopy). IsAmong c.self.inside.copies.items d) (sym c.index.ensures) (first_among c.self.inside.copies.items first (omega (arith, c.self.inside.copies.ok.0, some_of (vec_len c.self.inside.copies) (sym c.is_empty.ensures ∙ c.if-is_empty.false)))) in
     ((first, subst (λ (l : List DirCopy). IsAmong l first) copies_is among, refl), has.gone (subst (λ (l : List DirCopy). others failed l ≡ []) copies_is (sym c.keep_taken.ensures ∙ none)), none)
+
+pub returns-clause-some : goal.returns-clause-some
+returns-clause-some g c = omega (arith, c.keep_taken.new.copies.ok.0, some_of (vec_len c.keep_taken.new.copies) (sym c.is_empty-2.ensures ∙ c.if-is_empty-2.false))

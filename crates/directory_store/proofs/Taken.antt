@@ -1,4 +1,4 @@
--- A load takes the first copy of the greatest number, and keeps those with the same content.
+-- A load takes the copy of the greatest number on the least disk, and keeps those with the same content.
 use Rattle.std.proofs.Common.{◌≡◌, ◌⊎◌, inl, inr, ⊎_elim, ℕ, ◌<◌, ◌≤◌, Bool, true, false, List, [], ◌∷◌, ◌++◌, refl, sym, ap, subst, ◌∙◌, Option, Some, None, arith}
 use Rattle.std.specs.Prelude.{◌==◌}
 use Rattle.std.proofs.lemmas.Bool.{and_from, eq-eqb, true≢false}
@@ -12,19 +12,18 @@ use Rattle.change_directory.specs.Loads.{AreInOrder}
 use Rattle.change_directory.specs.StoreLaws.{HasContent, IsShaped, shown_by}
 use Rattle.change_directory.specs.Told.{Told}
 use Rattle.change_directory.proofs.Copies.{not_shut}
-use Rattle.directory_store.specs.Copies.{AreApart, AreNamed}
-use Rattle.directory_store.specs.Loading.{HasBelow, HasUpTo, IsFirstOf, KeepsEqual, ShareContent, TakesFirst}
-use Rattle.directory_store.specs.Reading.{AreRead, IsBuilt, IsNewest, IsUnread, RoseOn, WasRead, are_same, copies_of, same_pages}
+use Rattle.directory_store.specs.Copies.{AreNamed}
+use Rattle.directory_store.specs.Loading.{HasBehind, IsLeastOf, KeepsEqual, ShareContent, TakesLeast}
+use Rattle.directory_store.specs.Reading.{AreRead, IsBehind, IsBuilt, IsNewest, IsUnread, RoseOn, WasRead, are_same, copies_of, same_pages}
 use Rattle.directory_store.specs.Stores.{HaveOneSize, Stored}
 use Rattle.directory_store.specs.declared.reading.Reading.{Reading}
-use Rattle.directory_store.proofs.Building.{filled_by_order, newest_among, newest_most}
+use Rattle.directory_store.proofs.Building.{filled_by_order}
 use Rattle.directory_store.proofs.EqualPages.{equal_pages}
-use Rattle.directory_store.proofs.FirstCopies.{IsAround, apart_from, copies_around, which}
 use Rattle.directory_store.proofs.Loads.{copy_among, kept_has, read_content}
 use Rattle.directory_store.proofs.ReadingCopies.{part_among}
 use Rattle.directory_store.proofs.Steps.{shaped}
 
-module _ (copies : List DirCopy) (readings : List Reading) (s t : BayState) (named : AreNamed copies [] s) (apart : AreApart copies) (read : AreRead copies readings s t) where
+module _ (copies : List DirCopy) (readings : List Reading) (s t : BayState) (named : AreNamed copies [] s) (read : AreRead copies readings s t) where
   given : (q : Reading) → IsAmong readings q → IsAmong copies q.copy
   given q among = part_among (copies_of readings) copies read.parts q.copy (copy_among readings q among)
 
@@ -35,78 +34,33 @@ module _ (copies : List DirCopy) (readings : List Reading) (s t : BayState) (nam
   content_of q among = λ now holds image was. read_content q image (shape_of q among) (read.numbers q among) (read.told q among now holds image was)
 
   module _ (r : Reading) (newest : IsNewest readings r) where
-    r_among : IsAmong readings r
-    r_among = newest_among readings r newest
+    has_of : (q : Reading) → IsAmong readings q → (d : DirCopy) → q.copy ≡ d → Told s t (HasContent d q.number (shown_by q.pages.blocks.items))
+    has_of q among d is = subst (λ (c : DirCopy). Told s t (HasContent c q.number (shown_by q.pages.blocks.items))) is (content_of q among)
 
-    at : IsAround (copies_of newest.before) r.copy (copies_of newest.after) copies
-    at = copies_around newest.before newest.after r readings copies newest.split read.parts
+    -- a copy that was read has a content behind that of the reading that is taken
+    has_behind : (q : Reading) → IsAmong readings q → (d : DirCopy) → q.copy ≡ d → IsBehind r q → Told s t (HasBehind r.number r.copy d)
+    has_behind q among d is (inl less) = λ now holds image was. inl (q.number, less, shown_by q.pages.blocks.items, has_of q among d is now holds image was)
+    has_behind q among d is (inr equal) = λ now holds image was. inr (
+      (shown_by q.pages.blocks.items, subst (λ (n : ℕ). HasContent d n (shown_by q.pages.blocks.items) image) equal.0 (has_of q among d is now holds image was)),
+      subst (λ (c : DirCopy). r.copy.number ≤ c.number) is equal.1,
+    )
 
-    parted : AreApart (at.before ++ r.copy ∷ at.after)
-    parted = subst AreApart at.split apart
-
-    is_given : (d : DirCopy) → IsAmong (at.before ++ r.copy ∷ at.after) d → IsAmong copies d
-    is_given d among = subst (λ (l : List DirCopy). IsAmong l d) (sym at.split) among
-
-    front : (l m : List DirCopy) (d : DirCopy) → IsAmong l d → IsAmong (l ++ m) d
-    front [] m d among = absurd among
-    front (c ∷ l) m d (inl e) = inl e
-    front (c ∷ l) m d (inr h) = inr (front l m d h)
-
-    behind : (l m : List DirCopy) (d : DirCopy) → IsAmong m d → IsAmong (l ++ m) d
-    behind [] m d among = among
-    behind (c ∷ l) m d among = inr (behind l m d among)
-
-    -- a reading of a copy before the one that is taken has a smaller number
-    smaller_before : (d : DirCopy) → IsAmong at.before d → (q : Reading) → IsAmong readings q → q.copy ≡ d → q.number < r.number
-    smaller_before d early q among is = ⊎_elim
-        (λ (before : IsAmong newest.before q). newest.smaller q before)
-        (λ rest. absurd (apart_from at.before (r.copy ∷ at.after) parted d early (⊎_elim
-        (λ (same : q ≡ r). inl (sym is ∙ ap (λ (p : Reading). p.copy) same))
-        (λ (after : IsAmong newest.after q).
-        inr (part_among (copies_of newest.after) at.after at.late d (subst (λ (c : DirCopy). IsAmong (copies_of newest.after) c) is (copy_among newest.after q after))))
-        rest)))
-        (which newest.before newest.after r q (subst (λ (l : List Reading). IsAmong l q) newest.split among))
-
-    smaller : (d : DirCopy) → IsAmong at.before d → IsUnread d s t ⊎ Told s t (HasBelow r.number d)
-    smaller d early = ⊎_elim
-        (λ (was : WasRead readings d). inr (λ now holds image was_held.
-        let q = was.0 in (
-          q.number,
-          smaller_before d early q was.1 was.2,
-          shown_by q.pages.blocks.items,
-          subst (λ (c : DirCopy). HasContent c q.number (shown_by q.pages.blocks.items) image) was.2 (content_of q was.1 now holds image was_held),
-        )))
-        (λ unread. inl unread)
-        (read.others d (is_given d (front at.before (r.copy ∷ at.after) d early)))
-
-    later : (d : DirCopy) → IsAmong at.after d → IsUnread d s t ⊎ Told s t (HasUpTo r.number d)
-    later d late = ⊎_elim
-        (λ (was : WasRead readings d). inr (λ now holds image was_held.
-        let q = was.0 in (
-          q.number,
-          newest_most readings r newest q was.1,
-          shown_by q.pages.blocks.items,
-          subst (λ (c : DirCopy). HasContent c q.number (shown_by q.pages.blocks.items) image) was.2 (content_of q was.1 now holds image was_held),
-        )))
-        (λ unread. inl unread)
-        (read.others d (is_given d (behind at.before (r.copy ∷ at.after) d (inr late))))
-
-    pub first_of : IsFirstOf copies r.number r.copy s t
-    first_of = record {
-      before = at.before;
-      after = at.after;
-      split = at.split;
-      has = λ now holds image was. (shown_by r.pages.blocks.items, content_of r r_among now holds image was);
-      smaller = smaller;
-      others = later;
+    pub least_of : IsLeastOf copies r.number r.copy s t
+    least_of = record {
+      among = given r newest.among;
+      has = λ now holds image was. (shown_by r.pages.blocks.items, content_of r newest.among now holds image was);
+      others = λ d among. ⊎_elim
+          (λ (was : WasRead readings d). inr (has_behind was.0 was.1 d was.2 (newest.others was.0 was.1)))
+          (λ unread. inl unread)
+          (read.others d among);
     }
 
   module _ (store : Stored) (size : HaveOneSize copies) (built : IsBuilt readings store) where
-    pub takes_first : TakesFirst store copies s t
-    takes_first = (built.taken.copy, built.slot, subst (λ (n : ℕ). IsFirstOf copies n built.taken.copy s t) (sym built.number) (first_of built.taken built.newest))
+    pub takes_least : TakesLeast store copies s t
+    takes_least = (built.taken.copy, built.slot, subst (λ (n : ℕ). IsLeastOf copies n built.taken.copy s t) (sym built.number) (least_of built.taken built.newest))
 
     taken_among : IsAmong readings built.taken
-    taken_among = newest_among readings built.taken built.newest
+    taken_among = built.newest.among
 
     -- one number
     number_same : (q : Reading) (x : Image) → ShareContent q.copy built.taken.copy x → HasContent q.copy q.number (shown_by q.pages.blocks.items) x
