@@ -25,12 +25,16 @@ module _ (s t : BayState) (r : Status) (ms took shown : List Member) (body : Lis
       let here = subst (λ (l : List Member). IsLost ms l (sets r) disk) same lost in
       (took, are, they_show, (disk, here, refl, left_out_failed (RoseAt s t) ms took are disk here.lost.attached here.lost.not_taken))
 
-  -- each that isn't left out has it
-  all_show : ((m : Member) → IsAmong ms m → is_one_of took m ≡ true) → Ends (HaveBody 6 8 (status_spelling r) ms) s t
-  all_show all = done_less (λ x y have m h. let twin = twin_of took m (all m h) in subst (λ (k : ℕ). HasBody 6 8 (status_spelling r) k y) twin.slot (have twin.twin twin.among)) they_show
+-- ---- each of the members must take a body
 
-  pub all_done : find (λ (m : Member). not (is_one_of shown m)) ms ≡ None → Ends (HaveBody 6 8 (status_spelling r) ms) s t
-  all_done none = all_show (λ m h. subst (λ (l : List Member). is_one_of l m ≡ true) same (taken m (none_in (λ (m : Member). not (is_one_of shown m)) ms none m h)))
+module _ (s t : BayState) (ms took shown : List Member) (are : AreRead (RoseAt s t) ms took) (same : shown ≡ took) where
+  pub all_done : (first second : ℕ) (body spelling : List ℕ) → body ≡ spelling → Ends (HaveBody first second body took) s t → find (λ (m : Member). not (is_one_of shown m)) ms ≡ None
+      → Ends (HaveBody first second spelling ms) s t
+  all_done first second body spelling spelt done none = done_less
+      (λ x y have m h.
+      let twin = twin_of took m (subst (λ (l : List Member). is_one_of l m ≡ true) same (taken m (none_in (λ (m : Member). not (is_one_of shown m)) ms none m h))) in
+      subst (λ (k : ℕ). HasBody first second spelling k y) twin.slot (have twin.twin twin.among))
+      (subst (λ (b : List ℕ). Ends (HaveBody first second b took) s t) spelt done)
     where
       taken : (m : Member) → not (is_one_of shown m) ≡ false → is_one_of shown m ≡ true
       taken m out = ⊎_elim (λ there. there) (λ absent. absurd (both_ways (not (is_one_of shown m)) out (ap not absent))) (cases_Bool (is_one_of shown m))

@@ -18,6 +18,9 @@ pub mod Answered
 pub mod Placing
 pub mod Seeing
 pub mod Completing
+pub mod FirstClaims
 pub mod Written
 pub mod Rewriting
 pub mod Ordering
+pub mod Reaching
+pub mod Elsewhere

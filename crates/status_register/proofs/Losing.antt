@@ -99,7 +99,7 @@ none_in p (n ∷ ms) is m h = cond_both (p n) (Some n) (find p ms) (λ (o : Opti
 
 -- ---- majorities
 
-more_among : (p q : Holder → Bool) (xs : List Holder) → ((h : Holder) → IsAmong xs h → p h ≡ true → q h ≡ true) → length (filter p xs) ≤ length (filter q xs)
+pub more_among : (p q : Holder → Bool) (xs : List Holder) → ((h : Holder) → IsAmong xs h → p h ≡ true → q h ≡ true) → length (filter p xs) ≤ length (filter q xs)
 more_among p q [] gives = omega arith
 more_among p q (x ∷ xs) gives =
     let rest = more_among p q xs (λ h k. gives h (inr k)) in

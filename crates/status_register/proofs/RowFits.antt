@@ -42,7 +42,11 @@ module _ (slots id : ℕ) (c : Claim) (allowed : IsTrue (is_claim c)) (ms : List
       (λ x y p step. row_fits x y p.1 step p.0) run
       (record { now = λ image left. (before.now image left, λ m among. slots_long m.slot m.sector sound (have m among) image left) })
 
+-- a claim of numbers of 64 bits is one
+pub claim_allowed : (id epoch : ℕ) → id < 2 ^ 64 → epoch < 2 ^ 64 → IsTrue (is_claim (record { id = id; epoch = epoch }))
+unfolding is_claim
+claim_allowed id epoch small few = λ i. lt-ltb id (2 ^ 64) small i && lt-ltb epoch (2 ^ 64) few i
+
 -- the claim of the next epoch is one
 pub next_claim_allowed : (id epoch : ℕ) → id < 2 ^ 64 → IsTrue (is_claim (record { id = id; epoch = next_epoch epoch }))
-unfolding is_claim
-next_claim_allowed id epoch small = λ i. lt-ltb id (2 ^ 64) small i && lt-ltb (next_epoch epoch) (2 ^ 64) (omega arith) i
+next_claim_allowed id epoch small = claim_allowed id (next_epoch epoch) small (omega arith)

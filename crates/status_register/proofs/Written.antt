@@ -34,13 +34,14 @@ use Rattle.status_register.specs.Writes.{IsWriteAnswer, after_write, first_holde
 use Rattle.status_register.specs.declared.member.Member.{Member}
 use Rattle.status_register.specs.declared.error.Dead.{Dead}
 use Rattle.status_register.specs.declared.error.SurveyError.{SurveyError}
+use Rattle.status_register.proofs.FirstClaims.{claims_leave}
 use Rattle.status_register.proofs.Completing.{stored_record_completes}
 use Rattle.status_register.proofs.Holding.{among_below, have_slots}
 use Rattle.status_register.proofs.Meeting.{shows_claim}
 use Rattle.status_register.proofs.Placing.{placed_is, first_among, places_ready}
 use Rattle.status_register.proofs.RaisingRecords.{stored_records_fit}
-use Rattle.status_register.proofs.RowFits.{AreLong, row_fits}
-use Rattle.status_register.proofs.Seeing.{epoch_is_seen, claim_row_member, row_member, row_stands, shows_record}
+use Rattle.status_register.proofs.RowFits.{AreLong}
+use Rattle.status_register.proofs.Seeing.{epoch_is_seen, row_member, row_stands, shows_record}
 use Rattle.status_register.proofs.Taking.{kept_among}
 use Rattle.status_register.proofs.Tallying.{RoseAt}
 use Rattle.status_register.proofs.Telling.{slots_long}
@@ -232,13 +233,7 @@ module _ (s t : BayState) (sound : IsSound s) (r : Status) (allowed : IsTrue (is
 module _ (s t : BayState) (sound : IsSound s) (survey : Surveyed) (allowed : IsTrue (is_claim (claim_of survey))) (small : AreNumbered survey.members) (have : HaveSlots s survey.members) {on : ℕ → Type 0}
     (run : Runs on (PutsRow (claim_gate survey.id) survey.members (claim_spelling (claim_of survey))) s t) where
   claim_leaves : (slots : ℕ) (completed : Option Status) (begun : List Status) → NowOnly s (FitsWith slots survey.id survey.members completed begun) → LeavesOnly s t (FitsWith slots survey.id survey.members completed begun)
-  claim_leaves slots completed begun before = leaves_only
-      {P = λ image. FitsWith slots survey.id survey.members completed begun image × AreLong survey.members image} {Q = FitsWith slots survey.id survey.members completed begun}
-      (λ x y p row. record {
-        fits = row_fits slots survey.id (claim_of survey) allowed survey.members (λ m h. (p.0.members m h).inside) completed begun x y p.1 row p.0.fits;
-        members = λ m h. claim_row_member slots survey.id (claim_of survey) allowed survey.members (λ k j. (p.0.members k j).inside) x y p.1 row m (p.0.members m h);
-      }) run
-      (record { now = λ image left. (before.now image left, λ m among. slots_long m.slot m.sector sound (have m among) image left) })
+  claim_leaves slots completed begun before = claims_leave s t sound survey.id (claim_of survey) allowed survey.members have run slots completed begun before
 
   claim_keeps : (slots : ℕ) (completed : Option Status) (begun : List Status) → IsSurveyOf slots survey completed begun → NowOnly s (FitsWith slots survey.id survey.members completed begun)
       → (took : List Member) → ((m : Member) → IsAmong took m → IsAmong survey.members m) → Ends (HaveBody 2 4 (claim_spelling (claim_of survey)) took) s t → missing took (Some survey.value) ≡ None

@@ -1,5 +1,6 @@
 -- What a survey answers.
 use Rattle.std.specs.Prelude.{◌≡◌, ℕ, List, max, MatchResult, Result, Option, Some, None}
+use Rattle.std.specs.Option.{option_map}
 use Rattle.bay.specs.State.{BayState}
 use Rattle.bay.specs.Counts.{Rose}
 use Rattle.asm_formats.specs.Status.{Status}
@@ -19,10 +20,10 @@ pub record Surveyed : Type 0 where
   pub value : Status
   pub epoch : ℕ
 
--- a refusal, by what a set falls short of and by the first damage: a majority is asked for first
-abbrev pub IsRefusal : SurveyError → Option (ℕ × ℕ) → Option (ℕ × ℕ) → Type 0
-IsRefusal (NoMajority seen need) lacking damage = lacking ≡ Some (seen, need)
-IsRefusal (Damaged slot block) lacking damage = (lacking ≡ None) × (damage ≡ Some (slot, block))
+-- a refusal, by what a set falls short of, by the record that is to hold and by the first damage: a majority is asked for first
+abbrev pub IsRefusal : SurveyError → Option (ℕ × ℕ) → Option Status → Option (ℕ × ℕ) → Type 0
+IsRefusal (NoMajority seen need) lacking status damage = lacking ≡ Some (seen, need)
+IsRefusal (Damaged slot block gone) lacking status damage = (lacking ≡ None) × (damage ≡ Some (slot, block)) × (option_map (λ (r : Status). r.gone) status ≡ Some gone)
 
 -- The members that were read make the answer: the greatest record they hold, where they are a majority of each of its sets and all that must decode does.
 pub record IsValue (id : ℕ) (ms read : List Member) (epoch : ℕ) (status : Option Status) (damage : Option (ℕ × ℕ)) (survey : Surveyed) : Type 0 where
@@ -37,7 +38,7 @@ pub record IsValue (id : ℕ) (ms read : List Member) (epoch : ℕ) (status : Op
 abbrev pub IsAnswer : ℕ → List Member → List Member → ℕ → Option Status → Option (ℕ × ℕ) → Result Surveyed SurveyError → Type 0
 IsAnswer id ms read epoch status damage answer = MatchResult answer
     (λ survey. IsValue id ms read epoch status damage survey)
-    (λ refusal. IsRefusal refusal (missing read status) damage)
+    (λ refusal. IsRefusal refusal (missing read status) status damage)
 
 -- the answer by a tally
 abbrev pub Judges : ℕ → List Member → Tally → Result Surveyed SurveyError → Type 0

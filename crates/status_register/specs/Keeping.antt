@@ -62,11 +62,25 @@ KeepsWritten old next answer new s t =
 
 -- ---- how a history begins
 
+-- the image fits the history, and these disks are members
+pub record FitsWith (slots id : ℕ) (ms : List Member) (completed : Option Status) (begun : List Status) (image : Image) : Type 0 where
+  pub fits : FitsIn slots id completed begun image
+  pub members : (m : Member) → IsAmong ms m → IsMemberOn slots id image m
+
 -- before the first record: no record of the group is there, and its epoch stands
 pub record HasNoRecord (slots : ℕ) (r : Status) (ms : List Member) (image : Image) : Type 0 where
   pub fits : FitsIn slots r.id None [] image
   pub members : (m : Member) → IsAmong ms m → IsMemberOn slots r.id image m
   pub claimed : EpochStands slots r.id r.epoch r image
+
+-- Claims of its group keep that there is no record, and the members.
+abbrev pub KeepsNoRecord : ℕ → List Member → BayState → BayState → Type 0
+KeepsNoRecord id ms s t = (slots : ℕ) → NowOnly s (FitsWith slots id ms None []) → LeavesOnly s t (FitsWith slots id ms None [])
+
+-- Where there was no record, the first one may be written, of this group and epoch, if the members are enough for it.
+abbrev pub MayBeFirst : ℕ → ℕ → List Member → BayState → BayState → Type 0
+MayBeFirst id epoch ms s t =
+    (slots : ℕ) (r : Status) → r.id ≡ id → r.epoch ≡ epoch → missing ms (Some r) ≡ None → NowOnly s (FitsWith slots id ms None []) → NowOnly t (HasNoRecord slots r ms)
 
 -- Over the first record each image of each moment fits the history in which it is begun. In the end it is completed.
 pub record KeepsFirst (r : Status) (answer : Result Registered Dead) (s t : BayState) (slots : ℕ) : Type 0 where
@@ -82,11 +96,6 @@ pub record IsSurveyOf (slots : ℕ) (survey : Surveyed) (completed : Option Stat
   pub group : survey.value.id ≡ survey.id
   pub counts : IsAmong (current_records completed begun) survey.value
   pub below : (s : Status) → IsAmong (current_records completed begun) s → (s.epoch < next_epoch survey.epoch) × (s.turn < 2 ^ 64)
-
--- the image fits the history, and these disks are members
-pub record FitsWith (slots id : ℕ) (ms : List Member) (completed : Option Status) (begun : List Status) (image : Image) : Type 0 where
-  pub fits : FitsIn slots id completed begun image
-  pub members : (m : Member) → IsAmong ms m → IsMemberOn slots id image m
 
 -- Where the disks fit a history at a claim, the register keeps it.
 abbrev pub KeepsFromClaim : Surveyed → Result Registered SurveyError → BayState → BayState → Type 0

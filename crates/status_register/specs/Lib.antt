@@ -14,3 +14,5 @@ pub mod Holders
 pub mod OrderLaws
 pub mod Writes
 pub mod Keeping
+pub mod Reaching
+pub mod Elsewhere

@@ -65,7 +65,7 @@ IsClaimAnswer survey answer s t =
     × Ends (HaveBody 2 4 (claim_spelling (claim_of survey)) took) s t
     × MatchResult answer
     (λ register. (missing took (Some survey.value) ≡ None) × (register ≡ registered survey))
-    (λ refusal. IsRefusal refusal (missing took (Some survey.value)) None)
+    (λ refusal. IsRefusal refusal (missing took (Some survey.value)) (Some survey.value) None)
 
 -- each of the members is in one of the first slots
 abbrev pub AreBelow : ℕ → List Member → Type 0

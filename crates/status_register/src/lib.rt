@@ -6,6 +6,7 @@ mod claiming;
 mod error;
 mod gates;
 mod holders;
+mod kept_laws;
 mod laws;
 mod losses;
 mod majorities;
@@ -20,7 +21,12 @@ mod survey;
 mod tally;
 mod writing;
 
+pub use claiming::claim_first;
 pub use error::{Dead, SurveyError};
+pub use kept_laws::{
+    attached_keeps, fits_stay, history_stays, no_records_fit, register_keeps_elsewhere,
+    same_sets_reach,
+};
 pub use laws::{
     attached_disks_descend, claimed_record_begins, greater_numbers_first, ordered_puts_are_a_row,
     shown_claim_is_seen, stored_record_completes, stored_records_fit, surveyed_epoch_is_above,

@@ -1,14 +1,16 @@
 //! The record of a group whose epoch was claimed.
 
-ghost use Rattle.std.specs.Prelude.{◌≡◌, ◌≤◌, ◌<◌, ◌+◌, ◌*◌, ◌^◌, ◌↔◌, [], None, Some, true, length, replicate, set, IsTrue, IfErr, IfOk, OnOk};
+ghost use Rattle.std.specs.Prelude.{◌≡◌, ◌≤◌, ◌<◌, ◌+◌, ◌*◌, ◌^◌, ◌↔◌, [], None, Some, true, length, replicate, IsTrue, IfErr, IfOk, OnOk};
 ghost use Rattle.asm_formats.specs.Claim.{claim_spelling};
 ghost use Rattle.asm_formats.specs.Following.{Follows, Holder, disks_of, sets};
 ghost use Rattle.asm_formats.specs.Status.{is_status, status_spelling};
 ghost use Rattle.asm_placement.specs.Among.{IsAmong};
 ghost use Rattle.bay.specs.State.{KeepsAttached};
 ghost use Rattle.bay.specs.Moments.{Ends, Runs};
+ghost use Rattle.status_register.specs.Elsewhere.{with_attached};
 ghost use Rattle.status_register.specs.Holders.{HoldSlots, SlotsDiffer, attached_to, numbered};
 ghost use Rattle.status_register.specs.Keeping.{IsReady, KeepsFromFirst, KeepsWritten};
+ghost use Rattle.status_register.specs.Reaching.{Reaches};
 ghost use Rattle.status_register.specs.Surveys.{is_there, missing};
 ghost use Rattle.status_register.specs.Writes.{FailedAlone, HoldersShow, IsDeadOf, IsWriteAnswer, ShowBut, after_write, first_holders, first_register};
 ghost use Rattle.status_register.specs.Registered.{AreNumbered, IsClaimAnswer, KeepsHistory, all_placed, next_epoch};
@@ -61,14 +63,14 @@ impl Register {
     /// A member takes the place of the one of its number.
     pub fn attach(&mut self, member: Member)
         requires { member.number < 64 }
-        ensures { self.new ≡ record self.old { members = set self.old.members member.number (Some member) } }
+        ensures { self.new ≡ with_attached self.old member }
     {
         self.members[member.number as usize] = Some(member);
     }
 
     /// Whether a majority of each set of a record is attached.
     pub fn reaches(&self, status: &PstRecord) -> bool
-        ensures { IsTrue result ↔ (missing (attached_to self.now.members status.now) (Some status.now) ≡ None) }
+        ensures { IsTrue result ↔ Reaches self.now.members status.now }
     {
         let holders = attached_to(&self.members, status);
         match missing(holders.members(), status) {
@@ -93,6 +95,8 @@ impl Register {
         requires holders { (h : Holder) → IsAmong (disks_of value.now.entries value.now.holders) h → IsTrue (is_there members.now h) }
         ensures register { IfOk result (λ register. register ≡ first_register value.now members.now) }
         ensures ready { IfOk result (λ register. IsReady register (B.state bay.new)) }
+        // Where the members are enough for the record, the attached ones are.
+        ensures reaches { IfOk result (λ register. missing members.now (Some value.now) ≡ None → Reaches register.members register.value) }
         ensures shown { OnOk result (Ends (HoldersShow members.now value.now) (B.state bay.old) (B.state bay.new)) }
         ensures cause { IfErr result (λ dead. IsDeadOf members.now dead.slot (B.state bay.old) (B.state bay.new)) }
         ensures attached { KeepsAttached (B.state bay.old) (B.state bay.new) }
@@ -126,11 +130,13 @@ impl Register {
         requires fresh { self.old.is_fresh ≡ true → sets next.now ≡ sets self.old.value }
         requires slots { HoldSlots (B.state bay.old) self.old.members }
         requires apart { SlotsDiffer self.old.members }
-        requires majority { missing (attached_to self.old.members next.now) (Some next.now) ≡ None }
+        requires majority { Reaches self.old.members next.now }
         ensures answer { IsWriteAnswer (attached_to self.old.members next.now) (numbered self.old next.now) result (B.state bay.old) (B.state bay.new) }
         ensures shown { IfOk result (λ failed. Ends (ShowBut (attached_to self.old.members next.now) failed (numbered self.old next.now)) (B.state bay.old) (B.state bay.new)) }
         ensures failed { IfOk result (λ failed. FailedAlone (attached_to self.old.members next.now) failed (B.state bay.old) (B.state bay.new)) }
         ensures register { self.new ≡ after_write self.old next.now result }
+        ensures allowed { IsTrue (is_status (numbered self.old next.now)) }
+        ensures reaches { OnOk result (Reaches self.new.members self.new.value) }
         ensures attached { KeepsAttached (B.state bay.old) (B.state bay.new) }
         ensures calls { (B.state bay.new).calls ≤ (B.state bay.old).calls + 13 * length (attached_to self.old.members next.now) }
         ensures runs { RunsInOrder (status_gate self.old.id) (attached_to self.old.members next.now) (status_spelling (numbered self.old next.now)) (B.state bay.old) (B.state bay.new) }

@@ -8,6 +8,7 @@ ghost use Rattle.status_register.specs.Tallies.{HaveSlots, IsSlotOf};
 ghost use Rattle.status_register.specs.Answers.{IsSurveyed, Judges};
 ghost use Rattle.asm_formats.specs.Claim.{claim_spelling};
 ghost use Rattle.status_register.specs.Keeping.{IsReady, KeepsFromClaim};
+ghost use Rattle.status_register.specs.Reaching.{Reaches};
 ghost use Rattle.status_register.specs.Registered.{AreNumbered, IsClaimAnswer, KeepsHistory, claim_of};
 ghost use Rattle.status_register.specs.Rows.{AreApart, PutsRow};
 ghost use Rattle.status_register.specs.Slots.{claim_gate};
@@ -67,6 +68,7 @@ impl Survey {
         ensures history { KeepsHistory self (B.state bay.old) (B.state bay.new) }
         // The register may be written, and keeps the history that the disks fit.
         ensures ready { IfOk result (λ register. IsReady register (B.state bay.new)) }
+        ensures reaches { IfOk result (λ register. Reaches register.members register.value) }
         ensures kept { KeepsFromClaim self result (B.state bay.old) (B.state bay.new) }
     {
         claim_epoch(bay, self.id, self.members, self.value, self.epoch)
@@ -98,7 +100,11 @@ fn judge(id: u64, members: &[Member], tally: Tally) -> Result<Survey, SurveyErro
         return Err(SurveyError::NoMajority { seen, need });
     }
     if let Some((slot, block)) = damage {
-        return Err(SurveyError::Damaged { slot, block });
+        return Err(SurveyError::Damaged {
+            slot,
+            block,
+            gone: value.gone,
+        });
     }
     let epoch = epoch.max(value.epoch);
     Ok(Survey {

@@ -1,8 +1,9 @@
 use Rattle.std.proofs.Common.{◌≡◌, ◌∙◌, List, Option, Some, None, [], false, sym, ap, subst, replicate}
 use Rattle.bay.specs.Moments.{Ends}
-use Rattle.asm_formats.specs.Status.{Entry, status_spelling}
+use Rattle.asm_formats.specs.Status.{Entry, Status, status_spelling}
 use Rattle.status_register.specs.Holders.{attached_to, HoldSlots, SlotsDiffer}
 use Rattle.status_register.specs.Keeping.{Keeps}
+use Rattle.status_register.specs.Reaching.{Reaches}
 use Rattle.status_register.specs.Registered.{Registered, all_placed}
 use Rattle.status_register.specs.Rows.{HaveBody, RunsInOrder}
 use Rattle.status_register.specs.Slots.{status_gate}
@@ -10,6 +11,7 @@ use Rattle.status_register.specs.Writes.{IsDeadOf, first_holders, first_register
 use Rattle.status_register.specs.declared.member.Member.{Member}
 use Rattle.status_register.proofs.Ordering.{row_runs}
 use Rattle.status_register.proofs.Placing.{places_hold, places_differ, places_ready, first_slot, holders_show}
+use Rattle.status_register.proofs.Reaching.{placed_reach}
 use Rattle.status_register.proofs.Written.{first_fits, first_completed}
 use Rattle.status_register.proofs.register.Register.first.Goals as goal
 
@@ -67,6 +69,14 @@ returns-in-Ok-clause-ready g c =
     let t = g.B.Bay.state c.write_first.new.bay in
     let made : Registered = record { id = c.value.inside.id; members = c.by_number-places.result; value = c.copy.result; epoch = c.value.inside.epoch; turn = c.value.inside.turn; is_fresh = false } in
     places_ready r.entries ms c.requires.numbers s t made places c.requires.slots c.requires.apart c.write_first.ensures.attached
+
+pub returns-in-Ok-clause-reaches : goal.returns-in-Ok-clause-reaches
+returns-in-Ok-clause-reaches g c =
+    let r = c.args.value.now in
+    let ms = c.args.members.now in
+    let places = c.by_number-places.ensures.places ∙ ap (λ (es : List Entry). all_placed es (replicate 64 None) ms) c.entries.ensures.entries in
+    λ enough. subst (λ (v : Status). Reaches c.by_number-places.result v) (sym c.copy.ensures)
+    (subst (λ (l : List (Option Member)). Reaches l r) (sym places) (placed_reach r ms ms c.requires.numbers (λ m h. h) enough))
 
 pub returns-in-Ok-clause-shown : goal.returns-in-Ok-clause-shown
 returns-in-Ok-clause-shown g c =

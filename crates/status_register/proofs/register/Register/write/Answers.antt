@@ -2,6 +2,7 @@ use Rattle.std.proofs.Common.{◌≡◌, ◌∙◌, Ok, Err, IsTrue, List, Optio
 use Rattle.asm_formats.specs.Status.{Status, is_status, status_spelling}
 use Rattle.status_register.specs.Holders.{HoldSlots, attached_to, next_turn, numbered}
 use Rattle.status_register.specs.Keeping.{KeepsOn}
+use Rattle.status_register.specs.Reaching.{Reaches}
 use Rattle.status_register.specs.Registered.{Registered}
 use Rattle.status_register.specs.Slots.{status_gate}
 use Rattle.status_register.specs.Writes.{after_write}
@@ -10,6 +11,7 @@ use Rattle.status_register.proofs.Answered.{show_but}
 use Rattle.status_register.proofs.Holding.{are_holders}
 use Rattle.status_register.proofs.Losing.{failed_alone}
 use Rattle.status_register.proofs.Ordering.{row_runs}
+use Rattle.status_register.proofs.Reaching.{written_reaches}
 use Rattle.status_register.proofs.Rewriting.{same_majority, same_calls, same_answer, same_runs}
 use Rattle.status_register.proofs.Written.{written}
 use Rattle.status_register.proofs.register.Register.write.Goals as goal
@@ -183,3 +185,32 @@ returns-in-Ok-clause-history g c =
     let made_is : made ≡ after_write old next (Ok c.in-Ok.failed) = λ i. record (c.self.view_is i) { value = is i; turn = turn i; is_fresh = false } in
     λ slots completed begun room keeps. subst (λ (r : Registered). KeepsOn old next (Ok c.in-Ok.failed) r s t slots completed begun) (sym made_is)
     (written s t (g.met.B.Bay.sound c.args.bay.now) old next allowed c.requires.group c.requires.follows c.requires.fresh c.requires.slots run slots completed begun room keeps (Ok c.in-Ok.failed) answer)
+
+pub returns-in-Err-clause-allowed : goal.returns-in-Err-clause-allowed
+returns-in-Err-clause-allowed g c =
+    let old = c.args.self.now in
+    let next = c.args.next.now in
+    let status = c.renumbered-status.result in
+    let turn : c.saturating_add-turn.result ≡ next_turn old.turn = c.saturating_add-turn.ensures ∙ ap (λ (r : Registered). next_turn r.turn) c.self.view_is in
+    let is : status ≡ numbered old next = c.renumbered-status.ensures.value ∙ (λ i. record next { epoch = (c.self.view_is i).epoch; turn = turn i }) in
+    subst (λ (r : Status). IsTrue (is_status r)) is (c.renumbered-status.ensures.kept c.requires.status)
+
+pub returns-in-Ok-clause-allowed : goal.returns-in-Ok-clause-allowed
+returns-in-Ok-clause-allowed g c =
+    let old = c.args.self.now in
+    let next = c.args.next.now in
+    let status = c.renumbered-status.result in
+    let turn : c.saturating_add-turn.result ≡ next_turn old.turn = c.saturating_add-turn.ensures ∙ ap (λ (r : Registered). next_turn r.turn) c.self.view_is in
+    let is : status ≡ numbered old next = c.renumbered-status.ensures.value ∙ (λ i. record next { epoch = (c.self.view_is i).epoch; turn = turn i }) in
+    subst (λ (r : Status). IsTrue (is_status r)) is (c.renumbered-status.ensures.kept c.requires.status)
+
+pub returns-in-Ok-clause-reaches : goal.returns-in-Ok-clause-reaches
+returns-in-Ok-clause-reaches g c =
+    let old = c.args.self.now in
+    let next = c.args.next.now in
+    let status = c.renumbered-status.result in
+    let turn : c.saturating_add-turn.result ≡ next_turn old.turn = c.saturating_add-turn.ensures ∙ ap (λ (r : Registered). next_turn r.turn) c.self.view_is in
+    let is : status ≡ numbered old next = c.renumbered-status.ensures.value ∙ (λ i. record next { epoch = (c.self.view_is i).epoch; turn = turn i }) in
+    let made : Registered = record { id = c.self.inside.id; members = c.self.inside.members; value = status; epoch = c.self.inside.epoch; turn = c.saturating_add-turn.result; is_fresh = false } in
+    let made_is : made ≡ after_write old next (Ok c.in-Ok.failed) = λ i. record (c.self.view_is i) { value = is i; turn = turn i; is_fresh = false } in
+    subst (λ (r : Registered). Reaches r.members r.value) (sym made_is) (written_reaches old next c.requires.majority)

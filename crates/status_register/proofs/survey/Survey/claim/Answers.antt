@@ -6,6 +6,7 @@ use Rattle.status_register.specs.Registered.{IsClaimAnswer, KeepsHistory, claim_
 use Rattle.status_register.specs.Rows.{PutsRow}
 use Rattle.status_register.specs.Slots.{claim_gate}
 use Rattle.status_register.specs.Tallies.{IsSlotOf}
+use Rattle.status_register.proofs.Reaching.{claim_reaches}
 use Rattle.status_register.proofs.RowFits.{next_claim_allowed}
 use Rattle.status_register.proofs.Written.{kept_claim, ready_claim}
 use Rattle.status_register.proofs.survey.Survey.claim.Goals as goal
@@ -33,3 +34,9 @@ returns-clause-kept g c =
     let answer = subst (λ (v : Surveyed). IsClaimAnswer v c.claim_epoch.result s t) c.self.view_is c.claim_epoch.ensures.answer in
     let run = subst (λ (v : Surveyed). Runs (IsSlotOf v.members) (PutsRow (claim_gate v.id) v.members (claim_spelling (claim_of v))) s t) c.self.view_is c.claim_epoch.ensures.runs in
     kept_claim s t (g.met.B.Bay.sound c.args.bay.now) c.args.self (next_claim_allowed c.args.self.id c.args.self.epoch small) c.requires.numbers c.requires.slots run c.claim_epoch.result answer
+
+pub returns-clause-reaches : goal.returns-clause-reaches
+returns-clause-reaches g c =
+    let s = g.B.Bay.state c.args.bay.now in
+    let t = g.B.Bay.state c.claim_epoch.new.bay in
+    claim_reaches s t c.args.self c.requires.numbers c.claim_epoch.result (subst (λ (v : Surveyed). IsClaimAnswer v c.claim_epoch.result s t) c.self.view_is c.claim_epoch.ensures.answer)
