@@ -1,9 +1,9 @@
 // What no clause says: that calls succeed where no disk fails, and which record wins after a stop.
-use crate::trials::{Outcome, create, mount, survey};
+use crate::trials::{Outcome, claim_and_create, create, mount, spoil, survey};
 use asm_base::{DiskSet, Mode};
 use bay::Bay;
 use bay_mem::MemBay;
-use status_register::{Member, SurveyError};
+use status_register::{Dead, Member, SurveyError};
 use status_table::{PstEntry, PstRecord};
 use std::alloc::Global;
 use std::test::*;
@@ -204,5 +204,69 @@ fn record_without_a_majority_is_dead(rt: HostRuntime) -> Result<(), Fail> {
     bay.fail_at(calls.saturating_add(47)).map_err(|_| "memory")?;
     let outcome = mount(&mut bay, &[disk(0), disk(1), disk(2)], 9);
     assert!(rt; matches!(outcome, Some(Outcome::Dead(1 | 2))));
+    Ok(())
+}
+
+/// Four disks without a record.
+fn blank(alloc: Global) -> Result<MemBay, Fail> {
+    let size = Some(40960);
+    MemBay::new(alloc, &[size, size, size, size]).map_err(|_| Fail::from("memory"))
+}
+
+#[test]
+fn claims_come_before_the_first_record(rt: HostRuntime) -> Result<(), Fail> {
+    let mut bay = blank(rt.alloc())?;
+    let members = [disk(0), disk(1), disk(2)];
+    let created = claim_and_create(&mut bay, &record(0b0111, 0), &members);
+    assert!(rt; matches!(created, Some(Ok(_))));
+    assert_eq!(rt; births(&mut bay, &[disk(0), disk(2)])?, 4);
+    Ok(())
+}
+
+// Of a creation on three disks the calls 1 to 3 attach, 4 to 30 claim, and the first record comes then.
+
+#[test]
+fn disk_without_the_claim_is_dead(rt: HostRuntime) -> Result<(), Fail> {
+    let mut bay = blank(rt.alloc())?;
+    let calls = bay.calls();
+    bay.fail_at(calls.saturating_add(13)).map_err(|_| "memory")?;
+    let members = [disk(0), disk(1), disk(2)];
+    let created = claim_and_create(&mut bay, &record(0b0111, 0), &members);
+    assert!(rt; matches!(created, Some(Err(Dead { slot: 1 }))));
+    assert!(rt;
+        matches!(
+            survey(&mut bay, &members),
+            Some(Err(SurveyError::NoMajority { seen: 0, need: 1 }))
+        )
+    );
+    Ok(())
+}
+
+/// A claim that doesn't decode, beside a record that is marked gone or isn't.
+#[test]
+fn damage_tells_whether_the_group_is_gone(rt: HostRuntime) -> Result<(), Fail> {
+    let members = [disk(0), disk(1), disk(2)];
+    for gone in [false, true] {
+        let mut bay = blank(rt.alloc())?;
+        let mut first = record(0b0111, 0);
+        first.gone = gone;
+        let created = claim_and_create(&mut bay, &first, &members);
+        assert!(rt; matches!(created, Some(Ok(_))));
+        assert!(rt; spoil(&mut bay, disk(1), 3));
+        let refused = survey(&mut bay, &members);
+        let Some(
+            Err(
+                SurveyError::Damaged {
+                    slot: 1,
+                    block: 3,
+                    gone: told,
+                },
+            ),
+        ) = refused
+        else {
+            return Err(Fail::from("not damaged"));
+        };
+        assert_eq!(rt; told, gone);
+    }
     Ok(())
 }

@@ -13,8 +13,8 @@ ghost use Rattle.status_register.specs.Rows.{AreApart};
 ghost use Rattle.status_register.specs.Surveys.{is_there};
 ghost use Rattle.status_register.specs.Tallies.{HaveSlots};
 
-use bay::Bay;
-use status_register::{Dead, Member, Register, Survey, SurveyError};
+use bay::{Bay, Fault};
+use status_register::{Dead, Member, Register, Survey, SurveyError, claim_first};
 use status_table::{PstEntry, PstRecord, is_status, same_sets_follow};
 
 /// What became of a mount that writes one record: what the survey or the claim was refused as, the slot of a dead disk, or how
@@ -174,6 +174,45 @@ pub fn create<B: Bay>(
         return None;
     }
     Some(Register::first(bay, status, members))
+}
+
+/// Claims the epoch of a first record, and then writes it. None where this may not be asked.
+pub fn claim_and_create<B: Bay>(
+    bay: &mut B,
+    status: &PstRecord,
+    members: &[Member],
+) -> Option<Result<Register, Dead>> {
+    if !may_be_members(members) {
+        return None;
+    }
+    if !is_status(status) {
+        return None;
+    }
+    if !are_there(members, status) {
+        return None;
+    }
+    if !attach_all(bay, members) {
+        return None;
+    }
+    match claim_first(bay, status.id, status.epoch, members) {
+        Err(dead) => Some(Err(dead)),
+        Ok(()) => Some(Register::first(bay, status, members)),
+    }
+}
+
+/// Writes ones over one of the first ten blocks of a member's disk. Whether that was done.
+pub fn spoil<B: Bay>(bay: &mut B, member: Member, block: u64) -> bool {
+    if block > 9 {
+        return false;
+    }
+    if !attach(bay, member) {
+        return false;
+    }
+    let ones = [1u8; 4096];
+    match bay.write(member.slot, block * 4096, &ones[..]) {
+        Ok(()) => true,
+        Err(Fault) => false,
+    }
 }
 
 /// Surveys the members. None where this may not be asked.
