@@ -1,14 +1,18 @@
 -- A record of the format stays one where one thing of it changes.
-use Rattle.std.proofs.Common.{◌≡◌, ℕ, zero, suc, ◌+◌, ◌^◌, ◌<◌, Bool, true, false, cond, eqb, List, [], ◌∷◌, ◌++◌, length, map, take, set, get_or, refl, ap, ◌∙◌, arith, inl}
+use Rattle.std.proofs.Common.{◌≡◌, ℕ, zero, suc, ◌+◌, ◌^◌, ◌<◌, Bool, true, false, cond, eqb, ◌≤◌, List, [], ◌∷◌, ◌++◌, length, map, take, set, get_or, refl, ap, ◌∙◌, arith, inl}
 use Rattle.std.specs.List.{list_all}
-use Rattle.std.proofs.lemmas.Bool.{and_parts, and_from}
+use Rattle.std.proofs.lemmas.Bool.{and_parts, and_from, cond_both}
 use Rattle.std.proofs.lemmas.List.{take_more_set}
 use Rattle.asm_group.specs.declared.Mode.{Mode}
+use Rattle.asm_group.specs.declared.Mode.TheVariants.{Offline}
 use Rattle.asm_formats.specs.Sets.{elements, has_bit}
 use Rattle.asm_formats.specs.Status.{Entry, Status, is_entry, is_status, entry_of, has_entry, have_entries, ascends_from}
 use Rattle.asm_formats.specs.Following.{sets_of, disks_of, sets, Holder, Follows, FollowsSets}
 use Rattle.status_table.specs.Rules.{number_of}
-use Rattle.status_table.specs.Changes.{entry_with_mode, entries_with_partners, status_with_mode, status_with_partners}
+use Rattle.status_table.specs.Changes.{entries_with_partners, status_with_mode, status_with_offline, status_with_partners, status_with_repair, status_with_units}
+use Rattle.status_table.specs.EntryChanges.{changed, entry_with}
+use Rattle.status_table.specs.declared.entries.EntryChange.{EntryChange}
+use Rattle.status_table.specs.declared.entries.EntryChange.TheVariants.{InMode, OfflineFor, WithUnits, WithRepair}
 use Rattle.status_table.proofs.Allowed.{parts_of, parts_are, entry_fits, entry_is}
 
 -- ---- entries of the same numbers
@@ -55,38 +59,48 @@ with_entries_kept r es same all ok =
       of_directories = same_have es r.entries (elements r.directories) same ∙ p.of_directories;
     })
 
--- ---- another mode
+-- ---- one disk's entry changed
 
-mode_number : (disk : ℕ) (mode : Mode) (since : ℕ) (e : Entry) → (entry_with_mode disk mode since e).number ≡ e.number
-mode_number disk mode since e = by (eqb e.number disk) refl where
-  by : (b : Bool) → eqb e.number disk ≡ b → (entry_with_mode disk mode since e).number ≡ e.number
-  by true same = rw same refl
-  by false other = rw other refl
+-- a change of one disk's entry that leaves its number and the format
+module _ (disk : ℕ) (change : EntryChange) (number : (e : Entry) → (changed change e).number ≡ e.number) (fits : (e : Entry) → is_entry e ≡ true → is_entry (changed change e) ≡ true) where
+  change_number : (e : Entry) → (entry_with disk change e).number ≡ e.number
+  change_number e = cond_both (eqb e.number disk) (changed change e) e (λ (x : Entry). x.number ≡ e.number) (λ same. number e) (λ other. refl)
 
-mode_numbers : (disk : ℕ) (mode : Mode) (since : ℕ) (es : List Entry) → map number_of (map (entry_with_mode disk mode since) es) ≡ map number_of es
-mode_numbers disk mode since [] = refl
-mode_numbers disk mode since (e ∷ es) = rw (mode_number disk mode since e, mode_numbers disk mode since es) refl
+  change_numbers : (es : List Entry) → map number_of (map (entry_with disk change) es) ≡ map number_of es
+  change_numbers [] = refl
+  change_numbers (e ∷ es) = λ i. change_number e i ∷ change_numbers es i
 
-mode_entry : (disk : ℕ) (mode : Mode) (since : ℕ) (e : Entry) → since < 2 ^ 64 → is_entry e ≡ true → is_entry (entry_with_mode disk mode since e) ≡ true
-mode_entry disk mode since e small ok = by (eqb e.number disk) refl where
-  changed : is_entry (record e { mode = mode; since = since }) ≡ true
-  changed =
-      let f = entry_fits e ok in
-      entry_is (record e { mode = mode; since = since }) (record { number = f.number; birth = f.birth; failgroup = f.failgroup; units = f.units; since = small; repair = f.repair; partners = f.partners })
+  change_entry : (e : Entry) → is_entry e ≡ true → is_entry (entry_with disk change e) ≡ true
+  change_entry e ok = cond_both (eqb e.number disk) (changed change e) e (λ (x : Entry). is_entry x ≡ true) (λ same. fits e ok) (λ other. ok)
 
-  by : (b : Bool) → eqb e.number disk ≡ b → is_entry (entry_with_mode disk mode since e) ≡ true
-  by true same = rw same changed
-  by false other = rw other ok
+  change_entries : (es : List Entry) → list_all is_entry es ≡ true → list_all is_entry (map (entry_with disk change) es) ≡ true
+  change_entries [] all = refl
+  change_entries (e ∷ es) all =
+      let a = and_parts (is_entry e) (list_all is_entry es) all in
+      and_from (is_entry (entry_with disk change e)) (list_all is_entry (map (entry_with disk change) es)) (change_entry e a.0) (change_entries es a.1)
 
-mode_entries : (disk : ℕ) (mode : Mode) (since : ℕ) (es : List Entry) → since < 2 ^ 64 → list_all is_entry es ≡ true → list_all is_entry (map (entry_with_mode disk mode since) es) ≡ true
-mode_entries disk mode since [] small all = refl
-mode_entries disk mode since (e ∷ es) small all =
-    let a = and_parts (is_entry e) (list_all is_entry es) all in
-    and_from (is_entry (entry_with_mode disk mode since e)) (list_all is_entry (map (entry_with_mode disk mode since) es)) (mode_entry disk mode since e small a.0) (mode_entries disk mode since es small a.1)
+  change_keeps : (r : Status) → is_status r ≡ true → is_status (record r { entries = map (entry_with disk change) r.entries }) ≡ true
+  change_keeps r ok = with_entries_kept r (map (entry_with disk change) r.entries) (change_numbers r.entries) (change_entries r.entries (parts_of r ok).all) ok
 
 pub mode_keeps : (r : Status) (disk : ℕ) (mode : Mode) (since : ℕ) → since < 2 ^ 64 → is_status r ≡ true → is_status (status_with_mode r disk mode since) ≡ true
-mode_keeps r disk mode since small ok =
-    with_entries_kept r (map (entry_with_mode disk mode since) r.entries) (mode_numbers disk mode since r.entries) (mode_entries disk mode since r.entries small (parts_of r ok).all) ok
+mode_keeps r disk mode since small ok = change_keeps disk (InMode mode since) (λ e. refl)
+    (λ e fit. let f = entry_fits e fit in
+    entry_is (record e { mode = mode; since = since }) (record { number = f.number; birth = f.birth; failgroup = f.failgroup; units = f.units; since = small; repair = f.repair; partners = f.partners })) r ok
+
+pub offline_keeps : (r : Status) (disk since repair : ℕ) → since < 2 ^ 64 → repair < 2 ^ 64 → is_status r ≡ true → is_status (status_with_offline r disk since repair) ≡ true
+offline_keeps r disk since repair small few ok = change_keeps disk (OfflineFor since repair) (λ e. refl)
+    (λ e fit. let f = entry_fits e fit in
+    entry_is (record e { mode = Offline; since = since; repair = repair }) (record { number = f.number; birth = f.birth; failgroup = f.failgroup; units = f.units; since = small; repair = few; partners = f.partners })) r ok
+
+pub units_keep : (r : Status) (disk units : ℕ) → units ≤ 16777216 → is_status r ≡ true → is_status (status_with_units r disk units) ≡ true
+units_keep r disk units few ok = change_keeps disk (WithUnits units) (λ e. refl)
+    (λ e fit. let f = entry_fits e fit in
+    entry_is (record e { units = units }) (record { number = f.number; birth = f.birth; failgroup = f.failgroup; units = few; since = f.since; repair = f.repair; partners = f.partners })) r ok
+
+pub repair_keeps : (r : Status) (disk repair : ℕ) → repair < 2 ^ 64 → is_status r ≡ true → is_status (status_with_repair r disk repair) ≡ true
+repair_keeps r disk repair few ok = change_keeps disk (WithRepair repair) (λ e. refl)
+    (λ e fit. let f = entry_fits e fit in
+    entry_is (record e { repair = repair }) (record { number = f.number; birth = f.birth; failgroup = f.failgroup; units = f.units; since = f.since; repair = few; partners = f.partners })) r ok
 
 -- ---- other partners
 
@@ -139,6 +153,18 @@ pub holders_keep : (r : Status) (holders : ℕ) → holders < 2 ^ 64 → is_stat
 holders_keep r holders small ok have =
     let p = parts_of r ok in
     parts_are (record r { holders = holders; next_holders = 0 }) (record { id = p.id; epoch = p.epoch; turn = p.turn; births = p.births; holders = small; next_holders = omega arith; directories = p.directories; all = p.all; up = p.up; of_holders = have; of_next = none_have r.entries; of_directories = p.of_directories })
+
+-- ---- the greatest birth, and the mark of a dropped group
+
+pub births_keep : (r : Status) (births : ℕ) → births < 2 ^ 64 → is_status r ≡ true → is_status (record r { births = births }) ≡ true
+births_keep r births small ok =
+    let p = parts_of r ok in
+    parts_are (record r { births = births }) (record { id = p.id; epoch = p.epoch; turn = p.turn; births = small; holders = p.holders; next_holders = p.next_holders; directories = p.directories; all = p.all; up = p.up; of_holders = p.of_holders; of_next = p.of_next; of_directories = p.of_directories })
+
+pub gone_keeps : (r : Status) → is_status r ≡ true → is_status (record r { gone = true }) ≡ true
+gone_keeps r ok =
+    let p = parts_of r ok in
+    parts_are (record r { gone = true }) (record { id = p.id; epoch = p.epoch; turn = p.turn; births = p.births; holders = p.holders; next_holders = p.next_holders; directories = p.directories; all = p.all; up = p.up; of_holders = p.of_holders; of_next = p.of_next; of_directories = p.of_directories })
 
 -- ---- the sets of a record
 

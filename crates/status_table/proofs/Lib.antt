@@ -3,3 +3,4 @@ pub mod Allowed
 pub mod Laws
 pub mod Kept
 pub mod Steps
+pub mod Inserted

@@ -1,13 +1,14 @@
 -- The steps of the loops over a record's entries.
 use Rattle.std.proofs.Common.{◌≡◌, ℕ, ◌+◌, ◌<◌, List, [], ◌∷◌, ◌++◌, length, map, take, set, get_or, refl, sym, ap, arith, ◌∙◌}
 use Rattle.std.proofs.lemmas.List.{length-take, map_more, take_more, take_more_set}
-use Rattle.asm_group.specs.declared.Mode.{Mode}
 use Rattle.asm_formats.specs.Status.{Entry}
-use Rattle.status_table.specs.Changes.{entry_with_mode, entry_with_partners, entries_with_partners}
+use Rattle.status_table.specs.Changes.{entry_with_partners, entries_with_partners}
+use Rattle.status_table.specs.EntryChanges.{entry_with}
+use Rattle.status_table.specs.declared.entries.EntryChange.{EntryChange}
 
-pub mode_more : (disk : ℕ) (mode : Mode) (since : ℕ) (xs ys : List Entry) (i : ℕ) (x y : Entry) → i < length xs → i < length ys → take i ys ≡ map (entry_with_mode disk mode since) (take i xs) → x ≡ get_or xs i x → y ≡ entry_with_mode disk mode since x → take (i + 1) (set ys i y) ≡ map (entry_with_mode disk mode since) (take (i + 1) xs)
-mode_more disk mode since xs ys i x y within room so_far read is =
-    take_more_set ys i y room ∙ rw (so_far, is, map_more (entry_with_mode disk mode since) xs i x within, ← read) refl
+pub change_more : (disk : ℕ) (change : EntryChange) (xs ys : List Entry) (i : ℕ) (x y : Entry) → i < length xs → i < length ys → take i ys ≡ map (entry_with disk change) (take i xs) → x ≡ get_or xs i x → y ≡ entry_with disk change x → take (i + 1) (set ys i y) ≡ map (entry_with disk change) (take (i + 1) xs)
+change_more disk change xs ys i x y within room so_far read is =
+    take_more_set ys i y room ∙ rw (so_far, is, map_more (entry_with disk change) xs i x within, ← read) refl
 
 partners-push : (xs : List Entry) (sets : List ℕ) (x : Entry) (s : ℕ) → length xs ≡ length sets → entries_with_partners (xs ++ x ∷ []) (sets ++ s ∷ []) ≡ entries_with_partners xs sets ++ entry_with_partners x s ∷ []
 partners-push [] [] x s e = refl

@@ -1,8 +1,9 @@
 -- What a status record becomes where one thing of it changes.
-use Rattle.std.specs.Prelude.{ℕ, ◌+◌, ◌/◌, ◌==◌, if◌then◌else◌, false, List, [], ◌∷◌, map, length}
+use Rattle.std.specs.Prelude.{◌≡◌, ◌⊎◌, ℕ, zero, suc, ◌+◌, ◌/◌, ◌==◌, nat_lt, not, if◌then◌else◌, Bool, true, false, List, [], ◌∷◌, filter, map, length}
+use Rattle.std.specs.List.{list_any}
 use Rattle.asm_group.specs.declared.Mode.{Mode}
 use Rattle.asm_group.specs.declared.Mode.TheVariants.{Offline}
-use Rattle.asm_formats.specs.Sets.{elements}
+use Rattle.asm_formats.specs.Sets.{elements, has_bit}
 use Rattle.asm_formats.specs.Status.{Entry, Status}
 
 -- more than half of the disks of a set
@@ -15,6 +16,58 @@ entry_with_mode disk mode since e = if e.number == disk then record e { mode = m
 
 abbrev pub status_with_mode : Status → ℕ → Mode → ℕ → Status
 status_with_mode r disk mode since = record r { entries = map (entry_with_mode disk mode since) r.entries }
+
+-- the disk's entry is Offline, since that second, for so many seconds until the disk is dropped
+abbrev pub entry_with_offline : ℕ → ℕ → ℕ → Entry → Entry
+entry_with_offline disk since repair e = if e.number == disk then record e { mode = Offline; since = since; repair = repair } else e
+
+abbrev pub status_with_offline : Status → ℕ → ℕ → ℕ → Status
+status_with_offline r disk since repair = record r { entries = map (entry_with_offline disk since repair) r.entries }
+
+-- the disk has so many units
+abbrev pub entry_with_units : ℕ → ℕ → Entry → Entry
+entry_with_units disk units e = if e.number == disk then record e { units = units } else e
+
+abbrev pub status_with_units : Status → ℕ → ℕ → Status
+status_with_units r disk units = record r { entries = map (entry_with_units disk units) r.entries }
+
+-- the disk is dropped after so many seconds offline
+abbrev pub entry_with_repair : ℕ → ℕ → Entry → Entry
+entry_with_repair disk repair e = if e.number == disk then record e { repair = repair } else e
+
+abbrev pub status_with_repair : Status → ℕ → ℕ → Status
+status_with_repair r disk repair = record r { entries = map (entry_with_repair disk repair) r.entries }
+
+-- ---- a disk more, and a disk less
+
+-- an entry in its place among entries by number: the lesser number comes first, and the greater goes on
+abbrev pub inserted : Entry → List Entry → List Entry
+inserted e [] = e ∷ []
+inserted e (x ∷ xs) = if nat_lt e.number x.number then e ∷ inserted x xs else x ∷ inserted e xs
+
+abbrev pub status_with_entry : Status → Entry → Status
+status_with_entry r e = record r { entries = inserted e r.entries }
+
+abbrev pub status_without_entry : Status → ℕ → Status
+status_without_entry r disk = record r { entries = filter (λ (e : Entry). not (e.number == disk)) r.entries }
+
+-- the disk is in one of the record's sets
+abbrev pub IsNamed : Status → ℕ → Type 0
+IsNamed r disk = (has_bit r.holders disk ≡ true) ⊎ ((has_bit r.next_holders disk ≡ true) ⊎ (has_bit r.directories disk ≡ true))
+
+abbrev pub has_failgroup : List Entry → ℕ → Bool
+has_failgroup es n = list_any (λ (e : Entry). e.failgroup == n) es
+
+-- the least number from n on that is no entry's failure group, of so many that are tried
+abbrev pub free_from : ℕ → ℕ → List Entry → ℕ
+free_from zero n es = n
+free_from (suc tries) n es = if has_failgroup es n then free_from tries (n + 1) es else n
+
+-- Of numbers from 0 on, one for each entry and one more, one is free.
+abbrev pub least_free_failgroup : List Entry → ℕ
+least_free_failgroup es = free_from (length es) 0 es
+
+-- ---- partners
 
 abbrev pub entry_with_partners : Entry → ℕ → Entry
 entry_with_partners e partners = record e { partners = partners }

@@ -1,3 +1,4 @@
 pub mod Readings
 pub mod Rules
 pub mod Changes
+pub mod EntryChanges

@@ -4,6 +4,7 @@
 
 mod changes;
 mod claim;
+mod entries;
 mod follows;
 mod reading;
 mod record;
@@ -11,9 +12,13 @@ mod rules;
 mod writing;
 
 pub use changes::{
-    majority, next_majority, with_dirs, with_holders, with_mode, with_next_holders, with_partners,
+    majority, next_majority, with_births, with_dirs, with_gone, with_holders, with_next_holders,
 };
 pub use claim::{Claim, decode_claim, encode_claim};
+pub use entries::{
+    least_free_failgroup, with_entry, with_mode, with_offline, with_partners, with_repair,
+    with_units, without_entry,
+};
 pub use follows::same_sets_follow;
 pub use reading::decode;
 pub use record::{PstEntry, PstRecord};

@@ -2,7 +2,7 @@ use Rattle.std.proofs.Common.{◌≡◌, true, length, take}
 use Rattle.std.specs.List.{list_all}
 use Rattle.asm_formats.specs.Status.{is_entry}
 use Rattle.status_table.specs.Changes.{entries_with_partners}
-use Rattle.status_table.proofs.changes.entries_with_partners.Given as goal
+use Rattle.status_table.proofs.entries.entries_with_partners.Given as goal
 
 abbrev pub invariant-loop-i : goal.invariant-loop-i
 invariant-loop-i l = record {

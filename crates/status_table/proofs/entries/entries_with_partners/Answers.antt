@@ -2,7 +2,7 @@ use Rattle.std.proofs.Common.{arith, length-set}
 use Rattle.asm_formats.specs.Status.{Entry}
 use Rattle.status_table.proofs.Steps.{partners_more}
 use Rattle.status_table.proofs.Kept.{kept_more}
-use Rattle.status_table.proofs.changes.entries_with_partners.Goals as goal
+use Rattle.status_table.proofs.entries.entries_with_partners.Goals as goal
 
 pub loop-i-preserved : goal.loop-i-preserved
 loop-i-preserved c = record {
