@@ -5,12 +5,12 @@ use Rattle.bay.specs.Image.{Image}
 use Rattle.asm_placement.specs.Among.{IsAmong}
 use Rattle.asm_formats.specs.Header.{Header}
 use Rattle.asm_formats.specs.Metadata.{header_of}
-use Rattle.asm_formats.specs.Claim.{is_claim, claim_spelling}
+use Rattle.asm_formats.specs.Claim.{Claim, is_claim, claim_spelling}
 use Rattle.asm_formats.specs.Following.{Follows, rank}
 use Rattle.asm_formats.specs.Regions.{least_size}
 use Rattle.asm_formats.specs.Status.{Status, is_status, status_spelling}
 use Rattle.asm_images.specs.Steps.{IsLast}
-use Rattle.status_register.specs.Slots.{status_gate}
+use Rattle.status_register.specs.Slots.{claim_gate, status_gate}
 use Rattle.asm_images.specs.Bridge.{disk_bytes, disks_in}
 use Rattle.asm_images.specs.Members.{all_members, within}
 use Rattle.asm_images.specs.Register.{base, is_enough, HasEpoch, current_records, greatest}
@@ -65,6 +65,26 @@ StoredRecordsFit =
     (slots id : ℕ) (completed : Option Status) (begun : List Status) (r : Status) (ms : List Member) (x y : Image) → IsLast completed begun r → IsTrue (is_status r)
     → ((m : Member) → IsAmong ms m → m.slot < slots) → ((m : Member) → IsAmong ms m → least_size ≤ x.size m.slot)
     → PutsRow (status_gate id) ms (status_spelling r) x y → FitsIn slots id completed begun x → FitsIn slots id completed begun y
+
+-- While a claim is put on members, the image fits the history.
+abbrev pub StoredClaimsFit : Type 0
+StoredClaimsFit =
+    (slots id : ℕ) (completed : Option Status) (begun : List Status) (c : Claim) (ms : List Member) (x y : Image) → IsTrue (is_claim c)
+    → ((m : Member) → IsAmong ms m → m.slot < slots) → ((m : Member) → IsAmong ms m → least_size ≤ x.size m.slot)
+    → PutsRow (claim_gate id) ms (claim_spelling c) x y → FitsIn slots id completed begun x → FitsIn slots id completed begun y
+
+-- Disks that are members stay so while a claim, or a record, is put on some.
+abbrev pub ClaimsKeepMembers : Type 0
+ClaimsKeepMembers =
+    (slots id : ℕ) (c : Claim) (ms : List Member) (x y : Image) → IsTrue (is_claim c)
+    → ((m : Member) → IsAmong ms m → m.slot < slots) → ((m : Member) → IsAmong ms m → least_size ≤ x.size m.slot)
+    → PutsRow (claim_gate id) ms (claim_spelling c) x y → (m : Member) → IsMemberOn slots id x m → IsMemberOn slots id y m
+
+abbrev pub RecordsKeepMembers : Type 0
+RecordsKeepMembers =
+    (slots id : ℕ) (r : Status) (ms : List Member) (x y : Image) → IsTrue (is_status r)
+    → ((m : Member) → IsAmong ms m → m.slot < slots) → ((m : Member) → IsAmong ms m → least_size ≤ x.size m.slot)
+    → PutsRow (status_gate id) ms (status_spelling r) x y → (m : Member) → IsMemberOn slots id x m → IsMemberOn slots id y m
 
 -- A record of a claimed epoch is begun: where a majority of each set of a record that counts shows its claim, it follows and its number is above all that count.
 abbrev pub ClaimedRecordBegins : Type 0

@@ -29,7 +29,7 @@ fn claim_one<B: Bay>(
     took: MemberList,
 ) -> MemberList
     requires slots { HasSlots (B.state bay.old) member.slot member.sector }
-    requires room { length took < 64 }
+    requires room { length took < 512 }
     ensures takes { Takes (claim_gate id) member body.now.bytes took result (B.state bay.old) (B.state bay.new) }
     ensures attached { KeepsAttached (B.state bay.old) (B.state bay.new) }
     ensures calls { (B.state bay.new).calls ≤ (B.state bay.old).calls + 13 }
@@ -44,7 +44,7 @@ fn claim_one<B: Bay>(
 /// Puts the body of a claim on the members, past faults, and gives those that took it.
 pub fn claim_all<B: Bay>(bay: &mut B, id: u64, members: &[Member], body: &Block) -> MemberList
     requires slots { HaveSlots (B.state bay.old) members.now }
-    requires few { length members.now ≤ 64 }
+    requires few { length members.now ≤ 512 }
     requires apart { AreApart members.now }
     ensures took { AreRead (λ slot. Rose ((B.state bay.old).faults slot) ((B.state bay.new).faults slot)) members.now result }
     ensures done { Ends (HaveBody 2 4 body.now.bytes result) (B.state bay.old) (B.state bay.new) }
@@ -64,7 +64,7 @@ pub fn claim_all<B: Bay>(bay: &mut B, id: u64, members: &[Member], body: &Block)
 /// took the claim, `Register::first` may write a record of this epoch for which the members are enough.
 pub fn claim_first<B: Bay>(bay: &mut B, id: u64, epoch: u64, members: &[Member]) -> Result<(), Dead>
     requires slots { HaveSlots (B.state bay.old) members.now }
-    requires few { length members.now ≤ 64 }
+    requires few { length members.now ≤ 512 }
     requires apart { AreApart members.now }
     ensures done { OnOk result (Ends (HaveBody 2 4 (claim_spelling (record { id = id; epoch = epoch })) members.now) (B.state bay.old) (B.state bay.new)) }
     ensures cause { IfErr result (λ dead. IsDeadOf members.now dead.slot (B.state bay.old) (B.state bay.new)) }

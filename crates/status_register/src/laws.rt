@@ -1,6 +1,6 @@
 // What a survey finds, in the words of the members of an image. Each function has an empty body: its contract is the law.
 ghost use Rattle.status_register.specs.OrderLaws.{AttachedDisksDescend, GreaterNumbersFirst, OrderedPutsAreARow};
-ghost use Rattle.status_register.specs.SurveyLaws.{ClaimedRecordBegins, ShownClaimIsSeen, StoredRecordCompletes, StoredRecordsFit, SurveyedEpochIsAbove, SurveyedRecordCounts};
+ghost use Rattle.status_register.specs.SurveyLaws.{ClaimedRecordBegins, ClaimsKeepMembers, RecordsKeepMembers, ShownClaimIsSeen, StoredClaimsFit, StoredRecordCompletes, StoredRecordsFit, SurveyedEpochIsAbove, SurveyedRecordCounts};
 
 /// The record that a survey gives is the one that was last completed, or one begun after it.
 pub fn surveyed_record_counts()
@@ -20,6 +20,21 @@ pub fn shown_claim_is_seen()
 /// While the last record that was begun is put on members, in whole or in part, the image fits the history.
 pub fn stored_records_fit()
     ensures { StoredRecordsFit }
+{}
+
+/// While a claim is put on members, in whole or in part, the image fits the history.
+pub fn stored_claims_fit()
+    ensures { StoredClaimsFit }
+{}
+
+/// Disks that are members stay so while a claim is put on some.
+pub fn claims_keep_members()
+    ensures { ClaimsKeepMembers }
+{}
+
+/// Disks that are members stay so while a record is put on some.
+pub fn records_keep_members()
+    ensures { RecordsKeepMembers }
 {}
 
 /// A record of a claimed epoch that follows, with a number above all that count, is begun.

@@ -28,9 +28,9 @@ pub use kept_laws::{
     same_sets_reach,
 };
 pub use laws::{
-    attached_disks_descend, claimed_record_begins, greater_numbers_first, ordered_puts_are_a_row,
-    shown_claim_is_seen, stored_record_completes, stored_records_fit, surveyed_epoch_is_above,
-    surveyed_record_counts,
+    attached_disks_descend, claimed_record_begins, claims_keep_members, greater_numbers_first,
+    ordered_puts_are_a_row, records_keep_members, shown_claim_is_seen, stored_claims_fit,
+    stored_record_completes, stored_records_fit, surveyed_epoch_is_above, surveyed_record_counts,
 };
 pub use member::Member;
 pub use register::Register;

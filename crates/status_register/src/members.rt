@@ -13,11 +13,12 @@ const NO_MEMBER: Member = Member {
     sector: 512,
 };
 
-/// At most 64 members. Contracts see the list of them.
+/// At most 512 members, one for each slot of the bay: of a group more than 64 may have a header, where disks left it and were
+/// not read then. Contracts see the list of them.
 #[derive(Debug, Drop)]
 pub struct MemberList {
-    count: u8,
-    items: [Member; 64],
+    count: u16,
+    items: [Member; 512],
 }
 
 impl Model for MemberList {
@@ -28,7 +29,7 @@ impl Model for MemberList {
 
     ghost view = { λ l. take l.count l.items };
 
-    ghost invariant = { λ l. (l.count ≤ 64) × (length l.items ≡ 64) };
+    ghost invariant = { λ l. (l.count ≤ 512) × (length l.items ≡ 512) };
 }
 
 impl MemberList {
@@ -38,13 +39,13 @@ impl MemberList {
     {
         MemberList {
             count: 0,
-            items: [NO_MEMBER; 64],
+            items: [NO_MEMBER; 512],
         }
     }
 
     /// These members.
     pub fn of(members: &[Member]) -> MemberList
-        requires { length members.now ≤ 64 }
+        requires { length members.now ≤ 512 }
         ensures { result ≡ members.now }
     {
         let mut list = MemberList::empty();
@@ -56,7 +57,7 @@ impl MemberList {
 
     /// The members with one more behind them.
     pub fn with(self, member: Member) -> MemberList
-        requires { length self < 64 }
+        requires { length self < 512 }
         ensures { result ≡ self ++ member ∷ [] }
     {
         let mut items = self.items;
@@ -70,7 +71,7 @@ impl MemberList {
     /// The members in their order.
     pub fn members(&self) -> &[Member]
         ensures members { result.now ≡ self.now }
-        ensures few { length self.now ≤ 64 }
+        ensures few { length self.now ≤ 512 }
     {
         &self.items[..self.count as usize]
     }

@@ -39,7 +39,7 @@ fn record_one<B: Bay>(
     took: MemberList,
 ) -> MemberList
     requires slots { HasSlots (B.state bay.old) member.slot member.sector }
-    requires room { length took < 64 }
+    requires room { length took < 512 }
     ensures takes { Takes (status_gate id) member body.now.bytes took result (B.state bay.old) (B.state bay.new) }
     ensures attached { KeepsAttached (B.state bay.old) (B.state bay.new) }
     ensures calls { (B.state bay.new).calls ≤ (B.state bay.old).calls + 13 }
@@ -54,7 +54,7 @@ fn record_one<B: Bay>(
 /// Puts the body of a record on the members in their order, past faults, and gives those that took it.
 pub fn record_all<B: Bay>(bay: &mut B, id: u64, members: &[Member], body: &Block) -> MemberList
     requires slots { HaveSlots (B.state bay.old) members.now }
-    requires few { length members.now ≤ 64 }
+    requires few { length members.now ≤ 512 }
     requires apart { AreApart members.now }
     ensures took { AreRead (λ slot. Rose ((B.state bay.old).faults slot) ((B.state bay.new).faults slot)) members.now result }
     ensures done { Ends (HaveBody 6 8 body.now.bytes result) (B.state bay.old) (B.state bay.new) }

@@ -44,7 +44,7 @@ impl Survey {
     /// Reads the claim and status slots of the members of a group, and gives the greatest record. Nothing is synced: a mount has done so.
     pub fn read<B: Bay>(bay: &mut B, id: u64, members: &[Member]) -> Result<Survey, SurveyError>
         requires slots { HaveSlots (B.state bay.old) members.now }
-        requires few { length members.now ≤ 64 }
+        requires few { length members.now ≤ 512 }
         ensures answer { IsSurveyed id members.now result (B.state bay.old) (B.state bay.new) }
         ensures surveyed { IfOk result (λ survey. (survey.id ≡ id) × (survey.members ≡ members.now)) }
         ensures attached { KeepsAttached (B.state bay.old) (B.state bay.new) }
@@ -84,7 +84,7 @@ impl Survey {
 
 /// Judges what was read.
 fn judge(id: u64, members: &[Member], tally: Tally) -> Result<Survey, SurveyError>
-    requires few { length members.now ≤ 64 }
+    requires few { length members.now ≤ 512 }
     ensures { Judges id members.now tally result }
 {
     let Tally {

@@ -42,7 +42,7 @@ fn first_of(damage: Option<(u32, u64)>, slot: u32, block: Option<u64>) -> Option
 /// Reads one member more. One that fails changes nothing.
 fn read_one<B: Bay>(bay: &mut B, id: u64, member: Member, tally: Tally) -> Tally
     requires slots { HasSlots (B.state bay.old) member.slot member.sector }
-    requires room { length tally.read < 64 }
+    requires room { length tally.read < 512 }
     ensures adds { Adds id member (B.state bay.old) (B.state bay.new) tally result }
     ensures attached { KeepsAttached (B.state bay.old) (B.state bay.new) }
     ensures calls { (B.state bay.new).calls ≤ (B.state bay.old).calls + 8 }
@@ -62,7 +62,7 @@ fn read_one<B: Bay>(bay: &mut B, id: u64, member: Member, tally: Tally) -> Tally
 /// Reads what the slots of the members say of a group.
 pub fn read_all<B: Bay>(bay: &mut B, id: u64, members: &[Member]) -> Tally
     requires slots { HaveSlots (B.state bay.old) members.now }
-    requires few { length members.now ≤ 64 }
+    requires few { length members.now ≤ 512 }
     ensures read { AreRead (λ slot. Rose ((B.state bay.old).faults slot) ((B.state bay.new).faults slot)) members.now result.read }
     ensures says { Told (B.state bay.old) (B.state bay.new) (Says id result.read result.epoch result.status result.damage) }
     ensures attached { KeepsAttached (B.state bay.old) (B.state bay.new) }

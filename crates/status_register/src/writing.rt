@@ -37,7 +37,7 @@ pub fn write_on_majorities<B: Bay>(
 ) -> Result<DiskSet, Dead>
     requires status { IsTrue (is_status status.now) }
     requires slots { HaveSlots (B.state bay.old) holders.now }
-    requires few { length holders.now ≤ 64 }
+    requires few { length holders.now ≤ 512 }
     requires apart { AreApart holders.now }
     requires holders { AreHolders status.now.entries holders.now }
     requires majority { missing holders.now (Some status.now) ≡ None }
@@ -63,7 +63,7 @@ pub fn write_on_all<B: Bay>(
 ) -> Result<(), Dead>
     requires status { IsTrue (is_status status.now) }
     requires slots { HaveSlots (B.state bay.old) holders.now }
-    requires few { length holders.now ≤ 64 }
+    requires few { length holders.now ≤ 512 }
     requires apart { AreApart holders.now }
     ensures done { OnOk result (Ends (HaveBody 6 8 (status_spelling status.now) holders.now) (B.state bay.old) (B.state bay.new)) }
     ensures cause { IfErr result (λ dead. IsDeadOf holders.now dead.slot (B.state bay.old) (B.state bay.new)) }
