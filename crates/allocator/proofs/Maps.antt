@@ -1,5 +1,5 @@
 -- The words and the map that they stand for.
-use Rattle.std.proofs.Common.{◌≡◌, ℕ, zero, suc, ◌+◌, ◌-◌, ◌*◌, ◌/◌, ◌%◌, ◌^◌, ◌<◌, ◌≤◌, Bool, true, false, cond, leb, ltb, List, ◌∷◌, ◌++◌, length, map, take, drop, replicate, get_or, refl, sym, ap, ◌∙◌, subst, arith, inl, inr, ◌⊎◌, min, Option, Some, None, max}
+use Rattle.std.proofs.Common.{◌≡◌, ℕ, zero, suc, ◌+◌, ◌-◌, ◌*◌, ◌/◌, ◌%◌, ◌^◌, ◌<◌, ◌≤◌, Bool, true, false, cond, leb, List, ◌∷◌, ◌++◌, length, map, take, drop, replicate, get_or, refl, sym, ap, ◌∙◌, arith, inl, inr, ◌⊎◌, min, Option, Some, None}
 use Rattle.std.specs.Prelude.{not, ◌&&◌, IsTrue, ◌↔◌, MatchOption, count_by, is_some}
 use Rattle.std.proofs.lemmas.Nat.{div_below}
 use Rattle.std.proofs.lemmas.Nat.Bits.{bit_at-zero}
@@ -7,10 +7,10 @@ use Rattle.std.specs.Bool.{OnTrue, OnFalse}
 use Rattle.std.specs.List.{sum_by, range_with_len}
 use Rattle.std.proofs.lemmas.List.Sums.{sum_by-append, sum_by-cons, sum_by-take-drop, count_by-le-length}
 use Rattle.std.proofs.lemmas.List.Folds.{sum_by-replicate}
-use Rattle.std.proofs.lemmas.Bool.{cases_lt, true≢false, le-leb, ltb-true, lt-leb, lt-ltb, le-ltb}
-use Rattle.std.proofs.lemmas.List.{length-take, length-drop, length-append, length-replicate, get_or_append_left, get_or-append_right, get_or-take, get_or-drop, get_or-replicate, same_lists, drop-drop, get_or_default, get_or_past}
+use Rattle.std.proofs.lemmas.Bool.{cases_lt, true≢false, le-leb, lt-leb, lt-ltb, le-ltb}
+use Rattle.std.proofs.lemmas.List.{length-take, length-drop, length-append, length-replicate, get_or_append_left, get_or-append_right, get_or-take, get_or-drop, get_or-replicate, same_lists, drop-drop, get_or_default}
 use Rattle.std.proofs.lemmas.List.FromFn.{get_or-map-range_with_len, length-map-range_with_len}
-use Rattle.allocator.specs.Words.{is_set, IsFreeIn, IsLowestIn, NoRunBefore, SetsRun, AreFresh, is_within}
+use Rattle.allocator.specs.Words.{is_set, IsFreeIn, IsFirst, IsLowestIn, SetsRun, AreFresh, is_within}
 use Rattle.allocator.specs.UnitMaps.{UnitMap, is_free, IsFreeRun, HasNoRun, IsLowestRun, IsUsedRun, with_run, used_of, unused}
 use Rattle.allocator.specs.Sound.{used_list, AreSound}
 use Rattle.allocator.proofs.Runs.{past_end}
@@ -148,26 +148,6 @@ sound_free first units from old new at n sound sets low high = record {
   low = omega (arith, sound.low, sets.length_same);
 }
 
--- where the lowest free unit is taken, no unit up to it is free
-pub sound_behind : (first units from : ℕ) (old new : List ℕ) (at : ℕ) → AreSound first units from new → NoRunBefore old at 1 → SetsRun old new at 1 true → at < 64 * length new → AreSound first units (at + 1) new
-sound_behind first units from old new at sound none sets inside = record {
-  room = sound.room;
-  few = sound.few;
-  reserved = sound.reserved;
-  past = sound.past;
-  full = λ k ge lt. elim (cases_lt k at) [
-    | inl before ↦ stays_outside old new at 1 true k sets (inl before) ∙ is_used k before
-    | inr here ↦ sets.units k ∙ rw (le-leb at k here, lt-ltb k (at + 1) lt) refl
-  ];
-  low = omega arith;
-} where
-  not_not : (b : Bool) → (b ≡ false → ⊥) → b ≡ true
-  not_not true h = refl
-  not_not false h = absurd (h refl)
-
-  is_used : (k : ℕ) → k < at → is_set old k ≡ true
-  is_used k before = not_not (is_set old k) (λ e. none k before (λ j ge lt. let same : j ≡ k = omega arith in ap (is_set old) same ∙ e))
-
 -- ---- counts
 
 abbrev one : Bool → ℕ
@@ -296,56 +276,21 @@ fresh_map first units words fresh =
 pub fresh_count : (first units : ℕ) (words : List ℕ) → AreFresh first units words → 0 ≡ used_of (map_from first units words)
 fresh_count first units words fresh = sym (ap used_of (fresh_map first units words fresh) ∙ sum_by-replicate one units false ∙ omega arith)
 
--- ---- a first free unit that is remembered
+-- ---- the first free unit is remembered
 
-pub skip_sound : (first units before from : ℕ) (words : List ℕ) → AreSound first units before words → from ≤ units → ((k : ℕ) → k < from → is_free (map_from first units words) k ≡ false) → AreSound first units (max before from) words
-skip_sound first units before from words sound within none = record {
+-- all before it is used
+pub sound_from : (first units before from : ℕ) (words : List ℕ) → AreSound first units before words → IsFirst false words before (64 * length words) from → AreSound first units from words
+sound_from first units before from words sound free = record {
   room = sound.room;
   few = sound.few;
   reserved = sound.reserved;
   past = sound.past;
   full = λ k low high. elim (cases_lt k before) [
     | inl old ↦ sound.full k low old
-    | inr new ↦ not_false (is_set words k) (sym (free_is first units before words sound k) ∙ none k (omega arith))
+    | inr new ↦ free.before k new high
   ];
-  low = omega (arith, sound.room, sound.low);
-} where
-  not_false : (b : Bool) → not b ≡ false → b ≡ true
-  not_false true e = refl
-  not_false false e = absurd cc
-
-three_true : (a b c : Bool) → (a && b && c) ≡ true → (a ≡ true) × (b ≡ true) × (c ≡ true)
-three_true true true c e = (refl, refl, e)
-three_true true false c e = absurd cc
-three_true false b c e = absurd cc
-
-is_false : (b : Bool) → (b ≡ true → ⊥) → b ≡ false
-is_false true h = absurd (h refl)
-is_false false h = refl
-
--- once a run is taken that begins at the lowest free unit, no unit up to its end is free
-pub none_up_to : (m : UnitMap) (n at : ℕ) → 0 < n → IsFreeRun m at n → IsLowestRun m 1 at → (at + n ≤ m.units) × ((k : ℕ) → k < at + n → is_free (with_run m at n true) k ≡ false)
-none_up_to m n at some run lowest =
-    let last : is_free m (at + n - 1) ≡ true = run (at + n - 1) (omega arith) (omega arith) in
-    let parts = three_true (leb m.first (at + n - 1)) (ltb (at + n - 1) m.units) (not (get_or m.used (at + n - 1) true)) last in
-    let inside : at + n - 1 < length m.used = elim (cases_lt (at + n - 1) (length m.used)) [
-      | inl lt ↦ lt
-      | inr past ↦ absurd (true≢false (sym parts.2 ∙ ap not (get_or_past m.used (at + n - 1) true past)))
-    ] in
-    let units = ltb-true (at + n - 1) m.units parts.1 in (
-      omega arith,
-      (λ k lt.
-          let used = replaced m.used at n true k true (omega arith) in
-          elim (cases_lt k at) [
-            | inl before ↦
-                let was : is_free m k ≡ false = is_false (is_free m k) (λ free. lowest.lowest k before (λ j ge lt. subst (λ (i : ℕ). is_free m i ≡ true) (omega arith) free)) in
-                let stays : cond (is_within at n k) true (get_or m.used k true) ≡ get_or m.used k true = rw (lt-leb at k before) refl in
-                ap (λ (b : Bool). leb m.first k && ltb k m.units && not b) (used ∙ stays) ∙ was
-            | inr from ↦
-                let set : cond (is_within at n k) true (get_or m.used k true) ≡ true = rw (le-leb at k from, lt-ltb k (at + n) (omega arith)) refl in
-                ap (λ (b : Bool). leb m.first k && ltb k m.units && not b) (used ∙ set) ∙ and_false (leb m.first k && ltb k m.units)
-          ]),
-    )
+  low = free.high;
+}
 
 -- ---- how many units are used
 

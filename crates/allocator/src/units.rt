@@ -3,9 +3,9 @@
 ghost use Rattle.std.specs.Prelude.{◌≡◌, ◌≤◌, ◌<◌, ◌+◌, ◌*◌, ◌^◌, ◌↔◌, IfOk, IsTrue, MatchOption, ℕ, true, false, vec_len, replicate, if◌then◌else◌};
 ghost use Rattle.std.specs.Bool.{OnFalse, OnTrue};
 ghost use Rattle.allocator.specs.Words.{AreFresh, SetsRun};
-ghost use Rattle.allocator.specs.UnitMaps.{HasNoRun, IsFreeRun, IsLowestRun, IsUsedRun, is_free, taken, total_of, unused, used_of, with_run};
+ghost use Rattle.allocator.specs.UnitMaps.{HasNoRun, IsFreeRun, IsLowestRun, IsUsedRun, taken, total_of, unused, used_of, with_run};
 
-use crate::words::{is_free, lowest_run, set_run};
+use crate::words::{first_free, is_free, lowest_run, set_run};
 use asm_base::NoMemory;
 use std::alloc::{AllocError, Global};
 use std::marker::Model;
@@ -72,11 +72,7 @@ impl Units {
         ensures after { self.new ≡ taken self.old n result }
     {
         let at = self.lowest(n)?;
-        let is_first = self.is_first_free(at);
         self.use_run(at, n);
-        if is_first {
-            self.skip_past(at, n);
-        }
         Some(at)
     }
 
@@ -104,6 +100,7 @@ impl Units {
         self.from = self.from.min(at);
     }
 
+    /// Makes a free run used. `from` goes on to the first free unit, so that no search passes over the used ones before it.
     fn use_run(&mut self, at: u32, n: u32)
         requires some { 0 < n }
         requires free { IsFreeRun self.old at n }
@@ -111,25 +108,7 @@ impl Units {
     {
         set_words(&mut self.words, at, n, true);
         self.used += n;
-    }
-
-    /// Remembers that no unit up to the end of a run is free.
-    fn skip_past(&mut self, at: u32, n: u32)
-        requires within { at + n ≤ self.old.units }
-        requires full { (k : ℕ) → k < at + n → is_free self.old k ≡ false }
-        ensures { self.new ≡ self.old }
-    {
-        self.from = self.from.max(at + n);
-    }
-
-    /// Whether a unit is the first that is free.
-    fn is_first_free(&self, at: u32) -> bool
-        ensures { OnTrue result (IsLowestRun self.now 1 at) }
-    {
-        match self.lowest(1) {
-            Some(first) => first == at,
-            None => false,
-        }
+        self.from = first_free(&self.words, self.from);
     }
 
     fn is_free_run(&self, at: u32, n: u32) -> bool
