@@ -5,3 +5,4 @@ pub mod Choices
 pub mod Placement
 pub mod Kept
 pub mod Tables
+pub mod Starts

@@ -39,6 +39,10 @@ home_at n e m = option_map (λ u. record { disk = e.number; unit = u }) (lowest 
 unfoldable pub candidate : ℕ → Entry → UnitMap → Option Candidate
 candidate n e m = if is_target e && is_some (lowest n m) then Some (record { entry = e; used = used_of m; total = total_of m; home = home_at n e m }) else None
 
+-- the disk, where the copy would begin at this unit
+abbrev pub candidate_from : Entry → UnitMap → ℕ → Candidate
+candidate_from e m u = record { entry = e; used = used_of m; total = total_of m; home = Some (record { disk = e.number; unit = u }) }
+
 -- the same, where the disk's map stands at the place of its number
 unfoldable pub candidate_at : ℕ → Entry → List UnitMap → Option Candidate
 candidate_at n e ms = option_and_then (candidate n e) (slice_get ms e.number)

@@ -1,4 +1,5 @@
 pub mod Candidates
+pub mod Rooms
 pub mod UnitsOf
 pub mod Tables
 pub mod Steps

@@ -4,7 +4,7 @@ ghost use Rattle.std.specs.Prelude.{◌≡◌, ◌<◌};
 ghost use Rattle.std.specs.List.{slice_get};
 ghost use Rattle.std.specs.Option.{option_and_then, option_copied};
 ghost use Rattle.asm_placement.specs.Modes.{is_target};
-ghost use Rattle.partnership.specs.Candidates.{candidate, candidate_at, earlier, home_of, is_before, lowest};
+ghost use Rattle.partnership.specs.Candidates.{candidate, candidate_at, candidate_from, earlier, home_of, is_before, lowest};
 ghost use Rattle.partnership.specs.Steps.{with_next};
 
 use allocator::Units;
@@ -63,7 +63,7 @@ pub fn candidate_on(disk: &PstEntry, units: &[Units], n: u32) -> Option<Candidat
 }
 
 /// The map at the place of a disk's number.
-fn units_of(units: &[Units], disk: u8) -> Option<&Units>
+pub fn units_of(units: &[Units], disk: u8) -> Option<&Units>
     ensures { option_copied result ≡ slice_get units.now disk }
 {
     units.get(disk as usize)
@@ -78,16 +78,24 @@ fn candidate_with(disk: &PstEntry, units: &Units, n: u32) -> Option<Candidate>
         return None;
     }
     let unit = lowest(units, n)?;
-    Some(Candidate {
+    Some(candidate_from(disk, units, unit))
+}
+
+/// The disk as a candidate for a copy that begins at the unit.
+pub fn candidate_from(disk: &PstEntry, units: &Units, unit: u32) -> Candidate
+    ensures { result ≡ candidate_from disk.now units.now unit }
+{
+    Candidate {
         disk: *disk,
         used: units.used(),
         total: units.total(),
         unit,
-    })
+    }
 }
 
+/// Where a copy of so many units would begin.
 #[tactic(auto, using(crate::proofs::Runs::lowest_is))]
-fn lowest(units: &Units, n: u32) -> Option<u32>
+pub fn lowest(units: &Units, n: u32) -> Option<u32>
     requires { 0 < n }
     ensures { result ≡ lowest n units.now }
 {

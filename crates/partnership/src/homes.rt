@@ -11,7 +11,8 @@ ghost use Rattle.partnership.specs.Candidates.{among, candidates, chosen_homes, 
 ghost use Rattle.partnership.specs.Steps.{candidate_if, is_free_partner, is_new_group, is_of, is_one_of, second_of, third_of};
 ghost use Rattle.partnership.specs.UnitsOf.{AreUnitsOf};
 
-use crate::candidate::{Candidate, candidate_on, home_of, with_next};
+use crate::candidate::{Candidate, home_of, with_next};
+use crate::room::Room;
 use allocator::Units;
 use asm_base::{DiskSet, Home, Homes};
 use status_table::PstEntry;
@@ -26,17 +27,16 @@ pub fn choose_homes(disks: &[PstEntry], units: &[Units], copies: u8, n: u32) -> 
     // Where the units are those of a group's records, the homes are those of their placement.
     ensures placement { (s : Shape) (items : List Item) → AreUnitsOf s items disks.now units.now → result ≡ option_map three (homes_for s items disks.now copies n) }
 {
-    chosen_homes(disks, units, copies, n)
+    chosen_homes(disks, &Room::of(units, n), copies)
 }
 
 #[tactic(auto, using(crate::proofs::Choices::three_homes))]
-fn chosen_homes(disks: &[PstEntry], units: &[Units], copies: u8, n: u32) -> Option<Homes>
-    requires { 0 < n }
-    ensures { result ≡ chosen_homes (candidates n disks.now units.now) copies }
+fn chosen_homes(disks: &[PstEntry], room: &Room, copies: u8) -> Option<Homes>
+    ensures { result ≡ chosen_homes (candidates room.now.n disks.now room.now.maps) copies }
 {
-    let first = first_disk(disks, units, copies, n)?;
-    let second = second_disk(disks, units, copies, n, &first);
-    let third = third_disk(disks, units, copies, n, &first, &second);
+    let first = first_disk(disks, room, copies)?;
+    let second = second_disk(disks, room, copies, &first);
+    let third = third_disk(disks, room, copies, &first, &second);
     Some(Homes {
         first: Some(first.home()),
         second: home_of(second),
@@ -46,13 +46,12 @@ fn chosen_homes(disks: &[PstEntry], units: &[Units], copies: u8, n: u32) -> Opti
 
 /// The disk of the first copy.
 #[tactic(auto, using(crate::proofs::Turns::tried_from, crate::proofs::Turns::tried_start))]
-fn first_disk(disks: &[PstEntry], units: &[Units], copies: u8, n: u32) -> Option<Candidate>
-    requires { 0 < n }
-    ensures { result ≡ tried_first (among (may_be_first (candidates n disks.now units.now) copies) (candidates n disks.now units.now)) }
+fn first_disk(disks: &[PstEntry], room: &Room, copies: u8) -> Option<Candidate>
+    ensures { result ≡ tried_first (among (may_be_first (candidates room.now.n disks.now room.now.maps) copies) (candidates room.now.n disks.now room.now.maps)) }
 {
     let mut best = None;
     for i in (0..disks.len()).rev() {
-        let next = first_candidate(disks, units, copies, n, &disks[i]);
+        let next = first_candidate(disks, room, copies, &disks[i]);
         best = with_next(next, best);
     }
     best
@@ -62,16 +61,14 @@ fn first_disk(disks: &[PstEntry], units: &[Units], copies: u8, n: u32) -> Option
 #[tactic(auto, unfolding(crate::specs::Steps::candidate_if, crate::specs::Candidates::may_be_first))]
 fn first_candidate(
     disks: &[PstEntry],
-    units: &[Units],
+    room: &Room,
     copies: u8,
-    n: u32,
     disk: &PstEntry,
 ) -> Option<Candidate>
-    requires { 0 < n }
-    ensures { result ≡ candidate_if (may_be_first (candidates n disks.now units.now) copies) n disk.now units.now }
+    ensures { result ≡ candidate_if (may_be_first (candidates room.now.n disks.now room.now.maps) copies) room.now.n disk.now room.now.maps }
 {
-    let found = candidate_on(disk, units, n)?;
-    if may_be_first(disks, units, copies, n, disk.partners) {
+    let found = room.candidate(disk)?;
+    if may_be_first(disks, room, copies, disk.partners) {
         Some(found)
     } else {
         None
@@ -79,24 +76,22 @@ fn first_candidate(
 }
 
 /// Whether the partners that may take copies lie in failure groups enough for the other copies.
-fn may_be_first(disks: &[PstEntry], units: &[Units], copies: u8, n: u32, partners: DiskSet) -> bool
-    requires { 0 < n }
-    ensures { result ≡ nat_le copies (group_count (among (is_within partners) (candidates n disks.now units.now)) + 1) }
+fn may_be_first(disks: &[PstEntry], room: &Room, copies: u8, partners: DiskSet) -> bool
+    ensures { result ≡ nat_le copies (group_count (among (is_within partners) (candidates room.now.n disks.now room.now.maps)) + 1) }
 {
-    copies as usize <= group_count(disks, units, n, partners) + 1
+    copies as usize <= group_count(disks, room, partners) + 1
 }
 
 /// In how many failure groups those of a set lie that may take copies.
 #[tactic(auto, using(crate::proofs::Groups::count_from, crate::proofs::Groups::count_start))]
-fn group_count(disks: &[PstEntry], units: &[Units], n: u32, set: DiskSet) -> usize
-    requires { 0 < n }
-    ensures count { result ≡ group_count (among (is_within set) (candidates n disks.now units.now)) }
+fn group_count(disks: &[PstEntry], room: &Room, set: DiskSet) -> usize
+    ensures count { result ≡ group_count (among (is_within set) (candidates room.now.n disks.now room.now.maps)) }
     ensures few { result ≤ length disks.now }
 {
     let mut count = 0;
     for i in (0..disks.len()).rev() {
-        let next = member(set, &disks[i], units, n);
-        if is_new_group(&disks[i + 1..], units, n, set, next) {
+        let next = member(set, &disks[i], room);
+        if is_new_group(&disks[i + 1..], room, set, next) {
             count += 1;
         }
     }
@@ -105,42 +100,33 @@ fn group_count(disks: &[PstEntry], units: &[Units], n: u32, set: DiskSet) -> usi
 
 /// The disk, where it is of the set and may take a copy.
 #[tactic(auto, unfolding(crate::specs::Steps::candidate_if))]
-fn member(set: DiskSet, disk: &PstEntry, units: &[Units], n: u32) -> Option<Candidate>
-    requires { 0 < n }
-    ensures { result ≡ candidate_if (is_within set) n disk.now units.now }
+fn member(set: DiskSet, disk: &PstEntry, room: &Room) -> Option<Candidate>
+    ensures { result ≡ candidate_if (is_within set) room.now.n disk.now room.now.maps }
 {
     if set.has(disk.number) {
-        candidate_on(disk, units, n)
+        room.candidate(disk)
     } else {
         None
     }
 }
 
 /// Whether the disk is there, and lies in a failure group in which none of the others lies.
-fn is_new_group(
-    disks: &[PstEntry],
-    units: &[Units],
-    n: u32,
-    set: DiskSet,
-    next: Option<Candidate>,
-) -> bool
-    requires { 0 < n }
-    ensures { result ≡ is_new_group (among (is_within set) (candidates n disks.now units.now)) next }
+fn is_new_group(disks: &[PstEntry], room: &Room, set: DiskSet, next: Option<Candidate>) -> bool
+    ensures { result ≡ is_new_group (among (is_within set) (candidates room.now.n disks.now room.now.maps)) next }
 {
     match next {
-        Some(disk) => !has_member_in(disks, units, n, set, disk.disk.failgroup),
+        Some(disk) => !has_member_in(disks, room, set, disk.disk.failgroup),
         None => false,
     }
 }
 
 /// Whether one of the set that may take a copy lies in the failure group.
 #[tactic(auto, using(crate::proofs::Groups::any_from, crate::proofs::Groups::any_end))]
-fn has_member_in(disks: &[PstEntry], units: &[Units], n: u32, set: DiskSet, failgroup: u8) -> bool
-    requires { 0 < n }
-    ensures { result ≡ list_any (is_of failgroup) (among (is_within set) (candidates n disks.now units.now)) }
+fn has_member_in(disks: &[PstEntry], room: &Room, set: DiskSet, failgroup: u8) -> bool
+    ensures { result ≡ list_any (is_of failgroup) (among (is_within set) (candidates room.now.n disks.now room.now.maps)) }
 {
     for i in 0..disks.len() {
-        if is_member_in(set, failgroup, &disks[i], units, n) {
+        if is_member_in(set, failgroup, &disks[i], room) {
             return true;
         }
     }
@@ -148,86 +134,62 @@ fn has_member_in(disks: &[PstEntry], units: &[Units], n: u32, set: DiskSet, fail
 }
 
 #[tactic(auto, using(crate::proofs::Groups::one_of_disk))]
-fn is_member_in(set: DiskSet, failgroup: u8, disk: &PstEntry, units: &[Units], n: u32) -> bool
-    requires { 0 < n }
-    ensures { result ≡ is_one_of failgroup (candidate_if (is_within set) n disk.now units.now) }
+fn is_member_in(set: DiskSet, failgroup: u8, disk: &PstEntry, room: &Room) -> bool
+    ensures { result ≡ is_one_of failgroup (candidate_if (is_within set) room.now.n disk.now room.now.maps) }
 {
-    disk.failgroup == failgroup && member(set, disk, units, n).is_some()
+    disk.failgroup == failgroup && member(set, disk, room).is_some()
 }
 
 /// The disk of the second copy, where there is one.
 #[tactic(auto, unfolding(crate::specs::Steps::second_of))]
-fn second_disk(
-    disks: &[PstEntry],
-    units: &[Units],
-    copies: u8,
-    n: u32,
-    first: &Candidate,
-) -> Option<Candidate>
-    requires { 0 < n }
-    ensures { result ≡ second_of (among (is_within first.now.entry.partners) (candidates n disks.now units.now)) first.now.entry.failgroup copies }
+fn second_disk(disks: &[PstEntry], room: &Room, copies: u8, first: &Candidate) -> Option<Candidate>
+    ensures { result ≡ second_of (among (is_within first.now.entry.partners) (candidates room.now.n disks.now room.now.maps)) first.now.entry.failgroup copies }
 {
     if copies < 2 {
         return None;
     }
     let taken = [first.disk.failgroup];
-    next_disk(disks, units, n, first.disk.partners, &taken)
+    next_disk(disks, room, first.disk.partners, &taken)
 }
 
 /// The disk of the third copy, where there is one.
 #[tactic(auto, unfolding(crate::specs::Steps::third_of))]
 fn third_disk(
     disks: &[PstEntry],
-    units: &[Units],
+    room: &Room,
     copies: u8,
-    n: u32,
     first: &Candidate,
     second: &Option<Candidate>,
 ) -> Option<Candidate>
-    requires { 0 < n }
-    ensures { result ≡ third_of (among (is_within first.now.entry.partners) (candidates n disks.now units.now)) first.now.entry.failgroup copies second.now }
+    ensures { result ≡ third_of (among (is_within first.now.entry.partners) (candidates room.now.n disks.now room.now.maps)) first.now.entry.failgroup copies second.now }
 {
     if copies < 3 {
         return None;
     }
     let second = second.as_ref()?;
     let taken = [second.disk.failgroup, first.disk.failgroup];
-    next_disk(disks, units, n, first.disk.partners, &taken)
+    next_disk(disks, room, first.disk.partners, &taken)
 }
 
 /// The first disk in order of a set that may take a copy and lies outside of the failure groups that are taken.
 #[tactic(auto, using(crate::proofs::Turns::tried_from, crate::proofs::Turns::tried_start, crate::proofs::Turns::both_tests))]
-fn next_disk(
-    disks: &[PstEntry],
-    units: &[Units],
-    n: u32,
-    set: DiskSet,
-    taken: &[u8],
-) -> Option<Candidate>
-    requires { 0 < n }
-    ensures { result ≡ tried_first (among (is_outside taken.now) (among (is_within set) (candidates n disks.now units.now))) }
+fn next_disk(disks: &[PstEntry], room: &Room, set: DiskSet, taken: &[u8]) -> Option<Candidate>
+    ensures { result ≡ tried_first (among (is_outside taken.now) (among (is_within set) (candidates room.now.n disks.now room.now.maps))) }
 {
     let mut best = None;
     for i in (0..disks.len()).rev() {
-        let next = free_member(set, taken, &disks[i], units, n);
+        let next = free_member(set, taken, &disks[i], room);
         best = with_next(next, best);
     }
     best
 }
 
 #[tactic(auto, unfolding(crate::specs::Steps::candidate_if))]
-fn free_member(
-    set: DiskSet,
-    taken: &[u8],
-    disk: &PstEntry,
-    units: &[Units],
-    n: u32,
-) -> Option<Candidate>
-    requires { 0 < n }
-    ensures { result ≡ candidate_if (is_free_partner set taken.now) n disk.now units.now }
+fn free_member(set: DiskSet, taken: &[u8], disk: &PstEntry, room: &Room) -> Option<Candidate>
+    ensures { result ≡ candidate_if (is_free_partner set taken.now) room.now.n disk.now room.now.maps }
 {
     if set.has(disk.number) && !is_among(taken, disk.failgroup) {
-        candidate_on(disk, units, n)
+        room.candidate(disk)
     } else {
         None
     }

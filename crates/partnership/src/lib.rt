@@ -6,6 +6,7 @@ mod homes;
 mod pairs;
 mod partner_table;
 mod replacement;
+mod room;
 
 pub use homes::choose_homes;
 pub use partner_table::partners;

@@ -3,4 +3,4 @@ use Rattle.partnership.specs.Candidates.{among, candidates, may_be_first, tried_
 use Rattle.partnership.proofs.homes.first_disk.Given as goal
 
 abbrev pub invariant-loop-i : goal.invariant-loop-i
-invariant-loop-i l = l.best ≡ tried_first (among (may_be_first (candidates l.n l.disks l.units) l.copies) (candidates l.n (drop l.i l.disks) l.units))
+invariant-loop-i l = l.best ≡ tried_first (among (may_be_first (candidates l.room.n l.disks l.room.maps) l.copies) (candidates l.room.n (drop l.i l.disks) l.room.maps))

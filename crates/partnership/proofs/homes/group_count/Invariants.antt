@@ -4,6 +4,6 @@ use Rattle.partnership.proofs.homes.group_count.Given as goal
 
 abbrev pub invariant-loop-i : goal.invariant-loop-i
 invariant-loop-i l = record {
-  counted : l.count ≡ group_count (among (is_within l.set) (candidates l.n (drop l.i l.disks) l.units));
+  counted : l.count ≡ group_count (among (is_within l.set) (candidates l.room.n (drop l.i l.disks) l.room.maps));
   few : l.count + l.i ≤ length l.disks;
 }

@@ -5,4 +5,4 @@ use Rattle.partnership.specs.Steps.{is_of}
 use Rattle.partnership.proofs.homes.has_member_in.Given as goal
 
 abbrev pub invariant-loop-i : goal.invariant-loop-i
-invariant-loop-i l = list_any (is_of l.failgroup) (among (is_within l.set) (candidates l.n (drop l.i l.disks) l.units)) ≡ list_any (is_of l.failgroup) (among (is_within l.set) (candidates l.n l.disks l.units))
+invariant-loop-i l = list_any (is_of l.failgroup) (among (is_within l.set) (candidates l.room.n (drop l.i l.disks) l.room.maps)) ≡ list_any (is_of l.failgroup) (among (is_within l.set) (candidates l.room.n l.disks l.room.maps))

@@ -4,4 +4,4 @@ use Rattle.partnership.specs.Steps.{is_free_partner}
 use Rattle.partnership.proofs.homes.next_disk.Given as goal
 
 abbrev pub invariant-loop-i : goal.invariant-loop-i
-invariant-loop-i l = l.best ≡ tried_first (among (is_free_partner l.set l.taken) (candidates l.n (drop l.i l.disks) l.units))
+invariant-loop-i l = l.best ≡ tried_first (among (is_free_partner l.set l.taken) (candidates l.room.n (drop l.i l.disks) l.room.maps))
