@@ -33,7 +33,7 @@ two_more cs f k j is = rw is (by (tried_first (among (is_outside (f.entry.failgr
         last None e = rw e refl
         last (Some d) e = rw e refl
 
-others : (cs : List Candidate) (f : Candidate) (copies : ℕ)
+pub others : (cs : List Candidate) (f : Candidate) (copies : ℕ)
     → three (homes (f ∷ in_turn cs (f.entry.failgroup ∷ []) (copies - 1)))
     ≡ f.home ∷ option_and_then home_of (second_of cs f.entry.failgroup copies) ∷ option_and_then home_of (third_of cs f.entry.failgroup copies (second_of cs f.entry.failgroup copies)) ∷ []
 unfolding second_of third_of

@@ -6,3 +6,5 @@ pub mod Placement
 pub mod Kept
 pub mod Tables
 pub mod Starts
+pub mod FreeHomes
+pub mod Rows

@@ -46,8 +46,11 @@ range_all f (suc n) a h k low high =
 
 -- ---- what a map says
 
-no_run : (m : UnitMap) (n at : ℕ) → (IsFreeRun m at n → ⊥) → is_free_from m n at ≡ false
+pub no_run : (m : UnitMap) (n at : ℕ) → (IsFreeRun m at n → ⊥) → is_free_from m n at ≡ false
 no_run m n at none = false_from_ne_true (is_free_from m n at) (λ t. none (range_all (is_free m) n at t))
+
+pub run_all : (m : UnitMap) (n at : ℕ) → IsFreeRun m at n → is_free_from m n at ≡ true
+run_all m n at run = all_range (is_free m) n at run
 
 free_parts : (a b c : Bool) → (a && b && c) ≡ true → (a ≡ true) × (b ≡ true)
 free_parts a b c e = let ab = and_parts (a && b) c e in and_parts a b ab.0
@@ -119,7 +122,7 @@ same_tests false false f g = refl
 
 -- ---- all homes have units
 
-units_long : (step i : ℕ) → 0 < units_of step i
+pub units_long : (step i : ℕ) → 0 < units_of step i
 unfolding units_of
 units_long step i =
     cond_both (ltb i step) 1 _ (λ (n : ℕ). 0 < n) (λ yes. omega arith)
