@@ -1,0 +1,4 @@
+pub mod Choices
+pub mod Statements
+pub mod Scripts
+pub mod Reading
