@@ -1,12 +1,11 @@
 -- A pattern is matched star by star, each where it comes first.
-use Rattle.std.proofs.Common.{◌≡◌, ℕ, ◌+◌, ◌<◌, ◌≤◌, Bool, true, false, ◌⊎◌, inl, inr, List, [], ◌∷◌, length, take, drop, ◌-◌, refl, sym, ap, ◌∙◌, arith}
-use Rattle.std.specs.Prelude.{◌||◌, ◌&&◌, ◌==◌}
+use Rattle.std.proofs.Common.{◌≡◌, ℕ, ◌+◌, ◌<◌, ◌≤◌, Bool, true, false, inl, inr, [], ◌∷◌, length, take, drop, ◌-◌, refl, sym, ap, ◌∙◌, arith}
+use Rattle.std.specs.Prelude.{◌||◌, ◌==◌}
 use Rattle.std.specs.Int.{is_in_range}
-use Rattle.std.specs.List.{list_any}
 use Rattle.std.proofs.lemmas.Bool.{cases_Bool, or_cases, and_parts, both_ways, leb-true, ne_eqb}
 use Rattle.std.proofs.lemmas.List.{length-map, take_all}
 use Rattle.asm_group.specs.Names.{Bytes, folded, folded_byte}
-use Rattle.asm_world.specs.Listings.{matches, tails, is_match}
+use Rattle.asm_world.specs.Listings.{matches}
 use Rattle.verb_paths.specs.Patterns.{Meeting, Differs, Same, Star, meet, matches_from}
 
 or_right : (a b : Bool) → b ≡ true → (a || b) ≡ true

@@ -1,5 +1,5 @@
 -- A path leads on part by part.
-use Rattle.std.proofs.Common.{◌≡◌, ℕ, suc, Bool, true, false, cond, eqb, List, [], ◌∷◌, ◌++◌, take, drop, length, ◌≤◌, ◌<◌, arith, ◌⊎◌, Option, Some, None, inl, inr, ◌-◌, refl, sym, ap, ◌∙◌, append_assoc}
+use Rattle.std.proofs.Common.{◌≡◌, suc, Bool, true, false, List, [], ◌∷◌, ◌++◌, take, length, ◌≤◌, ◌<◌, arith, ◌⊎◌, Option, Some, None, inl, inr, ◌-◌, refl, sym, ap, ◌∙◌, append_assoc}
 use Rattle.std.specs.Prelude.{◌==◌, ◌&&◌}
 use Rattle.std.specs.List.{list_all}
 use Rattle.std.specs.Str.{bytes_eq}
@@ -8,7 +8,7 @@ use Rattle.std.proofs.lemmas.List.Folds.{list_all-append}
 use Rattle.asm_base.specs.Names.{name_of}
 use Rattle.asm_group.specs.Names.{Bytes, is_part}
 use Rattle.asm_world.specs.Paths.{up, two_points, walk, between_slashes, before_first, all_parts}
-use Rattle.verb_paths.specs.Slashes.{slash_at, first_part, behind_first, behind_slash, parts_left, left_length}
+use Rattle.verb_paths.specs.Slashes.{first_part, behind_slash, parts_left, left_length}
 
 -- the first part, and the others
 pub parts_are : (bytes : Bytes) → between_slashes bytes ≡ first_part bytes ∷ parts_left (behind_slash bytes)

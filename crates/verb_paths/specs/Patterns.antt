@@ -1,5 +1,5 @@
 -- How a pattern is compared with a name, piece by piece between its stars. Both are folded.
-use Rattle.std.specs.Prelude.{ℕ, Bool, ◌==◌, List, [], ◌∷◌, if◌then◌else◌}
+use Rattle.std.specs.Prelude.{ℕ, Bool, ◌==◌, [], ◌∷◌, if◌then◌else◌}
 use Rattle.std.specs.List.{list_any}
 use Rattle.asm_group.specs.Names.{Bytes, folded}
 use Rattle.asm_world.specs.Listings.{matches, tails}

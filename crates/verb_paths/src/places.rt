@@ -112,8 +112,8 @@ fn walk_by_pattern(
     Ok(Some(at))
 }
 
-/// Where a path leads: a group's name and the parts behind it, or nothing at `+`. A path with `+` begins there, any other
-/// at the place. The part `..` goes up. None where another part isn't one of a path.
+/// Where the path of `cd` or `find` leads: a group's name and the parts behind it, or no name at `+`. A path with `+` begins
+/// at the top, any other at the place. The part `..` goes up. None where another part isn't one of a path.
 pub fn resolve(alloc: Global, place: &[Name], path: &[u8]) -> Result<Option<List<Name>>, NoMemory>
     ensures { IfOk result (λ led. led ≡ resolved place.now path.now) }
 {
@@ -184,8 +184,8 @@ fn parts_in_group(parts: List<Name>) -> Option<Path>
     })
 }
 
-/// The group and the path in it to which the path of a verb leads, but of `ls`, `cd` and `du`. None where a part isn't
-/// one, or the path comes to `+`: it names no group then.
+/// The group and the path in it to which the path of a verb leads, but of `ls`, `cd`, `du` and `find`. None where a part
+/// isn't one, or the path comes to `+`: it names no group then.
 pub fn target(alloc: Global, place: &[Name], path: &[u8]) -> Result<Option<Path>, NoMemory>
     ensures { IfOk result (λ led. option_map (λ p. (p.group, p.parts)) led ≡ target_from place.now path.now) }
 {

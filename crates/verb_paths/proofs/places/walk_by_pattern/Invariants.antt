@@ -1,4 +1,4 @@
-use Rattle.std.proofs.Common.{◌≡◌, length}
+use Rattle.std.proofs.Common.{◌≡◌}
 use Rattle.std.specs.Option.{option_copied}
 use Rattle.asm_world.specs.Paths.{walk, between_slashes, is_pattern}
 use Rattle.verb_paths.specs.Slashes.{parts_left, left_length}
