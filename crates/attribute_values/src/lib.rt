@@ -1,11 +1,15 @@
-//! The attributes of a group as they are given in text: how their values are read, and the settings that they leave.
+//! The attributes of a group as they are given in text: how their values are read, the settings that they leave, and what a
+//! creation makes of them.
 #![tactic(auto)]
 
+mod creation;
 mod digits;
+mod number;
 mod repair;
 mod setting;
 mod version;
 
+pub use creation::Creation;
 pub use repair::repair_seconds;
 pub use setting::with_attribute;
 pub use version::is_version;

@@ -43,7 +43,7 @@ pub fn with_attribute(
 
 /// Whether both are one name, without regard to the case of letters.
 #[tactic(auto, using(crate::proofs::SettingLaws::other_length))]
-fn is_same(name: &[u8], other: &[u8]) -> bool
+pub(crate) fn is_same(name: &[u8], other: &[u8]) -> bool
     ensures { result ≡ is_same_name name.now other.now }
 {
     if name.len() != other.len() {
