@@ -27,3 +27,4 @@ pub mod PlanLaws
 pub mod FreeNumbers
 pub mod Fronts
 pub mod NewNodes
+pub mod Spelled

@@ -7,3 +7,4 @@ pub mod FileNames
 pub mod Faults
 pub mod Opening
 pub mod Filing
+pub mod Spelling

@@ -10,6 +10,7 @@ mod files;
 mod filing;
 mod index;
 mod node;
+mod node_paths;
 mod nodes;
 mod opening;
 mod places;

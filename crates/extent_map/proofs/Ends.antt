@@ -27,10 +27,10 @@ less_number n m e = grind (arith, e)
 same_number : (n m : ℕ) → nat_cmp n m ≡ Equal → n ≡ m
 same_number n m e = grind (arith, e)
 
-abbrev Lower : Chunk → Chunk → Type 0
+abbrev pub Lower : Chunk → Chunk → Type 0
 Lower x y = (x.0 < y.0) ⊎ ((x.0 ≡ y.0) × (x.1 < y.1))
 
-lower : (x y : Chunk) → chunk_cmp x y ≡ Less → Lower x y
+pub lower : (x y : Chunk) → chunk_cmp x y ≡ Less → Lower x y
 lower x y e = elim (less_parts (nat_cmp x.0 y.0) (nat_cmp x.1 y.1) e) [
   | inl file ↦ inl (less_number x.0 y.0 file)
   | inr p ↦ inr (same_number x.0 y.0 p.0, less_number x.1 y.1 p.1)

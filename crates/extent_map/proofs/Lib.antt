@@ -5,5 +5,6 @@ pub mod Lookups
 pub mod Ends
 pub mod FileEnds
 pub mod ChunkEnds
+pub mod CutChunks
 pub mod FoundGaps
 pub mod ChangeLaws

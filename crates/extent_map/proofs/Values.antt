@@ -1,7 +1,7 @@
 -- The value of a chunk's record is read exactly.
 use Rattle.std.proofs.Common.{◌≡◌, ℕ, zero, suc, replicate, take, drop, ◌+◌, ◌^◌, ◌<◌, Bool, true, false, cond, eqb, ltb, List, [], ◌∷◌, ◌++◌, length, Option, Some, None, refl, sym, ap, subst, ◌∙◌, arith, inl, inr}
 use Rattle.std.specs.Prelude.{slice_set}
-use Rattle.std.proofs.lemmas.List.{length-replicate, length-set}
+use Rattle.std.proofs.lemmas.List.{length-append, length-drop, length-replicate, length-set, length-take}
 use Rattle.std.specs.Int.{w32}
 use Rattle.std.specs.Option.{option_and_then, option_map}
 use Rattle.std.specs.List.{AllByRecursion, flat_map, list_all}
@@ -15,7 +15,7 @@ use Rattle.asm_base.proofs.Exact.{AreFitting, Begins, IsExact, IsBytes, bind_som
 use Rattle.asm_base.proofs.Numbers.{number_exact}
 use Rattle.asm_base.proofs.FieldLaws.{one_byte, byte_exact}
 use Rattle.asm_base.proofs.ItemTables.{value_is_decoded}
-use Rattle.extent_map.specs.Extents.{absent, chunk_key}
+use Rattle.extent_map.specs.Extents.{absent, chunk_key, cut_to}
 use Rattle.extent_map.specs.Readings.{home_of, home_reading, extent_reading, chunk_reading}
 
 -- ---- homes
@@ -220,3 +220,12 @@ more_allowed f c n m old homes file number fits right size =
 pub new_allowed : (f c i : ℕ) (h : Homes) → f < 2 ^ 32 → c + 1 < 2 ^ 32 → is_homes h ≡ true → is_item (chunk_item f c (slice_set (replicate 256 absent) i h)) ≡ true
 new_allowed f c i h file number right =
     chunk_allowed f c (slice_set (replicate 256 absent) i h) file number (length-set (replicate 256 absent) i h ∙ length-replicate 256 absent, set_fits (replicate 256 absent) i h (same_fits 256 absent (homes_fit absent refl)) (homes_fit h right))
+
+-- one that has lost some
+pub cut_allowed : (f c kept : ℕ) (homes : List Homes) → is_item (chunk_item f c homes) ≡ true → is_item (chunk_item f c (cut_to kept homes)) ≡ true
+cut_allowed f c kept homes ok =
+    let fits = chunk_fits f c homes ok in
+    let blank : List Homes = replicate 256 absent in
+    let size : length (cut_to kept homes) ≡ 256 =
+    omega (arith, length-append (take kept homes) (drop kept blank), length-take kept homes, length-drop kept blank, length-replicate {A = Homes} 256 absent, fits.0) in
+    chunk_allowed f c (cut_to kept homes) (file_of f c homes ok) (chunk_numbered f c homes ok) (size, all_append (take kept homes) (drop kept blank) (all_take kept homes fits.1) (all_drop kept blank blank_fits.1))

@@ -95,6 +95,10 @@ with_more chunk homes = take (count_in chunk) chunk ++ homes ++ drop (count_in c
 abbrev pub chunk_or_blank : List Chunked → Chunk → List Homes
 chunk_or_blank table chunk = unwrap_or (chunk_at table chunk) (replicate chunk_len absent)
 
+-- the extents of a chunk below a place, and none from there on
+abbrev pub cut_to : ℕ → List Homes → List Homes
+cut_to kept chunk = take kept chunk ++ drop kept (replicate chunk_len absent)
+
 -- the chunk is the file's first, or the last extent of the one before is there
 abbrev pub follows : List Chunked → ℕ → ℕ → Bool
 follows table f c = (c == 0) || has_extent table f (c * chunk_len - 1)

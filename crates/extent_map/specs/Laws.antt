@@ -1,7 +1,7 @@
 -- What the rule of the table comes to.
-use Rattle.std.specs.Prelude.{◌≡◌, ◌<◌, ◌≤◌, ◌+◌, ◌*◌, ◌^◌, ℕ, suc, false, ◌&&◌, List, length, IsTrue}
+use Rattle.std.specs.Prelude.{◌≡◌, ◌<◌, ◌≤◌, ◌+◌, ◌*◌, ◌^◌, ℕ, suc, false, ◌&&◌, List, length, IsTrue, is_some}
 use Rattle.asm_formats.specs.Items.{Homes, chunk_len, is_homes}
-use Rattle.extent_map.specs.Extents.{Chunked, HasCount, HasExtent, IsTable, are_extents, chunk_or_blank, count_in, follows, has_extent, has_home, may_stand, with_chunk, with_extent, with_more, without_chunk, without_extent}
+use Rattle.extent_map.specs.Extents.{Chunked, HasCount, HasExtent, IsTable, are_extents, chunk_at, chunk_or_blank, count_in, cut_to, follows, has_extent, has_home, may_stand, with_chunk, with_extent, with_more, without_chunk, without_extent}
 
 -- the extents of each file are numbered from 0 without a gap
 abbrev pub NumbersExtents : Type 0
@@ -28,3 +28,9 @@ FillsChunks = (table : List Chunked) (f c : ℕ) (homes : List Homes) → IsTabl
 -- a table without a chunk behind which the file has no extent is a table
 abbrev pub TakesChunks : Type 0
 TakesChunks = (table : List Chunked) (f c : ℕ) → IsTable table → has_extent table f ((c + 1) * chunk_len) ≡ false → IsTable (without_chunk table (f, c))
+
+-- a table in which a chunk behind which the file has no extent has lost those from a place on is a table
+abbrev pub CutsChunks : Type 0
+CutsChunks =
+    (table : List Chunked) (f c kept : ℕ) → IsTable table → IsTrue (is_some (chunk_at table (f, c))) → has_extent table f ((c + 1) * chunk_len) ≡ false
+    → IsTable (with_chunk table (f, c) (cut_to kept (chunk_or_blank table (f, c))))

@@ -2,7 +2,7 @@
 
 ghost use Rattle.std.specs.Prelude.{◌≡◌, ◌≤◌, ◌+◌, ◌||◌, [], get_or, length, slice_set, replicate, IfOk, None};
 ghost use Rattle.std.specs.Option.{is_some};
-ghost use Rattle.extent_map.specs.Extents.{absent, count_in, has_home, with_more};
+ghost use Rattle.extent_map.specs.Extents.{absent, count_in, cut_to, has_home, with_more};
 
 use asm_base::{Homes, NoMemory};
 use std::alloc::Global;
@@ -87,6 +87,16 @@ impl Chunk {
     {
         let first = self.count();
         self.homes[first..first + homes.len()].copy_from_slice(homes);
+    }
+
+    /// Takes the extents from a place on away.
+    pub fn cut(&mut self, kept: usize)
+        requires { kept ≤ 256 }
+        ensures { self.new ≡ cut_to kept self.old }
+    {
+        let chunk = [ABSENT; 256];
+        let blank = &chunk[..];
+        self.homes[kept..].copy_from_slice(&blank[kept..]);
     }
 }
 

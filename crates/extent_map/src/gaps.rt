@@ -1,6 +1,6 @@
 //! What the rule of a table comes to. Each law is the contract of a function that does nothing.
 
-ghost use Rattle.extent_map.specs.Laws.{AppendsExtents, FillsChunks, NumbersExtents, ReplacesExtents, TakesChunks, TakesLast};
+ghost use Rattle.extent_map.specs.Laws.{AppendsExtents, CutsChunks, FillsChunks, NumbersExtents, ReplacesExtents, TakesChunks, TakesLast};
 
 /// The extents of each file of a table are numbered from 0 without a gap.
 #[tactic(auto, using(crate::proofs::Numbering::numbers_extents))]
@@ -36,4 +36,10 @@ pub fn extents_may_be_appended()
 #[tactic(auto, using(crate::proofs::ChunkEnds::takes_chunks))]
 pub fn a_last_chunk_may_go()
     ensures { TakesChunks }
+{}
+
+/// A table in which a chunk behind which its file has no extent has lost those from a place on is a table.
+#[tactic(auto, using(crate::proofs::CutChunks::cuts_chunks))]
+pub fn a_last_chunk_may_be_cut()
+    ensures { CutsChunks }
 {}

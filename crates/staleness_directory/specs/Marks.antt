@@ -1,8 +1,10 @@
 -- The table of stale marks, as the list of the chunks' marks in the order of file and chunk.
-use Rattle.std.specs.Prelude.{ℕ, ◌+◌, ◌^◌, Bool, ◌==◌, ◌&&◌, List, length, nat_lt, Option, Some, None, if◌then◌else◌}
+use Rattle.std.specs.Prelude.{ℕ, ◌+◌, ◌^◌, Bool, ◌==◌, ◌&&◌, List, length, take, drop, ◌++◌, replicate, nat_lt, Option, Some, None, if◌then◌else◌}
 use Rattle.std.specs.Ordering.{nat_cmp, ordering_then, is_lt}
 use Rattle.std.specs.declared.cmp.Ordering.{Ordering}
 use Rattle.std.specs.BTreeMap.{is_at, insert_entry}
+use Rattle.std.specs.BTreeMap.Range.{entries_between}
+use Rattle.std.specs.declared.ops.Bound.TheVariants.{Included, Unbounded}
 use Rattle.std.specs.Map.{lookup, remove_entry}
 use Rattle.std.specs.List.{list_all}
 use Rattle.asm_formats.specs.Items.{Item, marks_item, Key}
@@ -32,6 +34,14 @@ with_marks table chunk marks = insert_entry chunk_cmp table chunk marks
 
 abbrev pub without_marks : List Marked → Chunk → List Marked
 without_marks table chunk = remove_entry (is_at (chunk_cmp chunk)) table
+
+-- the marks of the chunks from this one on, in order
+abbrev pub marks_from : List Marked → Chunk → List Marked
+marks_from table chunk = entries_between chunk_cmp (Included chunk) Unbounded table
+
+-- the marks of a chunk's extents below a place, and none from there on
+abbrev pub marks_to : ℕ → List ℕ → List ℕ
+marks_to kept marks = take kept marks ++ drop kept (replicate 256 0)
 
 abbrev pub chunk_key : ℕ → ℕ → Key
 chunk_key f c = record { kind = 12; a = f; b = c }

@@ -1,10 +1,10 @@
 //! The marks of a chunk.
 
-ghost use Rattle.std.specs.Prelude.{◌≡◌};
+ghost use Rattle.std.specs.Prelude.{◌≡◌, ◌≤◌};
 ghost use Rattle.asm_formats.specs.Items.{marks_item};
 ghost use Rattle.asm_formats.specs.Values.{decoded_item};
 ghost use Rattle.std.specs.Option.{option_map};
-ghost use Rattle.staleness_directory.specs.Marks.{are_marks, chunk_key, read_marks};
+ghost use Rattle.staleness_directory.specs.Marks.{are_marks, chunk_key, marks_to, read_marks};
 
 use std::marker::Model;
 
@@ -37,6 +37,17 @@ impl Marks {
         // Reading a number shows that it is one of its type.
         let _file = file;
         chunk != u32::MAX && are_marks(&self.bits)
+    }
+
+    /// Takes the marks of the extents from a place on away.
+    pub fn cut(&mut self, kept: usize)
+        requires { kept ≤ 256 }
+        ensures { self.new ≡ marks_to kept self.old }
+    {
+        let chunk = [0; 256];
+        let none = &chunk[..];
+        let bits = &mut self.bits[..];
+        bits[kept..].copy_from_slice(&none[kept..]);
     }
 }
 

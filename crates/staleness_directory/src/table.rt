@@ -11,7 +11,7 @@ use crate::marks::{Marks, marks_of};
 use asm_base::{Change, Key, NoMemory, Records, Value};
 use std::alloc::Global;
 use std::collections::BTreeMap;
-use std::collections::btree_map::Iter;
+use std::collections::btree_map::{Iter, Range};
 use std::marker::Model;
 
 /// The kind of the records of marks.
@@ -32,7 +32,7 @@ impl Model for StaleTable {
 }
 
 impl StaleTable {
-    ghost use Rattle.staleness_directory.specs.Marks.{Chunk, IsTable, Marked, add, chunk_cmp, item_of, is_before, is_marks, marks_at, record_of, with_marks, without_marks};
+    ghost use Rattle.staleness_directory.specs.Marks.{Chunk, IsTable, Marked, add, chunk_cmp, item_of, is_before, is_marks, marks_at, marks_from, record_of, with_marks, without_marks};
 
     pub fn new(alloc: Global) -> StaleTable
         ensures { result ≡ [] }
@@ -54,6 +54,14 @@ impl StaleTable {
         ensures { result ≡ self.now }
     {
         self.map.iter()
+    }
+
+    /// The marks of the chunks from this one on, whether it is there or not, in the order of file and chunk. Those before it
+    /// are passed over by their keys.
+    pub fn iter_from(&self, chunk: (u32, u32)) -> Range<'_, (u32, u32), Marks>
+        ensures { result ≡ marks_from self.now chunk }
+    {
+        self.map.range(chunk..)
     }
 
     /// How many chunks there are.
