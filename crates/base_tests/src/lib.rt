@@ -8,6 +8,8 @@ mod layouts;
 #[cfg(test)]
 mod pages;
 #[cfg(test)]
+mod rows;
+#[cfg(test)]
 mod shared_types;
 #[cfg(test)]
 mod status_records;
