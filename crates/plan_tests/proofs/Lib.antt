@@ -2,3 +2,4 @@ pub mod ExtentConditions
 pub mod FilesMade
 pub mod Planned
 pub mod SameHomes
+pub mod NewDisks
