@@ -50,16 +50,16 @@ or_true : (b : Bool) → (b || true) ≡ true
 or_true true = refl
 or_true false = refl
 
-pub all_joined : {A : Type 0} (test : A → Bool) (xs ys : List A) → list_all test xs ≡ true → list_all test ys ≡ true → list_all test (xs ++ ys) ≡ true
+all_joined : {A : Type 0} (test : A → Bool) (xs ys : List A) → list_all test xs ≡ true → list_all test ys ≡ true → list_all test (xs ++ ys) ≡ true
 all_joined test [] ys a b = b
 all_joined test (x ∷ xs) ys a b = let p = and_parts (test x) (list_all test xs) a in rw p.0 (all_joined test xs ys p.1 b)
 
-pub all_first : {A : Type 0} (test : A → Bool) (n : ℕ) (xs : List A) → list_all test xs ≡ true → list_all test (take n xs) ≡ true
+all_first : {A : Type 0} (test : A → Bool) (n : ℕ) (xs : List A) → list_all test xs ≡ true → list_all test (take n xs) ≡ true
 all_first test zero xs a = refl
 all_first test (suc n) [] a = refl
 all_first test (suc n) (x ∷ xs) a = let p = and_parts (test x) (list_all test xs) a in rw p.0 (all_first test n xs p.1)
 
-pub all_later : {A : Type 0} (test : A → Bool) (n : ℕ) (xs : List A) → list_all test xs ≡ true → list_all test (drop n xs) ≡ true
+all_later : {A : Type 0} (test : A → Bool) (n : ℕ) (xs : List A) → list_all test xs ≡ true → list_all test (drop n xs) ≡ true
 all_later test zero xs a = a
 all_later test (suc n) [] a = refl
 all_later test (suc n) (x ∷ xs) a = all_later test n xs (and_parts (test x) (list_all test xs) a).1
@@ -69,7 +69,7 @@ all_more test base homes a b =
     all_joined test (take (count_in base) base ++ homes) (drop (count_in base + length homes) base) (all_joined test (take (count_in base) base) homes (all_first test (count_in base) base a) b)
     (all_later test (count_in base + length homes) base a)
 
-pub all_same : {A : Type 0} (test : A → Bool) (n : ℕ) (x : A) → test x ≡ true → list_all test (replicate n x) ≡ true
+all_same : {A : Type 0} (test : A → Bool) (n : ℕ) (x : A) → test x ≡ true → list_all test (replicate n x) ≡ true
 all_same test zero x a = refl
 all_same test (suc n) x a = rw a (all_same test n x a)
 
@@ -90,20 +90,20 @@ not_true : (b : Bool) → not b ≡ true → b ≡ false
 not_true true e = absurd cc
 not_true false e = refl
 
-pub blank_homes : (step f i : ℕ) (xs : List Homes) → AllByRecursion IsHomes xs → is_blank xs ≡ true → placed_extents step f i xs ≡ []
+blank_homes : (step f i : ℕ) (xs : List Homes) → AllByRecursion IsHomes xs → is_blank xs ≡ true → placed_extents step f i xs ≡ []
 blank_homes step f i [] fits blank = refl
 blank_homes step f i (x ∷ xs) fits blank =
     let p = and_parts (not (has_home x)) (is_blank xs) blank in
     rw (no_homes f i (units_of step i) x fits.0.0 (not_true (has_home x) p.0)) (blank_homes step f (suc i) xs fits.1 p.1)
 
-pub homes_joined : (step f i : ℕ) (xs ys : List Homes) → placed_extents step f i (xs ++ ys) ≡ placed_extents step f i xs ++ placed_extents step f (i + length xs) ys
+homes_joined : (step f i : ℕ) (xs ys : List Homes) → placed_extents step f i (xs ++ ys) ≡ placed_extents step f i xs ++ placed_extents step f (i + length xs) ys
 homes_joined step f i [] ys = let same : i + 0 ≡ i = omega arith in ap (λ (n : ℕ). placed_extents step f n ys) (sym same)
 homes_joined step f i (x ∷ xs) ys =
     let index : suc i + length xs ≡ i + suc (length xs) = omega arith in
     ap (λ (ps : List Placed). placed_copies f i (units_of step i) x ++ ps) (homes_joined step f (suc i) xs ys ∙ ap (λ (n : ℕ). placed_extents step f (suc i) xs ++ placed_extents step f n ys) index)
     ∙ sym (append_assoc (placed_copies f i (units_of step i) x) (placed_extents step f (suc i) xs) (placed_extents step f (i + suc (length xs)) ys))
 
-pub fits_later : (n : ℕ) (xs : List Homes) → AllByRecursion IsHomes xs → AllByRecursion IsHomes (drop n xs)
+fits_later : (n : ℕ) (xs : List Homes) → AllByRecursion IsHomes xs → AllByRecursion IsHomes (drop n xs)
 fits_later zero xs fits = fits
 fits_later (suc n) [] fits = tt
 fits_later (suc n) (x ∷ xs) fits = fits_later n xs fits.1
@@ -178,7 +178,7 @@ module _ (base homes : List Homes) (fits : AreFitting IsHomes 256 base) (right :
         ap (λ (x : Homes). has_copies copies (cond (has_home x) (Some x) None)) (kept_at p lt is) ∙ ap (λ (b : Bool). has_copies copies (cond b (Some (get_or base p [])) None)) is ∙ e
     by false is e = absurd cc
 
-pub zip_all : (m : List ℕ) (w : List Homes) → ((p : ℕ) → p < length m → p < length w → are_marks_of (get_or m p 0, get_or w p []) ≡ true) → list_all are_marks_of (zip m w) ≡ true
+zip_all : (m : List ℕ) (w : List Homes) → ((p : ℕ) → p < length m → p < length w → are_marks_of (get_or m p 0, get_or w p []) ≡ true) → list_all are_marks_of (zip m w) ≡ true
 zip_all [] w each = refl
 zip_all (b ∷ m) [] each = refl
 zip_all (b ∷ m) (h ∷ w) each = both (are_marks_of (b, h)) (list_all are_marks_of (zip m w)) (each 0 (omega arith) (omega arith)) (zip_all m w (λ p lt less. each (suc p) (omega (arith, lt)) (omega (arith, less))))
@@ -210,7 +210,7 @@ extents_fit step f i (x ∷ xs) ms z long small e =
 
 -- ---- the plan
 
-pub new_marks_right : list_all are_marks_of (zip (replicate 256 0) (replicate 256 absent)) ≡ true
+new_marks_right : list_all are_marks_of (zip (replicate 256 0) (replicate 256 absent)) ≡ true
 unfolding has_bit
 new_marks_right = refl
 

@@ -25,7 +25,7 @@ use Rattle.catalog.proofs.SetLaws.{disks_set}
 
 -- ---- what stands at each number then
 
-pub put_at : (disks : List Disk) (d : ℕ) (info : DiskInfo) (n : ℕ) → value_at (with_info disks d info) n ≡ cond (is_at (nat_cmp d) n) (Some (value (disk_item d info))) (value_at disks n)
+put_at : (disks : List Disk) (d : ℕ) (info : DiskInfo) (n : ℕ) → value_at (with_info disks d info) n ≡ cond (is_at (nat_cmp d) n) (Some (value (disk_item d info))) (value_at disks n)
 put_at disks d info n = elim (either (is_at (nat_cmp d) n)) [
   | inl hit ↦
       let here : info_at (with_info disks d info) d ≡ Some info = put_here nat_cmp nat_cmp-IsAntisymmetric d info (number_itself d) disks in
@@ -37,10 +37,10 @@ put_at disks d info n = elim (either (is_at (nat_cmp d) n)) [
 
 -- ---- plans
 
-pub with_disks : (t : Tables) (new : List Disk) → AreTables t → IsTable new → AreTables (record t { disks = new })
+with_disks : (t : Tables) (new : List Disk) → AreTables t → IsTable new → AreTables (record t { disks = new })
 with_disks t new a is = record { files = a.files; extents = a.extents; nodes = a.nodes; templates = a.templates; stale = a.stale; operations = a.operations; disks = is }
 
-pub disk_rules : (s : Shape) (t : Tables) (new : List Disk) → KeepsRules s t → IsTable new → blocks_used (record t { disks = new }) + 2 ≤ s.dir_blocks → KeepsRules s (record t { disks = new })
+disk_rules : (s : Shape) (t : Tables) (new : List Disk) → KeepsRules s t → IsTable new → blocks_used (record t { disks = new }) + 2 ≤ s.dir_blocks → KeepsRules s (record t { disks = new })
 disk_rules s t new r is room = record {
   tables = with_disks t new r.tables is;
   marked = r.marked;

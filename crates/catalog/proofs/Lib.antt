@@ -24,7 +24,6 @@ pub mod AfterLaws
 pub mod PlanLaws
 pub mod NumberedLists
 pub mod DiskPlans
-pub mod AddedDisks
 pub mod TreePlans
 pub mod TreeEditPlans
 pub mod TemplatePlans
@@ -37,8 +36,6 @@ pub mod NamePlans
 pub mod NameLaws
 pub mod NewNames
 pub mod NextFile
-pub mod NameChecks
-pub mod MarkedExtents
 pub mod ApplyingLaws
 pub mod EntryLaws
 pub mod EditLaws
@@ -47,7 +44,6 @@ pub mod UnitEdits
 pub mod MovePlans
 pub mod ReleasePlans
 pub mod AppendPlans
-pub mod CutPlans
 pub mod MoveItems
 pub mod RecopyItems
 pub mod DiskUnitLaws

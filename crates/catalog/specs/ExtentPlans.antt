@@ -1,5 +1,5 @@
 -- What the plans of extents ask, and what they make of the tables.
-use Rattle.std.specs.Prelude.{◌≡◌, ◌⊎◌, ℕ, ◌+◌, ◌-◌, ◌*◌, ◌/◌, ◌%◌, ◌^◌, ◌<◌, ◌≤◌, Bool, true, false, ◌&&◌, ◌||◌, ◌==◌, nat_lt, List, [], length, get_or, replicate, slice_set, Option, Some, None, if◌then◌else◌, IsTrue, bit_and, bit_or, is_some}
+use Rattle.std.specs.Prelude.{◌≡◌, ◌⊎◌, ℕ, ◌+◌, ◌-◌, ◌*◌, ◌/◌, ◌%◌, ◌^◌, ◌<◌, ◌≤◌, Bool, true, false, ◌&&◌, ◌||◌, ◌==◌, nat_lt, List, [], length, get_or, replicate, slice_set, Option, Some, None, IsTrue, bit_and, bit_or, is_some}
 use Rattle.std.specs.List.{list_all}
 use Rattle.std.specs.Option.{unwrap_or}
 use Rattle.asm_group.specs.Shape.{Shape}
@@ -9,9 +9,9 @@ use Rattle.asm_formats.specs.Items.{FileHead, Home, Homes, Item, chunk_len}
 use Rattle.asm_placement.specs.Layout.{units_of}
 use Rattle.asm_placement.specs.Moves.{with_current, with_home, without_bit}
 use Rattle.asm_placement.specs.Placed.{placed_extents}
-use Rattle.extent_map.specs.Extents.{HasExtent, chunk_at, chunk_or_blank, count_in, cut_to, follows, has_extent, has_home, with_chunk, with_extent, with_more, without_chunk}
+use Rattle.extent_map.specs.Extents.{HasExtent, chunk_at, chunk_or_blank, count_in, follows, has_extent, has_home, with_chunk, with_extent, with_more, without_chunk}
 use Rattle.file_directory.specs.Files.{head_at, is_file}
-use Rattle.staleness_directory.specs.Marks.{Marked, marks_at, marks_to, with_marks, without_marks}
+use Rattle.staleness_directory.specs.Marks.{Marked, marks_at, with_marks, without_marks}
 use Rattle.catalog.specs.Faults.{IsCatalog}
 use Rattle.catalog.specs.Items.{AreItemsOf}
 use Rattle.catalog.specs.Placing.{after_homes, home_taken}
@@ -119,34 +119,22 @@ pub record LacksBlocks (c : Catalogued) (f n free : ℕ) : Type 0 where
 abbrev pub IsChunkRefusal : Catalogued → ℕ → ℕ → Refusal → Type 0
 IsChunkRefusal c f n refusal = (refusal ≡ cause.NoMemory) ⊎ ((free : ℕ) × (refusal ≡ cause.DirectoryFull 2 free) × LacksBlocks c f n free)
 
--- ---- extents that go
+-- ---- a chunk that goes
 
 -- the tables without a chunk and its marks
 abbrev pub with_released : Tables → ℕ → ℕ → Tables
 with_released t f n = record t { extents = without_chunk t.extents (f, n); stale = without_marks t.stale (f, n) }
 
--- the tables in which a chunk has neither extents nor marks from a place on
-abbrev pub with_fewer : Tables → ℕ → ℕ → ℕ → Tables
-with_fewer t f n kept = record t {
-  extents = with_chunk t.extents (f, n) (cut_to kept (chunk_or_blank t.extents (f, n)));
-  stale = with_marks t.stale (f, n) (marks_to kept (marks_or_none t.stale (f, n)));
-}
+-- the file, where it has a head, has no extent in the chunk by its size
+abbrev pub IsUndue : Shape → Option FileHead → ℕ → Type 0
+IsUndue s None n = Unit {0}
+IsUndue s (Some head) n = (i : ℕ) → i / chunk_len ≡ n → is_due s head i ≡ false
 
--- the tables without the extents of a chunk from a place on, and without their marks: where none is kept the chunk and its marks go
-abbrev pub with_cut : Tables → ℕ → ℕ → ℕ → Tables
-with_cut t f n kept = if kept == 0 then with_released t f n else with_fewer t f n kept
-
--- the file, where it has a head, has by its size no extent of the chunk from this place on
-abbrev pub IsUndue : Shape → Option FileHead → ℕ → ℕ → Type 0
-IsUndue s None n kept = Unit {0}
-IsUndue s (Some head) n kept = (i : ℕ) → i / chunk_len ≡ n → kept ≤ i % chunk_len → is_due s head i ≡ false
-
--- the chunk is there, its file has no extent behind it, and by its size none of those that go
-pub record MayCut (s : Shape) (t : Tables) (f n kept : ℕ) : Type 0 where
+-- the chunk is there, its file has no extent behind it, and none in it by its size
+pub record MayRelease (s : Shape) (t : Tables) (f n : ℕ) : Type 0 where
   pub there : IsTrue (is_some (chunk_at t.extents (f, n)))
-  pub few : kept ≤ chunk_len
   pub last : has_extent t.extents f ((n + 1) * chunk_len) ≡ false
-  pub undue : IsUndue s (head_at t.files f) n kept
+  pub undue : IsUndue s (head_at t.files f) n
 
 -- ---- moves as asm_placement speaks of them
 

@@ -15,5 +15,3 @@ pub mod TreePlans
 pub mod ExtentPlans
 pub mod FilePlans
 pub mod NamePlans
-pub mod NameChecks
-pub mod MarkedExtents

@@ -71,13 +71,9 @@ pub record HasParts (name : NewName) : Type 0 where
 abbrev pub name_meant : NameParts → NewName
 name_meant parts = record { db = parts.db.now; type_name = parts.kind.now; tag = parts.tag.now }
 
--- the path of the system name of a file, which has the file's number and the next incarnation behind the tag
-abbrev pub path_for : Tables → NewName → ℕ → Path
-path_for t name file = new_path name file t.templates.settings.incarnation
-
--- that of the file that is being made
+-- the path of the system name, which has the file's number and the next incarnation behind the tag
 abbrev pub system_path : Tables → NewName → Path
-system_path t name = path_for t name (made_file t)
+system_path t name = new_path name (made_file t) t.templates.settings.incarnation
 
 -- The tree of names with the file's, and with each directory above it that is missing; or why it can't be there.
 abbrev pub filed_as : Tables → Option NewName → Result Tree r.Refusal

@@ -8,7 +8,6 @@ ghost use Rattle.catalog.specs.Tables.{Catalogued};
 ghost use Rattle.catalog.specs.Faults.{IsAtFault, IsCatalogOf};
 ghost use Rattle.catalog.specs.ExtentPlans.{ClearsItems, MovesItems, StaysInPlace};
 ghost use Rattle.catalog.specs.Items.{ItemsAreOneList, ItemsOfRecords, ItemsSayTables, TablesHaveItems, UnitsOfItems};
-ghost use Rattle.catalog.specs.NameChecks.{ChecksAgree, ChecksHold};
 ghost use Rattle.catalog.specs.NamePlans.{FilesAsWorld, RefusesAsWorld};
 
 /// Where a record is at fault, no value is a catalog of the records.
@@ -58,11 +57,4 @@ pub fn a_new_name_is_the_worlds()
 /// A new file is refused in the world by its template and its size, and then by the causes by which the plan of its name is.
 pub fn a_new_file_is_refused_as_its_name()
     ensures { RefusesAsWorld }
-{}
-
-/// What was found of the name of a new file before it was made, stays while chunks are added and an operation on the file is
-/// pending: the tree of names and the settings are the same.
-pub fn a_checked_name_stays()
-    ensures agree { ChecksAgree }
-    ensures hold { ChecksHold }
 {}

@@ -74,7 +74,7 @@ fn make(alloc: Global, group: &mut Catalog, change: &Change) -> Result<(), Fail>
     Ok(())
 }
 
-pub fn path(alloc: Global, bytes: &[u8]) -> Result<Path, Fail> {
+fn path(alloc: Global, bytes: &[u8]) -> Result<Path, Fail> {
     match Path::read(alloc, bytes) {
         Ok(Some(path)) => Ok(path),
         _ => Err(Fail::from("a path")),
@@ -132,7 +132,7 @@ fn answer_at(alloc: Global, at: &[u8]) -> Result<Answer, Fail> {
 const USERS: &[u8] = b"+DATA/db/DATAFILE/users";
 
 /// The group once file 257 has its name.
-pub fn named(alloc: Global) -> Result<Catalog, Fail> {
+fn named(alloc: Global) -> Result<Catalog, Fail> {
     let records = begun(alloc)?;
     let mut group = catalog(alloc, &records)?;
     name(alloc, &mut group, USERS)?;

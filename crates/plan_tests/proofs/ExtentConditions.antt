@@ -13,7 +13,7 @@ use Rattle.asm_placement.specs.Placed.{placed_copies}
 use Rattle.allocator.specs.UnitMaps.{IsLowestRun, UnitMap, is_free, with_run}
 use Rattle.extent_map.specs.Extents.{absent, chunk_at, chunk_or_blank, count_in, extent_at, has_extent, has_home}
 use Rattle.file_directory.specs.Files.{head_at, is_file}
-use Rattle.catalog.specs.ExtentPlans.{MayAppend, MayCut, MayMark, IsUndue, first_new, homes_at, is_copy_of}
+use Rattle.catalog.specs.ExtentPlans.{MayAppend, MayMark, MayRelease, IsUndue, first_new, homes_at, is_copy_of}
 use Rattle.catalog.specs.Placing.{after_homes, home_taken}
 use Rattle.catalog.specs.Rules.{are_marks_of, are_within_head, is_pending}
 use Rattle.catalog.specs.Tables.{Catalogued, Tables}
@@ -117,13 +117,12 @@ may_append c f a b apart step two owned none first second =
       free = rw (one_unit c.shape.step (first_new c.tables f 0) (omega (arith, less, step))) (two_taken c.units f (first_new c.tables f 0) a b (λ e. apart (sym e)) first second);
     }
 
--- ---- a first chunk that is cut
+-- ---- a first chunk that goes
 
-pub may_cut : (s : Shape) (t : Tables) (f kept : ℕ) → kept ≤ 256 → head_at t.files f ≡ None → is_some (extent_at t.extents f 0) ≡ true → None ≡ extent_at t.extents f 256 → MayCut s t f 0 kept
-may_cut s t f kept few none there last =
+pub may_release : (s : Shape) (t : Tables) (f : ℕ) → head_at t.files f ≡ None → is_some (extent_at t.extents f 0) ≡ true → None ≡ extent_at t.extents f 256 → MayRelease s t f 0
+may_release s t f none there last =
     record {
       there = by (chunk_at t.extents (f, 0)) there;
-      few = few;
       last = untold t f 256 last;
       undue = undue (head_at t.files f) none;
     } where
@@ -131,6 +130,6 @@ may_cut s t f kept few none there last =
       by None e = absurd cc
       by (Some xs) e = refl
 
-      undue : (head : Option FileHead) → head ≡ None → IsUndue s head 0 kept
+      undue : (head : Option FileHead) → head ≡ None → IsUndue s head 0
       undue None e = tt
       undue (Some head) e = absurd cc

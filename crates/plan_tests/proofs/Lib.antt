@@ -2,4 +2,3 @@ pub mod ExtentConditions
 pub mod FilesMade
 pub mod Planned
 pub mod SameHomes
-pub mod NewDisks

@@ -5,7 +5,7 @@ ghost use Rattle.std.specs.Bool.{OnTrue};
 ghost use Rattle.std.specs.List.{slice_get};
 ghost use Rattle.std.specs.Option.{option_copied};
 ghost use Rattle.asm_formats.specs.Sets.{has_bit};
-ghost use Rattle.catalog.specs.ExtentPlans.{MayAppend, MayCut, MayMark, is_copy_of};
+ghost use Rattle.catalog.specs.ExtentPlans.{MayAppend, MayMark, MayRelease, is_copy_of};
 ghost use Rattle.catalog.specs.Placing.{home_taken};
 ghost use Rattle.catalog.specs.Rules.{are_marks_of, is_pending};
 ghost use Rattle.extent_map.specs.Extents.{extent_at};
@@ -277,25 +277,23 @@ fn append(alloc: Global, group: &mut Catalog, file: u32) -> Result<bool, Fail> {
     append_at(alloc, group, file, first, second)
 }
 
-/// Whether the extents of a file's first chunk may go from a place on: the chunk is there, and the file has no head and no
-/// further chunk.
-#[tactic(auto, using(crate::proofs::ExtentConditions::may_cut))]
-fn may_cut(group: &Catalog, file: u32, kept: u32) -> bool
-    ensures { OnTrue result (MayCut group.now.shape group.now.tables file 0 kept) }
+/// Whether the first chunk of a file is there and may go: the file has no head and no further chunk.
+#[tactic(auto, using(crate::proofs::ExtentConditions::may_release))]
+fn may_release(group: &Catalog, file: u32) -> bool
+    ensures { OnTrue result (MayRelease group.now.shape group.now.tables file 0) }
 {
-    kept <= 256
-        && group.file(file).is_none()
+    group.file(file).is_none()
         && group.homes(extent(file, 0)).is_some()
         && group.homes(extent(file, 256)).is_none()
 }
 
-/// Takes the extents of a file's first chunk away from a place on.
+/// Takes the first chunk of a file away.
 #[tactic(auto, using(crate::proofs::Planned::planned))]
-fn cut(alloc: Global, group: &mut Catalog, file: u32, kept: u32) -> Result<(), Fail> {
-    if !may_cut(group, file, kept) {
-        return Err(Fail::from("a chunk that may be cut"));
+fn release(alloc: Global, group: &mut Catalog, file: u32) -> Result<(), Fail> {
+    if !may_release(group, file) {
+        return Err(Fail::from("a chunk that may go"));
     }
-    let Ok(change) = group.plan_cut(alloc, file, 0, kept) else {
+    let Ok(change) = group.plan_release(alloc, file, 0) else {
         return Err(Fail::from("a plan"));
     };
     make(alloc, group, &change)
@@ -361,7 +359,7 @@ fn more_extents(rt: HostRuntime) -> Result<(), Fail> {
 fn new_chunk_in(alloc: Global, group: &mut Catalog) -> Result<[(Told, Chunks); 2], Fail> {
     append(alloc, group, 257)?;
     let put = (told(group, extent(257, 0)), chunks_of(group));
-    cut(alloc, group, 257, 0)?;
+    release(alloc, group, 257)?;
     Ok([put, (told(group, extent(257, 0)), chunks_of(group))])
 }
 
@@ -399,102 +397,5 @@ fn one_block_for_a_chunk(rt: HostRuntime) -> Result<(), Fail> {
     let (of_new, of_old, chunks) = one_block_told(rt.alloc())?;
     assert_eq!(rt; (of_new, of_old), (true, false));
     assert_eq!(rt; chunks, (Some((256, 0)), None, 1));
-    Ok(())
-}
-
-/// What is told of the second and the third extent of the file that is made, and of the chunks.
-fn last_two(group: &Catalog) -> (Told, Told, Chunks) {
-    let second = told(group, extent(257, 1));
-    let third = told(group, extent(257, 2));
-    (second, third, chunks_of(group))
-}
-
-/// Gives the file that is made three extents, of which the last two have marks.
-fn put_three(alloc: Global, group: &mut Catalog) -> Result<(), Fail> {
-    for _ in 0..3 {
-        append(alloc, group, 257)?;
-    }
-    change_marks(alloc, group, extent(257, 1), 2, 0)?;
-    change_marks(alloc, group, extent(257, 2), 3, 0)
-}
-
-/// What is told of the last two of three extents, once the third is gone, and once another is in its place.
-fn cut_in(alloc: Global, group: &mut Catalog) -> Result<[(Told, Told, Chunks); 3], Fail> {
-    put_three(alloc, group)?;
-    let whole = last_two(group);
-    cut(alloc, group, 257, 2)?;
-    let fewer = last_two(group);
-    append(alloc, group, 257)?;
-    Ok([whole, fewer, last_two(group)])
-}
-
-fn cut_told(alloc: Global) -> Result<[(Told, Told, Chunks); 3], Fail> {
-    let mut group = begun(alloc, 0)?;
-    cut_in(alloc, &mut group)
-}
-
-/// An extent goes, and its marks and units with it. The ones before it stay, and one that comes in its place has no mark.
-#[test]
-fn last_extent(rt: HostRuntime) -> Result<(), Fail> {
-    let [whole, fewer, again] = cut_told(rt.alloc())?;
-    let chunks = (Some((256, 0)), Some((257, 0)), 114);
-    let six = [used(6, 8), used(6, 8)];
-    let five = [used(5, 7), used(5, 7)];
-    let second = homes((0, 6), (1, 6));
-    let third = homes((0, 7), (1, 7));
-    assert_eq!(rt; whole, ((second, 2, six), (third, 3, six), chunks));
-    assert_eq!(rt; fewer, ((second, 2, five), (None, 0, five), chunks));
-    assert_eq!(rt; again, ((second, 2, six), (third, 0, six), chunks));
-    Ok(())
-}
-
-/// The first extent from one on that has a stale copy on a disk.
-fn marked(group: &Catalog, disk: u8, file: u32, index: u32) -> Option<(u32, u32)> {
-    match group.marked_from(disk, extent(file, index)) {
-        Some(x) => Some((x.file, x.index)),
-        None => None,
-    }
-}
-
-/// The stale copies that are found on the two disks, from the first extent on and from others.
-type Marked = [Option<(u32, u32)>; 8];
-
-fn marked_in(alloc: Global, group: &mut Catalog) -> Result<Marked, Fail> {
-    put_three(alloc, group)?;
-    Ok([
-        marked(group, 0, 0, 0),
-        marked(group, 0, 256, 1),
-        marked(group, 0, 256, 2),
-        marked(group, 0, 257, 3),
-        marked(group, 1, 0, 0),
-        marked(group, 1, 257, 2),
-        marked(group, 1, 300, 0),
-        marked(group, 2, 0, 0),
-    ])
-}
-
-fn marked_told(alloc: Global) -> Result<Marked, Fail> {
-    let mut group = begun(alloc, 0)?;
-    marked_in(alloc, &mut group)
-}
-
-/// The first stale copy on a disk from an extent on: that extent's, or one of its chunk or of a later one.
-#[test]
-fn first_marked(rt: HostRuntime) -> Result<(), Fail> {
-    let marked = marked_told(rt.alloc())?;
-    // extent 1 of file 256 has its stale copy on disk 0, that of file 257 on disk 1; extent 2 of file 257 has two
-    let second = Some((256, 1));
-    let third = Some((257, 2));
-    let wanted = [
-        second,
-        second,
-        third,
-        None,
-        Some((257, 1)),
-        third,
-        None,
-        None,
-    ];
-    assert_eq!(rt; marked, wanted);
     Ok(())
 }

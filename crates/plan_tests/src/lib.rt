@@ -2,8 +2,6 @@
 #![tactic(auto)]
 
 #[cfg(test)]
-mod added;
-#[cfg(test)]
 mod attributes;
 #[cfg(test)]
 mod disk_units;

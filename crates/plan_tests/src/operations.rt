@@ -120,7 +120,7 @@ fn name(alloc: Global, bytes: &[u8]) -> Result<Name, Fail> {
     }
 }
 
-pub fn info(alloc: Global, birth: u64) -> Result<DiskInfo, Fail> {
+fn info(alloc: Global, birth: u64) -> Result<DiskInfo, Fail> {
     Ok(DiskInfo {
         birth,
         name: name(alloc, b"d")?,
@@ -178,9 +178,9 @@ fn birth_of(group: &Catalog, number: u8) -> Option<u64> {
 }
 
 /// The births of disks 1 to 3 by their records, and the free blocks.
-pub type Disks = ([Option<u64>; 3], u64);
+type Disks = ([Option<u64>; 3], u64);
 
-pub fn disks_of(group: &Catalog) -> Disks {
+fn disks_of(group: &Catalog) -> Disks {
     let births = [birth_of(group, 1), birth_of(group, 2), birth_of(group, 3)];
     (births, group.free_blocks())
 }

@@ -1,20 +1,26 @@
-//! The plan of a chunk that gets extents.
+//! Plans of a chunk that gets extents, and of one that goes.
 
 ghost use Rattle.std.specs.Prelude.{◌≡◌, ◌≤◌, ◌<◌, ◌+◌, ◌^◌, ◌∷◌, [], length, true, IfErr, IfOk, is_some};
 ghost use Rattle.std.specs.List.{list_all};
 ghost use Rattle.asm_base.specs.declared.refusal.Refusal.TheVariants.{NoMemory as WithoutMemory};
 ghost use Rattle.extent_map.specs.Extents.{chunk_at, chunk_or_blank, count_in, record_of, with_more};
-ghost use Rattle.catalog.specs.ExtentPlans.{IsChunkRefusal, MayAppend, are_small, is_small, with_appended};
+ghost use Rattle.catalog.specs.ExtentPlans.{IsChunkRefusal, MayAppend, MayRelease, are_small, is_small, with_appended, with_released};
 ghost use Rattle.catalog.specs.Plans.{IsPlan};
 ghost use Rattle.catalog.specs.Rules.{blocks_used};
 
 use crate::catalog::Catalog;
-use crate::plans::making::{no_memory, one_put, two_put};
+use crate::plans::making::{no_memory, one_put, two_gone, two_put};
 use crate::plans::moves::unit_fits;
 use asm_base::{Change, Home, Homes, Key, NoMemory, Refusal, Value};
 use extent_map::chunk_record;
 use staleness_directory::StaleTable;
 use std::alloc::Global;
+
+/// The kind of the records of files and of their chunks.
+const CHUNK: u16 = 1;
+
+/// The kind of the records of stale marks.
+const MARKS: u16 = 12;
 
 impl Catalog {
     /// The change by which a chunk has these extents behind those that it has. A chunk that isn't there yet is put with
@@ -107,6 +113,36 @@ impl Catalog {
         let mut extents = self.chunk_copy(alloc, at)?;
         extents.append(homes);
         chunk_record(alloc, at, &extents)
+    }
+
+    /// The change by which a chunk goes, and its marks with it: two keys. The chunk is there, its file has no extent behind
+    /// it, and by the size that its head says, if it has one, none in it.
+    pub fn plan_release(&self, alloc: Global, file: u32, chunk: u32) -> Result<Change, Refusal>
+        requires release { MayRelease self.now.shape self.now.tables file chunk }
+        ensures planned { IfOk result (λ change. IsPlan self.now change.put change.gone (with_released self.now.tables file chunk)) }
+        ensures refused { IfErr result (λ e. e ≡ WithoutMemory) }
+    {
+        self.release(alloc, file, chunk).map_err(no_memory)
+    }
+
+    #[tactic(auto, using(crate::proofs::ReleasePlans::release_planned, crate::proofs::ReleasePlans::numbered))]
+    fn release(&self, alloc: Global, file: u32, chunk: u32) -> Result<Change, NoMemory>
+        requires release { MayRelease self.now.shape self.now.tables file chunk }
+        ensures { IfOk result (λ change. IsPlan self.now change.put change.gone (with_released self.now.tables file chunk)) }
+    {
+        self.keeps_rules();
+        let homes = Key {
+            kind: CHUNK,
+            a: file,
+            b: chunk + 1,
+        };
+        let marks = Key {
+            kind: MARKS,
+            a: file,
+            b: chunk,
+        };
+        let change = two_gone(alloc, homes, marks)?;
+        Ok(change)
     }
 }
 

@@ -90,7 +90,7 @@ impl Catalog {
     }
 
     /// The nodes of a file's name at a path.
-    pub(crate) fn file_nodes(
+    fn file_nodes(
         &self,
         alloc: Global,
         path: &Path,
