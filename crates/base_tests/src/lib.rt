@@ -1,9 +1,6 @@
-//! Tests of what the tables of a group stand on: the shared types, headers, status records and pages, values of attributes,
-//! and where extents go.
+//! Tests of what the tables of a group stand on: the shared types, headers, status records and pages, and where extents go.
 #![tactic(auto)]
 
-#[cfg(test)]
-mod attributes;
 #[cfg(test)]
 mod headers;
 #[cfg(test)]
