@@ -15,6 +15,7 @@ use Rattle.asm_formats.specs.Items.{Item}
 use Rattle.asm_formats.specs.Content.{Content}
 use Rattle.asm_placement.specs.Among.{IsAmong}
 use Rattle.asm_placement.specs.Placed.{Placed, placed, fits_entry, is_inside, all_apart, places_fit}
+use Rattle.asm_placement.specs.Work.{is_regular}
 use Rattle.asm_images.specs.Members.{Image, Member, all_members, within, is_disk}
 use Rattle.asm_images.specs.Directories.{newest, held_by, copy_on, copies, IsNamed}
 use Rattle.asm_images.specs.Copies.{is_kept}
@@ -29,7 +30,7 @@ use Rattle.asm_images.proofs.Sharing.{all_among}
 use Rattle.asm_images.proofs.Joining.{find_filter}
 
 abbrev Bare : Type 0
-Bare = ℕ × ℕ × ℕ
+Bare = ℕ × ℕ × ℕ × Bool
 
 -- ---- an entry but for what it may change
 
@@ -61,6 +62,12 @@ same_fit s p (Some x) None e = absurd cc
 same_fit s p (Some x) (Some y) e =
     let units : x.units ≡ y.units = ap (λ (b : Bare). b.2) (same_Some (bare x) (bare y) e) in
     ap (λ (n : ℕ). fits_entry s p (Some (record x { units = n }))) units
+
+same_regular : (o q : Option Entry) → option_map bare o ≡ option_map bare q → is_regular o ≡ is_regular q
+same_regular None None e = refl
+same_regular None (Some y) e = absurd cc
+same_regular (Some x) None e = absurd cc
+same_regular (Some x) (Some y) e = ap (λ (b : Bare). not b.3) (same_Some (bare x) (bare y) e)
 
 all_same : {A : Type 0} (t u : A → Bool) (xs : List A) → ((x : A) → t x ≡ u x) → list_all t xs ≡ list_all u xs
 all_same t u [] same = refl
@@ -145,6 +152,7 @@ module _ (id : ℕ) (image : Image) (groups : List Group) (r s : Status) (change
       extent_rules = k.extent_rules;
       owned = k.owned;
       places = same_places g.shape d.items ∙ k.places;
+      regular = λ f i copy h at. same_regular (entry_of s.entries h.disk) (entry_of r.entries h.disk) (same_entry s.entries r.entries h.disk change.entries) ∙ k.regular f i copy h at;
       templates = k.templates;
       attributes = k.attributes;
       next = k.next;
@@ -289,6 +297,7 @@ module _ (id : ℕ) (image : Image) (r : Status) (fewer : ℕ) (less : (d : ℕ)
       extent_rules = k.extent_rules;
       owned = k.owned;
       places = k.places;
+      regular = k.regular;
       templates = k.templates;
       attributes = k.attributes;
       next = k.next;

@@ -27,5 +27,9 @@ pub mod RowProofs
 pub mod OneContent
 pub mod UserWrites
 pub mod Outsiders
-pub mod Keeping
 pub mod SpanCells
+pub mod Slots
+pub mod Enough
+pub mod Held
+pub mod MirroredGroup
+pub mod MirroredRows

@@ -122,6 +122,7 @@ module _ (r : Status) (epoch turn holders next : ℕ) where
       extent_rules = k.extent_rules;
       owned = k.owned;
       places = k.places;
+      regular = k.regular;
       templates = k.templates;
       attributes = k.attributes;
       next = k.next;

@@ -83,6 +83,7 @@ module _ (id : ℕ) (image : Image) (groups : List Group) (r s : Status) (change
           extent_rules = k.extent_rules;
           owned = k.owned;
           places = change.places g.shape d.items under k.places;
+          regular = change.regular d.items under k.regular;
           templates = k.templates;
           attributes = k.attributes;
           next = k.next;

@@ -17,7 +17,8 @@ use Rattle.asm_formats.specs.Status.{Status}
 use Rattle.asm_formats.specs.Items.{Item, FileHead, Home}
 use Rattle.asm_placement.specs.Tables.{head_of}
 use Rattle.asm_images.specs.Tables.{pending_of}
-use Rattle.asm_images.specs.Describing.{extent_size, LiesIn, DescribesGroup, SameFile, pending_is}
+use Rattle.asm_placement.specs.Naming.{is_pending}
+use Rattle.asm_images.specs.Describing.{extent_size, LiesIn, DescribesGroup, SameFile}
 use Rattle.asm_placement.specs.Layout.{file_byte, has_extent, IsLayout}
 use Rattle.asm_placement.proofs.Places.{one_place_of}
 use Rattle.asm_images.specs.Members.{Image, Member, all_members, byte}
@@ -175,12 +176,13 @@ describes_with r items g x put d = record {
       d.extents f i copy k.file k.is
       (subst (λ (t : Stripe). IsTrue (has_extent t g.shape.au g.shape.step (length k.file.cells) i)) (sym k.stripe) (subst (λ (n : ℕ). IsTrue (has_extent new.stripe g.shape.au g.shape.step n i)) (sym k.len) has))
       (omega (arith, lt, k.copies));
-  owned = λ f c has. subst (λ (b : Bool). IsTrue (b || pending_is f (pending_of items))) (sym (still_there g x put f)) (d.owned f c has);
+  owned = λ f c has. subst (λ (b : Bool). IsTrue (b || is_pending f (pending_of items))) (sym (still_there g x put f)) (d.owned f c has);
   disks = d.disks;
   partners = d.partners;
   room = d.room;
   extent_rules = d.extent_rules;
   places = d.places;
+  regular = d.regular;
 }
 
 disk_with : (r : Status) (g : Group) (x : Span) (put : ℕ → Cell) (m : Member) → IsDiskOf g r m → IsDiskOf (group_with x put g) r m

@@ -32,4 +32,4 @@ pub record IsCurrent (r : Status) (items : List Item) (f i copy : ℕ) (h : Home
 pub record IsUsable (r : Status) (items : List Item) (readable : List Member) (f i copy : ℕ) (h : Home) : Type 0 where
   pub home : home_of items f i copy ≡ Some h
   pub serving : IsTrue (list_any (λ (m : Member). is_serving r h.disk m.header) readable)
-  pub fresh : is_stale items f i copy ≡ false
+  pub not_stale : is_stale items f i copy ≡ false

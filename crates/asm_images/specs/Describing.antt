@@ -9,11 +9,13 @@ use Rattle.asm_group.specs.Shape.{Shape}
 use Rattle.asm_group.specs.Group.{File, Group}
 use Rattle.asm_group.specs.NewGroup.{templates_by_name}
 use Rattle.asm_placement.specs.Layout.{extent_len, LiesAt, has_extent}
-use Rattle.asm_placement.specs.Tables.{head_of, homes_in, marks_in, home_of, is_extent}
+use Rattle.asm_placement.specs.Tables.{head_of, homes_in, marks_in, home_of, is_stale, is_extent}
+use Rattle.asm_placement.specs.Naming.{is_birth, is_pending}
 use Rattle.asm_placement.specs.Placed.{places_fit}
+use Rattle.asm_placement.specs.Work.{is_regular}
 use Rattle.asm_placement.specs.Partners.{HasPartners}
-use Rattle.asm_formats.specs.Status.{Status, Entry}
-use Rattle.asm_formats.specs.Items.{Item, rebalance_item, pending_item, FileHead, DiskInfo, Pending, Settings}
+use Rattle.asm_formats.specs.Status.{Status, Entry, entry_of}
+use Rattle.asm_formats.specs.Items.{Item, rebalance_item, pending_item, FileHead, Home, Settings}
 use Rattle.asm_images.specs.Tables.{info_of, pending_of, templates_of, settings_of}
 use Rattle.asm_formats.specs.Nodes.{entry_of_node}
 use Rattle.asm_images.specs.Tree.{node_at_path, KeepsTreeRules}
@@ -43,18 +45,9 @@ SameFile None (Some file) = ⊥
 SameFile (Some head) None = head.system ≡ 0
 SameFile (Some head) (Some file) = (0 < head.system) × IsHeadOf head file
 
--- the pending operation is on the file
-abbrev pub pending_is : ℕ → Option Pending → Bool
-pending_is f None = false
-pending_is f (Some op) = op.file == f
-
 -- the entry has a disk record of its number and birth
 abbrev pub has_info : List Item → Entry → Bool
-has_info items e = said (info_of items e.number)
-  where
-    said : Option DiskInfo → Bool
-    said None = false
-    said (Some info) = info.birth == e.birth
+has_info items e = is_birth e.birth (info_of items e.number)
 
 -- a record of kind 4, for which two blocks are kept
 abbrev pub is_operation : Item → Bool
@@ -70,6 +63,12 @@ pub record KeepsExtentRules (items : List Item) : Type 0 where
   pub redundancy : (f i copy : ℕ) (head : FileHead) → head_of items f ≡ Some head → head.copies ≤ copy → home_of items f i copy ≡ None
   -- a chunk and its stale marks go together
   pub marks : (f c : ℕ) → is_some (homes_in items f c) ≡ is_some (marks_in items f c)
+  -- a copy that is marked stale is there
+  pub stale : (f i copy : ℕ) → is_stale items f i copy ≡ true → IsTrue (is_some (home_of items f i copy))
+
+-- no home lies on a disk of a quorum failure group
+abbrev pub AreRegular : List Entry → List Item → Type 0
+AreRegular entries items = (f i copy : ℕ) (h : Home) → home_of items f i copy ≡ Some h → IsTrue (is_regular (entry_of entries h.disk))
 
 -- ---- all of it
 
@@ -85,9 +84,10 @@ pub record DescribesGroup (r : Status) (items : List Item) (g : Group) : Type 0 
       → IsTrue (is_some (home_of items f i copy))
   pub extent_rules : KeepsExtentRules items
   -- each chunk is of a file of the group or of the pending operation
-  pub owned : (f c : ℕ) → IsTrue (is_some (homes_in items f c)) → IsTrue (is_some (maps.get g.files f) || pending_is f (pending_of items))
-  -- homes lie apart, in the user units of the entries
+  pub owned : (f c : ℕ) → IsTrue (is_some (homes_in items f c)) → IsTrue (is_some (maps.get g.files f) || is_pending f (pending_of items))
+  -- homes lie apart, in the user units of the entries, on regular disks
   pub places : IsTrue (places_fit g.shape r.entries items)
+  pub regular : AreRegular r.entries items
   -- templates, the attributes that may be set, and the next incarnation
   pub templates : option_map templates_by_name (templates_of items) ≡ Some g.templates
   pub attributes : option_map (λ (s : Settings). s.attributes) (settings_of items) ≡ Some g.attributes

@@ -13,6 +13,7 @@ pub mod Laws
 pub mod MountLaws
 pub mod Bridge
 pub mod Kept
+pub mod Counters
 pub mod Created
 pub mod PutLaws
 pub mod Moves
@@ -22,3 +23,4 @@ pub mod ContentLaws
 pub mod WriteLaws
 pub mod OutsideLaws
 pub mod SpanLaws
+pub mod Mirrored

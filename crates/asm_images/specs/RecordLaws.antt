@@ -15,13 +15,13 @@ use Rattle.asm_placement.specs.Partners.{HasPartners}
 use Rattle.asm_images.specs.Members.{Image, Member, all_members, within}
 use Rattle.asm_images.specs.Directories.{directories}
 use Rattle.asm_images.specs.Copies.{is_kept}
-use Rattle.asm_images.specs.Describing.{has_info}
+use Rattle.asm_images.specs.Describing.{has_info, AreRegular}
 use Rattle.asm_images.specs.Stands.{HasUnits}
 use Rattle.asm_images.specs.Sound.{IsCovered}
 
--- of an entry its number, its birth and its units
-abbrev pub bare : Entry → ℕ × ℕ × ℕ
-bare e = (e.number, e.birth, e.units)
+-- of an entry its number, its birth, its units, and whether its failure group is a quorum one
+abbrev pub bare : Entry → ℕ × ℕ × ℕ × Bool
+bare e = (e.number, e.birth, e.units, e.quorum)
 
 -- s has the disks, births and directory copies of r, under other modes and partners; no disk that was Forced serves again
 pub record ChangesModes (r s : Status) : Type 0 where
@@ -56,7 +56,7 @@ pub record IsReadUnder (r : Status) (ms : List Member) (items : List Item) : Typ
 abbrev pub birth_of : Option Entry → Option ℕ
 birth_of o = option_map (λ (e : Entry). e.birth) o
 
--- s has other entries than r, and what the directories say fits them: each entry has its disk record, and all homes lie in their units.
+-- s has other entries than r, and what the directories say fits them: each entry has its disk record, and all homes lie in their units, on regular disks.
 -- The disks with directory copies keep their births. Of the disks that r has entries of, s keeps none that r doesn't keep.
 pub record ChangesEntries (ms : List Member) (r s : Status) : Type 0 where
   pub directories : s.directories ≡ r.directories
@@ -65,6 +65,7 @@ pub record ChangesEntries (ms : List Member) (r s : Status) : Type 0 where
   pub kept : (d : ℕ) (h : Header) → IsTrue (is_some (entry_of r.entries d)) → IsTrue (is_kept s d h) → IsTrue (is_kept r d h)
   pub infos : (items : List Item) → IsReadUnder r ms items → IsTrue (list_all (has_info items) s.entries)
   pub places : (shape : Shape) (items : List Item) → IsReadUnder r ms items → IsTrue (places_fit shape r.entries items) → IsTrue (places_fit shape s.entries items)
+  pub regular : (items : List Item) → IsReadUnder r ms items → AreRegular r.entries items → AreRegular s.entries items
   pub units : (m : Member) → IsAmong ms m → HasUnits s m
   pub partners : HasPartners s.entries
 

@@ -2,9 +2,10 @@
 use Rattle.std.specs.Prelude.{◌≡◌, ℕ, zero, suc, Bool, true, false, ◌&&◌, ◌||◌, List, [], ◌∷◌, length, ◌==◌, Option, Some, None, IsTrue}
 use Rattle.std.specs.Str.{bytes_eq}
 use Rattle.asm_group.specs.declared.NodeKind.{NodeKind}
-use Rattle.asm_group.specs.declared.NodeKind.TheVariants.{Directory, System, Alias}
+use Rattle.asm_group.specs.declared.NodeKind.TheVariants.{System, Alias}
 use Rattle.asm_group.specs.Names.{Bytes, Path, folded}
 use Rattle.asm_formats.specs.Items.{Item, node_item, FileHead, Node}
+use Rattle.asm_placement.specs.Naming.{is_directory, is_named_as, names_back}
 use Rattle.asm_placement.specs.Tables.{first_said, if_is, head_of}
 use Rattle.asm_images.specs.Tables.{node_of}
 
@@ -12,13 +13,6 @@ use Rattle.asm_images.specs.Tables.{node_of}
 abbrev pub is_child : ℕ → Bytes → Item → Bool
 is_child parent name (node_item n node) = (node.parent == parent) && bytes_eq (folded node.name) name
 is_child parent name _ = false
-
-abbrev pub is_directory : Node → Bool
-is_directory node = kind_is node.kind
-  where
-    kind_is : NodeKind → Bool
-    kind_is Directory = true
-    kind_is _ = false
 
 abbrev pub child : List Item → ℕ → Bytes → Option (ℕ × Node)
 child items parent name = first_said says items
@@ -51,37 +45,17 @@ reaches_root items (suc steps) n = (n == 0) || up (λ m. reaches_root items step
 
 -- ---- rules
 
--- the node is the system node of the file, or its alias
-abbrev pub names_back : NodeKind → ℕ → FileHead → Bool
-names_back Directory n head = false
-names_back System n head = head.system == n
-names_back Alias n head = head.alias == n
-
 -- a system or alias node names a file that names it
 abbrev pub is_named_back : List Item → ℕ → Node → Bool
-is_named_back items n node = is_directory node || said (head_of items node.file)
-  where
-    said : Option FileHead → Bool
-    said None = false
-    said (Some head) = names_back node.kind n head
-
-abbrev pub kind_eq : NodeKind → NodeKind → Bool
-kind_eq Directory Directory = true
-kind_eq System System = true
-kind_eq Alias Alias = true
-kind_eq _ _ = false
+is_named_back items n node = is_directory node.kind || names_back node.kind n (head_of items node.file)
 
 -- 0, or a node of this kind that names the file
 abbrev pub names_file : List Item → ℕ → NodeKind → ℕ → Bool
-names_file items f kind n = (n == 0) || said (node_of items n)
-  where
-    said : Option Node → Bool
-    said None = false
-    said (Some node) = kind_eq node.kind kind && (node.file == f)
+names_file items f kind n = (n == 0) || is_named_as kind f (node_of items n)
 
 pub record KeepsTreeRules (items : List Item) : Type 0 where
   -- each node's parent is the root or a directory, and its parents lead to the root
-  pub parents : (n : ℕ) (node parent : Node) → node_of items n ≡ Some node → node_of items node.parent ≡ Some parent → IsTrue (is_directory parent)
+  pub parents : (n : ℕ) (node parent : Node) → node_of items n ≡ Some node → node_of items node.parent ≡ Some parent → IsTrue (is_directory parent.kind)
   pub rooted : (n : ℕ) (node : Node) → node_of items n ≡ Some node → IsTrue (reaches_root items (length items) n)
   -- no two nodes of one parent have names that are equal when folded
   pub distinct : (m n : ℕ) (a b : Node) → node_of items m ≡ Some a → node_of items n ≡ Some b → a.parent ≡ b.parent → folded a.name ≡ folded b.name → m ≡ n

@@ -5,6 +5,7 @@ pub mod LayoutRows
 pub mod Modes
 pub mod DiskSets
 pub mod Tables
+pub mod Naming
 pub mod Placed
 pub mod TableDisks
 pub mod Partners
