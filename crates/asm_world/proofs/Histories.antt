@@ -8,7 +8,7 @@ use Rattle.asm_world.specs.Below.{Found}
 use Rattle.asm_world.specs.Between.{groups_between}
 use Rattle.asm_world.specs.Command.{Command}
 use Rattle.asm_world.specs.Reply.{Reply, Rebalanced, Resynced, Event, Expired, ExpiryEnds, Moved, Synced, SyncEnds, MoveEnds}
-use Rattle.asm_world.specs.Run.{Outside, State, Entry, Move, Answers, Starts, Expires, Slices, Rests, Phase, Expiry, IsExpiry, Due, DueSlice, DueResync, DueRebalance, IsResynced, IsRebalanced, IsSlice, IsDueSlice, Does, IsMove, IsRun, IsRunWhile, AllMoves, CallsRise, IsHeld, IsThere, HeldBy, end_of, entry_text, marks_at, marks_of}
+use Rattle.asm_world.specs.Run.{Outside, State, Entry, Move, Answers, Starts, Expires, Slices, Rests, Stops, Phase, Expiry, IsExpiry, Due, DueSlice, DueResync, DueRebalance, IsResynced, IsRebalanced, IsSlice, IsDueSlice, Does, IsMove, IsRun, IsRunWhile, AllMoves, CallsRise, IsHeld, IsThere, HeldBy, end_of, entry_text, marks_at, marks_of}
 use Rattle.asm_world.specs.RunLaws.{AtAnswer, IsQuiet, is_answer, Grows, RisesFrom}
 use Rattle.asm_world.specs.World.{World, groups_of}
 
@@ -78,6 +78,7 @@ move_leaves means s (Expires event) t d q = expiry_leaves _ event s.world t.phas
 move_leaves means s (Answers found text reply) t d q = cc
 move_leaves means s (Slices event) t d q = due_slice_leaves _ event s.world t.phase t.world d.is_slice
 move_leaves means s Rests t d q = ap (λ (v : World). v.groups) d.world
+move_leaves means s Stops t d q = ap (λ (v : World). v.groups) d.world
 
 pub quiet_leaves : {C I : Type 0} (out : Outside C I) (s : State C) (quiet : List (Entry C)) → IsRun out s quiet → IsQuiet quiet → (end_of s quiet).world.groups ≡ s.world.groups
 quiet_leaves out s [] run q = refl
@@ -91,6 +92,7 @@ held_quiet out s (Expires event) t image id h q = h id
 held_quiet out s (Answers found text reply) t image id h q = cc
 held_quiet out s (Slices event) t image id h q = h id
 held_quiet out s Rests t image id h q = h id
+held_quiet out s Stops t image id h q = h id
 
 same_groups : (v w : World) (id : ℕ) → v.groups ≡ w.groups → groups_of v id ≡ groups_of w id
 same_groups v w id e = rw e refl
@@ -145,6 +147,7 @@ rises_behind (Starts time) whole low calls ns h r = rises_lower low calls ns h r
 rises_behind (Expires event) whole low calls ns h r = rises_lower low calls ns h r
 rises_behind (Slices event) whole low calls ns h r = rises_lower low calls ns h r
 rises_behind Rests whole low calls ns h r = rises_lower low calls ns h r
+rises_behind Stops whole low calls ns h r = rises_lower low calls ns h r
 
 pub marks_rise_by : {C : Type 0} (s : State C) (history : List (Entry C)) → CallsRise s history → RisesFrom s.calls (marks_of history)
 marks_rise_by s [] rise = tt

@@ -7,3 +7,4 @@ pub mod Canon
 pub mod EditLemmas
 pub mod Wholes
 pub mod Memory
+pub mod RunRows

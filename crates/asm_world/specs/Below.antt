@@ -12,6 +12,8 @@ pub record GroupBelow : Type 0 where
   pub syncing : Option Bytes
   -- a rebalance is active with a power of at least 1
   pub moving : Bool
+  -- the slots of its attached disks
+  pub attached : List ℕ
   pub row : GroupRow
   pub disks : List DiskRow
   -- the units of all copies of a file, by its number

@@ -22,6 +22,7 @@ use Rattle.asm_world.specs.Reports.{DiskRow}
 use Rattle.asm_world.specs.Settings as t
 use Rattle.asm_world.specs.Statement as s
 use Rattle.asm_world.specs.Step.{edit_of}
+use Rattle.asm_world.specs.Waiting.{Wait, Nothing, Rebalance, Resync, power_of, rebalance_wait, resync_wait}
 use Rattle.asm_world.specs.World.{SessionEntry, SessionState, Mounted, DismountedBy, World, HostFile, NotTold, Absent, Holds, entry_in, is_mounted, mounted_group}
 
 -- ---- lists of causes
@@ -89,13 +90,15 @@ too_many_groups w = When (nat_le 8 (mounted_count w)) (r.TooMany r.Groups 8)
 
 -- ---- names and templates
 
--- a commit may want a block that isn't free, or dismount the group
-abbrev pub commit_causes : List Cause
-commit_causes = may (26 ∷ 32 ∷ [])
+-- a commit may dismount the group, and where it makes a node it may want a block that isn't free
+abbrev pub commit_causes : e.TreeEdit → List Cause
+commit_causes (e.MakeDir path) = may (26 ∷ 32 ∷ [])
+commit_causes (e.AddAlias alias path) = may (26 ∷ 32 ∷ [])
+commit_causes other = May 32 ∷ []
 
 abbrev pub tree_causes : Group → Option e.TreeEdit → List Cause
 tree_causes g None = When true r.NoName ∷ []
-tree_causes g (Some edit) = tests (e.edit_causes g edit) ++ commit_causes
+tree_causes g (Some edit) = tests (e.edit_causes g edit) ++ commit_causes edit
 
 abbrev pub file_drop_causes : Group → Option Path → List Cause
 file_drop_causes g None = When true r.NoName ∷ []
@@ -111,7 +114,7 @@ alias_causes None group alias g = When true r.NoGroup ∷ []
 alias_causes (Some (name, path)) group alias g = When (not (is_same_name name g.name)) r.NoName ∷ tree_causes g (Some (e.AddAlias alias path))
 
 abbrev pub template_clause_causes : World → Bytes → t.TemplateEdit → List Cause
-template_clause_causes w name edit = in_group w name (λ g. tests (t.template_causes g edit) ++ commit_causes)
+template_clause_causes w name edit = in_group w name (λ g. tests (t.template_causes g edit) ++ May 32 ∷ [])
 
 -- ---- disks of a group
 
@@ -179,9 +182,6 @@ abbrev pub drop_tests : List DiskRow → List s.DroppedDisk → List s.DroppedDi
 drop_tests rows all [] = []
 drop_tests rows all (d ∷ disks) = state_tests (can_drop (force_of d.name d.force all)) (rows_named rows d.name) ++ drop_tests rows all disks
 
-abbrev pub power_of : s.Rebalance → ℕ
-power_of rebalance = unwrap_or rebalance.power 1
-
 abbrev pub power_causes : s.Rebalance → List Cause
 power_causes rebalance = When (nat_lt 1024 (power_of rebalance)) (r.BadPower (power_of rebalance)) ∷ []
 
@@ -189,16 +189,18 @@ abbrev pub rebalance_causes : Option s.Rebalance → List Cause
 rebalance_causes None = []
 rebalance_causes (Some rebalance) = power_causes rebalance
 
--- what comes last: a commit's failure, and under WAIT what ends the rebalance
-abbrev pub wait_causes : List Cause
-wait_causes = may (32 ∷ 25 ∷ 29 ∷ 30 ∷ 31 ∷ [])
+-- what comes last: a commit's failure, and under WAIT what ends the rebalance or the resync
+abbrev pub wait_causes : Wait → List Cause
+wait_causes Nothing = May 32 ∷ []
+wait_causes Rebalance = may (32 ∷ 25 ∷ 29 ∷ 30 ∷ 31 ∷ [])
+wait_causes (Resync disks) = may (32 ∷ 30 ∷ 31 ∷ [])
 
 abbrev pub add_causes : Bytes → List DiskRow → List s.NewFailgroup → List Cause
 add_causes name rows groups =
     When (nat_lt 64 (length rows + length (n.disks_said groups))) (r.TooMany r.Disks 64)
     ∷ May 5 ∷ May 6
     ∷ When (n.is_name_taken rows (n.planned name rows groups)) r.NameTaken
-    ∷ may (8 ∷ 26 ∷ 31 ∷ []) ++ wait_causes
+    ∷ may (8 ∷ 26 ∷ 31 ∷ [])
 
 -- ---- statements
 
@@ -225,7 +227,7 @@ abbrev pub has_files : Group → Bool
 has_files g = not (maps.len g.files == 0)
 
 abbrev pub clause_causes : Below → World → Bytes → s.Clause → List Cause
-clause_causes below w name (s.AddDisks groups rebalance) = in_group w name (λ g. rebalance_causes rebalance ++ add_causes g.name (rows_in below w name) groups)
+clause_causes below w name (s.AddDisks groups rebalance) = in_group w name (λ g. rebalance_causes rebalance ++ add_causes g.name (rows_in below w name) groups ++ wait_causes (rebalance_wait rebalance))
 clause_causes below w name (s.AddTemplate template words) = template_clause_causes w name (t.added_by template words)
 clause_causes below w name (s.ModifyTemplate template words) = template_clause_causes w name (t.modified_by template words)
 clause_causes below w name (s.DropTemplate template) = template_clause_causes w name (t.dropped_by template)
@@ -239,20 +241,20 @@ clause_causes below w name (s.DropFile path) = in_group w name (λ g. file_drop_
 clause_causes below w name (s.DropDisks disks rebalance) = in_group w name (λ g.
     rebalance_causes rebalance
     ++ When (list_any (λ (d : s.DroppedDisk). lacks_name (rows_in below w name) d.name) disks) r.NoName
-    ∷ drop_tests (rows_in below w name) disks disks ++ may (40 ∷ 33 ∷ 7 ∷ []) ++ wait_causes)
+    ∷ drop_tests (rows_in below w name) disks disks ++ may (40 ∷ 33 ∷ 7 ∷ []) ++ wait_causes (rebalance_wait rebalance))
 clause_causes below w name (s.DropFailgroup kind failgroup force rebalance) = in_group w name (λ g.
     rebalance_causes rebalance
-    ++ disks_causes (can_drop force) (rows_in below w name) (s.InFailgroup kind failgroup) ++ may (40 ∷ 33 ∷ 7 ∷ []) ++ wait_causes)
+    ++ disks_causes (can_drop force) (rows_in below w name) (s.InFailgroup kind failgroup) ++ may (40 ∷ 33 ∷ 7 ∷ []) ++ wait_causes (rebalance_wait rebalance))
 clause_causes below w name s.UndropDisks = in_group w name (λ g. May 32 ∷ [])
-clause_causes below w name (s.ResizeAll size rebalance) = in_group w name (λ g. rebalance_causes rebalance ++ May 8 ∷ wait_causes)
+clause_causes below w name (s.ResizeAll size rebalance) = in_group w name (λ g. rebalance_causes rebalance ++ May 8 ∷ wait_causes (rebalance_wait rebalance))
 clause_causes below w name (s.ResizeDisk disk size rebalance) = in_group w name (λ g.
-    rebalance_causes rebalance ++ disks_causes serves (rows_in below w name) (s.Named (disk ∷ [])) ++ May 8 ∷ wait_causes)
-clause_causes below w name (s.Rebalancing rebalance) = in_group w name (λ g. power_causes rebalance ++ wait_causes)
+    rebalance_causes rebalance ++ disks_causes serves (rows_in below w name) (s.Named (disk ∷ [])) ++ May 8 ∷ wait_causes (rebalance_wait rebalance))
+clause_causes below w name (s.Rebalancing rebalance) = in_group w name (λ g. power_causes rebalance ++ wait_causes (rebalance_wait (Some rebalance)))
 clause_causes below w name s.Check = in_group w name (λ g. [])
 clause_causes below w name (s.Mount force) =
     When (is_mounted_as (entry_in w name)) r.AlreadyMounted ∷ too_many_groups w ∷ may (2 ∷ 12 ∷ 9 ∷ 13 ∷ 10 ∷ 11 ∷ 32 ∷ [])
 clause_causes below w name (s.Dismount force) = When (is_none (entry_in w name)) r.NoGroup ∷ []
-clause_causes below w name (s.Online disks wait) = in_group w name (λ g. disks_causes is_offline (rows_in below w name) disks ++ may (5 ∷ 32 ∷ 29 ∷ 30 ∷ 31 ∷ []))
+clause_causes below w name (s.Online disks wait) = in_group w name (λ g. disks_causes is_offline (rows_in below w name) disks ++ May 5 ∷ wait_causes (resync_wait disks wait))
 clause_causes below w name (s.Offline disks minutes) = in_group w name (λ g. disks_causes is_online (rows_in below w name) disks ++ may (40 ∷ 33 ∷ 32 ∷ []))
 clause_causes below w name (s.SetAttribute attribute) = in_group w name (λ g. by_result (t.attribute_set g attribute) ++ May 32 ∷ [])
 

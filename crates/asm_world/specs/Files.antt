@@ -1,5 +1,5 @@
 -- Files and their bytes: what is written, made and cut, and the refusals that the map decides, in their order.
-use Rattle.std.specs.Prelude.{◌≡◌, ℕ, ◌+◌, ◌%◌, min, max, Bool, true, ◌&&◌, ◌||◌, ◌==◌, not, nat_le, nat_lt, List, [], ◌∷◌, ◌++◌, length, map, take, drop, replicate, Option, Some, None, is_none, Result, codes, if◌then◌else◌}
+use Rattle.std.specs.Prelude.{◌≡◌, ℕ, ◌+◌, ◌-◌, ◌^◌, ◌%◌, min, max, Bool, true, ◌&&◌, ◌||◌, ◌==◌, not, nat_le, nat_lt, List, [], ◌∷◌, ◌++◌, length, map, take, drop, replicate, Option, Some, None, is_none, Result, codes, if◌then◌else◌}
 use Rattle.std.specs.FinMap as maps
 use Rattle.std.specs.Fmt.{decimal}
 use Rattle.asm_group.specs.declared.GroupKind.{GroupKind}
@@ -142,13 +142,17 @@ new_file_causes g (Some name) size template =
 abbrev pub with_dir : Group → Path → Group
 with_dir g path = if is_there g path then g else with_node g path Dir
 
+-- the incarnation after one, which stays once it is the greatest
+abbrev pub next_incarnation : ℕ → ℕ
+next_incarnation n = min (n + 1) (2 ^ 64 - 1)
+
 -- the file with its system name and the directories that were missing
 abbrev pub with_file : Group → NewName → ℕ → File → Group
 with_file g name n f =
     let dirs = with_dir (with_dir g (name.db ∷ [])) (name.db ∷ name.type_name ∷ []) in
     record (with_node dirs (new_path name n f.incarnation) (System n)) {
       files = maps.insert g.files n f;
-      next = g.next + 1;
+      next = next_incarnation g.next;
     }
 
 abbrev pub new_file : Group → NewName → Template → ℕ → List Cell → File

@@ -16,6 +16,7 @@ pub mod Run
 pub mod TextRows
 pub mod NewDisks
 pub mod Numbers
+pub mod Waiting
 pub mod Causes
 pub mod Waits
 pub mod RunLaws
@@ -34,3 +35,4 @@ pub mod SettingRows
 pub mod FirstWord
 pub mod EditLaws
 pub mod WorldLaws
+pub mod RunRows

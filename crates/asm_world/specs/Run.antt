@@ -1,5 +1,5 @@
 -- Runs: the moves of a session one after another, with the state after each, and what is printed of them.
-use Rattle.std.specs.Prelude.{◌≡◌, ◌⊎◌, ⊤, ℕ, ◌-◌, ◌<◌, ◌≤◌, ◌==◌, Bool, true, false, if◌then◌else◌, List, [], ◌∷◌, ◌++◌, Option, Some, None}
+use Rattle.std.specs.Prelude.{◌≡◌, ◌⊎◌, ⊤, ℕ, ◌-◌, ◌<◌, ◌≤◌, ◌==◌, Bool, true, false, if◌then◌else◌, List, [], ◌∷◌, ◌++◌, Option, Some, None, is_some}
 use Rattle.std.specs.List.{flat_map, filter_map, list_any}
 use Rattle.std.specs.Str.{bytes_eq}
 use Rattle.asm_group.specs.Names.{Bytes}
@@ -44,6 +44,8 @@ pub data Move : Type 0 where
   Slices : (event : Event) → Move
   -- nothing more is due
   Rests : Move
+  -- memory is short in an expiry or in a slice, which ends the run
+  Stops : Move
 
 -- The state of a session, with the number of calls on the disks by then, and whatever else is counted.
 pub record State (Counts : Type 0) : Type 0 where
@@ -192,6 +194,20 @@ pub record RestsAt {Counts : Type 0} (s t : State Counts) : Type 0 where
   pub world : t.world ≡ s.world
   pub time : t.time ≡ s.time
 
+-- an expiry or a slice is due
+abbrev pub is_due : World → (ℕ → GroupBelow) → Phase → Bool
+is_due w below Resting = false
+is_due w below (Expiring groups) = is_some (next_expiry w below groups)
+is_due w below (Slicing slices) = is_some (next_slice w below slices)
+is_due w below Stopped = false
+
+-- There was no memory for what is due.
+pub record StopsAt {Counts : Type 0} (s t : State Counts) : Type 0 where
+  pub due : is_due s.world s.below s.phase ≡ true
+  pub after : t.phase ≡ Stopped
+  pub world : t.world ≡ s.world
+  pub time : t.time ≡ s.time
+
 -- What a move may do, where texts have this meaning.
 abbrev pub Does : {Counts : Type 0} → (Bytes → Command) → State Counts → Move → State Counts → Type 0
 Does means s (Starts time) t = StartsAt time s t
@@ -199,6 +215,7 @@ Does means s (Expires event) t = ExpiresAt event s t
 Does means s (Answers found text reply) t = AnswersAt means found text reply s t
 Does means s (Slices event) t = SlicesAt event s t
 Does means s Rests t = RestsAt s t
+Does means s Stops t = StopsAt s t
 
 -- ---- runs
 
@@ -206,7 +223,7 @@ Does means s Rests t = RestsAt s t
 pub record Outside (Counts Image : Type 0) : Type 1 where
   -- what a text asks for
   pub means : Bytes → Command
-  -- whether a move has its cause, by what is counted
+  -- whether a move has its cause, and did its work beside the world, by what is counted
   pub causes : State Counts → Move → State Counts → Type 0
   -- whether a stop in a moment may leave an image
   pub leaves : ℕ → Image → Type 0
@@ -222,6 +239,7 @@ groups_in means w (Starts time) new id = groups_of w id
 groups_in means w (Expires event) new id = groups_of w id
 groups_in means w (Slices event) new id = groups_of w id
 groups_in means w Rests new id = groups_of w id
+groups_in means w Stops new id = groups_of w id
 
 -- for each id the image stands for groups between the worlds before and after the move
 abbrev pub IsHeld : {Counts Image : Type 0} → Outside Counts Image → State Counts → Move → State Counts → Image → Type 0
@@ -308,6 +326,7 @@ text_of style (Expires event) = event_in style event
 text_of style (Answers found text reply) = reply_in style reply
 text_of style (Slices event) = event_in style event
 text_of style Rests = []
+text_of style Stops = []
 
 abbrev pub entry_text : {Counts : Type 0} → Entry Counts → Bytes
 entry_text e = text_of e.style e.move
@@ -349,6 +368,7 @@ commands_at (Starts time) = []
 commands_at (Expires event) = []
 commands_at (Slices event) = []
 commands_at Rests = []
+commands_at Stops = []
 
 -- the texts of the commands that were answered
 abbrev pub answered : {Counts : Type 0} → List (Entry Counts) → List Bytes
@@ -360,6 +380,7 @@ times_at (Expires event) = []
 times_at (Answers found text reply) = []
 times_at (Slices event) = []
 times_at Rests = []
+times_at Stops = []
 
 -- the times that the clock gave
 abbrev pub times_of : {Counts : Type 0} → List (Entry Counts) → List ℕ
@@ -371,6 +392,7 @@ marks_at (Starts time) whole calls = []
 marks_at (Expires event) whole calls = []
 marks_at (Slices event) whole calls = []
 marks_at Rests whole calls = []
+marks_at Stops whole calls = []
 
 -- the counts of calls at which replies had been printed whole
 abbrev pub marks_of : {Counts : Type 0} → List (Entry Counts) → List ℕ
@@ -386,6 +408,7 @@ refuses (Starts time) = false
 refuses (Expires event) = false
 refuses (Slices event) = false
 refuses Rests = false
+refuses Stops = false
 
 -- some reply is a refusal
 abbrev pub has_refusal : {Counts : Type 0} → List (Entry Counts) → Bool

@@ -10,7 +10,7 @@ use Rattle.asm_world.specs.Reply.{Reply, Refused}
 use Rattle.asm_world.specs.Step.{Step}
 use Rattle.asm_world.specs.Waits.{HasLines}
 use Rattle.asm_world.specs.World.{World, groups_of}
-use Rattle.asm_world.specs.Run.{Outside, State, Entry, Move, Answers, Starts, Expires, Slices, Rests, IsMove, IsRun, IsRunWhile, AllMoves, CallsRise, IsThere, HeldBy, end_of, marks_of}
+use Rattle.asm_world.specs.Run.{Outside, State, Entry, Move, Answers, Starts, Expires, Slices, Rests, Stops, IsMove, IsRun, IsRunWhile, AllMoves, CallsRise, IsThere, HeldBy, end_of, marks_of}
 
 -- A run of some moves and then of others is a run of them all, and each run of them all is that.
 abbrev pub RunsJoin : {Counts Image : Type 0} → Outside Counts Image → Type 0
@@ -34,6 +34,7 @@ is_answer (Starts time) = false
 is_answer (Expires event) = false
 is_answer (Slices event) = false
 is_answer Rests = false
+is_answer Stops = false
 
 -- no command is answered
 abbrev pub IsQuiet : {Counts : Type 0} → List (Entry Counts) → Type 0

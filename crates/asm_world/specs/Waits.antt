@@ -1,37 +1,17 @@
 -- The lines of a statement under WAIT, which come before its last line.
-use Rattle.std.specs.Prelude.{◌≡◌, ◌⊎◌, ⊤, ℕ, ◌&&◌, nat_lt, List, [], ◌∷◌, ◌++◌, map, Option, Some, None, All, if◌then◌else◌}
+use Rattle.std.specs.Prelude.{◌≡◌, ◌⊎◌, ⊤, ℕ, List, [], ◌∷◌, ◌++◌, map, Some, None, All, if◌then◌else◌}
 use Rattle.std.specs.List.{filter_map}
 use Rattle.asm_group.specs.Names.{Bytes}
 use Rattle.asm_group.specs.Refusal as r
 use Rattle.asm_world.specs.Below.{Below}
-use Rattle.asm_world.specs.Causes.{power_of, rows_in, rows_among, rows_of_failgroup, is_offline}
+use Rattle.asm_world.specs.Causes.{rows_in, rows_among, rows_of_failgroup, is_offline}
 use Rattle.asm_world.specs.Command as c
 use Rattle.asm_world.specs.Reply.{Reply, Done, Refused, Rebalanced, Finished, OutOfSpace, LostExtent, MoveFault, MoveEnds, Resynced, Back, LeftMarked, SyncFault, SyncEnds, Moved, Synced}
 use Rattle.asm_world.specs.Reports.{DiskRow}
 use Rattle.asm_world.specs.Statement as s
 use Rattle.asm_world.specs.Text.{event_line}
+use Rattle.asm_world.specs.Waiting.{Wait, Nothing, Rebalance, Resync, wait_of}
 use Rattle.asm_world.specs.World.{World, entry_in}
-
--- what a statement waits for
-pub data Wait : Type 0 where
-  Nothing : Wait
-  Rebalance : Wait
-  Resync : (disks : s.Disks) → Wait
-
--- WAIT with power 0 is as NOWAIT
-abbrev pub rebalance_wait : Option s.Rebalance → Wait
-rebalance_wait None = Nothing
-rebalance_wait (Some rebalance) = if rebalance.wait && nat_lt 0 (power_of rebalance) then Rebalance else Nothing
-
-abbrev pub wait_of : s.Clause → Wait
-wait_of (s.AddDisks groups rebalance) = rebalance_wait rebalance
-wait_of (s.DropDisks disks rebalance) = rebalance_wait rebalance
-wait_of (s.DropFailgroup kind name force rebalance) = rebalance_wait rebalance
-wait_of (s.ResizeAll size rebalance) = rebalance_wait rebalance
-wait_of (s.ResizeDisk name size rebalance) = rebalance_wait rebalance
-wait_of (s.Rebalancing rebalance) = rebalance_wait (Some rebalance)
-wait_of (s.Online disks wait) = if wait then Resync disks else Nothing
-wait_of other = Nothing
 
 -- the disks that ONLINE takes, by number
 abbrev pub disks_taken : List DiskRow → s.Disks → List DiskRow
@@ -63,6 +43,12 @@ EndsSyncBy how cause = ⊥
 
 abbrev pub sync_line : Bytes → Bytes × Resynced → Bytes
 sync_line group (disk, how) = event_line (Synced group disk how)
+
+-- the line by which a rebalance ended, for this cause
+pub record EndsRebalance (group : Bytes) (cause : r.Refusal) (lines : List Bytes) : Type 0 where
+  pub how : Rebalanced
+  pub ends : EndsBy how cause
+  pub lines_are : lines ≡ event_line (Moved group how) ∷ []
 
 -- one line for each of these disks, all of them Online now
 pub record AreBack (group : Bytes) (disks : List Bytes) (lines : List Bytes) : Type 0 where
@@ -99,12 +85,25 @@ DoneLines group rows Nothing lines = lines ≡ []
 DoneLines group rows Rebalance lines = (steps : ℕ) × (lines ≡ event_line (Moved group (Finished steps)) ∷ [])
 DoneLines group rows (Resync disks) lines = AreBack group (names_of (disks_taken rows disks)) lines
 
--- The lines before a refusal: none, or what ended.
+-- The lines before the refusal of a rebalance's WAIT: its end, where it can't be refused so otherwise.
+abbrev pub RefusedRebalance : Bytes → r.Refusal → List Bytes → Type 0
+RefusedRebalance group (r.NoSpace file index) lines = EndsRebalance group (r.NoSpace file index) lines
+RefusedRebalance group (r.Lost file index) lines = EndsRebalance group (r.Lost file index) lines
+RefusedRebalance group (r.ReadFault disk) lines = EndsRebalance group (r.ReadFault disk) lines
+RefusedRebalance group cause lines = (lines ≡ []) ⊎ EndsRebalance group cause lines
+
+-- The lines before the refusal of a resync's WAIT, on these disks: how far it came, where it can't be refused so otherwise.
+abbrev pub RefusedResync : Bytes → List Bytes → r.Refusal → List Bytes → Type 0
+RefusedResync group disks r.NoMemory lines = AreBackInPart group disks lines
+RefusedResync group disks (r.ReadFault disk) lines = EndsAtDisk group disks (r.ReadFault disk) lines
+RefusedResync group disks (r.WriteFault disk) lines = EndsAtDisk group disks (r.WriteFault disk) lines
+RefusedResync group disks cause lines = (lines ≡ []) ⊎ EndsAtDisk group disks cause lines
+
+-- The lines before a refusal.
 abbrev pub RefusedLines : Bytes → List DiskRow → Wait → r.Refusal → List Bytes → Type 0
 RefusedLines group rows Nothing cause lines = lines ≡ []
-RefusedLines group rows Rebalance cause lines = (lines ≡ []) ⊎ ((how : Rebalanced) × EndsBy how cause × (lines ≡ event_line (Moved group how) ∷ []))
-RefusedLines group rows (Resync disks) r.NoMemory lines = AreBackInPart group (names_of (disks_taken rows disks)) lines
-RefusedLines group rows (Resync disks) cause lines = (lines ≡ []) ⊎ EndsAtDisk group (names_of (disks_taken rows disks)) cause lines
+RefusedLines group rows Rebalance cause lines = RefusedRebalance group cause lines
+RefusedLines group rows (Resync disks) cause lines = RefusedResync group (names_of (disks_taken rows disks)) cause lines
 
 -- the name of the group as it is printed
 abbrev pub printed_name : World → Bytes → Bytes

@@ -15,10 +15,10 @@ pub use language::{
     writing_rows, written_is_said,
 };
 pub use runs::{
-    Later, Measure, Premise, between_replies, calls_grow, histories_split, marks_rise,
-    memory_is_short_anywhere, moments_are_held, mounted_are_there, premises_join,
-    quiet_moments_are_held, quiet_moves_leave_groups, runs_call_more, runs_join, whiles_are_runs,
-    whiles_join, whiles_stay,
+    Later, Measure, Premise, between_replies, calls_grow, histories_split, incarnation_rows,
+    marks_rise, memory_is_short_anywhere, moments_are_held, mounted_are_there, premises_join,
+    quiet_moments_are_held, quiet_moves_leave_groups, run_rows, runs_call_more, runs_join,
+    wait_rows, whiles_are_runs, whiles_join, whiles_stay,
 };
 pub use texts::{
     attribute_rows, cause_rows, generator_rows, name_rows, path_rows, refusal_rows, report_rows,

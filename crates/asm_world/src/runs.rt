@@ -1,6 +1,7 @@
 // Laws of all runs. Each function has an empty body: its contract is the law.
 ghost use Rattle.std.specs.Prelude.{ℕ};
 ghost use Rattle.asm_world.specs.Run.{Outside, Move};
+ghost use Rattle.asm_world.specs.RunRows.{RunRows, WaitsAreOwed, IncarnationRows};
 ghost use Rattle.asm_world.specs.RunLaws.{RunsJoin, MomentsAreHeld, MountedAreThere, QuietMovesLeaveGroups, QuietMomentsAreHeld, HistoriesSplit, BetweenReplies, MarksRise};
 ghost use Rattle.asm_world.specs.RunLaws.{PremisesJoin, WhilesJoin, WhilesAreRuns, WhilesStay, CallsGrow, RunsCallMore, MemoryIsShortAnywhere};
 
@@ -89,6 +90,21 @@ pub fn calls_grow<C>()
 /// In a run the count of calls never falls.
 pub fn runs_call_more<C, I, M: Measure<C, I>>()
     ensures { RunsCallMore M.outside }
+{}
+
+/// A worked run, in the order of the top call. Other orders are refused.
+pub fn run_rows()
+    ensures { RunRows }
+{}
+
+/// Which lines come under WAIT before a refusal, and which refusals come without WAIT.
+pub fn wait_rows()
+    ensures { WaitsAreOwed }
+{}
+
+/// The next incarnation after a new file.
+pub fn incarnation_rows()
+    ensures { IncarnationRows }
 {}
 
 /// Want of memory may be the answer to any command, and leave the world.
