@@ -1,5 +1,5 @@
 -- From what a run holds to what a stop in it may leave.
-use Rattle.std.proofs.Common.{◌≡◌, ◌⊎◌, ◌&&◌, ◌==◌, ℕ, ◌<◌, ◌≤◌, Bool, true, List, [], ◌∷◌, ◌++◌, inl, inr, refl, sym, ◌∙◌, ap, subst, append_assoc, arith}
+use Rattle.std.proofs.Common.{◌≡◌, ◌⊎◌, ◌&&◌, ◌==◌, ℕ, ◌<◌, ◌≤◌, Bool, true, List, [], ◌∷◌, ◌++◌, length, inl, inr, refl, sym, ◌∙◌, ap, subst, append_assoc, arith}
 use Rattle.std.proofs.lemmas.Bool.{cases_lt, false≢true}
 use Rattle.std.specs.List.{list_any}
 use Rattle.bay.specs.Image.{Image}
@@ -19,7 +19,8 @@ use Rattle.asm_world.specs.World.{World, SessionEntry, groups_of, has_mounted, i
 use Rattle.group_disks.specs.Creating.{Allows}
 use Rattle.group_disks.specs.Found.{Counts, counts_of}
 use Rattle.session.specs.Acts.{Holding}
-use Rattle.session.specs.Claims.{held_outside, StandsFor, IsProvedApart}
+use Rattle.session.proofs.Creation.{same_sound, same_members, same_member, all_stand}
+use Rattle.session.specs.Claims.{held_outside, untouched, StandsFor, IsProvedApart}
 use Rattle.session.specs.Meaning.{meaning}
 use Rattle.asm.specs.Crash.{StartsAs, AreHeld, IsCrashSafe}
 
@@ -37,8 +38,20 @@ allows-more paths leaves id groups more image allowed slots =
 pub starts-stands : (n : ℕ) (known : ℕ → Bool) (bay : BayState) (w : World) → w.session ≡ [] → StartsAs known bay w → StandsFor n known 0 bay w
 starts-stands n known bay w none s = record {
   mounted = λ id is. absurd (false≢true (ap (λ (l : List SessionEntry). list_any (λ (e : SessionEntry). is_mounted e && (e.id == id)) l) (sym none) ∙ is));
-  allows = λ image id left. s.stands image id left;
-  origin = λ image id left member. inr (s.is_known image id left member);
+  allows = λ image id left slots.
+      let by = s.stands id in
+      record { completed = by.completed; begun = by.begun; holds = same_sound id (groups_of w id) by.completed by.begun s.first image (s.one image left) by.sound slots };
+  settled = λ id out.
+      let by = s.stands id in
+      untouched (record {
+        completed = by.completed;
+        begun = by.begun;
+        first = s.first;
+        stands = by.sound;
+        sound = λ image left. same_sound id (groups_of w id) by.completed by.begun s.first image (s.one image left) by.sound;
+        members = λ image left. same_members id s.first s.first image (s.one image left) (λ slot has. refl);
+      });
+  origin = λ image id left member. inr (s.is_known id (same_member id s.first image (s.one image left) member));
 }
 
 -- the moves from a reply on, up to the next command, and its answer
@@ -120,6 +133,6 @@ crash-safe paths new first end history known given ends calls all h =
           let L : ℕ → Type 0 = λ n. new.leaves n image in
           let M : State Counts → Type 0 = λ s. has_mounted s.world id ≡ true in
           let k = stands.mounted id (subst M ends is) in
-          (k.1 image (subst L calls (subst N ends left))).standing;
+          all_stand (length paths) id (groups_of end.world id) new k image (k.held image (subst L calls (subst N ends left)));
       now = now;
     }

@@ -1,5 +1,5 @@
 -- What a disk that changes leaves of the ids that its header doesn't name afterwards.
-use Rattle.std.proofs.Common.{◌≡◌, ◌≢◌, ⊎_elim, ℕ, zero, suc, ◌<◌, ◌≤◌, false, List, [], ◌∷◌, length, set, get_or, refl, sym, ap, subst, ◌∙◌, None, Some, arith}
+use Rattle.std.proofs.Common.{◌≡◌, ◌≢◌, ⊎_elim, ℕ, zero, suc, ◌<◌, ◌≤◌, false, List, [], ◌∷◌, length, set, get_or, refl, sym, ap, subst, ◌∙◌, Option, None, Some, arith}
 use Rattle.std.specs.Prelude.{nat_le, ◌&&◌}
 use Rattle.std.proofs.lemmas.Bool.{cases_lt, cond-false, and_right}
 use Rattle.std.proofs.lemmas.Option.{none-some}
@@ -12,17 +12,18 @@ use Rattle.asm_formats.specs.Regions.{least_size, header_gate}
 use Rattle.asm_formats.specs.Header.{Header, decoded_header}
 use Rattle.asm_formats.specs.Metadata.{Metadata, metadata, header_of}
 use Rattle.asm_formats.specs.Places.{SameElsewhere}
+use Rattle.asm_formats.specs.Status.{Status}
 use Rattle.asm_placement.specs.Among.{IsAmong}
 use Rattle.asm_images.specs.Members.{Image, Member, members, metadata_of, all_members, written, IsOutside}
 use Rattle.asm_images.specs.Bridge.{disk_bytes, disks_in, ChangesSlot}
-use Rattle.asm_images.specs.Sound.{SoundBy, Sound}
+use Rattle.asm_images.specs.Sound.{SoundBy}
 use Rattle.asm_images.proofs.Members.{member_is, among_members}
 use Rattle.asm_images.proofs.Joining.{leave_keeps, outside_keeps}
 use Rattle.asm_images.proofs.Describing.{spare_keeps}
 use Rattle.asm_images.proofs.Outsiders.{other_header_is_elsewhere}
 use Rattle.asm_images.proofs.UserBytes.{metadata_write_keeps_copies}
 use Rattle.asm_images.proofs.Bridges.{disks_are_listed, slot_change, beyond_is_unseen}
-use Rattle.group_disks.specs.Creating.{Allows, HasMember}
+use Rattle.group_disks.specs.Creating.{HasMember}
 
 -- a shut gate shows no header
 pub shut_header : (bytes : List ℕ) → is_open bytes header_gate ≡ false → header_of bytes ≡ None
@@ -69,21 +70,17 @@ module _ (id : ℕ) (old : Image) (groups : List Group) (slot : ℕ) (inside : s
       let here : get_or (written old slot shut) m.slot [] ≡ shut = ap (λ (k : ℕ). get_or (written old slot shut) k []) at ∙ get_or-set_same old slot shut [] inside in
       none-some m.header (sym (shut_header shut (is_shut before)) ∙ ap header_of (sym here) ∙ is.header)
 
-  pub departs : (bytes : List ℕ) → NamesOther id bytes → Sound id old groups → Sound id (written old slot bytes) groups
+  pub departs : (bytes : List ℕ) (completed : Option Status) (begun : List Status) → NamesOther id bytes → SoundBy id old groups completed begun → SoundBy id (written old slot bytes) groups completed begun
   unfolding metadata
-  departs bytes other sound =
-      let left : SoundBy id (written old slot shut) groups sound.completed sound.begun = leave_keeps id old groups sound.completed sound.begun sound.holds slot shut (record {
+  departs bytes completed begun other sound =
+      let left : SoundBy id (written old slot shut) groups completed begun = leave_keeps id old groups completed begun sound slot shut (record {
         inside = inside;
         closed = without_header;
-        copies = metadata_write_keeps_copies id old groups sound.completed sound.begun sound.holds slot shut 0 1 inside only_gate (λ m h at. omega arith);
+        copies = metadata_write_keeps_copies id old groups completed begun sound slot shut 0 1 inside only_gate (λ m h at. omega arith);
       }) in
-      let after : SoundBy id (written (written old slot shut) slot bytes) groups sound.completed sound.begun =
-      outside_keeps id (written old slot shut) groups sound.completed sound.begun left slot bytes (other_header_is_elsewhere id (written old slot shut) slot bytes outside_then other) in
-      record {
-        completed = sound.completed;
-        begun = sound.begun;
-        holds = subst (λ (image : Image). SoundBy id image groups sound.completed sound.begun) (set_twice old slot shut bytes) after;
-      }
+      let after : SoundBy id (written (written old slot shut) slot bytes) groups completed begun =
+      outside_keeps id (written old slot shut) groups completed begun left slot bytes (other_header_is_elsewhere id (written old slot shut) slot bytes outside_then other) in
+      subst (λ (image : Image). SoundBy id image groups completed begun) (set_twice old slot shut bytes) after
 
   -- a member elsewhere was one before
   pub stays_member : (bytes : List ℕ) (m : Member) → m.slot ≢ slot → IsAmong (all_members id (written old slot bytes)) m → (n : Member) × IsAmong (all_members id old) n
@@ -110,15 +107,12 @@ module _ (id : ℕ) (old : Image) (groups : List Group) (slot : ℕ) (inside : s
   pub same_metadata : (bytes : List ℕ) → metadata bytes ≡ metadata before → metadata_of (written old slot bytes) ≡ metadata_of old
   same_metadata bytes same = map-set_same metadata old slot bytes [] same
 
-  pub spares : (bytes : List ℕ) → metadata bytes ≡ metadata before → SameElsewhere before bytes 0 512 → Sound id old groups → Sound id (written old slot bytes) groups
-  spares bytes same change sound = record {
-    completed = sound.completed;
-    begun = sound.begun;
-    holds = spare_keeps id old (written old slot bytes) groups sound.completed sound.begun sound.holds (record {
-      metadata = same_metadata bytes same;
-      bytes = metadata_write_keeps_copies id old groups sound.completed sound.begun sound.holds slot bytes 0 512 inside change (λ m h at. omega arith);
-    });
-  }
+  pub spares : (bytes : List ℕ) (completed : Option Status) (begun : List Status) → metadata bytes ≡ metadata before → SameElsewhere before bytes 0 512 → SoundBy id old groups completed begun
+      → SoundBy id (written old slot bytes) groups completed begun
+  spares bytes completed begun same change sound = spare_keeps id old (written old slot bytes) groups completed begun sound (record {
+    metadata = same_metadata bytes same;
+    bytes = metadata_write_keeps_copies id old groups completed begun sound slot bytes 0 512 inside change (λ m h at. omega arith);
+  })
 
 -- ---- the same of images of all disks
 
@@ -137,9 +131,10 @@ module _ (id slot : ℕ) (old new : bay.Image) (changes : ChangesSlot slot old n
         (λ (le : slots ≤ slot). subst P (sym (beyond_is_unseen slots slot old new le changes)) unseen)
         (cases_lt slot slots)
 
-  pub other_allows : (groups : List Group) → NamesOther id now → Allows id groups old → Allows id groups new
-  other_allows groups other allows = λ slots. looked_at (λ image. Sound id image groups) slots
-      (λ lt. departs id (disks_in slots old) groups slot (in_list slots lt) now other (allows slots)) (allows slots)
+  pub other_sound : (slots : ℕ) (groups : List Group) (completed : Option Status) (begun : List Status) → NamesOther id now → SoundBy id (disks_in slots old) groups completed begun
+      → SoundBy id (disks_in slots new) groups completed begun
+  other_sound slots groups completed begun other sound = looked_at (λ image. SoundBy id image groups completed begun) slots
+      (λ lt. departs id (disks_in slots old) groups slot (in_list slots lt) now completed begun other sound) sound
 
   pub other_member : NamesOther id now → HasMember id new → HasMember id old
   other_member other has = looked_at (λ image. IsAmong (all_members id image) has.member → HasMember id old) has.slots
@@ -155,10 +150,11 @@ module _ (id slot : ℕ) (old new : bay.Image) (changes : ChangesSlot slot old n
     same_there : (slots : ℕ) → slot < slots → metadata now ≡ metadata (get_or (disks_in slots old) slot [])
     same_there slots lt = same ∙ ap metadata (sym (disks_are_listed slots slot old lt).1)
 
-    pub same_allows : (groups : List Group) → SameElsewhere (disk_bytes old slot) now 0 512 → Allows id groups old → Allows id groups new
-    same_allows groups change allows = λ slots. looked_at (λ image. Sound id image groups) slots
-        (λ lt. spares id (disks_in slots old) groups slot (in_list slots lt) now (same_there slots lt)
-        (subst (λ (l : List ℕ). SameElsewhere l now 0 512) (sym (disks_are_listed slots slot old lt).1) change) (allows slots)) (allows slots)
+    pub same_sound : (slots : ℕ) (groups : List Group) (completed : Option Status) (begun : List Status) → SameElsewhere (disk_bytes old slot) now 0 512 → SoundBy id (disks_in slots old) groups completed begun
+        → SoundBy id (disks_in slots new) groups completed begun
+    same_sound slots groups completed begun change sound = looked_at (λ image. SoundBy id image groups completed begun) slots
+        (λ lt. spares id (disks_in slots old) groups slot (in_list slots lt) now completed begun (same_there slots lt)
+        (subst (λ (l : List ℕ). SameElsewhere l now 0 512) (sym (disks_are_listed slots slot old lt).1) change) sound) sound
 
     pub same_member : HasMember id new → HasMember id old
     same_member has = looked_at (λ image. IsAmong (all_members id image) has.member → HasMember id old) has.slots

@@ -12,7 +12,7 @@ use Rattle.asm_group.specs.Names.{Path}
 use Rattle.asm_group.specs.Group.{File, Group}
 use Rattle.asm_group.specs.NewGroup.{new_group}
 use Rattle.asm_placement.specs.Among.{IsAmong}
-use Rattle.asm_placement.specs.Tables.{head_of, homes_in, home_of, marks_in, is_extent}
+use Rattle.asm_placement.specs.Tables.{head_of, homes_in, home_of, marks_in, is_stale, is_extent}
 use Rattle.asm_placement.specs.Placed.{placed}
 use Rattle.asm_placement.specs.Partners.{partners, are_partners}
 use Rattle.asm_formats.specs.Regions.{most_units}
@@ -135,7 +135,7 @@ module _ (slot size : ℕ) (plan : Plan) where
   no_file f = maps.get-empty nat_cmp f
 
   describes : DescribesGroup first (items_of_plan plan) group
-  unfolding new_group node_at_path templates_of settings_of head_of homes_in marks_in home_of info_of node_of placed
+  unfolding new_group node_at_path templates_of settings_of head_of homes_in marks_in home_of is_stale info_of node_of placed
   describes = record {
     tree = λ path. no_name path ∙ sym (no_path path);
     templates = refl;
@@ -161,8 +161,10 @@ module _ (slot size : ℕ) (plan : Plan) where
       no_gap = λ f i has. absurd (false≢true (no_extent f (suc i) ∙ has));
       redundancy = λ f i copy head is le. refl;
       marks = λ f c. refl;
+      stale = λ f i copy is. absurd (false≢true (sym (no_bit copy) ∙ is));
     };
     places = refl;
+    regular = λ f i copy h is. absurd (none-some h is);
   }
     where
       no_path : (path : Path) → option_map entry_of_node (node_at_path (items_of_plan plan) path) ≡ None

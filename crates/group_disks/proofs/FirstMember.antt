@@ -14,12 +14,12 @@ use Rattle.asm_images.specs.Members.{Image, Member, with_member, members_from, m
 use Rattle.asm_images.specs.Bridge.{disk_bytes, disks_in, ChangesSlot}
 use Rattle.asm_images.specs.Sound.{Sound}
 use Rattle.asm_images.specs.Stands.{Standing}
-use Rattle.asm_images.specs.Kept.{header_in, IsMemberIn, IsKept}
+use Rattle.asm_images.specs.Kept.{header_in, IsMemberIn, IsHeld}
 use Rattle.asm_images.proofs.Membership.{among_flat_map}
 use Rattle.asm_images.proofs.History.{greatest_is, among_statuses}
 use Rattle.asm_images.proofs.Members.{member_is, among_members}
 use Rattle.asm_images.proofs.Bridges.{disks_are_listed, beyond_is_unseen}
-use Rattle.group_disks.specs.Creating.{Allows, HasMember, made_group}
+use Rattle.group_disks.specs.Creating.{Allows, HasMember, Founds, made_group}
 use Rattle.group_disks.specs.Planned.{Plan, IsPlan, header_of_plan, record_of_plan, kept_of_plan}
 use Rattle.group_disks.proofs.Outsiders.{nothing_among, no_member_allows}
 use Rattle.group_disks.proofs.Departing.{elsewhere_member}
@@ -138,7 +138,7 @@ module _ (slot : ℕ) (plan : Plan) (old new : bay.Image) (changes : ChangesSlot
         among_members plan.id 0 s s (metadata_of image) (metadata []) h (omega arith) (omega (arith, lt, count (suc s) new, length-map image metadata)) here named,
       )
 
-  only_here : (s : ℕ) → IsMemberIn plan.id new s → (s == slot) ≡ true
+  pub only_here : (s : ℕ) → IsMemberIn plan.id new s → (s == slot) ≡ true
   only_here s has = ⊎_elim (λ (at : s ≡ slot). eq-eqb s slot at)
       (λ (apart : s ≢ slot). let m = has_member s has in
       absurd (none (elsewhere_member plan.id slot old new changes (record { slots = suc s; member = m.0; is = m.2 }) (λ (at : m.0.slot ≡ slot). apart (sym m.1 ∙ at)))))
@@ -165,16 +165,23 @@ module _ (slot : ℕ) (plan : Plan) (old new : bay.Image) (changes : ChangesSlot
         before : (slots : ℕ) → Sound plan.id (disks_in slots old) (made_group plan.name ∷ [])
         before slots = no_member_allows plan.id (made_group plan.name ∷ []) old none slots
 
-    recorded_stands : (slots : ℕ) → slot < slots → Standing plan.id (disks_in slots new) (λ any. true)
-    recorded_stands slots lt = only_is_standing slot (new.size slot) plan is long (disks_in slots new) (λ any. true) (only_member slots lt) refl
+    recorded_stands : (slots : ℕ) → slot < slots → Standing plan.id (disks_in slots new) (kept_of_plan slot plan).slots
+    recorded_stands slots lt = only_is_standing slot (new.size slot) plan is long (disks_in slots new) (kept_of_plan slot plan).slots (only_member slots lt) (eq-eqb slot slot refl)
 
-    pub recorded_is_kept : (n : ℕ) → slot < n → IsKept n plan.id (made_group plan.name ∷ []) (kept_of_plan slot plan) new
-    recorded_is_kept n lt = record {
+    pub recorded_is_held : (n : ℕ) → slot < n → IsHeld n plan.id (made_group plan.name ∷ []) (kept_of_plan slot plan) new
+    recorded_is_held n lt = record {
       sound = λ slots. ⊎_elim
           (λ (seen : slot < slots). only_is_sound slot (new.size slot) plan is long (disks_in slots new) (only_member slots seen))
           (λ (le : slots ≤ slot). none_is_sound slot (new.size slot) plan is long (disks_in slots new) (no_member slots le))
           (cases_lt slot slots);
       standing = recorded_stands n lt;
-      here = only_here;
       there = member_there;
     }
+
+-- all parts of the disk found the group
+pub recorded_founds : (slot : ℕ) (plan : Plan) (old new : bay.Image) → ChangesSlot slot old new → metadata (disk_bytes new slot) ≡ metadata_of_plan plan (new.size slot) → IsPlan plan → plan.units * 1048576 ≤ new.size slot
+    → (n : ℕ) → slot < n → Founds n plan.id (made_group plan.name) (kept_of_plan slot plan) old new
+recorded_founds slot plan old new changes all is long n lt = record {
+  is_held = λ none. recorded_is_held slot plan old new changes none all is long n lt;
+  here = λ none s has. only_here slot plan old new changes none all s has;
+}

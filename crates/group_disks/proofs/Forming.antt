@@ -19,16 +19,15 @@ use Rattle.asm_formats.specs.Places.{SameElsewhere, SameButBlocks}
 use Rattle.asm_formats.proofs.Framing.{header_write, content_behind}
 use Rattle.asm_formats.proofs.Writings.{write_widens}
 use Rattle.asm_images.specs.Bridge.{disk_bytes, ChangesSlot}
-use Rattle.asm_images.specs.Kept.{IsKept}
 use Rattle.asm_images.proofs.Bridges.{range_change}
-use Rattle.group_disks.specs.Creating.{Allows, HasMember, Creates, made_group}
+use Rattle.group_disks.specs.Creating.{Allows, HasMember, Creates, Founds, made_group}
 use Rattle.group_disks.specs.Planned.{Plan, IsPlan, header_of_plan, header_body, kept_of_plan}
 use Rattle.group_disks.specs.Stages.{IsForming, bare, headed, claimed, whole, HasAll}
-use Rattle.group_disks.specs.CreateLaws.{FormingCreates, FormedIsKept}
+use Rattle.group_disks.specs.CreateLaws.{FormingCreates, FormedIsHeld}
 use Rattle.group_disks.proofs.Outsiders.{no_member_allows}
-use Rattle.group_disks.proofs.Departing.{shut_header, NamesOther, other_allows, other_member, same_allows, same_member}
+use Rattle.group_disks.proofs.Departing.{shut_header, NamesOther, other_sound, other_member, same_sound, same_member}
 use Rattle.group_disks.proofs.Shown.{same_gate, same_block, is_shut}
-use Rattle.group_disks.proofs.FirstMember.{unrecorded_allows, recorded_allows, recorded_is_kept}
+use Rattle.group_disks.proofs.FirstMember.{unrecorded_allows, recorded_allows, recorded_founds}
 use Rattle.group_disks.proofs.FirstDisk.{header_there, no_statuses, all_there}
 
 -- a change in front of the header that keeps gate and header keeps what the disk says
@@ -58,7 +57,7 @@ module _ (slot : ℕ) (plan : Plan) (old new : Image) (is : IsPlan plan) (long :
   module _ (changes : ChangesSlot slot old new) where
     headless_creates : header_of now ≡ None → Creates slot plan.id (made_group plan.name) old new
     headless_creates none = record {
-      others = λ other groups apart allows. other_allows other slot old new changes groups (names_none other) allows;
+      others = λ other slots groups completed begun apart sound. other_sound other slot old new changes slots groups completed begun (names_none other) sound;
       members = λ other apart has. other_member other slot old new changes (names_none other) has;
       own = λ no. no_member_allows plan.id (made_group plan.name ∷ []) new (λ has. no (other_member plan.id slot old new changes (names_none plan.id) has));
       elsewhere = changes;
@@ -71,7 +70,7 @@ module _ (slot : ℕ) (plan : Plan) (old new : Image) (is : IsPlan plan) (long :
     -- with the header of the new group
     headed_creates : header_of now ≡ Some (header_of_plan plan) → ((HasMember plan.id old → ⊥) → Allows plan.id (made_group plan.name ∷ []) new) → Creates slot plan.id (made_group plan.name) old new
     headed_creates there own = record {
-      others = λ other groups apart allows. other_allows other slot old new changes groups (names_new other apart) allows;
+      others = λ other slots groups completed begun apart sound. other_sound other slot old new changes slots groups completed begun (names_new other apart) sound;
       members = λ other apart has. other_member other slot old new changes (names_new other apart) has;
       own = own;
       elsewhere = changes;
@@ -114,7 +113,7 @@ module _ (slot : ℕ) (plan : Plan) (old new : Image) (is : IsPlan plan) (long :
 
       kept_creates : Creates slot plan.id (made_group plan.name) old new
       kept_creates = record {
-        others = λ other groups apart allows. same_allows other slot old new gates_change says_the_same groups (range_change 0 slot 0 512 old new may.elsewhere).1 allows;
+        others = λ other slots groups completed begun apart sound. same_sound other slot old new gates_change says_the_same slots groups completed begun (range_change 0 slot 0 512 old new may.elsewhere).1 sound;
         members = λ other apart has. same_member other slot old new gates_change says_the_same has;
         own = λ no. no_member_allows plan.id (made_group plan.name ∷ []) new (λ has. no (same_member plan.id slot old new gates_change says_the_same has));
         elsewhere = gates_change;
@@ -155,9 +154,8 @@ module _ (slot : ℕ) (plan : Plan) (old new : Image) (is : IsPlan plan) (long :
     stage_creates (whole shows content) = headed_creates parts_change (header_there slot plan is new space shows.header_slot)
         (λ no. recorded_allows slot plan old new parts_change no (all_there slot plan is new space (record { shows = shows; content = content })) is units_there)
 
-    whole_is_kept : HasAll slot plan new → (HasMember plan.id old → ⊥) → (slots : ℕ) → slot < slots
-        → IsKept slots plan.id (made_group plan.name ∷ []) (kept_of_plan slot plan) new
-    whole_is_kept has lacks slots lt = recorded_is_kept slot plan old new parts_change lacks (all_there slot plan is new space has) is units_there slots lt
+    whole_founds : HasAll slot plan new → (slots : ℕ) → slot < slots → Founds slots plan.id (made_group plan.name) (kept_of_plan slot plan) old new
+    whole_founds has slots lt = recorded_founds slot plan old new parts_change (all_there slot plan is new space has) is units_there slots lt
 
 pub forming_creates : FormingCreates
 forming_creates = λ slot plan old new is long step. ⊎_elim
@@ -165,5 +163,5 @@ forming_creates = λ slot plan old new is long step. ⊎_elim
     (λ forming. stage_creates slot plan old new is long forming.elsewhere forming.is_forming)
     step
 
-pub formed_is_kept : FormedIsKept
-formed_is_kept = λ slot slots plan old new is long lacks formed lt. whole_is_kept slot plan old new is long formed.elsewhere formed.has_all lacks slots lt
+pub formed_is_held : FormedIsHeld
+formed_is_held = λ slot slots plan old new is long formed lt. whole_founds slot plan old new is long formed.elsewhere formed.has_all slots lt

@@ -1,5 +1,5 @@
 -- A creation at every moment.
-use Rattle.std.proofs.Common.{◌≡◌, inl, inr, ℕ, ◌*◌, ◌<◌, ◌≤◌, true, List, ◌∙◌, length, All, None, Some, Result, Ok, Err, is_ok, sym, subst, ap, arith}
+use Rattle.std.proofs.Common.{◌≡◌, inl, inr, ℕ, ◌*◌, ◌<◌, ◌≤◌, true, List, ◌∙◌, length, All, None, Some, Result, Ok, Err, is_ok, refl, sym, subst, ap, arith}
 use Rattle.std.specs.Prelude.{OnOk}
 use Rattle.std.proofs.lemmas.List.Elements.{All-contains}
 use Rattle.bay.specs.Image.{Image, Same}
@@ -9,7 +9,7 @@ use Rattle.bay.specs.Moments.{Runs, Ends}
 use Rattle.bay.proofs.Calls.{widened, goes_on, both_done, stops, on_more}
 use Rattle.asm_group.specs.Names.{Bytes}
 use Rattle.asm_group.specs.Group.{Group}
-use Rattle.asm_images.specs.Sound.{Sound}
+use Rattle.asm_images.specs.Sound.{SoundBy}
 use Rattle.asm_formats.specs.Metadata.{header_of}
 use Rattle.asm_images.specs.Members as lists
 use Rattle.asm_images.specs.Members.{all_members}
@@ -20,7 +20,7 @@ use Rattle.asm_images.specs.Kept.{header_in}
 use Rattle.group_disks.specs.Found.{counts_of, Told, AreAllRead, IsAboveAll}
 use Rattle.group_disks.specs.Planned.{Plan, IsPlan, kept_of_plan}
 use Rattle.group_disks.specs.Stages.{MayForm, HasFormed}
-use Rattle.group_disks.proofs.Forming.{forming_creates, formed_is_kept}
+use Rattle.group_disks.proofs.Forming.{forming_creates, formed_is_held}
 use Rattle.group_disks.proofs.Outsiders.{creates_none}
 
 -- a run with a larger step from such images as there may be
@@ -48,7 +48,7 @@ has_before id x y same has = record { slots = has.slots; member = has.member; is
 -- a creation from disks that are as they were
 same_creates : (slot id : ℕ) (g : Group) (x y z : Image) → Same x y → Creates slot id g y z → Creates slot id g x z
 same_creates slot id g x y z same creates = record {
-  others = λ other groups apart allows. creates.others other groups apart (λ slots. subst (λ (i : lists.Image). Sound other i groups) (sym (same_is_same slots x y same)) (allows slots));
+  others = λ other slots groups completed begun apart sound. creates.others other slots groups completed begun apart (subst (λ (i : lists.Image). SoundBy other i groups completed begun) (sym (same_is_same slots x y same)) sound);
   members = λ other apart has. has_before other x y same (creates.members other apart has);
   own = λ none. creates.own (λ has. none (has_before id x y same has));
   elsewhere = record { size = λ s differ. creates.elsewhere.size s differ ∙ same.size s; byte = λ s k differ. creates.elsewhere.byte s k differ ∙ same.byte s k };
@@ -90,7 +90,7 @@ forms_founds {m} {t} slot slots size plan sound attached is room inside ends = r
 }
   where
     founds : (x y : Image) → x.size slot ≡ size → HasFormed slot plan x y → Founds slots plan.id (made_group plan.name) (kept_of_plan slot plan) x y
-    founds x y sized formed = record { is_kept = λ none. formed_is_kept slot slots plan x y is (omega (arith, room, sized)) none formed inside }
+    founds x y sized formed = formed_is_held slot slots plan x y is (omega (arith, room, sized)) formed inside
 
 when_ok : {A E : Type 0} {P : Type 0} (r : Result A E) → OnOk r P → is_ok r ≡ true → P
 when_ok (Ok x) p is = p
@@ -105,5 +105,12 @@ has_created {s} {m} {t} n slot p q name result same named inside sound free firs
     (subst (λ (l : Bytes). HasCreated n q.id (made_group l) (is_ok result) s t) named (record {
       slot = slot;
       moments = all_creates slot q.id (made_group q.name) inside sound free first next;
-      done = λ ok. (kept_of_plan slot q, both_done {first = Same} (λ x y z is founds. record { is_kept = λ none. founds.is_kept (λ has. none (has_before q.id x y is has)) }) (stops first) (when_ok result done ok));
+      done = λ ok. (
+        kept_of_plan slot q,
+        refl,
+        both_done {first = Same} (λ x y z is founds. record {
+          is_held = λ none. founds.is_held (λ has. none (has_before q.id x y is has));
+          here = λ none. founds.here (λ has. none (has_before q.id x y is has));
+        }) (stops first) (when_ok result done ok),
+      );
     }))

@@ -1,5 +1,5 @@
 -- Ids without a member.
-use Rattle.std.proofs.Common.{◌≡◌, inl, ℕ, List, [], ◌∷◌, refl}
+use Rattle.std.proofs.Common.{◌≡◌, ◌≢◌, inl, ℕ, List, [], ◌∷◌, refl}
 use Rattle.bay.specs.Image.{Image}
 use Rattle.asm_group.specs.Group.{Group}
 use Rattle.asm_placement.specs.Among.{IsAmong}
@@ -32,9 +32,15 @@ no_member_allows id groups image none = λ slots.
 -- nothing is done
 pub creates_none : (slot id : ℕ) (g : Group) (image : Image) → Creates slot id g image image
 creates_none slot id g image = record {
-  others = λ other groups apart allows. allows;
+  others = λ other slots groups completed begun apart sound. sound;
   members = λ other apart has. has;
   own = no_member_allows id (g ∷ []) image;
   elsewhere = record { size = λ s differ. refl; byte = λ s k differ. refl };
   joins = λ other apart has. has;
 }
+
+-- what other ids stand for stays
+pub others_allow : (slot id : ℕ) (g : Group) (old new : Image) → Creates slot id g old new → (other : ℕ) (groups : List Group) → other ≢ id → Allows other groups old → Allows other groups new
+others_allow slot id g old new creates other groups apart allows = λ slots.
+    let s = allows slots in
+    record { completed = s.completed; begun = s.begun; holds = creates.others other slots groups s.completed s.begun apart s.holds }

@@ -1,8 +1,7 @@
 -- That a disk which is given the parts of a new group is a step of the world at every moment.
-use Rattle.std.specs.Prelude.{ℕ, ◌*◌, ◌<◌, ◌≤◌, [], ◌∷◌}
+use Rattle.std.specs.Prelude.{ℕ, ◌*◌, ◌<◌, ◌≤◌}
 use Rattle.bay.specs.Image.{Image}
-use Rattle.asm_images.specs.Kept.{IsKept}
-use Rattle.group_disks.specs.Creating.{Creates, HasMember, made_group}
+use Rattle.group_disks.specs.Creating.{Creates, Founds, made_group}
 use Rattle.group_disks.specs.Planned.{Plan, IsPlan, kept_of_plan}
 use Rattle.group_disks.specs.Stages.{MayForm, HasFormed}
 
@@ -13,7 +12,7 @@ FormingCreates =
     → MayForm slot plan old new → Creates slot plan.id (made_group plan.name) old new
 
 -- Once it has all of them, the group is there, with its record as the completed one, and with this disk as its only member.
-abbrev pub FormedIsKept : Type 0
-FormedIsKept =
-    (slot slots : ℕ) (plan : Plan) (old new : Image) → IsPlan plan → plan.units * 1048576 ≤ old.size slot → (HasMember plan.id old → ⊥)
-    → HasFormed slot plan old new → slot < slots → IsKept slots plan.id (made_group plan.name ∷ []) (kept_of_plan slot plan) new
+abbrev pub FormedIsHeld : Type 0
+FormedIsHeld =
+    (slot slots : ℕ) (plan : Plan) (old new : Image) → IsPlan plan → plan.units * 1048576 ≤ old.size slot
+    → HasFormed slot plan old new → slot < slots → Founds slots plan.id (made_group plan.name) (kept_of_plan slot plan) old new

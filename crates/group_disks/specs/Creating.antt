@@ -12,8 +12,9 @@ use Rattle.asm_group.specs.NewGroup.{new_group, usual_attributes}
 use Rattle.asm_placement.specs.Among.{IsAmong}
 use Rattle.asm_images.specs.Members.{Member, all_members}
 use Rattle.asm_images.specs.Bridge.{disks_in, ChangesSlot}
-use Rattle.asm_images.specs.Kept.{Kept, header_in, IsMemberIn, IsKept}
-use Rattle.asm_images.specs.Sound.{Sound}
+use Rattle.asm_images.specs.Kept.{Kept, header_in, IsMemberIn, IsHeld}
+use Rattle.asm_formats.specs.Status.{Status}
+use Rattle.asm_images.specs.Sound.{SoundBy, Sound}
 
 -- the image may stand for these groups under the id, and for no others, however many of its slots are looked at
 abbrev pub Allows : ℕ → List Group → Image → Type 0
@@ -25,10 +26,11 @@ pub record HasMember (id : ℕ) (image : Image) : Type 0 where
   pub member : Member
   pub is : IsAmong (all_members id (disks_in slots image)) member
 
--- On the disk of a slot a group is created: every other id keeps what its images stand for, and gets no member; an id without a
--- member has the new group or none.
+-- On the disk of a slot a group is created: every other id stands for its groups by the history by which it did, and gets no member; an
+-- id without a member has the new group or none.
 pub record Creates (slot id : ℕ) (g : Group) (old new : Image) : Type 0 where
-  pub others : (other : ℕ) (groups : List Group) → other ≢ id → Allows other groups old → Allows other groups new
+  pub others : (other slots : ℕ) (groups : List Group) (completed : Option Status) (begun : List Status) → other ≢ id
+      → SoundBy other (disks_in slots old) groups completed begun → SoundBy other (disks_in slots new) groups completed begun
   pub members : (other : ℕ) → other ≢ id → HasMember other new → HasMember other old
   pub own : (HasMember id old → ⊥) → Allows id (g ∷ []) new
   -- no other disk changes, and this one becomes a member of no other id
@@ -44,16 +46,18 @@ pub record MayCreate (held : Option Image) (slot id : ℕ) (g : Group) (old new 
   pub creates : Creates slot id g old new
   pub free : Same old new ⊎ IsFree held slot
 
--- The group is there, and this is kept of it, where the id had no member and the program has n slots.
+-- The group is there, and this is kept of it, where the id had no member and the program has n slots: each of its members is attached.
 pub record Founds (n id : ℕ) (g : Group) (kept : Kept) (old new : Image) : Type 0 where
-  pub is_kept : (HasMember id old → ⊥) → IsKept n id (g ∷ []) kept new
+  pub is_held : (HasMember id old → ⊥) → IsHeld n id (g ∷ []) kept new
+  pub here : (HasMember id old → ⊥) → (slot : ℕ) → IsMemberIn id new slot → kept.slots slot ≡ true
 
 -- What a creation under an id did to the disks of n slots: at every moment, and once it is done.
 pub record HasCreated (n id : ℕ) (g : Group) (is_done : Bool) (old new : BayState) : Type 0 where
   -- the slot of the group's disk
   pub slot : ℕ
   pub moments : Runs (λ s. s < n) (MayCreate old.holds slot id g) old new
-  pub done : is_done ≡ true → (kept : Kept) × Ends (Founds n id g kept) old new
+  -- no record is begun behind the first
+  pub done : is_done ≡ true → (kept : Kept) × (kept.begun ≡ []) × Ends (Founds n id g kept) old new
 
 -- units of 1 MB, sectors of 512 bytes, 20,000 extents of a size and 1,024 record blocks
 abbrev pub usual_shape : Shape

@@ -11,4 +11,4 @@ mod laws;
 mod new_group;
 
 pub use create::create_group;
-pub use laws::{formed_is_kept, forming_creates};
+pub use laws::{formed_is_held, forming_creates};

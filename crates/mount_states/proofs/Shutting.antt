@@ -13,7 +13,7 @@ use Rattle.mount_states.specs.Places.{block_size, slot_at, all_gates, other_gate
 use Rattle.mount_states.specs.Gates.{HasRegion, GatesOf, ShutsGates, MayCloseAll}
 
 -- whole blocks are whole sectors
-block_sectors : (n sector : ℕ) → (sector ≡ 512) ⊎ (sector ≡ 4096) → (n * 4096) % sector ≡ 0
+pub block_sectors : (n sector : ℕ) → (sector ≡ 512) ⊎ (sector ≡ 4096) → (n * 4096) % sector ≡ 0
 block_sectors n sector is = ⊎_elim (λ (e : sector ≡ 512). subst (λ (m : ℕ). (n * 4096) % m ≡ 0) (sym e) (omega arith)) (λ (e : sector ≡ 4096). subst (λ (m : ℕ). (n * 4096) % m ≡ 0) (sym e) (omega arith)) is
 
 pub short_sector : (sector : ℕ) → (sector ≡ 512) ⊎ (sector ≡ 4096) → sector ≤ 4096

@@ -68,6 +68,7 @@ module _ (paths : List Bytes) (text name : Bytes) (force : Bool) (says : meaning
         ids_read = none_read (counts_of old) (counts_of old);
         made = tt;
         counted = tt;
+        worked = rw says tt;
         calls = omega arith;
         past = λ m image before left. left;
         keeps = λ known stands apart. session_keeps (length paths) known given old w (without_entry w.session name) text (λ id is. fewer w name id is) stands;

@@ -16,3 +16,4 @@ pub mod Leaving
 pub mod Ending
 pub mod Pieces
 pub mod Serving
+pub mod OnDisks

@@ -121,11 +121,11 @@ acts-answers gives paths whole found text reply sent w w' below below' time give
     let answers : HasEffect paths found text reply given given' old new below w w' → AnswersAt meaning found text reply (state_of (scene w below (Expiring (mounted_groups w.session)) time given old taken clock marks refused)) (state_of (scene w' below' (phase_after reply w') time given' new taken' clock marks' refused')) = λ effect. record { groups = mounted_groups w.session; before = refl; none_expires = none; step = effect.step; cause = effect.cause; lines = effect.lines; after = refl; time = refl } in
     acts-one gives paths whole move sent (scene w below (Expiring (mounted_groups w.session)) time given old taken clock marks refused) (scene w' below' (phase_after reply w') time given' new taken' clock marks' refused') (record {
       does = λ proved. let effect = served.effect proved in
-          record { does = answers effect; caused = (effect.ids_read, effect.made, effect.counted); calls = served.calls; images = λ m image from before left id. tt; there = λ m image from before left id was is. tt };
+          record { does = answers effect; caused = (effect.ids_read, effect.made, effect.counted, effect.worked); calls = served.calls; images = λ m image from before left id. tt; there = λ m image from before left id was is. tt };
       calls = served.calls;
       past = served.past;
       holds = λ known stands meets. let effect = served.effect meets.0 in let keeps = effect.keeps known stands meets.1 in
-          (record { does = answers effect; caused = (effect.ids_read, effect.made, effect.counted); calls = served.calls; images = λ m image from before left id. keeps.held m image id from before left; there = λ m image from before left id was is. keeps.there m image id from before left was is }, keeps.now);
+          (record { does = answers effect; caused = (effect.ids_read, effect.made, effect.counted, effect.worked); calls = served.calls; images = λ m image from before left id. keeps.held m image id from before left; there = λ m image from before left id was is. keeps.there m image id from before left was is }, keeps.now);
       texts = texts;
       written = written;
       readings = refl;
@@ -144,6 +144,7 @@ short-effect paths found text reply given given' old new {below = below} w w' re
   ids_read = effect.ids_read;
   made = effect.made;
   counted = tt;
+  worked = tt;
   calls = effect.calls;
   past = effect.past;
   keeps = effect.keeps;

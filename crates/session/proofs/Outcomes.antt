@@ -33,6 +33,7 @@ use Rattle.session.specs.Effects.{Keeps, HasEffect, IsServed, below_with}
 use Rattle.session.specs.Families.{IsMade}
 use Rattle.session.specs.Groups.{creation_of}
 use Rattle.session.specs.Meaning.{meaning}
+use Rattle.session.specs.OnDisks.{ReplyWork, work_of}
 use Rattle.session.specs.Sessions.{AreGiven}
 use Rattle.session.proofs.Causes.{no_disk_cause, disk_taken_cause, too_small_cause, write_fault_cause, done_cause}
 use Rattle.session.proofs.Creation.{same_keeps, creation_keeps}
@@ -63,6 +64,7 @@ plain paths found text cause given given' slots old new w step has lines read ma
   ids_read = read;
   made = made;
   counted = counted;
+  worked = tt;
   calls = runs.later;
   past = λ m image before left. (runs.ended m image before).0 left;
   keeps = λ known stands apart. same_keeps (length paths) known given given' slots old new w more runs stands text;
@@ -81,8 +83,9 @@ no_memory paths text given old {below = below} w =
 
 -- a report, which was told without a device and changes nothing
 pub told : (paths : List Bytes) (text : Bytes) (lines : List Bytes) (given : ℕ) (old : BayState) {below : ℕ → GroupBelow} (w : World) → Step (below_with below unread) w (meaning text) (Done lines) w
-    → HasCause (below_with below unread) w (meaning text) (Done lines) → HasLines (below_with below unread) w (meaning text) (Done lines) → IsServed paths unread text (Done lines) given given old old below w w
-told paths text lines given old w step has line_of = served paths unread text (Done lines) given given old old w w (record {
+    → HasCause (below_with below unread) w (meaning text) (Done lines) → HasLines (below_with below unread) w (meaning text) (Done lines)
+    → ReplyWork paths (work_of (meaning text) w below) (Done lines) (counts_of old) (counts_of old) → IsServed paths unread text (Done lines) given given old old below w w
+told paths text lines given old w step has line_of worked = served paths unread text (Done lines) given given old old w w (record {
   step = step;
   no_memory = λ is. absurd cc;
   cause = has;
@@ -90,6 +93,7 @@ told paths text lines given old w step has line_of = served paths unread text (D
   ids_read = none_read (counts_of old) (counts_of old);
   made = tt;
   counted = tt;
+  worked = worked;
   calls = omega arith;
   past = λ m image before left. left;
   keeps = λ known stands apart. same_keeps (length paths) known given given (λ s. ⊥) old old w (omega arith) (started same-refl) stands text;
@@ -192,6 +196,7 @@ module _ (paths : List Bytes) (text name path : Bytes) (says : meaning text ≡ 
       ids_read = read;
       made = has_group session;
       counted = tt;
+      worked = rw says tt;
       calls = creation.moments.later;
       past = λ m image before left. (creation.moments.ended m image before).0 left;
       keeps = keeps_all session (λ i other there. entered w.session name id i other (ap (λ (l : List SessionEntry). list_any (λ (e : SessionEntry). is_mounted e && (e.id == i)) l) (sym is) ∙ there)) (λ short there. done);
@@ -209,6 +214,7 @@ module _ (paths : List Bytes) (text name path : Bytes) (says : meaning text ≡ 
       ids_read = read;
       made = has_group w.session;
       counted = counted;
+      worked = tt;
       calls = creation.moments.later;
       past = λ m image before left. (creation.moments.ended m image before).0 left;
       keeps = keeps_all w.session (λ i other there. there) (λ short there. absurd (was_absent short there));

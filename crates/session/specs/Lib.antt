@@ -12,6 +12,7 @@ pub mod MeaningLaws
 pub mod Views
 pub mod Proved
 pub mod Reads
+pub mod OnDisks
 pub mod Counts
 pub mod Claims
 pub mod Acts

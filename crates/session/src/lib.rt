@@ -24,7 +24,7 @@ mod settings;
 mod stop;
 
 pub use desk::Desk;
-pub use laws::meaning_is_of_the_languages;
+pub use laws::{disks_are_made, meaning_is_of_the_languages};
 pub use program::Program;
 pub use session::Session;
 pub use stop::Stop;

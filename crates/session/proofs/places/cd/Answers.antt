@@ -26,7 +26,7 @@ returns g c =
           w,
           below,
           knows,
-          rw (c.plain.ensures.reply, c.plain.ensures.found, c.new.ensures) (told _ c.args.text.now _ _ _ w (rw says (stays_there w knows.at_top, refl)) (rw says refl) (rw says tt)),
+          rw (c.plain.ensures.reply, c.plain.ensures.found, c.new.ensures) (told _ c.args.text.now _ _ _ w (rw says (stays_there w knows.at_top, refl)) (rw says refl) (rw says tt) (rw says tt)),
         );
       };
     }

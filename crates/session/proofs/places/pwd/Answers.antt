@@ -16,7 +16,7 @@ returns-in-Ok g c =
           w,
           below,
           knows,
-          rw (c.plain.ensures.reply, c.plain.ensures.found, c.in-Ok.ensures) (told _ c.args.text.now _ _ _ w (rw (says, knows.at_top) (refl, refl)) (rw says refl) (rw says tt)),
+          rw (c.plain.ensures.reply, c.plain.ensures.found, c.in-Ok.ensures) (told _ c.args.text.now _ _ _ w (rw (says, knows.at_top) (refl, refl)) (rw says refl) (rw says tt) (rw says tt)),
         );
       };
     }
