@@ -40,11 +40,26 @@ impl Extent {
 
     /// Whether the copy is stale.
     #[tactic(auto, unfolding(asm_formats::specs::Sets::has_bit))]
-    pub(crate) fn has_mark(&self, copy: u8) -> bool
+    pub fn has_mark(&self, copy: u8) -> bool
         requires { copy < 3 }
         ensures { result ≡ has_bit self.now.marks copy }
     {
         self.marks >> copy & 1 == 1
+    }
+
+    /// Whether the copy's disk is Online.
+    pub fn is_on_online(&self, disks: &[PstEntry], copy: u8) -> bool
+        ensures { result ≡ is_on is_online disks.now (copy_of self.now copy) }
+    {
+        is_online(disks, self, copy)
+    }
+
+    /// Whether the copy isn't stale and the mode of its disk serves, which may be attached or not.
+    pub fn can_be_read(&self, disks: &[PstEntry], copy: u8) -> bool
+        requires { copy < 3 }
+        ensures { result ≡ can_be_read_at disks.now self.now copy }
+    {
+        can_be_read(disks, self, copy)
     }
 }
 

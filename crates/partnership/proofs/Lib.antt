@@ -8,3 +8,7 @@ pub mod Tables
 pub mod Starts
 pub mod FreeHomes
 pub mod Rows
+pub mod Selected
+pub mod FailureGroups
+pub mod Rounds
+pub mod TableSets

@@ -4,3 +4,5 @@ pub mod Rows
 pub mod UnitsOf
 pub mod Tables
 pub mod Steps
+pub mod Selections
+pub mod Rounds

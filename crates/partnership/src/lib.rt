@@ -1,18 +1,23 @@
-//! Which disks are partners, and where new copies go.
+//! Which disks are partners, where new copies go, and which disks hold the status tables and directory copies.
 #![tactic(auto)]
 
 mod candidate;
+mod choice;
+mod disks;
+mod failure_groups;
 mod homes;
 mod pairs;
 mod partner_table;
 mod replacement;
 mod room;
 mod row;
+mod table_disks;
 
 pub use homes::choose_homes;
 pub use partner_table::partners;
 pub use replacement::{choose_copy, choose_copy_on, eligible, entry_of};
 pub use row::choose_row;
+pub use table_disks::{directory_target, first_directories, first_holders, status_target};
 
 #[cfg(test)]
 mod tests;
