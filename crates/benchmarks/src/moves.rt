@@ -1,9 +1,10 @@
 //! The next move of a group with many extents.
 
-ghost use Rattle.std.specs.Prelude.{◌≡◌, IfOk, List, OnOk};
+ghost use Rattle.std.specs.Prelude.{◌≡◌, IfOk, IsTrue, List, OnOk, Some};
 ghost use Rattle.asm_formats.specs.Status.{Entry};
 ghost use Rattle.catalog.specs.ExtentPlans.{with_move};
 ghost use Rattle.catalog.specs.Placing.{HasUnits};
+ghost use Rattle.catalog.specs.Rules.{AreOnRegular, is_on_regular};
 ghost use Rattle.rebalance.specs.Cursors.{IsCursor};
 ghost use Rattle.rebalance.specs.Searching.{IsStatusOf};
 
@@ -13,7 +14,7 @@ use asm_base::{DiskSet, ExtentId, GroupKind, Home, Key, Mode, Name, Records, Sha
 use catalog::Catalog;
 use file_directory::{FileHead, record_of};
 use rebalance::{Cursor, Move, Next, next_move, next_move_from};
-use sample_group::make_move;
+use sample_group::{is_regular, make_move};
 use status_table::{PstEntry, PstRecord, is_status};
 use std::alloc::Global;
 use std::io;
@@ -91,6 +92,9 @@ fn make_next(
     let Move::Shift { x, copy, to } = next else {
         return Err(unexpected());
     };
+    if !is_regular(status.entries(), to) {
+        return Err(unexpected());
+    }
     make(alloc, catalog, x, copy, to)?;
     // It keeps the rules, as the cursor's meaning asks.
     let _ = catalog.shape();
@@ -102,6 +106,7 @@ fn make(alloc: Global, catalog: &mut Catalog, x: ExtentId, copy: u8, to: Home) -
     ensures moved { OnOk result (catalog.new.tables ≡ with_move catalog.old.tables x.file x.index copy to) }
     ensures shape { catalog.new.shape ≡ catalog.old.shape }
     ensures units { (entries : List Entry) → HasUnits catalog.old.shape entries catalog.old.tables catalog.old.units → HasUnits catalog.new.shape entries catalog.new.tables catalog.new.units }
+    ensures regular { (entries : List Entry) → AreOnRegular entries catalog.old.tables → IsTrue (is_on_regular entries (Some to)) → AreOnRegular entries catalog.new.tables }
 {
     match make_move(alloc, catalog, x, copy, to) {
         Ok(true) => Ok(()),

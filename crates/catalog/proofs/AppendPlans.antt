@@ -1,11 +1,11 @@
 -- Plans by which a chunk gets extents.
-use Rattle.std.proofs.Common.{◌≡◌, ◌≤◌, ◌<◌, ◌+◌, ◌*◌, ◌^◌, ℕ, zero, suc, Bool, true, false, cond, eqb, ltb, List, [], ◌∷◌, ◌++◌, length, take, drop, get_or, replicate, append_assoc, Option, Some, None, refl, sym, ap, subst, ◌∙◌, arith, inl, inr, ◌⊎◌}
+use Rattle.std.proofs.Common.{◌≡◌, ◌≤◌, ◌<◌, ◌+◌, ◌-◌, ◌*◌, ◌^◌, ℕ, zero, suc, Bool, true, false, cond, eqb, ltb, List, [], ◌∷◌, ◌++◌, length, take, drop, get_or, replicate, append_assoc, Option, Some, None, refl, sym, ap, subst, ◌∙◌, arith, inl, inr, ◌⊎◌}
 use Rattle.std.specs.Prelude.{◌&&◌, ◌||◌, not}
 use Rattle.std.specs.List.{AllByRecursion, list_all, zip}
 use Rattle.std.specs.Option.{is_some, unwrap_or}
 use Rattle.std.specs.BTreeMap.{is_at}
-use Rattle.std.proofs.lemmas.Bool.{and_parts, cases_lt, eq-eqb, lt-ltb, true≢false}
-use Rattle.std.proofs.lemmas.List.{get_or_append_left, get_or-drop, get_or-take, length-drop, length-replicate, length-set, append-nil}
+use Rattle.std.proofs.lemmas.Bool.{and_parts, cases_lt, eq-eqb, eqb-true, lt-ltb, true≢false}
+use Rattle.std.proofs.lemmas.List.{get_or_append_left, get_or-append_right, get_or-drop, get_or-take, length-append, length-drop, length-replicate, length-set, length-take, append-nil}
 use Rattle.std.proofs.lemmas.List.Sums.{prefix_len_stops}
 use Rattle.std.proofs.lemmas.Option.{none-some, slice_get_within}
 use Rattle.std.proofs.Math.ListN.{take-append-drop}
@@ -22,14 +22,14 @@ use Rattle.extent_map.specs.Extents.{Chunk, Chunked, absent, chunk_at, chunk_cmp
 use Rattle.extent_map.proofs.ChunkEnds.{base_fits, base_stands, fills_chunks, front, more_long, none_from, two}
 use Rattle.extent_map.proofs.FileEnds.{blank_by, has_at}
 use Rattle.extent_map.proofs.Laws.{chunk_total, same_chunk}
-use Rattle.extent_map.proofs.Lookups.{new_longer, put_here, put_other, put_same, there_as_long}
+use Rattle.extent_map.proofs.Lookups.{new_longer, put_here, put_other, there_as_long}
 use Rattle.extent_map.proofs.Numbering.{Stands, found_self}
 use Rattle.extent_map.proofs.Values.{IsHomes}
 use Rattle.staleness_directory.specs.Marks as stale
 use Rattle.staleness_directory.specs.Marks.{Marked, marks_at, with_marks}
 use Rattle.staleness_directory.proofs.Laws as stale_laws
 use Rattle.catalog.specs.Changing.{IsAfter}
-use Rattle.catalog.specs.ExtentPlans.{LacksBlocks, MayAppend, are_small, first_new, is_small, marks_or_none, with_appended}
+use Rattle.catalog.specs.ExtentPlans.{HasChunkRoom, LacksBlocks, MayAppend, are_small, first_new, homes_appended, is_small, marks_appended, marks_behind, marks_or_none, with_appended}
 use Rattle.catalog.specs.Faults.{IsCatalog}
 use Rattle.catalog.specs.Placing.{HasUnits, after_homes, home_taken, homes_of, unused_maps}
 use Rattle.catalog.specs.Plans.{IsPlan}
@@ -41,7 +41,6 @@ use Rattle.catalog.proofs.HomeUnits.{takes}
 use Rattle.catalog.proofs.MarkPlans.{Stands as ChunkStands, stands, some_of, zip_at}
 use Rattle.catalog.proofs.MovePlans.{units_long}
 use Rattle.catalog.proofs.PlacingLaws.{no_extents}
-use Rattle.catalog.proofs.PlanLaws.{after_put}
 use Rattle.catalog.proofs.UnitEdits.{as_many, cut, glue, units_edited, units_new}
 
 -- ---- lists in parts
@@ -50,16 +49,16 @@ or_true : (b : Bool) → (b || true) ≡ true
 or_true true = refl
 or_true false = refl
 
-all_joined : {A : Type 0} (test : A → Bool) (xs ys : List A) → list_all test xs ≡ true → list_all test ys ≡ true → list_all test (xs ++ ys) ≡ true
+pub all_joined : {A : Type 0} (test : A → Bool) (xs ys : List A) → list_all test xs ≡ true → list_all test ys ≡ true → list_all test (xs ++ ys) ≡ true
 all_joined test [] ys a b = b
 all_joined test (x ∷ xs) ys a b = let p = and_parts (test x) (list_all test xs) a in rw p.0 (all_joined test xs ys p.1 b)
 
-all_first : {A : Type 0} (test : A → Bool) (n : ℕ) (xs : List A) → list_all test xs ≡ true → list_all test (take n xs) ≡ true
+pub all_first : {A : Type 0} (test : A → Bool) (n : ℕ) (xs : List A) → list_all test xs ≡ true → list_all test (take n xs) ≡ true
 all_first test zero xs a = refl
 all_first test (suc n) [] a = refl
 all_first test (suc n) (x ∷ xs) a = let p = and_parts (test x) (list_all test xs) a in rw p.0 (all_first test n xs p.1)
 
-all_later : {A : Type 0} (test : A → Bool) (n : ℕ) (xs : List A) → list_all test xs ≡ true → list_all test (drop n xs) ≡ true
+pub all_later : {A : Type 0} (test : A → Bool) (n : ℕ) (xs : List A) → list_all test xs ≡ true → list_all test (drop n xs) ≡ true
 all_later test zero xs a = a
 all_later test (suc n) [] a = refl
 all_later test (suc n) (x ∷ xs) a = all_later test n xs (and_parts (test x) (list_all test xs) a).1
@@ -69,7 +68,7 @@ all_more test base homes a b =
     all_joined test (take (count_in base) base ++ homes) (drop (count_in base + length homes) base) (all_joined test (take (count_in base) base) homes (all_first test (count_in base) base a) b)
     (all_later test (count_in base + length homes) base a)
 
-all_same : {A : Type 0} (test : A → Bool) (n : ℕ) (x : A) → test x ≡ true → list_all test (replicate n x) ≡ true
+pub all_same : {A : Type 0} (test : A → Bool) (n : ℕ) (x : A) → test x ≡ true → list_all test (replicate n x) ≡ true
 all_same test zero x a = refl
 all_same test (suc n) x a = rw a (all_same test n x a)
 
@@ -90,20 +89,20 @@ not_true : (b : Bool) → not b ≡ true → b ≡ false
 not_true true e = absurd cc
 not_true false e = refl
 
-blank_homes : (step f i : ℕ) (xs : List Homes) → AllByRecursion IsHomes xs → is_blank xs ≡ true → placed_extents step f i xs ≡ []
+pub blank_homes : (step f i : ℕ) (xs : List Homes) → AllByRecursion IsHomes xs → is_blank xs ≡ true → placed_extents step f i xs ≡ []
 blank_homes step f i [] fits blank = refl
 blank_homes step f i (x ∷ xs) fits blank =
     let p = and_parts (not (has_home x)) (is_blank xs) blank in
     rw (no_homes f i (units_of step i) x fits.0.0 (not_true (has_home x) p.0)) (blank_homes step f (suc i) xs fits.1 p.1)
 
-homes_joined : (step f i : ℕ) (xs ys : List Homes) → placed_extents step f i (xs ++ ys) ≡ placed_extents step f i xs ++ placed_extents step f (i + length xs) ys
+pub homes_joined : (step f i : ℕ) (xs ys : List Homes) → placed_extents step f i (xs ++ ys) ≡ placed_extents step f i xs ++ placed_extents step f (i + length xs) ys
 homes_joined step f i [] ys = let same : i + 0 ≡ i = omega arith in ap (λ (n : ℕ). placed_extents step f n ys) (sym same)
 homes_joined step f i (x ∷ xs) ys =
     let index : suc i + length xs ≡ i + suc (length xs) = omega arith in
     ap (λ (ps : List Placed). placed_copies f i (units_of step i) x ++ ps) (homes_joined step f (suc i) xs ys ∙ ap (λ (n : ℕ). placed_extents step f (suc i) xs ++ placed_extents step f n ys) index)
     ∙ sym (append_assoc (placed_copies f i (units_of step i) x) (placed_extents step f (suc i) xs) (placed_extents step f (i + suc (length xs)) ys))
 
-fits_later : (n : ℕ) (xs : List Homes) → AllByRecursion IsHomes xs → AllByRecursion IsHomes (drop n xs)
+pub fits_later : (n : ℕ) (xs : List Homes) → AllByRecursion IsHomes xs → AllByRecursion IsHomes (drop n xs)
 fits_later zero xs fits = fits
 fits_later (suc n) [] fits = tt
 fits_later (suc n) (x ∷ xs) fits = fits_later n xs fits.1
@@ -178,10 +177,52 @@ module _ (base homes : List Homes) (fits : AreFitting IsHomes 256 base) (right :
         ap (λ (x : Homes). has_copies copies (cond (has_home x) (Some x) None)) (kept_at p lt is) ∙ ap (λ (b : Bool). has_copies copies (cond b (Some (get_or base p [])) None)) is ∙ e
     by false is e = absurd cc
 
-zip_all : (m : List ℕ) (w : List Homes) → ((p : ℕ) → p < length m → p < length w → are_marks_of (get_or m p 0, get_or w p []) ≡ true) → list_all are_marks_of (zip m w) ≡ true
+pub zip_all : (m : List ℕ) (w : List Homes) → ((p : ℕ) → p < length m → p < length w → are_marks_of (get_or m p 0, get_or w p []) ≡ true) → list_all are_marks_of (zip m w) ≡ true
 zip_all [] w each = refl
 zip_all (b ∷ m) [] each = refl
 zip_all (b ∷ m) (h ∷ w) each = both (are_marks_of (b, h)) (list_all are_marks_of (zip m w)) (each 0 (omega arith) (omega arith)) (zip_all m w (λ p lt less. each (suc p) (omega (arith, lt)) (omega (arith, less))))
+
+-- ---- marks of a chunk behind its first ones
+
+-- the places of a list with another one behind its first places
+module _ {A : Type 0} (first : ℕ) (xs ys : List A) (d : A) (inside : first + length ys ≤ length xs) where
+  abbrev with_others : List A
+  with_others = take first xs ++ ys ++ drop (first + length ys) xs
+
+  ahead : length (take first xs) ≡ first
+  ahead = omega (arith, length-take first xs, inside)
+
+  ahead_two : length (take first xs ++ ys) ≡ first + length ys
+  ahead_two = omega (arith, length-append (take first xs) ys, ahead)
+
+  as_long : length with_others ≡ length xs
+  as_long = omega (arith, length-append (take first xs ++ ys) (drop (first + length ys) xs), ahead_two, length-drop (first + length ys) xs, inside)
+
+  at_first : (p : ℕ) → p < first → get_or with_others p d ≡ get_or xs p d
+  at_first p lt =
+      get_or_append_left (take first xs ++ ys) (drop (first + length ys) xs) d p (omega (arith, ahead_two, lt)) ∙ get_or_append_left (take first xs) ys d p (omega (arith, ahead, lt))
+      ∙ get_or-take first xs p d lt
+
+  at_others : (p : ℕ) → first ≤ p → p < first + length ys → get_or with_others p d ≡ get_or ys (p - first) d
+  at_others p past lt = get_or_append_left (take first xs ++ ys) (drop (first + length ys) xs) d p (omega (arith, ahead_two, lt)) ∙ get_or-append_right (take first xs) ys first p d ahead past
+
+  at_last : (p : ℕ) → first + length ys ≤ p → get_or with_others p d ≡ get_or xs p d
+  at_last p past =
+      let at : (first + length ys) + (p - (first + length ys)) ≡ p = omega (arith, past) in
+      get_or-append_right (take first xs ++ ys) (drop (first + length ys) xs) (first + length ys) p d ahead_two past ∙ get_or-drop (first + length ys) xs (p - (first + length ys)) d
+      ∙ ap (λ (j : ℕ). get_or xs j d) at
+
+  all_others : (test : A → Bool) → list_all test xs ≡ true → list_all test ys ≡ true → list_all test with_others ≡ true
+  all_others test a b = all_joined test (take first xs ++ ys) (drop (first + length ys) xs) (all_joined test (take first xs) ys (all_first test first xs a) b) (all_later test (first + length ys) xs a)
+
+marks_with_allowed : (f n first : ℕ) (m new : List ℕ) → first + length new ≤ length m → list_all (λ (b : ℕ). ltb b 8) new ≡ true → is_item (marks_item f n m) ≡ true → is_item (marks_item f n (marks_behind first m new)) ≡ true
+unfolding is_item
+marks_with_allowed f n first m new inside three ok =
+    let a = and_parts (ltb f (2 ^ 32)) _ ok in
+    let b = and_parts (ltb (n + 1) (2 ^ 32)) _ a.1 in
+    let d = and_parts (eqb (length m) 256) (list_all (λ (b : ℕ). ltb b 8) m) b.1 in
+    let size : length (marks_behind first m new) ≡ 256 = as_long first m new 0 inside ∙ eqb-true (length m) 256 d.0 in
+    rw (a.0, b.0, eq-eqb (length (marks_behind first m new)) 256 size) (all_others first m new 0 inside (λ (b : ℕ). ltb b 8) d.1 three)
 
 -- ---- homes of the formats
 
@@ -210,7 +251,7 @@ extents_fit step f i (x ∷ xs) ms z long small e =
 
 -- ---- the plan
 
-new_marks_right : list_all are_marks_of (zip (replicate 256 0) (replicate 256 absent)) ≡ true
+pub new_marks_right : list_all are_marks_of (zip (replicate 256 0) (replicate 256 absent)) ≡ true
 unfolding has_bit
 new_marks_right = refl
 
@@ -218,7 +259,7 @@ new_marks_allowed : (f n : ℕ) → f < 2 ^ 32 → n + 1 < 2 ^ 32 → is_item (m
 unfolding is_item
 new_marks_allowed f n file number = rw (lt-ltb f (2 ^ 32) file, lt-ltb (n + 1) (2 ^ 32) number, eq-eqb (length {A = ℕ} (replicate 256 0)) 256 (length-replicate {A = ℕ} 256 0)) (all_same (λ (b : ℕ). ltb b 8) 256 0 refl)
 
-module _ (c : Catalogued) (is : IsCatalog c) (f n : ℕ) (homes : List Homes) (may : MayAppend c f n homes) (file : f < 2 ^ 32) (small : list_all are_small homes ≡ true) where
+module _ (c : Catalogued) (is : IsCatalog c) (f n : ℕ) (homes : List Homes) (marks : List ℕ) (may : MayAppend c f n homes marks) (file : f < 2 ^ 32) (small : list_all are_small homes ≡ true) where
   abbrev k : Chunk
   k = (f, n)
 
@@ -234,8 +275,11 @@ module _ (c : Catalogued) (is : IsCatalog c) (f n : ℕ) (homes : List Homes) (m
   abbrev xs : List Chunked
   xs = with_chunk c.tables.extents (f, n) more
 
+  abbrev new_marks : List ℕ
+  new_marks = marks_behind (count_in base) old_marks marks
+
   abbrev ms : List Marked
-  ms = with_marks c.tables.stale (f, n) old_marks
+  ms = with_marks c.tables.stale (f, n) new_marks
 
   fits : AreFitting IsHomes 256 base
   fits = base_fits c.tables.extents f n is.rules.tables.extents may.behind
@@ -255,11 +299,11 @@ module _ (c : Catalogued) (is : IsCatalog c) (f n : ℕ) (homes : List Homes) (m
   others : (q : Chunk) → is_at (chunk_cmp q) k ≡ false → chunk_at xs q ≡ chunk_at c.tables.extents q
   others q miss = put_other chunk_cmp same_chunk k more q miss c.tables.extents
 
-  marks_here : marks_at ms k ≡ Some old_marks
-  marks_here = put_here chunk_cmp same_chunk k old_marks (found_self f n) c.tables.stale
+  marks_here : marks_at ms k ≡ Some new_marks
+  marks_here = put_here chunk_cmp same_chunk k new_marks (found_self f n) c.tables.stale
 
   marks_others : (q : Chunk) → is_at (chunk_cmp q) k ≡ false → marks_at ms q ≡ marks_at c.tables.stale q
-  marks_others q miss = put_other chunk_cmp same_chunk k old_marks q miss c.tables.stale
+  marks_others q miss = put_other chunk_cmp same_chunk k new_marks q miss c.tables.stale
 
   -- the chunk is there with its marks, or neither is
   abbrev IsOld : Type 0
@@ -294,8 +338,8 @@ module _ (c : Catalogued) (is : IsCatalog c) (f n : ℕ) (homes : List Homes) (m
     | inr none ↦ subst P (sym (base_new none.0)) new
   ]
 
-  marks_allowed : is_item (marks_item f n old_marks) ≡ true
-  marks_allowed = elim old_or_new [
+  old_allowed : is_item (marks_item f n old_marks) ≡ true
+  old_allowed = elim old_or_new [
     | inl s ↦ ap (λ (m : List ℕ). is_item (marks_item f n m)) (marks_old s.1 s.2.marks) ∙ s.2.item
     | inr none ↦ ap (λ (m : List ℕ). is_item (marks_item f n m)) (marks_new none.1) ∙ new_marks_allowed f n file may.number
   ]
@@ -315,9 +359,32 @@ module _ (c : Catalogued) (is : IsCatalog c) (f n : ℕ) (homes : List Homes) (m
   long : length more ≡ 256
   long = more_long base homes fits.0 right may.there may.room
 
-  marks_right : list_all are_marks_of (zip old_marks more) ≡ true
-  marks_right = zip_all old_marks more (λ p lt less.
-      marks_stay base homes fits right may.there may.room (get_or old_marks p 0) p (omega (arith, less, long)) (zip_at old_marks base p marks_are.1 lt (omega (arith, lt, marks_are.0, fits.0))))
+  inside : count_in base + length marks ≤ length old_marks
+  inside = omega (arith, may.room, may.marked, marks_are.0)
+
+  homes_inside : count_in base + length homes ≤ length base
+  homes_inside = omega (arith, may.room, fits.0)
+
+  marks_allowed : is_item (marks_item f n new_marks) ≡ true
+  marks_allowed = marks_with_allowed f n (count_in base) old_marks marks inside may.three old_allowed
+
+  -- a mark that was there is that of a copy that is there, and so is one of the extents that come
+  old_right : (p : ℕ) → p < 256 → are_marks_of (get_or old_marks p 0, get_or more p []) ≡ true
+  old_right p lt = marks_stay base homes fits right may.there may.room (get_or old_marks p 0) p lt (zip_at old_marks base p marks_are.1 (omega (arith, lt, marks_are.0)) (omega (arith, lt, fits.0)))
+
+  marks_right : list_all are_marks_of (zip new_marks more) ≡ true
+  marks_right = zip_all new_marks more (λ p lt less. at p (omega (arith, less, long))) where
+    at : (p : ℕ) → p < 256 → are_marks_of (get_or new_marks p 0, get_or more p []) ≡ true
+    at p lt = elim (cases_lt p (count_in base)) [
+      | inl before ↦ ap (λ (b : ℕ). are_marks_of (b, get_or more p [])) (at_first (count_in base) old_marks marks 0 inside p before) ∙ old_right p lt
+      | inr past ↦ elim (cases_lt p (count_in base + length marks)) [
+        | inl new ↦
+            ap (λ (b : ℕ). are_marks_of (b, get_or more p [])) (at_others (count_in base) old_marks marks 0 inside p past new)
+            ∙ ap (λ (h : Homes). are_marks_of (get_or marks (p - count_in base) 0, h)) (at_others (count_in base) base homes [] homes_inside p past (omega (arith, new, may.marked)))
+            ∙ zip_at marks homes (p - count_in base) may.stale (omega (arith, past, new)) (omega (arith, past, new, may.marked))
+        | inr behind ↦ ap (λ (b : ℕ). are_marks_of (b, get_or more p [])) (at_last (count_in base) old_marks marks 0 inside p behind) ∙ old_right p lt
+      ]
+    ]
 
   within : are_within_head (head_at c.tables.files f) more ≡ true
   within = by (head_at c.tables.files f) may.copies (of_base (λ w. are_within_head (head_at c.tables.files f) w ≡ true) (λ w r. r.copies) (none_within (head_at c.tables.files f))) where
@@ -329,8 +396,8 @@ module _ (c : Catalogued) (is : IsCatalog c) (f n : ℕ) (homes : List Homes) (m
         all_same (are_within head.copies) 256 absent one
 
     by : (o : Option FileHead) → are_within_head o homes ≡ true → are_within_head o base ≡ true → are_within_head o more ≡ true
-    by None new old = refl
-    by (Some head) new old = all_more (are_within head.copies) base homes old new
+    by None come had = refl
+    by (Some head) come had = all_more (are_within head.copies) base homes had come
 
   apart : list_all are_on_disks more ≡ true
   apart = all_more are_on_disks base homes (of_base (λ w. list_all are_on_disks w ≡ true) (λ w r. r.apart) (all_same are_on_disks 256 absent refl)) may.apart
@@ -341,7 +408,7 @@ module _ (c : Catalogued) (is : IsCatalog c) (f n : ℕ) (homes : List Homes) (m
     owned = may.owned;
     copies = within;
     apart = apart;
-    stale = λ m has. subst (λ (y : List ℕ). list_all are_marks_of (zip y more) ≡ true) (some_is old_marks m (sym marks_here ∙ has)) marks_right;
+    stale = λ m has. subst (λ (y : List ℕ). list_all are_marks_of (zip y more) ≡ true) (some_is new_marks m (sym marks_here ∙ has)) marks_right;
   })
 
   keeps_copies : (copies p : ℕ) → p < 256 → has_copies copies (extent_in (chunk_at c.tables.extents k) p) ≡ true → has_copies copies (extent_in (chunk_at xs k) p) ≡ true
@@ -354,7 +421,7 @@ module _ (c : Catalogued) (is : IsCatalog c) (f n : ℕ) (homes : List Homes) (m
     edit : IsEdited c.shape c.tables k xs ms
     edit = record {
       extents = fills_chunks c.tables.extents f n homes is.rules.tables.extents file may.number (both (list_all is_homes homes) (list_all has_home homes) allowed may.there) may.behind may.room;
-      stale = stale_laws.put_keeps_table c.tables.stale k old_marks marks_allowed is.rules.tables.stale;
+      stale = stale_laws.put_keeps_table c.tables.stale k new_marks marks_allowed is.rules.tables.stale;
       homes = others;
       marks = marks_others;
       right = chunk_is;
@@ -366,11 +433,11 @@ module _ (c : Catalogued) (is : IsCatalog c) (f n : ℕ) (homes : List Homes) (m
       blocks = elim old_or_new [
         | inl s ↦
             let a = there_as_long chunk_cmp same_chunk chunk_total k more s.0 c.tables.extents is.rules.tables.extents.0.0 s.2.homes in
-            let b = there_as_long chunk_cmp same_chunk chunk_total k old_marks s.1 c.tables.stale is.rules.tables.stale.0 s.2.marks in
+            let b = there_as_long chunk_cmp same_chunk chunk_total k new_marks s.1 c.tables.stale is.rules.tables.stale.0 s.2.marks in
             omega (arith, a, b, is.rules.room)
         | inr none ↦
             let a = new_longer chunk_cmp same_chunk chunk_total k more c.tables.extents is.rules.tables.extents.0.0 none.0 in
-            let b = new_longer chunk_cmp same_chunk chunk_total k old_marks c.tables.stale is.rules.tables.stale.0 none.1 in
+            let b = new_longer chunk_cmp same_chunk chunk_total k new_marks c.tables.stale is.rules.tables.stale.0 none.1 in
             omega (arith, a, b, room none.0)
       ]
 
@@ -393,32 +460,17 @@ module _ (c : Catalogued) (is : IsCatalog c) (f n : ℕ) (homes : List Homes) (m
     chunk_entry = record_of ((f, n), more)
 
     abbrev marks_entry : Entry
-    marks_entry = stale.record_of ((f, n), old_marks)
+    marks_entry = stale.record_of ((f, n), new_marks)
 
     two_records : AreTables (changed c.tables xs ms) → IsAfter c.tables (chunk_entry ∷ marks_entry ∷ []) [] (changed c.tables xs ms)
     two_records are =
         let mid : Tables = record c.tables { extents = xs } in
-        after_two c.tables mid (changed c.tables xs ms) chunk_entry marks_entry are (homes_set c.tables f n xs (Some more) here others) (marks_set mid f n ms (Some old_marks) marks_here marks_others)
+        after_two c.tables mid (changed c.tables xs ms) chunk_entry marks_entry are (homes_set c.tables f n xs (Some more) here others) (marks_set mid f n ms (Some new_marks) marks_here marks_others)
 
-    one_record : (m : List ℕ) → marks_at c.tables.stale (f, n) ≡ Some m → AreTables (changed c.tables xs ms) → IsAfter c.tables (chunk_entry ∷ []) [] (changed c.tables xs ms)
-    one_record m has are =
-        let same : ms ≡ c.tables.stale = put_same chunk_cmp same_chunk chunk_total k old_marks c.tables.stale is.rules.tables.stale.0 (has ∙ ap (λ (y : List ℕ). Some y) (sym (marks_old m has))) in
-        subst (λ (y : List Marked). IsAfter c.tables (chunk_entry ∷ []) [] (changed c.tables xs y)) (sym same)
-        (after_put c.tables (changed c.tables xs c.tables.stale) chunk_entry (subst (λ (y : List Marked). AreTables (changed c.tables xs y)) same are) (homes_set c.tables f n xs (Some more) here others))
-
-  -- a chunk that isn't there yet, with its marks
-  pub new_planned : (put : List Entry) (gone : List Key) → blocks_used c.tables + 4 ≤ c.shape.dir_blocks → put ≡ record_of ((f, n), with_more (chunk_or_blank c.tables.extents (f, n)) homes) ∷ stale.record_of ((f, n), marks_or_none c.tables.stale (f, n)) ∷ [] → gone ≡ []
-      → IsPlan c put gone (with_appended c.tables f n homes)
-  new_planned put gone room e g =
-      let blocks : chunk_at c.tables.extents (f, n) ≡ None → blocks_used c.tables + 4 ≤ c.shape.dir_blocks = λ none. room in
-      rw (e, g) (edited_plan c k xs ms (record_of ((f, n), more) ∷ stale.record_of ((f, n), old_marks) ∷ []) [] is (edit blocks) (two_records blocks) (units blocks) (omega arith))
-
-  -- one that is there
-  pub there_planned : (put : List Entry) (gone : List Key) → is_some (chunk_at c.tables.extents (f, n)) ≡ true → put ≡ record_of ((f, n), with_more (chunk_or_blank c.tables.extents (f, n)) homes) ∷ [] → gone ≡ [] → IsPlan c put gone (with_appended c.tables f n homes)
-  there_planned put gone there e g =
-      let s = stands c (f, n) is there in
-      let blocks : chunk_at c.tables.extents (f, n) ≡ None → blocks_used c.tables + 4 ≤ c.shape.dir_blocks = λ none. absurd (none-some s.0 (sym none ∙ s.2.homes)) in
-      rw (e, g) (edited_plan c k xs ms (record_of ((f, n), more) ∷ []) [] is (edit blocks) (one_record blocks s.1 s.2.marks) (units blocks) (omega arith))
+  pub append_planned : (put : List Entry) (gone : List Key) → HasChunkRoom c f n → put ≡ record_of ((f, n), homes_appended c.tables f n homes) ∷ stale.record_of ((f, n), marks_appended c.tables f n marks) ∷ [] → gone ≡ []
+      → IsPlan c put gone (with_appended c.tables f n homes marks)
+  append_planned put gone blocks e g =
+      rw (e, g) (edited_plan c k xs ms (record_of ((f, n), more) ∷ stale.record_of ((f, n), new_marks) ∷ []) [] is (edit blocks.room) (two_records blocks.room) (units blocks.room) (omega arith) refl)
 
 -- ---- whether blocks are wanting
 
@@ -427,6 +479,12 @@ room_for_two used dir free room some = elim (cases_lt free 2) [
   | inl few ↦ absurd (some few)
   | inr enough ↦ omega (arith, room, enough)
 ]
+
+pub there_has_room : (c : Catalogued) (f n : ℕ) → is_some (chunk_at c.tables.extents (f, n)) ≡ true → HasChunkRoom c f n
+there_has_room c f n there = record { room = λ none. absurd (true≢false (sym there ∙ ap is_some none)) }
+
+pub free_has_room : (c : Catalogued) (f n free : ℕ) → free + blocks_used c.tables + 2 ≡ c.shape.dir_blocks → (free < 2 → ⊥) → HasChunkRoom c f n
+free_has_room c f n free room some = record { room = λ none. room_for_two (blocks_used c.tables) c.shape.dir_blocks free room some }
 
 pub lacks_two : (c : Catalogued) (f n free : ℕ) → is_some (chunk_at c.tables.extents (f, n)) ≡ false → free + blocks_used c.tables + 2 ≡ c.shape.dir_blocks → free < 2 → LacksBlocks c f n free
 lacks_two c f n free none room few = record { new = no_chunk (chunk_at c.tables.extents (f, n)) none; free_is = room; few = few } where

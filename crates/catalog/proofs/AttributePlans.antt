@@ -15,6 +15,7 @@ use Rattle.catalog.specs.Tables.{Catalogued}
 use Rattle.catalog.proofs.PlanLaws.{after_put}
 use Rattle.catalog.proofs.SetLaws.{templates_set}
 use Rattle.catalog.proofs.TemplatePlans.{with_templates}
+use Rattle.catalog.proofs.PutItems.{plan_is}
 
 pub settings_planned : (c : Catalogued) (put : List Entry) (gone : List Key) → IsCatalog c → (s : Settings) → is_item (settings_item s) ≡ true → put ≡ item_record (settings_item s) ∷ [] → gone ≡ []
     → IsPlan c put gone (record c.tables { templates = record { templates = c.tables.templates.templates; settings = s } })
@@ -24,24 +25,23 @@ settings_planned c put gone is s ok p g =
     let r = is.rules in
     let are = with_templates c.tables new r.tables (record { templates = r.tables.templates.templates; settings = ok }) in
     let sets = templates_set c.tables new settings_key (Some (value (settings_item s))) refl (template_laws.settings_set old s) in
-    rw (p, g) (record {
-      after = after_put c.tables (record c.tables { templates = new }) (item_record (settings_item s)) are sets;
-      rules = record {
-        tables = are;
-        marked = r.marked;
-        chunks = r.chunks;
-        owned = r.owned;
-        redundancy = r.redundancy;
-        apart = r.apart;
-        stale = r.stale;
-        nodes = r.nodes;
-        names = r.names;
-        extents = r.extents;
-        room = r.room;
-      };
-      units = λ es has. (c.units, has);
-      few = omega arith;
+    rw (p, g) (plan_is c _ _ _
+    (after_put c.tables (record c.tables { templates = new }) (item_record (settings_item s)) are sets)
+    (record {
+      tables = are;
+      marked = r.marked;
+      chunks = r.chunks;
+      owned = r.owned;
+      redundancy = r.redundancy;
+      apart = r.apart;
+      stale = r.stale;
+      nodes = r.nodes;
+      names = r.names;
+      extents = r.extents;
+      room = r.room;
     })
+    (λ es has. (c.units, has))
+    (omega arith) refl)
 
 pub edit_planned : (c : Catalogued) (put : List Entry) (gone : List Key) (name v : Bytes) (s : Settings) → Some s ≡ settings_with c.tables.templates.settings name v
     → IsPlan c put gone (record c.tables { templates = record { templates = c.tables.templates.templates; settings = s } }) → IsAttributePlan c name v put gone

@@ -22,10 +22,11 @@ use Rattle.catalog.proofs.DiskLaws.{put_keeps_table, record_gone, removed_keeps_
 use Rattle.catalog.proofs.NumberedLists.{either, gone_at, gone_few, new_longer, not_at, number_is, number_itself, there_as_long}
 use Rattle.catalog.proofs.PlanLaws.{after_gone, after_put}
 use Rattle.catalog.proofs.SetLaws.{disks_set}
+use Rattle.catalog.proofs.PutItems.{plan_is}
 
 -- ---- what stands at each number then
 
-put_at : (disks : List Disk) (d : ℕ) (info : DiskInfo) (n : ℕ) → value_at (with_info disks d info) n ≡ cond (is_at (nat_cmp d) n) (Some (value (disk_item d info))) (value_at disks n)
+pub put_at : (disks : List Disk) (d : ℕ) (info : DiskInfo) (n : ℕ) → value_at (with_info disks d info) n ≡ cond (is_at (nat_cmp d) n) (Some (value (disk_item d info))) (value_at disks n)
 put_at disks d info n = elim (either (is_at (nat_cmp d) n)) [
   | inl hit ↦
       let here : info_at (with_info disks d info) d ≡ Some info = put_here nat_cmp nat_cmp-IsAntisymmetric d info (number_itself d) disks in
@@ -37,10 +38,10 @@ put_at disks d info n = elim (either (is_at (nat_cmp d) n)) [
 
 -- ---- plans
 
-with_disks : (t : Tables) (new : List Disk) → AreTables t → IsTable new → AreTables (record t { disks = new })
+pub with_disks : (t : Tables) (new : List Disk) → AreTables t → IsTable new → AreTables (record t { disks = new })
 with_disks t new a is = record { files = a.files; extents = a.extents; nodes = a.nodes; templates = a.templates; stale = a.stale; operations = a.operations; disks = is }
 
-disk_rules : (s : Shape) (t : Tables) (new : List Disk) → KeepsRules s t → IsTable new → blocks_used (record t { disks = new }) + 2 ≤ s.dir_blocks → KeepsRules s (record t { disks = new })
+pub disk_rules : (s : Shape) (t : Tables) (new : List Disk) → KeepsRules s t → IsTable new → blocks_used (record t { disks = new }) + 2 ≤ s.dir_blocks → KeepsRules s (record t { disks = new })
 disk_rules s t new r is room = record {
   tables = with_disks t new r.tables is;
   marked = r.marked;
@@ -75,12 +76,11 @@ module _ (c : Catalogued) (put : List Entry) (gone : List Key) (is : IsCatalog c
       let new = with_info old d info in
       let table = put_keeps_table old d info ok is.rules.tables.disks in
       let sets = disks_set c.tables new (disk_key d) (Some (value (disk_item d info))) refl refl (put_at old d info) in
-      rw (p, g) (record {
-        after = after_put c.tables (record c.tables { disks = new }) (item_record (disk_item d info)) (with_disks c.tables new is.rules.tables table) sets;
-        rules = disk_rules c.shape c.tables new is.rules table (put_room c d info is room);
-        units = λ es has. (c.units, has);
-        few = omega arith;
-      })
+      rw (p, g) (plan_is c _ _ _
+      (after_put c.tables (record c.tables { disks = new }) (item_record (disk_item d info)) (with_disks c.tables new is.rules.tables table) sets)
+      (disk_rules c.shape c.tables new is.rules table (put_room c d info is room))
+      (λ es has. (c.units, has))
+      (omega arith) refl)
 
   pub gone_planned : (d : ℕ) → put ≡ [] → gone ≡ disk_key d ∷ [] → IsPlan c put gone (record c.tables { disks = without_disk old d })
   gone_planned d p g =
@@ -88,12 +88,11 @@ module _ (c : Catalogued) (put : List Entry) (gone : List Key) (is : IsCatalog c
       let table = removed_keeps_table old d is.rules.tables.disks in
       let sets = disks_set c.tables new (disk_key d) None refl refl (record_gone old new d (λ n. gone_at d n old is.rules.tables.disks.0)) in
       let few = gone_few (is_at (nat_cmp d)) old in
-      rw (p, g) (record {
-        after = after_gone c.tables (record c.tables { disks = new }) (disk_key d) (with_disks c.tables new is.rules.tables table) sets;
-        rules = disk_rules c.shape c.tables new is.rules table (omega (arith, few, is.rules.room));
-        units = λ es has. (c.units, has);
-        few = omega arith;
-      })
+      rw (p, g) (plan_is c _ _ _
+      (after_gone c.tables (record c.tables { disks = new }) (disk_key d) (with_disks c.tables new is.rules.tables table) sets)
+      (disk_rules c.shape c.tables new is.rules table (omega (arith, few, is.rules.room)))
+      (λ es has. (c.units, has))
+      (omega arith) refl)
 
 -- ---- whether a block is wanting
 

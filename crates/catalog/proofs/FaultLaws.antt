@@ -10,7 +10,7 @@ use Rattle.allocator.specs.UnitMaps.{UnitMap}
 use Rattle.extent_map.specs.Extents.{Chunk, Chunked, IsNumbered, IsTable}
 use Rattle.extent_map.proofs.Laws.{table_numbered}
 use Rattle.catalog.specs.Tables.{AreTables, Tables}
-use Rattle.catalog.specs.Rules.{HasExtents, IsShort, KeepsRules, blocks_used, first_unknown, first_wrong, has_chunk, has_marks, has_names, is_marked_right, is_named_back, is_on_disks, is_owned, keeps_copies}
+use Rattle.catalog.specs.Rules.{AreOnRegular, HasExtents, IsShort, KeepsRules, blocks_used, first_unknown, first_wrong, has_chunk, has_marks, has_names, is_marked_right, is_named_back, is_on_disks, is_owned, is_regular_chunk, keeps_copies}
 use Rattle.catalog.specs.Placing.{after_homes, homes_of, misplaced, unused_maps}
 use Rattle.catalog.specs.Faults.{AreChunksRight, AreNamesRight, AreSizesRight, BreaksRule, IsChunkFault, disk_key, file_key, key_of_chunk, key_of_marks, node_key, settings_key}
 use Rattle.catalog.specs.Faults as fault
@@ -34,8 +34,8 @@ chunks_are t a b c d = record { marked = a; owned = b; redundancy = c; apart = d
 pub names_are : (t : Tables) → first_wrong (has_chunk t) t.stale ≡ None → first_wrong (is_marked_right t) t.stale ≡ None → first_wrong (is_named_back t) t.nodes ≡ None → first_wrong (has_names t) t.files ≡ None → AreNamesRight t
 names_are t a m b c = record { chunks = a; stale = m; nodes = b; names = c }
 
-pub sizes_are : (s : Shape) (es : List status.Entry) (t : Tables) → AllByRecursion (HasExtents t s) t.files → first_unknown t es ≡ None → blocks_used t + 2 ≤ s.dir_blocks → AreSizesRight s es t
-sizes_are s es t a b c = record { extents = a; infos = b; room = c }
+pub sizes_are : (s : Shape) (es : List status.Entry) (t : Tables) → AllByRecursion (HasExtents t s) t.files → first_unknown t es ≡ None → AreOnRegular es t → blocks_used t + 2 ≤ s.dir_blocks → AreSizesRight s es t
+sizes_are s es t a b q c = record { extents = a; infos = b; regular = q; room = c }
 
 pub rules_are : (s : Shape) (es : List status.Entry) (t : Tables) → AreTables t → AreChunksRight t → AreNamesRight t → AreSizesRight s es t → KeepsRules s t
 rules_are s es t are c n z = record {
@@ -76,6 +76,9 @@ short_is s es t f k e is = fault.short_file f e is
 pub unknown_is : (s : Shape) (es : List status.Entry) (t : Tables) (d : ℕ) (k : Key) → first_unknown t es ≡ Some d → k ≡ disk_key d → BreaksRule s es t k
 unknown_is s es t d k e is = fault.unknown_disk d e is
 
+pub on_quorum_is : (s : Shape) (es : List status.Entry) (t : Tables) (at : Chunk) (k : Key) → first_wrong (is_regular_chunk es) t.extents ≡ Some at → k ≡ key_of_chunk at → BreaksRule s es t k
+on_quorum_is s es t at k e is = fault.on_quorum at e is
+
 pub no_room_is : (s : Shape) (es : List status.Entry) (t : Tables) (k : Key) → s.dir_blocks < blocks_used t + 2 → k ≡ settings_key → BreaksRule s es t k
 no_room_is s es t k e is = fault.no_room e is
 
@@ -96,6 +99,9 @@ fault_numbered t at are (inl e) = first_numbered (has_marks t) t.extents at (tab
 fault_numbered t at are (inr (inl e)) = first_numbered (is_owned t) t.extents at (table_numbered t.extents are.extents) e
 fault_numbered t at are (inr (inr (inl e))) = first_numbered (keeps_copies t) t.extents at (table_numbered t.extents are.extents) e
 fault_numbered t at are (inr (inr (inr e))) = first_numbered is_on_disks t.extents at (table_numbered t.extents are.extents) e
+
+pub quorum_numbered : (es : List status.Entry) (t : Tables) (at : Chunk) → IsTable t.extents → first_wrong (is_regular_chunk es) t.extents ≡ Some at → at.1 + 1 < 2 ^ 32
+quorum_numbered es t at table e = first_numbered (is_regular_chunk es) t.extents at (table_numbered t.extents table) e
 
 placed_numbered : (step : ℕ) (xs : List Chunked) (ms : List UnitMap) (at : Chunk) → AllByRecursion IsNumbered xs → misplaced step ms xs ≡ Some at → at.1 + 1 < 2 ^ 32
 unfolding misplaced

@@ -21,9 +21,11 @@ pub mod UnusedLaws
 pub mod SetLaws
 pub mod SameTables
 pub mod AfterLaws
+pub mod PutItems
 pub mod PlanLaws
 pub mod NumberedLists
 pub mod DiskPlans
+pub mod AddedDisks
 pub mod TreePlans
 pub mod TreeEditPlans
 pub mod TemplatePlans
@@ -36,6 +38,8 @@ pub mod NamePlans
 pub mod NameLaws
 pub mod NewNames
 pub mod NextFile
+pub mod NameChecks
+pub mod MarkedExtents
 pub mod ApplyingLaws
 pub mod EntryLaws
 pub mod EditLaws
@@ -44,6 +48,9 @@ pub mod UnitEdits
 pub mod MovePlans
 pub mod ReleasePlans
 pub mod AppendPlans
+pub mod CutPlans
+pub mod RegularHomes
 pub mod MoveItems
 pub mod RecopyItems
 pub mod DiskUnitLaws
+pub mod ToldRecords

@@ -350,7 +350,7 @@ module _ (c : Catalogued) (is : IsCatalog c) (f i copy : ℕ) (h : Home) (may : 
       after_two c.tables mid (changed c.tables xs ms) chunk_entry marks_entry are (homes_set c.tables f (i / 256) xs (Some new) here others) (marks_set mid f (i / 256) ms (Some new_marks) marks_here marks_others)
 
   pub two_planned : IsPlan c (chunk_entry ∷ marks_entry ∷ []) [] (changed c.tables xs ms)
-  two_planned = edited_plan c k xs ms (chunk_entry ∷ marks_entry ∷ []) [] is edit two_records units (omega arith)
+  two_planned = edited_plan c k xs ms (chunk_entry ∷ marks_entry ∷ []) [] is edit two_records units (omega arith) refl
 
   -- where the copy has no mark, the marks stay
   same_marks : has_bit (get_or m (i % 256) 0) copy ≡ false → ms ≡ c.tables.stale
@@ -364,7 +364,7 @@ module _ (c : Catalogued) (is : IsCatalog c) (f i copy : ℕ) (h : Home) (may : 
       (after_put c.tables (changed c.tables xs c.tables.stale) chunk_entry (subst (λ (y : List Marked). AreTables (changed c.tables xs y)) same are) (homes_set c.tables f (i / 256) xs (Some new) here others))
 
   pub one_planned : has_bit (get_or m (i % 256) 0) copy ≡ false → IsPlan c (chunk_entry ∷ []) [] (changed c.tables xs ms)
-  one_planned none = edited_plan c k xs ms (chunk_entry ∷ []) [] is edit (one_record (same_marks none)) units (omega arith)
+  one_planned none = edited_plan c k xs ms (chunk_entry ∷ []) [] is edit (one_record (same_marks none)) units (omega arith) refl
 
 -- ---- as the code says it
 

@@ -1,7 +1,7 @@
 -- A new file's name as asm_world speaks of it.
-use Rattle.std.proofs.Common.{◌≡◌, Bool, true, false, [], ◌∷◌, refl, ap, ◌∙◌}
+use Rattle.std.proofs.Common.{◌≡◌, ℕ, Bool, true, false, [], ◌∷◌, refl, ap, ◌∙◌}
 use Rattle.std.specs.Prelude.{◌||◌, not, is_none}
-use Rattle.asm_group.specs.Group.{Group, System}
+use Rattle.asm_group.specs.Group.{Group, System, File as WorldFile}
 use Rattle.asm_group.specs.Names.{Path}
 use Rattle.asm_group.specs.Refusal as r
 use Rattle.asm_group.specs.TreeEdits as t
@@ -17,8 +17,8 @@ dir_tree g path = by (t.is_there g.tree path) refl where
   by true e = rw e refl
   by false e = rw e refl
 
-pub files_as_world : FilesAsWorld
-files_as_world g name n f = ap (λ (u : Tree). t.with_node u (new_path name n f.incarnation) (System n)) dirs where
+tree_as_world : (g : Group) (name : NewName) (n : ℕ) (f : WorldFile) → (world.with_file g name n f).tree ≡ of_tree.with_file g.tree (new_path name n f.incarnation) n
+tree_as_world g name n f = ap (λ (u : Tree). t.with_node u (new_path name n f.incarnation) (System n)) dirs where
   db : Path
   db = name.db ∷ []
 
@@ -27,6 +27,9 @@ files_as_world g name n f = ap (λ (u : Tree). t.with_node u (new_path name n f.
 
   dirs : (world.with_dir (world.with_dir g (name.db ∷ [])) (name.db ∷ name.type_name ∷ [])).tree ≡ of_tree.with_dir (of_tree.with_dir g.tree (name.db ∷ [])) (name.db ∷ name.type_name ∷ [])
   dirs = dir_tree (world.with_dir g (name.db ∷ [])) (name.db ∷ name.type_name ∷ []) ∙ ap (λ (u : Tree). of_tree.with_dir u (name.db ∷ name.type_name ∷ [])) (dir_tree g (name.db ∷ []))
+
+pub files_as_world : FilesAsWorld
+files_as_world = record { tree = tree_as_world; next = λ g name n f. refl }
 
 or_last : (a b : Bool) → (a || b) ≡ (a || (b || false))
 or_last true b = refl

@@ -25,7 +25,7 @@ use Rattle.asm_base.specs.Refusals.{said}
 use Rattle.asm_base.specs.declared.refusal.Refusal.{Refusal}
 use Rattle.asm_base.specs.declared.refusal.Refusal.TheVariants as cause
 use Rattle.asm_base.proofs.Exact.{some_is}
-use Rattle.asm_world.specs.Files.{NewName, new_path}
+use Rattle.asm_world.specs.Files.{NewName, new_path, next_incarnation}
 use Rattle.page_map.specs.Changes.{last_put, value_after}
 use Rattle.file_directory.specs.Files.{File, head_at, record_of, with_head}
 use Rattle.file_directory.proofs.Laws.{put_keeps_table}
@@ -42,14 +42,16 @@ use Rattle.alias_tree.proofs.Readings.{number_is_some}
 use Rattle.operations_directory.proofs.ChangeLaws as operation_laws
 use Rattle.template_directory.proofs.ChangeLaws as template_laws
 use Rattle.catalog.specs.Faults.{IsCatalog, file_key, settings_key}
-use Rattle.catalog.specs.NamePlans.{AreNewNodes, HasParts, IsCreated, IsNamePlan, IsNameRefusal, file_of, is_within_file, made_file, name_at, named, new_head, next_incarnation, settings_next, system_path}
-use Rattle.catalog.specs.Plans.{IsPlan}
-use Rattle.catalog.specs.Rules.{HasExtents, KeepsRules, are_within_head, blocks_used, first_wrong, has_names, is_directory, is_name, is_named_back, is_owned, is_pending, keeps_copies, names_back, names_file}
+use Rattle.catalog.specs.NamePlans.{AreNewNodes, HasParts, IsCreated, IsNamePlan, IsNameRefusal, file_of, is_within_file, made_file, name_at, named, new_head, settings_next, system_path}
+use Rattle.catalog.specs.Plans.{ArePutItems, IsPlan}
+use Rattle.asm_placement.specs.Naming.{is_directory, is_named_as, is_pending, names_back}
+use Rattle.catalog.specs.Rules.{HasExtents, KeepsRules, are_within_head, blocks_used, first_wrong, has_names, is_named_back, is_owned, keeps_copies, names_file}
 use Rattle.catalog.specs.Tables.{AreTables, Catalogued, Tables, records_of}
 use Rattle.catalog.proofs.NumberedEntries.{passes_each, passes_where, put_all}
 use Rattle.catalog.proofs.NumberedLists.{either, number_is, number_itself, put_at, put_few, there_all}
 use Rattle.catalog.proofs.PlanLaws.{or_false, pending_key}
 use Rattle.catalog.proofs.SetLaws.{operations_set, templates_set}
+use Rattle.catalog.proofs.TableItems.{append_among, each_of, map_among}
 use Rattle.catalog.proofs.TreePlans.{Stays, both_true, first_right, has_of, has_stay, head_put, named_dir, named_of, node_put, or_more, or_true}
 
 -- ---- nodes that are put one after the other
@@ -111,6 +113,7 @@ pub record IsMade (s : Shape) (t : Tables) (f : ℕ) (head : FileHead) (made : L
   pub alias : head.alias ≡ 0
   pub table : nodes.IsTable (with_nodes t.nodes made)
   pub fresh : AllByRecursion (λ (x : Numbered). node_at t.nodes x.0 ≡ None) made
+  pub items : AllByRecursion (λ (x : Numbered). is_item (node_item x.0 x.1) ≡ true) made
   pub dirs : List Numbered
   pub node : Node
   pub split : made ≡ dirs ++ (head.system, node) ∷ []
@@ -181,14 +184,14 @@ module _ (s : Shape) (t : Tables) (f : ℕ) (head : FileHead) (made : List Numbe
   ]
 
   stays : (kind : NodeKind) (g : ℕ) → Stays t u kind g
-  stays kind g m e = ap (λ (o : Option Node). is_name kind g o) (stays_there made t.nodes m (fresh_apart t.nodes made m there is.fresh)) ∙ e where
+  stays kind g m e = ap (λ (o : Option Node). is_named_as kind g o) (stays_there made t.nodes m (fresh_apart t.nodes made m there is.fresh)) ∙ e where
     there : node_at t.nodes m ≡ None → ⊥
-    there none = true≢false (sym e ∙ ap (λ (o : Option Node). is_name kind g o) none)
+    there none = true≢false (sym e ∙ ap (λ (o : Option Node). is_named_as kind g o) none)
 
   own_names : has_names u (f, head) ≡ true
   own_names = both_true (names_file u f System head.system) (names_file u f Alias head.alias) system (rw is.alias refl) where
     system : names_file u f System head.system ≡ true
-    system = or_more (eqb head.system 0) true (is_name System f (node_at u.nodes head.system)) (λ i. rw at_name (rw is.kind_is (eq-eqb is.node.file f is.file_is))) (or_true (eqb head.system 0))
+    system = or_more (eqb head.system 0) true (is_named_as System f (node_at u.nodes head.system)) (λ i. rw at_name (rw is.kind_is (eq-eqb is.node.file f is.file_is))) (or_true (eqb head.system 0))
 
   has : (g : ℕ) (h : FileHead) → head_at u.files g ≡ Some h → has_names u (g, h) ≡ true
   has g h e = elim (either (is_at (nat_cmp f) g)) [
@@ -282,6 +285,21 @@ module _ (s : Shape) (t : Tables) (f : ℕ) (head : FileHead) (made : List Numbe
 
 -- ---- the plan
 
+puts_items : (f : ℕ) (head : FileHead) (made : List Numbered) (s : Settings) → is_item (file_item f head) ≡ true → AllByRecursion (λ (x : Numbered). is_item (node_item x.0 x.1) ≡ true) made → is_item (settings_item s) ≡ true
+    → ArePutItems (record_of (f, head) ∷ (map nodes.record_of made ++ item_record (settings_item (settings_next s)) ∷ []))
+puts_items f head made s file_ok nodes_ok settings_ok e among = elim among [
+  | inl same ↦ (file_item f head, record { is = file_ok; key = ap (λ (y : Entry). y.0) (sym same); value = ap (λ (y : Entry). y.1) (sym same) })
+  | inr later ↦ elim (append_among (map nodes.record_of made) (item_record (settings_item (settings_next s)) ∷ []) e later) [
+    | inl node ↦
+        let x = map_among nodes.record_of made e node in
+        (node_item x.0.0 x.0.1, record { is = each_of (λ (y : Numbered). is_item (node_item y.0 y.1) ≡ true) made x.0 nodes_ok x.1; key = ap (λ (y : Entry). y.0) (sym x.2); value = ap (λ (y : Entry). y.1) (sym x.2) })
+    | inr last ↦ elim last [
+      | inl same ↦ (settings_item (settings_next s), record { is = settings_fit s settings_ok; key = ap (λ (y : Entry). y.0) (sym same); value = ap (λ (y : Entry). y.1) (sym same) })
+      | inr none ↦ absurd none
+    ]
+  ]
+]
+
 pub made_planned : (c : Catalogued) (f : ℕ) (head : FileHead) (made : List Numbered) (put : List Entry) (gone : List Key) → IsCatalog c → IsMade c.shape c.tables f head made → length made ≤ 3
     → put ≡ record_of (f, head) ∷ (map nodes.record_of made ++ item_record (settings_item (settings_next c.tables.templates.settings)) ∷ []) → gone ≡ pending_key ∷ []
     → IsPlan c put gone (named c.tables f head made) × (length put ≤ 5)
@@ -291,6 +309,7 @@ made_planned c f head made put gone is new few p g = (
     rules = rules_after c.shape c.tables f head made is.rules new;
     units = λ es has. (c.units, has);
     few = (let one : length gone ≡ 1 = ap (λ (ks : List Key). length ks) g in omega (arith, five, one));
+    items = subst ArePutItems (sym p) (puts_items f head made c.tables.templates.settings new.item new.items is.rules.tables.templates.settings);
   },
   five,
 ) where
@@ -347,6 +366,7 @@ module _ (c : Catalogued) (name : NewName) (size copies : ℕ) (stripe : Stripe)
     alias = refl;
     table = nodes_are.table;
     fresh = recursion_from_All (λ (x : Numbered). node_at t.nodes x.0 ≡ None) made nodes_are.fresh;
+    items = recursion_from_All (λ (x : Numbered). is_item (node_item x.0 x.1) ≡ true) made nodes_are.items;
     dirs = nodes_are.filing.dirs;
     node = nodes_are.filing.node;
     split = nodes_are.filing.split;

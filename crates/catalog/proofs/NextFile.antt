@@ -4,7 +4,7 @@ use Rattle.std.proofs.lemmas.Bool.{eqb-true, ne_eqb, true≢false}
 use Rattle.asm_formats.specs.Items.{Pending}
 use Rattle.file_directory.specs.Files.{IsFreeFrom, is_file}
 use Rattle.catalog.specs.Numbers.{IsNextFile, IsUntaken, is_taken}
-use Rattle.catalog.specs.Rules.{is_pending}
+use Rattle.asm_placement.specs.Naming.{is_pending}
 use Rattle.catalog.specs.Tables.{Tables}
 
 three : (a b : ℕ) → (a < b) ⊎ ((a ≡ b) ⊎ (b < a))

@@ -31,7 +31,7 @@ use Rattle.operations_directory.proofs.Laws as operation_laws
 use Rattle.catalog.specs.Disks as disks
 use Rattle.catalog.proofs.DiskLaws as disk_laws
 use Rattle.catalog.specs.Tables.{AreTables, Catalogued, HasRecords, Tables}
-use Rattle.catalog.specs.Rules.{HasExtents, KeepsRules, first_unknown}
+use Rattle.catalog.specs.Rules.{AreOnRegular, HasExtents, KeepsRules, first_unknown}
 use Rattle.catalog.specs.Placing.{HasUnits, unused_maps}
 use Rattle.catalog.proofs.PlacingLaws.{misplaced_none}
 use Rattle.catalog.specs.Faults.{BreaksRule, IsAtFault, IsCatalogOf, IsNeeded, settings_key, templates_key}
@@ -64,21 +64,22 @@ has_extents t s x (y ∷ xs) all among = elim among [
   | inr later ↦ has_extents t s x xs all.1 later
 ]
 
-no_break : (s : Shape) (es : List status.Entry) (t : Tables) (ms : List UnitMap) (k : Key) → KeepsRules s t → first_unknown t es ≡ None → HasUnits s es t ms → BreaksRule s es t k → ⊥
-no_break s es t ms k r infos units (fault.unmarked at e is) = two_answers _ at r.marked e
-no_break s es t ms k r infos units (fault.marks_alone at e is) = two_answers _ at r.chunks e
-no_break s es t ms k r infos units (fault.mark_alone at e is) = two_answers _ at r.stale e
-no_break s es t ms k r infos units (fault.unowned at e is) = two_answers _ at r.owned e
-no_break s es t ms k r infos units (fault.too_many_copies at e is) = two_answers _ at r.redundancy e
-no_break s es t ms k r infos units (fault.on_one_disk at e is) = two_answers _ at r.apart e
-no_break s es t ms k r infos units (fault.out_of_place at e is) = two_answers _ ms (misplaced_none s.step t.extents (unused_maps s es) at e) units
-no_break s es t ms k r infos units (fault.nameless_node n e is) = two_answers _ n r.nodes e
-no_break s es t ms k r infos units (fault.nameless_file f e is) = two_answers _ f r.names e
-no_break s es t ms k r infos units (fault.short_file f e is) =
+no_break : (s : Shape) (es : List status.Entry) (t : Tables) (ms : List UnitMap) (k : Key) → KeepsRules s t → first_unknown t es ≡ None → AreOnRegular es t → HasUnits s es t ms → BreaksRule s es t k → ⊥
+no_break s es t ms k r infos regular units (fault.unmarked at e is) = two_answers _ at r.marked e
+no_break s es t ms k r infos regular units (fault.marks_alone at e is) = two_answers _ at r.chunks e
+no_break s es t ms k r infos regular units (fault.mark_alone at e is) = two_answers _ at r.stale e
+no_break s es t ms k r infos regular units (fault.unowned at e is) = two_answers _ at r.owned e
+no_break s es t ms k r infos regular units (fault.too_many_copies at e is) = two_answers _ at r.redundancy e
+no_break s es t ms k r infos regular units (fault.on_one_disk at e is) = two_answers _ at r.apart e
+no_break s es t ms k r infos regular units (fault.out_of_place at e is) = two_answers _ ms (misplaced_none s.step t.extents (unused_maps s es) at e) units
+no_break s es t ms k r infos regular units (fault.nameless_node n e is) = two_answers _ n r.nodes e
+no_break s es t ms k r infos regular units (fault.nameless_file f e is) = two_answers _ f r.names e
+no_break s es t ms k r infos regular units (fault.short_file f e is) =
     let l = e.lacks in
     true≢false (sym (has_extents t s (f, e.head) t.files r.extents e.file l.index l.due) ∙ l.lacks)
-no_break s es t ms k r infos units (fault.unknown_disk d e is) = two_answers _ d infos e
-no_break s es t ms k r infos units (fault.no_room e is) = omega (arith, e, r.room)
+no_break s es t ms k r infos regular units (fault.unknown_disk d e is) = two_answers _ d infos e
+no_break s es t ms k r infos regular units (fault.on_quorum at e is) = two_answers _ at regular e
+no_break s es t ms k r infos regular units (fault.no_room e is) = omega (arith, e, r.room)
 
 -- ---- rules of one table
 
@@ -137,4 +138,4 @@ fault_refuses content es c k (fault.gap at h at_key) is = no_chunk_gap content c
 fault_refuses content es c k (fault.loose_node n f at_key) is = no_loose content c.tables n is.rules.tables is.records f
 fault_refuses content es c k (fault.broken t are has b) is =
     let same = same_tables content t c.tables are has is.rules.tables is.records in
-    no_break c.shape es c.tables c.units k is.rules is.infos is.units (subst (λ (u : Tables). BreaksRule c.shape es u k) same b)
+    no_break c.shape es c.tables c.units k is.rules is.infos is.regular is.units (subst (λ (u : Tables). BreaksRule c.shape es u k) same b)

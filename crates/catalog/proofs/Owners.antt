@@ -5,7 +5,7 @@ use Rattle.std.proofs.lemmas.Bool.{eqb-true}
 use Rattle.asm_formats.specs.Items.{Pending}
 use Rattle.file_directory.specs.Files.{File, is_file}
 use Rattle.catalog.specs.FilePlans.{is_on_file}
-use Rattle.catalog.specs.Rules.{is_pending}
+use Rattle.asm_placement.specs.Naming.{is_pending}
 
 pub of_file : (files : List File) (pending : Option Pending) (g : ℕ) → is_on_file files pending ≡ true → (is_file files g || is_pending g pending) ≡ true → is_file files g ≡ true
 of_file files None g on e = alone (is_file files g) e where

@@ -15,6 +15,7 @@ use Rattle.catalog.specs.Plans.{AreOwned, IsPlan}
 use Rattle.catalog.specs.Rules.{KeepsRules}
 use Rattle.catalog.specs.Tables.{AreTables, Catalogued, Tables, records_of}
 use Rattle.catalog.proofs.SetLaws.{operations_set}
+use Rattle.catalog.proofs.PutItems.{plan_is}
 
 -- ---- one record that is put or goes
 
@@ -50,21 +51,19 @@ operation_rules s t new r is owned = record {
 
 put_plan : (c : Catalogued) (new : operations.Operations) (e : Entry) (put : List Entry) (gone : List Key) → IsCatalog c → operations.IsTable new → AreOwned (record c.tables { operations = new })
     → Sets c.tables (record c.tables { operations = new }) e.0 (Some e.1) → put ≡ e ∷ [] → gone ≡ [] → IsPlan c put gone (record c.tables { operations = new })
-put_plan c new e put gone is table owned sets p g = rw (p, g) (record {
-  after = after_put c.tables (record c.tables { operations = new }) e (with_operations c.tables new is.rules.tables table) sets;
-  rules = operation_rules c.shape c.tables new is.rules table owned;
-  units = λ es has. (c.units, has);
-  few = omega arith;
-})
+put_plan c new e put gone is table owned sets p g = rw (p, g) (plan_is c _ _ _
+    (after_put c.tables (record c.tables { operations = new }) e (with_operations c.tables new is.rules.tables table) sets)
+    (operation_rules c.shape c.tables new is.rules table owned)
+    (λ es has. (c.units, has))
+    (omega arith) refl)
 
 gone_plan : (c : Catalogued) (new : operations.Operations) (key : Key) (put : List Entry) (gone : List Key) → IsCatalog c → operations.IsTable new → AreOwned (record c.tables { operations = new })
     → Sets c.tables (record c.tables { operations = new }) key None → put ≡ [] → gone ≡ key ∷ [] → IsPlan c put gone (record c.tables { operations = new })
-gone_plan c new key put gone is table owned sets p g = rw (p, g) (record {
-  after = after_gone c.tables (record c.tables { operations = new }) key (with_operations c.tables new is.rules.tables table) sets;
-  rules = operation_rules c.shape c.tables new is.rules table owned;
-  units = λ es has. (c.units, has);
-  few = omega arith;
-})
+gone_plan c new key put gone is table owned sets p g = rw (p, g) (plan_is c _ _ _
+    (after_gone c.tables (record c.tables { operations = new }) key (with_operations c.tables new is.rules.tables table) sets)
+    (operation_rules c.shape c.tables new is.rules table owned)
+    (λ es has. (c.units, has))
+    (omega arith) refl)
 
 pub operation_fits : (op op_inside : Pending) → op ≡ op_inside → op_inside.file < 2 ^ 32 → op_inside.kept < 2 ^ 64 → is_item (pending_item op) ≡ true
 unfolding is_item

@@ -1,5 +1,5 @@
 -- Plans by which a chunk goes.
-use Rattle.std.proofs.Common.{◌≡◌, ◌≤◌, ◌<◌, ◌+◌, ◌/◌, ◌%◌, ◌^◌, ℕ, true, false, List, [], ◌∷◌, length, Option, Some, None, sym, ap, subst, ◌∙◌, arith, inl, inr}
+use Rattle.std.proofs.Common.{◌≡◌, ◌≤◌, ◌<◌, ◌+◌, ◌/◌, ◌%◌, ◌^◌, ℕ, true, false, List, [], ◌∷◌, length, Option, Some, None, refl, sym, ap, subst, ◌∙◌, arith, inl, inr}
 use Rattle.std.specs.Option.{is_some}
 use Rattle.std.specs.BTreeMap.{is_at}
 use Rattle.std.proofs.lemmas.Bool.{true≢false}
@@ -18,7 +18,7 @@ use Rattle.extent_map.proofs.Values.{chunk_numbered}
 use Rattle.staleness_directory.specs.Marks.{Marked, marks_at, without_marks}
 use Rattle.staleness_directory.proofs.Laws as stale_laws
 use Rattle.catalog.specs.Changing.{IsAfter}
-use Rattle.catalog.specs.ExtentPlans.{IsUndue, MayRelease, with_released}
+use Rattle.catalog.specs.ExtentPlans.{IsUndue, MayCut, with_cut, with_released}
 use Rattle.catalog.specs.Faults.{IsCatalog, key_of_marks}
 use Rattle.catalog.specs.Placing.{HasUnits, unused_maps}
 use Rattle.catalog.specs.Plans.{IsPlan}
@@ -35,7 +35,7 @@ numbered c f n is there =
     let w = some_of (chunk_at c.tables.extents (f, n)) there in
     chunk_numbered f n w.0 (item_at c.tables.extents (f, n) w.0 is.rules.tables.extents.0.1 w.1)
 
-module _ (c : Catalogued) (is : IsCatalog c) (f n : ℕ) (may : MayRelease c.shape c.tables f n) where
+module _ (c : Catalogued) (is : IsCatalog c) (f n : ℕ) (may : MayCut c.shape c.tables f n 0) where
   abbrev k : Chunk
   k = (f, n)
 
@@ -57,15 +57,15 @@ module _ (c : Catalogued) (is : IsCatalog c) (f n : ℕ) (may : MayRelease c.sha
   marks_others : (q : Chunk) → is_at (chunk_cmp q) k ≡ false → marks_at ms q ≡ marks_at c.tables.stale q
   marks_others q miss = gone_other chunk_cmp same_chunk chunk_total k q c.tables.stale miss
 
-  never_due : (head : FileHead) (o : Option FileHead) → o ≡ Some head → IsUndue c.shape o n → IsUndue c.shape (Some head) n
-  never_due head o e undue = subst (λ (x : Option FileHead). IsUndue c.shape x n) e undue
+  never_due : (head : FileHead) (o : Option FileHead) → o ≡ Some head → IsUndue c.shape o n 0 → IsUndue c.shape (Some head) n 0
+  never_due head o e undue = subst (λ (x : Option FileHead). IsUndue c.shape x n 0) e undue
 
   due : (g : ℕ) (head : FileHead) → head_at c.tables.files g ≡ Some head → HasExtents c.tables c.shape (g, head) → HasExtents (changed c.tables xs ms) c.shape (g, head)
   due g head there all i wanted = elim (either (is_at (chunk_cmp (g, i / 256)) k)) [
     | inl hit ↦
         let same : (g, i / 256) ≡ (f, n) = key_is chunk_cmp same_chunk chunk_total (g, i / 256) k hit in
         let file : head_at c.tables.files f ≡ Some head = ap (λ (q : Chunk). head_at c.tables.files q.0) (sym same) ∙ there in
-        absurd (true≢false (sym wanted ∙ never_due head (head_at c.tables.files f) file may.undue i (ap (λ (q : Chunk). q.1) same)))
+        absurd (true≢false (sym wanted ∙ never_due head (head_at c.tables.files f) file may.undue i (ap (λ (q : Chunk). q.1) same) (omega arith)))
     | inr miss ↦ ap (λ (o : Option (List Homes)). has_copies head.copies (extent_in o (i % 256))) (others (g, i / 256) miss) ∙ all i wanted
   ]
 
@@ -96,5 +96,11 @@ module _ (c : Catalogued) (is : IsCatalog c) (f n : ℕ) (may : MayRelease c.sha
       let w = some_of (chunk_at c.tables.extents k) may.there in
       units_gone c.shape.step (unused_maps c.shape es) c.units k c.tables.extents xs is.rules.tables.extents.0.0 edit.extents.0.0 others has w.0 w.1 gone
 
-  pub release_planned : (put : List Entry) (keys : List Key) → put ≡ [] → keys ≡ chunk_key f n ∷ key_of_marks (f, n) ∷ [] → IsPlan c put keys (with_released c.tables f n)
-  release_planned put keys p g = rw (p, g) (edited_plan c k xs ms [] (chunk_key f n ∷ key_of_marks (f, n) ∷ []) is edit after units (omega arith))
+  release_planned : (put : List Entry) (keys : List Key) → put ≡ [] → keys ≡ chunk_key f n ∷ key_of_marks (f, n) ∷ [] → IsPlan c put keys (with_cut c.tables f n 0)
+  release_planned put keys p g = rw (p, g) (edited_plan c k xs ms [] (chunk_key f n ∷ key_of_marks (f, n) ∷ []) is edit after units (omega arith) refl)
+
+-- where no extent is kept
+pub whole_planned : (c : Catalogued) (f n kept : ℕ) (put : List Entry) (keys : List Key) → IsCatalog c → MayCut c.shape c.tables f n kept → kept ≡ 0 → put ≡ [] → keys ≡ chunk_key f n ∷ key_of_marks (f, n) ∷ [] → IsPlan c put keys (with_cut c.tables f n kept)
+whole_planned c f n kept put keys is may none p g =
+    let all : MayCut c.shape c.tables f n 0 = subst (λ (j : ℕ). MayCut c.shape c.tables f n j) none may in
+    subst (λ (j : ℕ). IsPlan c put keys (with_cut c.tables f n j)) (sym none) (release_planned c is f n all put keys p g)

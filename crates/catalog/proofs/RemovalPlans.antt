@@ -28,7 +28,8 @@ use Rattle.operations_directory.proofs.ChangeLaws as operation_laws
 use Rattle.catalog.specs.Faults.{IsCatalog, file_key, node_key}
 use Rattle.catalog.specs.FilePlans.{IsRemovalPlan, is_on_file, removal_of, without_names}
 use Rattle.catalog.specs.Plans.{AreOwned, IsPlan}
-use Rattle.catalog.specs.Rules.{HasExtents, KeepsRules, are_within_head, first_wrong, has_names, is_directory, is_name, is_named_back, kind_eq, is_owned, keeps_copies, names_back, names_file}
+use Rattle.asm_placement.specs.Naming.{is_directory, is_named_as, kind_eq, names_back}
+use Rattle.catalog.specs.Rules.{HasExtents, KeepsRules, are_within_head, first_wrong, has_names, is_named_back, is_owned, keeps_copies, names_file}
 use Rattle.catalog.specs.Tables.{AreTables, Catalogued, Tables, records_of}
 use Rattle.catalog.proofs.NumberedLists.{all_there, either, gone_at, gone_few, number_is, number_itself}
 use Rattle.catalog.proofs.NumberedEntries.{found_passes, passes_where, rest_all, rest_passes}
@@ -36,6 +37,7 @@ use Rattle.catalog.proofs.Owners.{of_file}
 use Rattle.catalog.proofs.PlanLaws.{pending_key}
 use Rattle.catalog.proofs.SetLaws.{file_gone, nodes_set, operations_set}
 use Rattle.catalog.proofs.TableItems.{among_found, numbers_exact}
+use Rattle.catalog.proofs.PutItems.{plan_is}
 
 system_of_item : (f : ℕ) (head : FileHead) → is_item (file_item f head) ≡ true → 0 < head.system
 unfolding is_item
@@ -94,7 +96,7 @@ module _ (s : Shape) (t : Tables) (f : ℕ) (head : FileHead) (r : KeepsRules s 
     pub root : gone 0 ≡ false
 
   -- what goes is a name of the file
-  own_name : (gone : ℕ → Bool) (n : ℕ) → Goes gone → gone n ≡ true → eqb n 0 ≡ false → (kind : NodeKind) × (is_name kind f (node_at t.nodes n) ≡ true) × (nodes.kind_is_directory kind ≡ false)
+  own_name : (gone : ℕ → Bool) (n : ℕ) → Goes gone → gone n ≡ true → eqb n 0 ≡ false → (kind : NodeKind) × (is_named_as kind f (node_at t.nodes n) ≡ true) × (nodes.kind_is_directory kind ≡ false)
   own_name gone n goes hit some =
       let both = and_parts (names_file t f System head.system) (names_file t f Alias head.alias) own_names in
       elim (goes.others n hit) [
@@ -102,7 +104,7 @@ module _ (s : Shape) (t : Tables) (f : ℕ) (head : FileHead) (r : KeepsRules s 
         | inr same ↦ (Alias, rw some at (subst (λ (m : ℕ). names_file t f Alias m ≡ true) (sym same) both.1), refl)
       ]
 
-  two_names : (o : Option Node) (kind k : NodeKind) (g : ℕ) → is_name kind g o ≡ true → is_name k f o ≡ true → f ≡ g
+  two_names : (o : Option Node) (kind k : NodeKind) (g : ℕ) → is_named_as kind g o ≡ true → is_named_as k f o ≡ true → f ≡ g
   two_names None kind k g a b = absurd (true≢false (sym a))
   two_names (Some node) kind k g a b =
       let x = and_parts _ (eqb node.file g) a in
@@ -116,14 +118,14 @@ module _ (s : Shape) (t : Tables) (f : ℕ) (head : FileHead) (r : KeepsRules s 
   kind_kept System k e d = refl
   kind_kept Alias k e d = refl
 
-  no_directory : (o : Option Node) (k : NodeKind) (parent : Node) → is_name k f o ≡ true → nodes.kind_is_directory k ≡ false → o ≡ Some parent → nodes.is_directory parent ≡ false
+  no_directory : (o : Option Node) (k : NodeKind) (parent : Node) → is_named_as k f o ≡ true → nodes.kind_is_directory k ≡ false → o ≡ Some parent → nodes.is_directory parent ≡ false
   no_directory None k parent e d at = absurd (true≢false (sym e))
   no_directory (Some node) k parent e d at =
       let same : node ≡ parent = cc in
       let x = and_parts (kind_eq node.kind k) (eqb node.file f) e in
       subst (λ (p : Node). nodes.is_directory p ≡ false) same (kind_kept node.kind k x.0 d)
 
-  some_node : (o : Option Node) (k : NodeKind) → is_name k f o ≡ true → (parent : Node) × (o ≡ Some parent)
+  some_node : (o : Option Node) (k : NodeKind) → is_named_as k f o ≡ true → (parent : Node) × (o ≡ Some parent)
   some_node None k e = absurd (true≢false (sym e))
   some_node (Some node) k e = (node, refl)
 
@@ -195,9 +197,9 @@ module _ (s : Shape) (t : Tables) (f : ℕ) (head : FileHead) (r : KeepsRules s 
     name_kept g kind n other ok = elim (either (eqb n 0)) [
       | inl zero ↦ rw zero refl
       | inr some ↦
-          let named : is_name kind g (node_at t.nodes n) ≡ true = rw some at ok in
+          let named : is_named_as kind g (node_at t.nodes n) ≡ true = rw some at ok in
           elim (either (gone n)) [
-            | inr miss ↦ rw some (ap (λ (o : Option Node). is_name kind g o) (at n ∙ rw miss refl) ∙ named)
+            | inr miss ↦ rw some (ap (λ (o : Option Node). is_named_as kind g o) (at n ∙ rw miss refl) ∙ named)
             | inl hit ↦
                 let own = own_name gone n goes hit some in
                 let same = two_names (node_at t.nodes n) kind own.0 g named own.1 in
@@ -353,12 +355,11 @@ removal_planned c f head put gone is there ok p g = by (eqb head.alias 0) refl w
       let part = rest_passes (is_named_back c.tables) (is_at (nat_cmp head.system)) c.tables.nodes is.rules.nodes in
       let keys : gone ≡ file_key f ∷ node_key head.system ∷ [] = g ∙ rw q refl in
       make ns (rw q refl)
-      (λ owned. record {
-        after = record { tables = tables_kept c.shape c.tables f head is.rules there ns (λ m. is_at (nat_cmp head.system) m) goes at items few part table; records = λ k. rw (p, keys) (system_left c.shape c.tables f head is.rules there k ∙ two_go (is_key (file_key f) k) (is_key (node_key head.system) k) (cond (is_key pending_key k) (Some (value (pending_item (removal_of f)))) (records_of c.tables k))) };
-        rules = rules_kept c.shape c.tables f head is.rules there ns (λ m. is_at (nat_cmp head.system) m) goes at items few part table owned;
-        units = λ es has. (c.units, has);
-        few = rw (p, keys) (omega arith);
-      })
+      (λ owned. plan_is c _ _ _
+      (record { tables = tables_kept c.shape c.tables f head is.rules there ns (λ m. is_at (nat_cmp head.system) m) goes at items few part table; records = λ k. rw (p, keys) (system_left c.shape c.tables f head is.rules there k ∙ two_go (is_key (file_key f) k) (is_key (node_key head.system) k) (cond (is_key pending_key k) (Some (value (pending_item (removal_of f)))) (records_of c.tables k))) })
+      (rules_kept c.shape c.tables f head is.rules there ns (λ m. is_at (nat_cmp head.system) m) goes at items few part table owned)
+      (λ es has. (c.units, has))
+      (rw (p, keys) (omega arith)) (rw (p, keys) refl))
       (owned_then c.shape c.tables f head is.rules there ns (λ m. is_at (nat_cmp head.system) m) goes at items few part)
   by false q =
       let ns = without_node (without_node c.tables.nodes head.system) head.alias in
@@ -371,10 +372,9 @@ removal_planned c f head put gone is there ok p g = by (eqb head.alias 0) refl w
       let part = rest_passes (is_named_back c.tables) (is_at (nat_cmp head.alias)) (without_node c.tables.nodes head.system) (rest_passes (is_named_back c.tables) (is_at (nat_cmp head.system)) c.tables.nodes is.rules.nodes) in
       let keys : gone ≡ file_key f ∷ node_key head.system ∷ node_key head.alias ∷ [] = g ∙ rw q refl in
       make ns (rw q refl)
-      (λ owned. record {
-        after = record { tables = tables_kept c.shape c.tables f head is.rules there ns (λ m. is_either c.shape c.tables f head is.rules there m) goes at items few part table; records = λ k. rw (p, keys) (alias_left c.shape c.tables f head is.rules there k ∙ three_go (is_key (file_key f) k) (is_key (node_key head.system) k) (is_key (node_key head.alias) k) (cond (is_key pending_key k) (Some (value (pending_item (removal_of f)))) (records_of c.tables k))) };
-        rules = rules_kept c.shape c.tables f head is.rules there ns (λ m. is_either c.shape c.tables f head is.rules there m) goes at items few part table owned;
-        units = λ es has. (c.units, has);
-        few = rw (p, keys) (omega arith);
-      })
+      (λ owned. plan_is c _ _ _
+      (record { tables = tables_kept c.shape c.tables f head is.rules there ns (λ m. is_either c.shape c.tables f head is.rules there m) goes at items few part table; records = λ k. rw (p, keys) (alias_left c.shape c.tables f head is.rules there k ∙ three_go (is_key (file_key f) k) (is_key (node_key head.system) k) (is_key (node_key head.alias) k) (cond (is_key pending_key k) (Some (value (pending_item (removal_of f)))) (records_of c.tables k))) })
+      (rules_kept c.shape c.tables f head is.rules there ns (λ m. is_either c.shape c.tables f head is.rules there m) goes at items few part table owned)
+      (λ es has. (c.units, has))
+      (rw (p, keys) (omega arith)) (rw (p, keys) refl))
       (owned_then c.shape c.tables f head is.rules there ns (λ m. is_either c.shape c.tables f head is.rules there m) goes at items few part)

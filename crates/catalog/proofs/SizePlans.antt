@@ -27,7 +27,8 @@ use Rattle.catalog.specs.Changing.{Sets}
 use Rattle.catalog.specs.Faults.{IsCatalog, file_key}
 use Rattle.catalog.specs.FilePlans.{HasSoMany, IsSizePlan, MayGrow, is_on_file, sized, with_size}
 use Rattle.catalog.specs.Plans.{AreOwned, IsPlan}
-use Rattle.catalog.specs.Rules.{HasExtents, KeepsRules, are_within_head, blocks_used, first_wrong, has_names, is_directory, is_due, is_named_back, is_owned, is_pending, keeps_copies, names_back}
+use Rattle.asm_placement.specs.Naming.{is_directory, is_pending, names_back}
+use Rattle.catalog.specs.Rules.{HasExtents, KeepsRules, are_within_head, blocks_used, first_wrong, has_names, is_due, is_named_back, is_owned, keeps_copies}
 use Rattle.catalog.specs.Tables.{AreTables, Catalogued, Tables, records_of}
 use Rattle.catalog.proofs.NumberedLists.{all_there, either, number_is, put_at, there_as_long}
 use Rattle.catalog.proofs.NumberedEntries.{found_passes, passes_where, put_all, put_passes}
@@ -35,6 +36,7 @@ use Rattle.catalog.proofs.Owners.{of_file}
 use Rattle.catalog.proofs.PlanLaws.{or_false, pending_key}
 use Rattle.catalog.proofs.SetLaws.{operations_set}
 use Rattle.catalog.proofs.TreePlans.{head_put}
+use Rattle.catalog.proofs.PutItems.{is_once, plan_is}
 
 -- ---- the head
 
@@ -151,14 +153,11 @@ module _ (c : Catalogued) (f : ℕ) (head : FileHead) (size : ℕ) (put : List E
   abbrev to : Option Pending → Tables
   to pending = sized c.tables f head size pending
 
-  plan_of : (pending : Option Pending) → operations.IsTable (record old { pending = pending }) → ((k : Key) → records_of (to pending) k ≡ value_after put gone k (records_of c.tables k)) → length put + length gone ≤ 64
+  plan_of : (pending : Option Pending) → operations.IsTable (record old { pending = pending }) → ((k : Key) → records_of (to pending) k ≡ value_after put gone k (records_of c.tables k)) → length put + length gone ≤ 64 → is_once put gone ≡ true
       → AreOwned (to pending) → IsPlan c put gone (to pending)
-  plan_of pending table after few owned = record {
-    after = record { tables = tables_kept c.shape c.tables f head size pending is.rules there less table; records = after };
-    rules = rules_kept c.shape c.tables f head size pending is.rules there less table may owned;
-    units = λ es has. (c.units, has);
-    few = few;
-  }
+  plan_of pending table after few once owned =
+      plan_is c put gone (to pending) (record { tables = tables_kept c.shape c.tables f head size pending is.rules there less table; records = after })
+      (rules_kept c.shape c.tables f head size pending is.rules there less table may owned) (λ es has. (c.units, has)) few once
 
   grown_after : put ≡ entry ∷ [] → gone ≡ pending_key ∷ [] → (k : Key) → records_of (to None) k ≡ value_after put gone k (records_of c.tables k)
   grown_after p g k = rw (p, g) (
@@ -172,7 +171,7 @@ module _ (c : Catalogued) (f : ℕ) (head : FileHead) (size : ℕ) (put : List E
     file = there;
     pending = None;
     operation = record { grown = λ e. refl; shrunk = λ e. absurd (omega arith); as_long = λ e. absurd (omega arith) };
-    plan = plan_of None (operation_laws.no_pending old (record old { pending = None }) refl is.rules.tables.operations) (grown_after p g) (rw (p, g) (omega arith));
+    plan = plan_of None (operation_laws.no_pending old (record old { pending = None }) refl is.rules.tables.operations) (grown_after p g) (rw (p, g) (omega arith)) (rw (p, g) refl);
     owned = owned_then c.shape c.tables f head size None is.rules there;
   }
 
@@ -188,7 +187,7 @@ module _ (c : Catalogued) (f : ℕ) (head : FileHead) (size : ℕ) (put : List E
     file = there;
     pending = Some op;
     operation = record { grown = λ e. absurd (omega arith); shrunk = λ e. (op.kept, ap (λ (o : Pending). Some o) same, kept_then); as_long = λ e. absurd (omega arith) };
-    plan = plan_of (Some op) (operation_laws.operation_allowed old op ok is.rules.tables.operations) (shrunk_after op records g) (rw (records, g) (omega arith));
+    plan = plan_of (Some op) (operation_laws.operation_allowed old op ok is.rules.tables.operations) (shrunk_after op records g) (rw (records, g) (omega arith)) (rw (records, g) refl);
     owned = owned_then c.shape c.tables f head size (Some op) is.rules there;
   } where
     same : op ≡ record { kind = Shrink; file = f; kept = op.kept }
@@ -206,6 +205,6 @@ module _ (c : Catalogued) (f : ℕ) (head : FileHead) (size : ℕ) (put : List E
     file = there;
     pending = old.pending;
     operation = record { grown = λ e. absurd (omega arith); shrunk = λ e. absurd (omega arith); as_long = λ e. refl };
-    plan = plan_of old.pending is.rules.tables.operations (λ k. rw (p, g) (head_set c.shape c.tables f head size old.pending is.rules there k)) (rw (p, g) (omega arith));
+    plan = plan_of old.pending is.rules.tables.operations (λ k. rw (p, g) (head_set c.shape c.tables f head size old.pending is.rules there k)) (rw (p, g) (omega arith)) (rw (p, g) refl);
     owned = owned_then c.shape c.tables f head size old.pending is.rules there;
   }

@@ -7,7 +7,7 @@ use Rattle.asm_base.specs.Records.{Entry}
 use Rattle.catalog.specs.declared.error.CatalogError.{CatalogError}
 use Rattle.catalog.specs.declared.error.CatalogError.TheVariants as answer
 use Rattle.catalog.specs.Tables.{AreTables, Catalogued, HasRecords, Tables}
-use Rattle.catalog.specs.Rules.{KeepsRules, blocks_used, first_unknown}
+use Rattle.catalog.specs.Rules.{AreOnRegular, KeepsRules, blocks_used, first_unknown}
 use Rattle.catalog.specs.Placing.{HasUnits}
 use Rattle.catalog.specs.Faults.{BreaksRule, IsAtFault, IsCatalog, IsCatalogOf, Names}
 use Rattle.catalog.specs.Faults as fault
@@ -19,8 +19,8 @@ pub names_broken : (content : List Entry) (s : Shape) (es : List status.Entry) (
 names_broken content s es t (answer.Damaged k) are has b = fault.broken t are has b
 names_broken content s es t answer.NoMemory are has b = tt
 
-pub catalog_is : (content : List Entry) (es : List status.Entry) (c : Catalogued) → HasRecords content c.tables → KeepsRules c.shape c.tables → first_unknown c.tables es ≡ None → HasUnits c.shape es c.tables c.units → IsCatalogOf content es c
-catalog_is content es c has rules infos units = record { records = has; rules = rules; infos = infos; units = units }
+pub catalog_is : (content : List Entry) (es : List status.Entry) (c : Catalogued) → HasRecords content c.tables → KeepsRules c.shape c.tables → first_unknown c.tables es ≡ None → AreOnRegular es c.tables → HasUnits c.shape es c.tables c.units → IsCatalogOf content es c
+catalog_is content es c has rules infos regular units = record { records = has; rules = rules; infos = infos; regular = regular; units = units }
 
 pub invariant_is : (es : List status.Entry) (c : Catalogued) → KeepsRules c.shape c.tables → HasUnits c.shape es c.tables c.units → IsCatalog c
 invariant_is es c rules units = record { rules = rules; entries = es; units = units }

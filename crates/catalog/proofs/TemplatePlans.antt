@@ -16,6 +16,7 @@ use Rattle.catalog.specs.Plans.{IsPlan, IsTemplatePlan}
 use Rattle.catalog.specs.Tables.{AreTables, Catalogued, Tables}
 use Rattle.catalog.proofs.PlanLaws.{after_put}
 use Rattle.catalog.proofs.SetLaws.{templates_set}
+use Rattle.catalog.proofs.PutItems.{plan_is}
 
 pub with_templates : (t : Tables) (new : templates.Table) → AreTables t → templates.IsTable new → AreTables (record t { templates = new })
 with_templates t new a is = record { files = a.files; extents = a.extents; nodes = a.nodes; templates = is; stale = a.stale; operations = a.operations; disks = a.disks }
@@ -28,24 +29,23 @@ set_planned c put gone is ts ok p g =
     let r = is.rules in
     let are = with_templates c.tables new r.tables (record { templates = ok; settings = r.tables.templates.settings }) in
     let sets = templates_set c.tables new templates_key (Some (value (templates_item ts))) refl (template_laws.templates_set old ts) in
-    rw (p, g) (record {
-      after = after_put c.tables (record c.tables { templates = new }) (item_record (templates_item ts)) are sets;
-      rules = record {
-        tables = are;
-        marked = r.marked;
-        chunks = r.chunks;
-        owned = r.owned;
-        redundancy = r.redundancy;
-        apart = r.apart;
-        stale = r.stale;
-        nodes = r.nodes;
-        names = r.names;
-        extents = r.extents;
-        room = r.room;
-      };
-      units = λ es has. (c.units, has);
-      few = omega arith;
+    rw (p, g) (plan_is c _ _ _
+    (after_put c.tables (record c.tables { templates = new }) (item_record (templates_item ts)) are sets)
+    (record {
+      tables = are;
+      marked = r.marked;
+      chunks = r.chunks;
+      owned = r.owned;
+      redundancy = r.redundancy;
+      apart = r.apart;
+      stale = r.stale;
+      nodes = r.nodes;
+      names = r.names;
+      extents = r.extents;
+      room = r.room;
     })
+    (λ es has. (c.units, has))
+    (omega arith) refl)
 
 pub edit_planned : (c : Catalogued) (put : List Entry) (gone : List Key) (edit : TemplateEdit) (ts : List Template) → templates_edited c.shape.kind (templates_by_name c.tables.templates.templates) edit ≡ Ok (templates_by_name ts)
     → IsPlan c put gone (record c.tables { templates = record { templates = ts; settings = c.tables.templates.settings } }) → IsTemplatePlan c edit put gone

@@ -28,12 +28,14 @@ use Rattle.alias_tree.proofs.Keeping.{at_with, at_without}
 use Rattle.catalog.specs.Changing.{IsAfter, Sets}
 use Rattle.catalog.specs.Faults.{IsCatalog, file_key, node_key}
 use Rattle.catalog.specs.Plans.{IsPlan}
-use Rattle.catalog.specs.Rules.{HasExtents, KeepsRules, are_within_head, blocks_used, first_wrong, has_names, is_directory, is_name, is_named_back, is_owned, is_pending, keeps_copies, kind_eq, names_back, names_file}
+use Rattle.asm_placement.specs.Naming.{is_directory, is_named_as, is_pending, kind_eq, names_back}
+use Rattle.catalog.specs.Rules.{HasExtents, KeepsRules, are_within_head, blocks_used, first_wrong, has_names, is_named_back, is_owned, keeps_copies, names_file}
 use Rattle.catalog.specs.Tables.{AreTables, Catalogued, Tables, records_of}
 use Rattle.catalog.specs.TreePlans.{HasNoAlias, IsNewAlias, KeepsName, aliased_head, heads_without, with_alias}
 use Rattle.catalog.proofs.NumberedLists.{all_there, either, gone_few, new_longer, number_is, number_itself, put_at, there_all, there_as_long}
 use Rattle.catalog.proofs.PlanLaws.{after_gone, after_put}
 use Rattle.catalog.proofs.SetLaws.{files_set, nodes_set}
+use Rattle.catalog.proofs.PutItems.{plan_is}
 
 -- ---- entries that are right
 
@@ -188,21 +190,21 @@ pub named_dir : (u : Tables) (m : ℕ) (y : Node) → y.kind ≡ Directory → i
 named_dir u m y e = rw e refl
 
 abbrev pub Stays : Tables → Tables → NodeKind → ℕ → Type 0
-Stays t u kind f = (m : ℕ) → is_name kind f (node_at t.nodes m) ≡ true → is_name kind f (node_at u.nodes m) ≡ true
+Stays t u kind f = (m : ℕ) → is_named_as kind f (node_at t.nodes m) ≡ true → is_named_as kind f (node_at u.nodes m) ≡ true
 
 pub has_stay : (t u : Tables) (f : ℕ) (h : FileHead) → Stays t u System f → Stays t u Alias f → has_names t (f, h) ≡ true → has_names u (f, h) ≡ true
 has_stay t u f h system alias e =
     let p = and_parts (names_file t f System h.system) (names_file t f Alias h.alias) e in
     both_true (names_file u f System h.system) (names_file u f Alias h.alias)
-    (or_more (eqb h.system 0) (is_name System f (node_at t.nodes h.system)) (is_name System f (node_at u.nodes h.system)) (system h.system) p.0)
-    (or_more (eqb h.alias 0) (is_name Alias f (node_at t.nodes h.alias)) (is_name Alias f (node_at u.nodes h.alias)) (alias h.alias) p.1)
+    (or_more (eqb h.system 0) (is_named_as System f (node_at t.nodes h.system)) (is_named_as System f (node_at u.nodes h.system)) (system h.system) p.0)
+    (or_more (eqb h.alias 0) (is_named_as Alias f (node_at t.nodes h.alias)) (is_named_as Alias f (node_at u.nodes h.alias)) (alias h.alias) p.1)
 
 -- the head with another alias has its names where that is one
 has_aliased : (t u : Tables) (f : ℕ) (h : FileHead) (n : ℕ) → Stays t u System f → names_file u f Alias n ≡ true → has_names t (f, h) ≡ true → has_names u (f, with_alias h n) ≡ true
 has_aliased t u f h n system alias e =
     let p = and_parts (names_file t f System h.system) (names_file t f Alias h.alias) e in
     both_true (names_file u f System h.system) (names_file u f Alias n)
-    (or_more (eqb h.system 0) (is_name System f (node_at t.nodes h.system)) (is_name System f (node_at u.nodes h.system)) (system h.system) p.0) alias
+    (or_more (eqb h.system 0) (is_named_as System f (node_at t.nodes h.system)) (is_named_as System f (node_at u.nodes h.system)) (system h.system) p.0) alias
 
 -- ---- a node that is put
 
@@ -254,13 +256,13 @@ module _ (s : Shape) (t : Tables) (r : KeepsRules s t) where
     -- a new node leaves the names of files
     new_stays : (heads : List File) (kind : NodeKind) (f : ℕ) → node_at t.nodes n ≡ None → Stays t (after t put heads) kind f
     new_stays heads kind f free m e = elim (either (is_at (nat_cmp n) m)) [
-      | inl hit ↦ absurd (true≢false (sym e ∙ ap (is_name kind f) (ap (λ (k : ℕ). node_at t.nodes k) (sym (number_is n m hit)) ∙ free)))
+      | inl hit ↦ absurd (true≢false (sym e ∙ ap (is_named_as kind f) (ap (λ (k : ℕ). node_at t.nodes k) (sym (number_is n m hit)) ∙ free)))
       | inr miss ↦ rw (put_else m miss) e
     ]
 
     kept_stays : (kind : NodeKind) (f : ℕ) → KeepsName (node_at t.nodes n) x → Stays t (after t put t.files) kind f
     kept_stays kind f keeps m e = by (node_at t.nodes n) refl keeps where
-      by : (o : Option Node) → node_at t.nodes n ≡ o → KeepsName o x → is_name kind f (node_at put m) ≡ true
+      by : (o : Option Node) → node_at t.nodes n ≡ o → KeepsName o x → is_named_as kind f (node_at put m) ≡ true
       by None free k = new_stays t.files kind f free m e
       by (Some was) at k = elim (either (is_at (nat_cmp n) m)) [
         | inl hit ↦
@@ -311,7 +313,7 @@ module _ (s : Shape) (t : Tables) (r : KeepsRules s t) where
         names : names_file (after t put new_heads) f Alias n ≡ true
         names =
             let now : node_at put n ≡ Some x = at_with t.nodes n x n ∙ rw (number_itself n) refl in
-            or_more (eqb n 0) true (is_name Alias f (node_at put n)) (λ i. rw now (rw kind (eq-eqb x.file f file))) (or_true (eqb n 0))
+            or_more (eqb n 0) true (is_named_as Alias f (node_at put n)) (λ i. rw now (rw kind (eq-eqb x.file f file))) (or_true (eqb n 0))
 
   -- ---- a node that goes
 
@@ -329,9 +331,9 @@ module _ (s : Shape) (t : Tables) (r : KeepsRules s t) where
       | inr miss ↦ (miss, sym (left_else m miss) ∙ e)
     ]
 
-    gone_stays : (heads : List File) (kind : NodeKind) (f : ℕ) → is_name kind f (Some x) ≡ false → Stays t (after t left heads) kind f
+    gone_stays : (heads : List File) (kind : NodeKind) (f : ℕ) → is_named_as kind f (Some x) ≡ false → Stays t (after t left heads) kind f
     gone_stays heads kind f other m e = elim (either (is_at (nat_cmp n) m)) [
-      | inl hit ↦ absurd (true≢false (sym e ∙ (ap (is_name kind f) (ap (λ (k : ℕ). node_at t.nodes k) (sym (number_is n m hit)) ∙ at) ∙ other)))
+      | inl hit ↦ absurd (true≢false (sym e ∙ (ap (is_named_as kind f) (ap (λ (k : ℕ). node_at t.nodes k) (sym (number_is n m hit)) ∙ at) ∙ other)))
       | inr miss ↦ rw (left_else m miss) e
     ]
 
@@ -426,12 +428,11 @@ module _ (c : Catalogued) (put : List Entry) (gone : List Key) (is : IsCatalog c
   node_planned n x table keeps room p g =
       let r = is.rules in
       let are = with_tables t (with_node t.nodes n x) t.files r.tables table r.tables.files in
-      rw (p, g) (record {
-        after = after_put t (record t { nodes = with_node t.nodes n x }) (item_record (node_item n x)) are (node_put t n x);
-        rules = after_rules c.shape t (with_node t.nodes n x) t.files r (λ f. like_itself (head_at t.files f)) are (kept_named c.shape t r n x keeps) (kept_has c.shape t r n x keeps) (put_room n x t.files refl room);
-        units = λ es has. (c.units, has);
-        few = omega arith;
-      })
+      rw (p, g) (plan_is c _ _ _
+      (after_put t (record t { nodes = with_node t.nodes n x }) (item_record (node_item n x)) are (node_put t n x))
+      (after_rules c.shape t (with_node t.nodes n x) t.files r (λ f. like_itself (head_at t.files f)) are (kept_named c.shape t r n x keeps) (kept_has c.shape t r n x keeps) (put_room n x t.files refl room))
+      (λ es has. (c.units, has))
+      (omega arith) refl)
 
   -- A new alias is put, and the head of its file has it.
   pub alias_planned : (n : ℕ) (x : Node) (h : FileHead) → nodes.IsTable (with_node t.nodes n x) → n < 2 ^ 32 → node_at t.nodes n ≡ None → x.kind ≡ Alias → head_at t.files x.file ≡ Some h → HasNoAlias t.nodes x.file → blocks_used t + 2 < c.shape.dir_blocks
@@ -444,25 +445,23 @@ module _ (c : Catalogued) (put : List Entry) (gone : List Key) (is : IsCatalog c
       let mid = record t { nodes = with_node t.nodes n x } in
       let are = with_tables t (with_node t.nodes n x) heads r.tables table held in
       let as_many = there_as_long x.file (with_alias h n) h t.files r.tables.files.0 head in
-      rw (p, g) (record {
-        after = after_two t mid (after t (with_node t.nodes n x) heads) (item_record (node_item n x)) (item_record (file_item x.file (with_alias h n))) are (node_put t n x) (head_put mid x.file (with_alias h n));
-        rules = after_rules c.shape t (with_node t.nodes n x) heads r (like_put t.files x.file h n head) are (alias_named c.shape t r n x x.file h free kind refl head none) (alias_has c.shape t r n x x.file h free kind refl head none)
-            (put_room n x heads as_many (λ e. room));
-        units = λ es has. (c.units, has);
-        few = omega arith;
-      })
+      rw (p, g) (plan_is c _ _ _
+      (after_two t mid (after t (with_node t.nodes n x) heads) (item_record (node_item n x)) (item_record (file_item x.file (with_alias h n))) are (node_put t n x) (head_put mid x.file (with_alias h n)))
+      (after_rules c.shape t (with_node t.nodes n x) heads r (like_put t.files x.file h n head) are (alias_named c.shape t r n x x.file h free kind refl head none) (alias_has c.shape t r n x x.file h free kind refl head none)
+      (put_room n x heads as_many (λ e. room)))
+      (λ es has. (c.units, has))
+      (omega arith) refl)
 
   -- A directory goes.
   pub dir_gone_planned : (n : ℕ) (x : Node) → nodes.IsTable (without_node t.nodes n) → node_at t.nodes n ≡ Some x → x.kind ≡ Directory → put ≡ [] → gone ≡ node_key n ∷ [] → IsPlan c put gone (record t { nodes = without_node t.nodes n })
   dir_gone_planned n x table at kind p g =
       let r = is.rules in
       let are = with_tables t (without_node t.nodes n) t.files r.tables table r.tables.files in
-      rw (p, g) (record {
-        after = after_gone t (record t { nodes = without_node t.nodes n }) (node_key n) are (node_gone t n r.tables);
-        rules = after_rules c.shape t (without_node t.nodes n) t.files r (λ f. like_itself (head_at t.files f)) are (dir_named c.shape t r n x at) (dir_has c.shape t r n x at kind) (gone_room n t.files refl);
-        units = λ es has. (c.units, has);
-        few = omega arith;
-      })
+      rw (p, g) (plan_is c _ _ _
+      (after_gone t (record t { nodes = without_node t.nodes n }) (node_key n) are (node_gone t n r.tables))
+      (after_rules c.shape t (without_node t.nodes n) t.files r (λ f. like_itself (head_at t.files f)) are (dir_named c.shape t r n x at) (dir_has c.shape t r n x at kind) (gone_room n t.files refl))
+      (λ es has. (c.units, has))
+      (omega arith) refl)
 
   -- An alias goes, and the head of its file has none.
   pub alias_gone_planned : (n : ℕ) (x : Node) (h : FileHead) → nodes.IsTable (without_node t.nodes n) → node_at t.nodes n ≡ Some x → x.kind ≡ Alias → head_at t.files x.file ≡ Some h
@@ -477,13 +476,12 @@ module _ (c : Catalogued) (put : List Entry) (gone : List Key) (is : IsCatalog c
       let middle = with_tables t t.nodes heads r.tables r.tables.nodes held in
       let are = with_tables t (without_node t.nodes n) heads r.tables table held in
       let as_many = there_as_long x.file (with_alias h 0) h t.files r.tables.files.0 head in
-      rw (p, g) (record {
-        after = after_put_gone t mid (after t (without_node t.nodes n) heads) (item_record (file_item x.file (with_alias h 0))) (node_key n) are (head_put t x.file (with_alias h 0)) (node_gone mid n middle);
-        rules = after_rules c.shape t (without_node t.nodes n) heads r (like_put t.files x.file h 0 head) are (unalias_named c.shape t r n x at x.file h kind refl head) (unalias_has c.shape t r n x at x.file h kind refl head)
-            (gone_room n heads as_many);
-        units = λ es has. (c.units, has);
-        few = omega arith;
-      })
+      rw (p, g) (plan_is c _ _ _
+      (after_put_gone t mid (after t (without_node t.nodes n) heads) (item_record (file_item x.file (with_alias h 0))) (node_key n) are (head_put t x.file (with_alias h 0)) (node_gone mid n middle))
+      (after_rules c.shape t (without_node t.nodes n) heads r (like_put t.files x.file h 0 head) are (unalias_named c.shape t r n x at x.file h kind refl head) (unalias_has c.shape t r n x at x.file h kind refl head)
+      (gone_room n heads as_many))
+      (λ es has. (c.units, has))
+      (omega arith) refl)
 
 -- ---- the same, by what the steps of a plan give
 

@@ -1,6 +1,6 @@
 -- What the plans of extents ask, and what they make of the tables.
-use Rattle.std.specs.Prelude.{◌≡◌, ◌⊎◌, ℕ, ◌+◌, ◌-◌, ◌*◌, ◌/◌, ◌%◌, ◌^◌, ◌<◌, ◌≤◌, Bool, true, false, ◌&&◌, ◌||◌, ◌==◌, nat_lt, List, [], length, get_or, replicate, slice_set, Option, Some, None, IsTrue, bit_and, bit_or, is_some}
-use Rattle.std.specs.List.{list_all}
+use Rattle.std.specs.Prelude.{◌≡◌, ◌⊎◌, ℕ, ◌+◌, ◌-◌, ◌*◌, ◌/◌, ◌%◌, ◌^◌, ◌<◌, ◌≤◌, Bool, true, false, ◌&&◌, ◌||◌, ◌==◌, nat_lt, List, [], ◌++◌, length, take, drop, get_or, replicate, slice_set, Option, Some, None, if◌then◌else◌, IsTrue, bit_and, bit_or, is_some}
+use Rattle.std.specs.List.{list_all, zip}
 use Rattle.std.specs.Option.{unwrap_or}
 use Rattle.asm_group.specs.Shape.{Shape}
 use Rattle.asm_base.specs.declared.refusal.Refusal.{Refusal}
@@ -9,13 +9,14 @@ use Rattle.asm_formats.specs.Items.{FileHead, Home, Homes, Item, chunk_len}
 use Rattle.asm_placement.specs.Layout.{units_of}
 use Rattle.asm_placement.specs.Moves.{with_current, with_home, without_bit}
 use Rattle.asm_placement.specs.Placed.{placed_extents}
-use Rattle.extent_map.specs.Extents.{HasExtent, chunk_at, chunk_or_blank, count_in, follows, has_extent, has_home, with_chunk, with_extent, with_more, without_chunk}
+use Rattle.extent_map.specs.Extents.{HasExtent, chunk_at, chunk_or_blank, count_in, cut_to, follows, has_extent, has_home, with_chunk, with_extent, with_more, without_chunk}
 use Rattle.file_directory.specs.Files.{head_at, is_file}
-use Rattle.staleness_directory.specs.Marks.{Marked, marks_at, with_marks, without_marks}
+use Rattle.staleness_directory.specs.Marks.{Marked, marks_at, marks_to, with_marks, without_marks}
 use Rattle.catalog.specs.Faults.{IsCatalog}
 use Rattle.catalog.specs.Items.{AreItemsOf}
 use Rattle.catalog.specs.Placing.{after_homes, home_taken}
-use Rattle.catalog.specs.Rules.{are_marks_of, are_on_disks, are_within_head, blocks_used, is_due, is_pending, marks_of}
+use Rattle.asm_placement.specs.Naming.{is_pending}
+use Rattle.catalog.specs.Rules.{are_marks_of, are_on_disks, are_within_head, blocks_used, is_due, marks_of}
 use Rattle.catalog.specs.Tables.{Catalogued, Tables}
 
 -- ---- one extent
@@ -81,12 +82,23 @@ pub record MayMove (c : Catalogued) (f i copy : ℕ) (h : Home) : Type 0 where
 abbrev pub first_new : Tables → ℕ → ℕ → ℕ
 first_new t f n = n * chunk_len + count_in (chunk_or_blank t.extents (f, n))
 
--- the tables once a chunk has these extents behind those that it has: a new chunk gets marks, none of which are set
-abbrev pub with_appended : Tables → ℕ → ℕ → List Homes → Tables
-with_appended t f n homes = record t { extents = with_chunk t.extents (f, n) (with_more (chunk_or_blank t.extents (f, n)) homes); stale = with_marks t.stale (f, n) (marks_or_none t.stale (f, n)) }
+-- the marks of a chunk with these behind the first n
+abbrev pub marks_behind : ℕ → List ℕ → List ℕ → List ℕ
+marks_behind n old new = take n old ++ new ++ drop (n + length new) old
 
--- what the extents must be that a chunk gets
-pub record MayAppend (c : Catalogued) (f n : ℕ) (homes : List Homes) : Type 0 where
+-- the extents of a chunk with these behind those that it has, and its marks with those of these
+abbrev pub homes_appended : Tables → ℕ → ℕ → List Homes → List Homes
+homes_appended t f n homes = with_more (chunk_or_blank t.extents (f, n)) homes
+
+abbrev pub marks_appended : Tables → ℕ → ℕ → List ℕ → List ℕ
+marks_appended t f n marks = marks_behind (count_in (chunk_or_blank t.extents (f, n))) (marks_or_none t.stale (f, n)) marks
+
+-- the tables once a chunk has these extents, with these marks, behind those that it has
+abbrev pub with_appended : Tables → ℕ → ℕ → List Homes → List ℕ → Tables
+with_appended t f n homes marks = record t { extents = with_chunk t.extents (f, n) (homes_appended t f n homes); stale = with_marks t.stale (f, n) (marks_appended t f n marks) }
+
+-- what the extents, and their marks, must be that a chunk gets
+pub record MayAppend (c : Catalogued) (f n : ℕ) (homes : List Homes) (marks : List ℕ) : Type 0 where
   -- the number of the chunk has room in a key, and the chunk has room for them
   pub number : n + 1 < 2 ^ 32
   pub room : count_in (chunk_or_blank c.tables.extents (f, n)) + length homes ≤ chunk_len
@@ -100,6 +112,10 @@ pub record MayAppend (c : Catalogued) (f n : ℕ) (homes : List Homes) : Type 0 
   pub apart : IsTrue (list_all are_on_disks homes)
   -- taken one after the other, each is a run of free user units as long as its extent
   pub free : IsTrue (is_some (after_homes c.units (placed_extents c.shape.step f (first_new c.tables f n) homes)))
+  -- each of them has its marks, and each mark is that of a copy that it has
+  pub marked : length marks ≡ length homes
+  pub three : IsTrue (list_all (λ m. nat_lt m 8) marks)
+  pub stale : IsTrue (list_all are_marks_of (zip marks homes))
 
 -- the units of three homes are numbers of 32 bits
 abbrev pub is_small : Option Home → Bool
@@ -115,26 +131,42 @@ pub record LacksBlocks (c : Catalogued) (f n free : ℕ) : Type 0 where
   pub free_is : free + blocks_used c.tables + 2 ≡ c.shape.dir_blocks
   pub few : free < 2
 
+-- where the chunk isn't there, two blocks are free for it and its marks
+pub record HasChunkRoom (c : Catalogued) (f n : ℕ) : Type 0 where
+  pub room : chunk_at c.tables.extents (f, n) ≡ None → blocks_used c.tables + 4 ≤ c.shape.dir_blocks
+
 -- want of memory, or of two blocks
 abbrev pub IsChunkRefusal : Catalogued → ℕ → ℕ → Refusal → Type 0
 IsChunkRefusal c f n refusal = (refusal ≡ cause.NoMemory) ⊎ ((free : ℕ) × (refusal ≡ cause.DirectoryFull 2 free) × LacksBlocks c f n free)
 
--- ---- a chunk that goes
+-- ---- extents that go
 
 -- the tables without a chunk and its marks
 abbrev pub with_released : Tables → ℕ → ℕ → Tables
 with_released t f n = record t { extents = without_chunk t.extents (f, n); stale = without_marks t.stale (f, n) }
 
--- the file, where it has a head, has no extent in the chunk by its size
-abbrev pub IsUndue : Shape → Option FileHead → ℕ → Type 0
-IsUndue s None n = Unit {0}
-IsUndue s (Some head) n = (i : ℕ) → i / chunk_len ≡ n → is_due s head i ≡ false
+-- the tables in which a chunk has neither extents nor marks from a place on
+abbrev pub with_fewer : Tables → ℕ → ℕ → ℕ → Tables
+with_fewer t f n kept = record t {
+  extents = with_chunk t.extents (f, n) (cut_to kept (chunk_or_blank t.extents (f, n)));
+  stale = with_marks t.stale (f, n) (marks_to kept (marks_or_none t.stale (f, n)));
+}
 
--- the chunk is there, its file has no extent behind it, and none in it by its size
-pub record MayRelease (s : Shape) (t : Tables) (f n : ℕ) : Type 0 where
+-- the tables without the extents of a chunk from a place on, and without their marks: where none is kept the chunk and its marks go
+abbrev pub with_cut : Tables → ℕ → ℕ → ℕ → Tables
+with_cut t f n kept = if kept == 0 then with_released t f n else with_fewer t f n kept
+
+-- the file, where it has a head, has by its size no extent of the chunk from this place on
+abbrev pub IsUndue : Shape → Option FileHead → ℕ → ℕ → Type 0
+IsUndue s None n kept = Unit {0}
+IsUndue s (Some head) n kept = (i : ℕ) → i / chunk_len ≡ n → kept ≤ i % chunk_len → is_due s head i ≡ false
+
+-- the chunk is there, its file has no extent behind it, and by its size none of those that go
+pub record MayCut (s : Shape) (t : Tables) (f n kept : ℕ) : Type 0 where
   pub there : IsTrue (is_some (chunk_at t.extents (f, n)))
+  pub few : kept ≤ chunk_len
   pub last : has_extent t.extents f ((n + 1) * chunk_len) ≡ false
-  pub undue : IsUndue s (head_at t.files f) n
+  pub undue : IsUndue s (head_at t.files f) n kept
 
 -- ---- moves as asm_placement speaks of them
 

@@ -11,7 +11,7 @@ use Rattle.alias_tree.specs.Faults.{HasFault}
 use Rattle.catalog.specs.declared.error.CatalogError.{CatalogError}
 use Rattle.catalog.specs.declared.error.CatalogError.TheVariants as answer
 use Rattle.catalog.specs.Tables.{AreTables, Catalogued, HasRecords, Tables, first_unreadable}
-use Rattle.catalog.specs.Rules.{HasExtents, IsShort, KeepsRules, blocks_used, first_unknown, first_wrong, has_chunk, has_marks, has_names, is_marked_right, is_named_back, is_on_disks, is_owned, keeps_copies}
+use Rattle.catalog.specs.Rules.{AreOnRegular, HasExtents, IsShort, KeepsRules, blocks_used, first_unknown, first_wrong, has_chunk, has_marks, has_names, is_marked_right, is_named_back, is_on_disks, is_owned, is_regular_chunk, keeps_copies}
 use Rattle.catalog.specs.Placing.{HasUnits, misplaced, unused_maps}
 
 -- ---- keys
@@ -64,6 +64,7 @@ pub record AreNamesRight (t : Tables) : Type 0 where
 pub record AreSizesRight (s : Shape) (entries : List status.Entry) (t : Tables) : Type 0 where
   pub extents : AllByRecursion (HasExtents t s) t.files
   pub infos : first_unknown t entries ≡ None
+  pub regular : AreOnRegular entries t
   pub room : blocks_used t + 2 ≤ s.dir_blocks
 
 -- what the tables of the records break
@@ -82,6 +83,8 @@ pub data BreaksRule (s : Shape) (entries : List status.Entry) (t : Tables) (k : 
   on_one_disk : (at : Chunk) → first_wrong is_on_disks t.extents ≡ Some at → k ≡ key_of_chunk at → BreaksRule s entries t k
   -- a chunk that has a home that meets an earlier one, lies outside of the user units of its disk, or on a disk without an entry
   out_of_place : (at : Chunk) → misplaced s.step (unused_maps s entries) t.extents ≡ Some at → k ≡ key_of_chunk at → BreaksRule s entries t k
+  -- a chunk that has a home on a disk of a quorum failure group
+  on_quorum : (at : Chunk) → first_wrong (is_regular_chunk entries) t.extents ≡ Some at → k ≡ key_of_chunk at → BreaksRule s entries t k
   -- a system or alias node that names no file that names it as such
   nameless_node : (n : ℕ) → first_wrong (is_named_back t) t.nodes ≡ Some n → k ≡ node_key n → BreaksRule s entries t k
   -- a file that names a node that isn't there or isn't such a node of the file
@@ -126,6 +129,8 @@ pub record IsCatalogOf (content : List Entry) (entries : List status.Entry) (c :
   pub rules : KeepsRules c.shape c.tables
   -- each entry has a disk record of its number and birth
   pub infos : first_unknown c.tables entries ≡ None
+  -- no home lies on a disk of a quorum failure group
+  pub regular : AreOnRegular entries c.tables
   -- the used units are those of the homes that the tables name
   pub units : HasUnits c.shape entries c.tables c.units
 

@@ -20,7 +20,7 @@ use Rattle.partnership.specs.UnitsOf.{AreUnitsOf}
 use Rattle.extent_map.specs.Extents.{Chunked, chunk_at}
 use Rattle.file_directory.specs.Files.{head_at}
 use Rattle.staleness_directory.specs.Marks.{marks_at}
-use Rattle.catalog.specs.Tables.{AreTables, HasRecords, Tables, item_at}
+use Rattle.catalog.specs.Tables.{AreTables, HasRecords, Tables, item_at, records_of}
 use Rattle.catalog.specs.Placing.{HasUnits, homes_of}
 use Rattle.catalog.specs.Rules.{marks_of}
 
@@ -55,6 +55,10 @@ pub record AreItemsIn (content : List Entry) (items : List Item) : Type 0 where
 -- The items of some records are those of the tables that have these.
 abbrev pub ItemsOfRecords : Type 0
 ItemsOfRecords = (content : List Entry) (t : Tables) (items : List Item) → AreTables t → HasRecords content t → AreItemsIn content items → AreItemsOf t items
+
+-- The tables of some records say at each key what the record of the key says.
+abbrev pub RecordsAreTold : Type 0
+RecordsAreTold = (content : List Entry) (t : Tables) → AreTables t → HasRecords content t → (k : Key) → records_of t k ≡ record_at content k
 
 -- ---- what the items say
 

@@ -13,5 +13,8 @@ pub mod Plans
 pub mod Numbers
 pub mod TreePlans
 pub mod ExtentPlans
+pub mod RegularHomes
 pub mod FilePlans
 pub mod NamePlans
+pub mod NameChecks
+pub mod MarkedExtents

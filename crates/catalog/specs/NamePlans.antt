@@ -14,7 +14,7 @@ use Rattle.asm_base.specs.Refusals.{said}
 use Rattle.asm_base.specs.declared.refusal.Refusal.{Refusal}
 use Rattle.asm_base.specs.declared.refusal.Refusal.TheVariants as cause
 use Rattle.asm_world.specs.Files as world
-use Rattle.asm_world.specs.Files.{NewName, new_file_causes, new_name, new_path, next_number, is_sectors, template_for}
+use Rattle.asm_world.specs.Files.{NewName, new_file_causes, new_name, new_path, next_incarnation, next_number, is_sectors, template_for}
 use Rattle.file_directory.specs.Files.{head_at, with_head}
 use Rattle.extent_map.specs.Extents.{Chunked, extent_at}
 use Rattle.alias_tree.specs.Edits.{are_parts}
@@ -71,9 +71,13 @@ pub record HasParts (name : NewName) : Type 0 where
 abbrev pub name_meant : NameParts → NewName
 name_meant parts = record { db = parts.db.now; type_name = parts.kind.now; tag = parts.tag.now }
 
--- the path of the system name, which has the file's number and the next incarnation behind the tag
+-- the path of the system name of a file, which has the file's number and the next incarnation behind the tag
+abbrev pub path_for : Tables → NewName → ℕ → Path
+path_for t name file = new_path name file t.templates.settings.incarnation
+
+-- that of the file that is being made
 abbrev pub system_path : Tables → NewName → Path
-system_path t name = new_path name (made_file t) t.templates.settings.incarnation
+system_path t name = path_for t name (made_file t)
 
 -- The tree of names with the file's, and with each directory above it that is missing; or why it can't be there.
 abbrev pub filed_as : Tables → Option NewName → Result Tree r.Refusal
@@ -91,10 +95,6 @@ pub record AreNewNodes (nodes made : List Numbered) (path : Path) (file : ℕ) :
   pub few : length made ≤ 3
 
 -- ---- the tables with it
-
--- the incarnation after one, which stays once it is the greatest
-abbrev pub next_incarnation : ℕ → ℕ
-next_incarnation n = min (n + 1) (2 ^ 64 - 1)
 
 abbrev pub settings_next : Settings → Settings
 settings_next s = record s { incarnation = next_incarnation s.incarnation }
@@ -152,9 +152,10 @@ IsNameRefusal c path refusal =
 
 -- ---- a new file as asm_world speaks of it
 
--- The tree of a group with a new file is its tree with the name.
-abbrev pub FilesAsWorld : Type 0
-FilesAsWorld = (g : Group) (name : NewName) (n : ℕ) (f : WorldFile) → (world.with_file g name n f).tree ≡ of_tree.with_file g.tree (new_path name n f.incarnation) n
+-- The tree of a group with a new file is its tree with the name, and its next incarnation is the one after.
+pub record FilesAsWorld : Type 0 where
+  pub tree : (g : Group) (name : NewName) (n : ℕ) (f : WorldFile) → (world.with_file g name n f).tree ≡ of_tree.with_file g.tree (new_path name n f.incarnation) n
+  pub next : (g : Group) (name : NewName) (n : ℕ) (f : WorldFile) → (world.with_file g name n f).next ≡ next_incarnation g.next
 
 -- A new file is refused by its template and its size, and then as its name is.
 abbrev pub RefusesAsWorld : Type 0

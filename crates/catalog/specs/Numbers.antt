@@ -1,7 +1,7 @@
 -- Numbers of files.
 use Rattle.std.specs.Prelude.{◌≡◌, ◌≤◌, ◌<◌, ℕ, Bool, true, false, ◌||◌}
 use Rattle.file_directory.specs.Files.{is_file}
-use Rattle.catalog.specs.Rules.{is_pending}
+use Rattle.asm_placement.specs.Naming.{is_pending}
 use Rattle.catalog.specs.Tables.{Tables}
 
 -- the number is that of a file or of the pending operation

@@ -1,26 +1,34 @@
 -- What a plan of a change of a catalog is.
-use Rattle.std.specs.Prelude.{◌≡◌, ◌⊎◌, ◌≤◌, ℕ, ◌+◌, Bool, true, List, length, Option, Some, None, Ok}
+use Rattle.std.specs.Prelude.{◌≡◌, ◌⊎◌, ◌≤◌, ◌<◌, ℕ, ◌+◌, Bool, true, ◌&&◌, not, List, [], ◌∷◌, length, Option, Some, None, is_some, Ok, IsTrue}
+use Rattle.std.specs.List.{All}
 use Rattle.asm_group.specs.Group.{Template}
 use Rattle.asm_group.specs.NewGroup.{templates_by_name}
 use Rattle.asm_group.specs.TemplateEdits.{TemplateEdit, templates_edited}
-use Rattle.asm_formats.specs.Items.{DiskInfo, Key, disk_item, is_item}
+use Rattle.asm_formats.specs.Among.{IsAmong}
+use Rattle.asm_formats.specs.Items.{DiskInfo, Item, Key, disk_item, is_item}
 use Rattle.asm_formats.specs.Status as status
 use Rattle.asm_base.specs.Records.{Entry}
 use Rattle.asm_base.specs.declared.refusal.Refusal.{Refusal}
 use Rattle.asm_base.specs.declared.refusal.Refusal.TheVariants as cause
 use Rattle.allocator.specs.UnitMaps.{UnitMap}
+use Rattle.page_map.specs.Contents.{IsItemOf}
 use Rattle.catalog.specs.Changing.{IsAfter}
 use Rattle.catalog.specs.Disks.{Disk, info_at, with_info, without_disk}
 use Rattle.catalog.specs.Placing.{HasUnits}
 use Rattle.catalog.specs.Rules.{KeepsRules, blocks_used, first_wrong, is_owned}
 use Rattle.catalog.specs.Tables.{Catalogued, Tables}
 
--- The change leads from the catalog to these tables: at each key they give what it leaves there, the rules hold of them, their homes have units where the catalog's have, and it has at most 64 keys.
+-- each of the records is one of the formats
+abbrev pub ArePutItems : List Entry → Type 0
+ArePutItems put = (e : Entry) → IsAmong put e → (i : Item) × IsItemOf e.0 e.1 i
+
+-- The change leads from the catalog to these tables: at each key they give what it leaves there, the rules hold of them, their homes have units where the catalog's have, it has at most 64 keys, and each record that it puts is one of the formats.
 pub record IsPlan (c : Catalogued) (put : List Entry) (gone : List Key) (u : Tables) : Type 0 where
   pub after : IsAfter c.tables put gone u
   pub rules : KeepsRules c.shape u
   pub units : (entries : List status.Entry) → HasUnits c.shape entries c.tables c.units → (ms : List UnitMap) × HasUnits c.shape entries u ms
   pub few : length put + length gone ≤ 64
+  pub items : ArePutItems put
 
 -- each chunk is one of a file or of the pending operation's
 abbrev pub AreOwned : Tables → Type 0
@@ -47,6 +55,33 @@ pub record LacksBlock (c : Catalogued) (d : ℕ) (info : Option DiskInfo) : Type
 -- want of memory, or of a block
 abbrev pub IsDiskRefusal : Catalogued → ℕ → Option DiskInfo → Refusal → Type 0
 IsDiskRefusal c d info refusal = (refusal ≡ cause.NoMemory) ⊎ ((refusal ≡ cause.DirectoryFull 1 0) × LacksBlock c d info)
+
+-- the disks with these records, one after the other
+abbrev pub with_records : List Disk → List Disk → List Disk
+with_records disks [] = disks
+with_records disks (x ∷ added) = with_records (with_info disks x.0 x.1) added
+
+-- none of them has a record yet, and no two are of one disk
+abbrev pub are_new : List Disk → List Disk → Bool
+are_new disks [] = true
+are_new disks (x ∷ added) = not (is_some (info_at disks x.0)) && are_new (with_info disks x.0 x.1) added
+
+-- records of new disks that may be put together
+pub record MayAdd (t : Tables) (added : List Disk) : Type 0 where
+  -- each is one of the formats
+  pub items : All (λ (x : Disk). is_item (disk_item x.0 x.1) ≡ true) added
+  pub new : IsTrue (are_new t.disks added)
+  pub few : length added ≤ 64
+
+-- The disks need a block each, and fewer are free.
+pub record LacksOneEach (c : Catalogued) (added : List Disk) (need free : ℕ) : Type 0 where
+  pub need_is : need ≡ length added
+  pub free_is : free + blocks_used c.tables + 2 ≡ c.shape.dir_blocks
+  pub few : free < need
+
+-- want of memory, or of blocks
+abbrev pub IsAddRefusal : Catalogued → List Disk → Refusal → Type 0
+IsAddRefusal c added refusal = (refusal ≡ cause.NoMemory) ⊎ ((need : ℕ) × (free : ℕ) × (refusal ≡ cause.DirectoryFull need free) × LacksOneEach c added need free)
 
 -- ---- templates
 

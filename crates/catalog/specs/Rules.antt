@@ -4,12 +4,15 @@ use Rattle.std.specs.List.{list_all, zip, AllByRecursion}
 use Rattle.std.specs.Option.{option_map, unwrap_or}
 use Rattle.asm_group.specs.Shape.{Shape}
 use Rattle.asm_group.specs.declared.NodeKind.{NodeKind}
-use Rattle.asm_group.specs.declared.NodeKind.TheVariants.{Directory, System, Alias}
+use Rattle.asm_group.specs.declared.NodeKind.TheVariants.{System, Alias}
 use Rattle.asm_formats.specs.Items.{DiskInfo, chunk_len, FileHead, Home, Homes, Node, Pending}
 use Rattle.asm_formats.specs.Among.{IsAmong}
 use Rattle.asm_formats.specs.Sets.{has_bit}
 use Rattle.asm_formats.specs.Status as status
+use Rattle.asm_placement.specs.Copies.{entry_at_home}
 use Rattle.asm_placement.specs.Layout.{has_extent}
+use Rattle.asm_placement.specs.Naming.{is_birth, is_directory, is_named_as, is_pending, names_back}
+use Rattle.asm_placement.specs.Work.{is_regular}
 use Rattle.file_directory.specs.Files.{File, head_at, is_file}
 use Rattle.extent_map.specs.Extents.{Chunked, chunk_at, extent_at}
 use Rattle.alias_tree.specs.Nodes.{Numbered, node_at}
@@ -28,11 +31,6 @@ has_marks t x = is_some (marks_at t.stale x.0)
 
 abbrev pub has_chunk : Tables → Marked → Bool
 has_chunk t x = is_some (chunk_at t.extents x.0)
-
--- the pending operation is on the file
-abbrev pub is_pending : ℕ → Option Pending → Bool
-is_pending f None = false
-is_pending f (Some op) = op.file == f
 
 -- the chunk is one of a file or of the pending operation's
 abbrev pub is_owned : Tables → Chunked → Bool
@@ -84,33 +82,13 @@ is_marked_right t x = are_chunk_marks (chunk_at t.extents x.0) x.1
 
 -- ---- names
 
-abbrev pub names_back : NodeKind → ℕ → Option FileHead → Bool
-names_back kind n None = false
-names_back Directory n (Some head) = false
-names_back System n (Some head) = head.system == n
-names_back Alias n (Some head) = head.alias == n
-
-abbrev pub is_directory : NodeKind → Bool
-is_directory Directory = true
-is_directory _ = false
-
 -- a system or alias node names a file that names it as such
 abbrev pub is_named_back : Tables → Numbered → Bool
 is_named_back t x = is_directory x.1.kind || names_back x.1.kind x.0 (head_at t.files x.1.file)
 
-abbrev pub kind_eq : NodeKind → NodeKind → Bool
-kind_eq Directory Directory = true
-kind_eq System System = true
-kind_eq Alias Alias = true
-kind_eq _ _ = false
-
-abbrev pub is_name : NodeKind → ℕ → Option Node → Bool
-is_name kind f None = false
-is_name kind f (Some node) = kind_eq node.kind kind && (node.file == f)
-
 -- 0, or a node of this kind that names the file
 abbrev pub names_file : Tables → ℕ → NodeKind → ℕ → Bool
-names_file t f kind n = (n == 0) || is_name kind f (node_at t.nodes n)
+names_file t f kind n = (n == 0) || is_named_as kind f (node_at t.nodes n)
 
 abbrev pub has_names : Tables → File → Bool
 has_names t x = names_file t x.0 System x.1.system && names_file t x.0 Alias x.1.alias
@@ -141,10 +119,6 @@ pub record LacksExtent (t : Tables) (s : Shape) (x : File) : Type 0 where
 
 -- ---- disks and room
 
-abbrev pub is_birth : ℕ → Option DiskInfo → Bool
-is_birth birth None = false
-is_birth birth (Some info) = info.birth == birth
-
 -- the entry has a disk record of its number and birth
 abbrev pub has_info : Tables → status.Entry → Bool
 has_info t e = is_birth e.birth (info_at t.disks e.number)
@@ -152,6 +126,21 @@ has_info t e = is_birth e.birth (info_at t.disks e.number)
 -- the number of the first entry that has none
 abbrev pub first_unknown : Tables → List status.Entry → Option ℕ
 first_unknown t entries = option_map (λ (e : status.Entry). e.number) (find (λ e. not (has_info t e)) entries)
+
+-- the home doesn't lie on a disk of a quorum failure group
+abbrev pub is_on_regular : List status.Entry → Option Home → Bool
+is_on_regular entries h = is_regular (entry_at_home entries h)
+
+abbrev pub are_on_regular : List status.Entry → Homes → Bool
+are_on_regular entries homes = list_all (is_on_regular entries) homes
+
+-- no home of the chunk does
+abbrev pub is_regular_chunk : List status.Entry → Chunked → Bool
+is_regular_chunk entries x = list_all (are_on_regular entries) x.1
+
+-- no home lies on a disk of a quorum failure group, by these entries
+abbrev pub AreOnRegular : List status.Entry → Tables → Type 0
+AreOnRegular entries t = first_wrong (is_regular_chunk entries) t.extents ≡ None
 
 -- blocks that the records take, but for the two that are kept
 abbrev pub blocks_used : Tables → ℕ

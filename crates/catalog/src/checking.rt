@@ -7,7 +7,7 @@ ghost use Rattle.asm_formats.specs.Status.{Entry, is_entry};
 ghost use Rattle.extent_map.specs.Extents as extent_table;
 ghost use Rattle.catalog.specs.Faults.{AreChunksRight, AreNamesRight, AreSizesRight, BreaksRule, IsChunkFault, Names, disk_key, file_key, key_of_marks};
 ghost use Rattle.catalog.specs.Placing.{HasUnits};
-ghost use Rattle.catalog.specs.Rules.{KeepsRules, first_unknown};
+ghost use Rattle.catalog.specs.Rules.{AreOnRegular, KeepsRules, first_unknown};
 ghost use Rattle.catalog.specs.Tables.{AreTables};
 
 use crate::error::CatalogError;
@@ -28,6 +28,7 @@ impl Parts {
         ensures some { IfSome result (BreaksRule shape.now entries.now self.now) }
         ensures rules { IfNone result (KeepsRules shape.now self.now) }
         ensures infos { IfNone result (first_unknown self.now entries.now ≡ None) }
+        ensures regular { IfNone result (AreOnRegular entries.now self.now) }
     {
         if let Some(at) = self.chunk_fault() {
             return Some(chunk_key(at));
@@ -81,9 +82,9 @@ impl Parts {
         None
     }
 
-    /// The key of a file that lacks an extent, of the record of a disk that isn't known, or, where there is no room for
-    /// all records, of the settings.
-    #[tactic(auto, using(crate::proofs::FaultLaws::short_is, crate::proofs::FaultLaws::unknown_is, crate::proofs::FaultLaws::no_room_is, crate::proofs::FaultLaws::sizes_are))]
+    /// The key of a file that lacks an extent, of the record of a disk that isn't known, of a chunk with a home on a quorum
+    /// disk, or, where there is no room for all records, of the settings.
+    #[tactic(auto, using(crate::proofs::FaultLaws::short_is, crate::proofs::FaultLaws::unknown_is, crate::proofs::FaultLaws::on_quorum_is, crate::proofs::FaultLaws::quorum_numbered, crate::proofs::FaultLaws::no_room_is, crate::proofs::FaultLaws::sizes_are))]
     fn size_fault(&self, shape: &Shape, entries: &[PstEntry]) -> Option<Key>
         requires shape { IsTrue (is_shape shape.now) }
         requires table { extent_table.IsTable self.now.extents }
@@ -95,6 +96,9 @@ impl Parts {
         }
         if let Some(number) = self.unknown_disk(entries) {
             return Some(disk_key(number));
+        }
+        if let Some(at) = self.on_quorum(entries) {
+            return Some(chunk_key(at));
         }
         if !self.has_room(shape) {
             return Some(SETTINGS);

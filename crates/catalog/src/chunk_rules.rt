@@ -4,12 +4,16 @@ ghost use Rattle.std.specs.Prelude.{◌≡◌, None};
 ghost use Rattle.std.specs.List.{list_all};
 ghost use Rattle.std.specs.Option.{option_copied};
 ghost use Rattle.asm_formats.specs.Items.{Home as FormatHome};
-ghost use Rattle.catalog.specs.Rules.{are_on_disks, are_on_two, are_within, are_within_head, first_wrong, has_chunk, has_marks, is_on_disks, is_owned, is_pending, is_within, keeps_copies};
+ghost use Rattle.asm_placement.specs.Work.{is_regular};
+ghost use Rattle.asm_placement.specs.Naming.{is_pending};
+ghost use Rattle.catalog.specs.Rules.{are_on_disks, are_on_regular, are_on_two, are_within, are_within_head, first_wrong, has_chunk, has_marks, is_on_disks, is_on_regular, is_owned, is_regular_chunk, is_within, keeps_copies};
 
 use crate::parts::Parts;
 use asm_base::{Home, Homes};
 use file_directory::FileHead;
 use operations_directory::Pending;
+use partnership::entry_of;
+use status_table::PstEntry;
 
 impl Parts {
     /// The first chunk that has no record of stale marks.
@@ -66,6 +70,18 @@ impl Parts {
     {
         for (at, chunk) in self.extents.iter() {
             if !are_on_disks_all(chunk.as_slice()) {
+                return Some(*at);
+            }
+        }
+        None
+    }
+
+    /// The first chunk that has a home on a disk of a quorum failure group.
+    pub(crate) fn on_quorum(&self, entries: &[PstEntry]) -> Option<(u32, u32)>
+        ensures { result ≡ first_wrong (is_regular_chunk entries.now) self.now.extents }
+    {
+        for (at, chunk) in self.extents.iter() {
+            if !are_on_regular_all(entries, chunk.as_slice()) {
                 return Some(*at);
             }
         }
@@ -131,5 +147,40 @@ fn are_on_two(a: Option<Home>, b: Option<Home>) -> bool
     match (a, b) {
         (Some(a), Some(b)) => a.disk != b.disk,
         _ => true,
+    }
+}
+
+fn are_on_regular_all(entries: &[PstEntry], homes: &[Homes]) -> bool
+    ensures { result ≡ list_all (are_on_regular entries.now) homes.now }
+{
+    homes.iter().all(|extent| are_on_regular(entries, extent))
+}
+
+/// Whether no home of an extent lies on a disk of a quorum failure group.
+fn are_on_regular(entries: &[PstEntry], homes: &Homes) -> bool
+    ensures { result ≡ are_on_regular entries.now homes.now }
+{
+    let homes = *homes;
+    is_on_regular(entries, homes.first)
+        && is_on_regular(entries, homes.second)
+        && is_on_regular(entries, homes.third)
+}
+
+fn is_on_regular(entries: &[PstEntry], home: Option<Home>) -> bool
+    ensures { result ≡ is_on_regular entries.now home }
+{
+    match home {
+        None => true,
+        Some(home) => is_regular(entry_of(entries, home.disk)),
+    }
+}
+
+/// Whether a disk, where it has an entry, is in no quorum failure group.
+fn is_regular(entry: Option<PstEntry>) -> bool
+    ensures { result ≡ is_regular entry }
+{
+    match entry {
+        None => true,
+        Some(entry) => !entry.quorum,
     }
 }

@@ -2,7 +2,8 @@
 
 ghost use Rattle.std.specs.Prelude.{◌≡◌, ◌≤◌, ◌+◌, ◌↔◌, IsTrue, min};
 ghost use Rattle.std.specs.Option.{option_copied};
-ghost use Rattle.catalog.specs.Rules.{blocks_used, first_unknown, has_info, is_birth};
+ghost use Rattle.asm_placement.specs.Naming.{is_birth};
+ghost use Rattle.catalog.specs.Rules.{blocks_used, first_unknown, has_info};
 
 use crate::disk_info::DiskInfo;
 use crate::parts::Parts;

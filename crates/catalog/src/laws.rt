@@ -7,8 +7,10 @@ ghost use Rattle.asm_base.specs.Records.{Entry};
 ghost use Rattle.catalog.specs.Tables.{Catalogued};
 ghost use Rattle.catalog.specs.Faults.{IsAtFault, IsCatalogOf};
 ghost use Rattle.catalog.specs.ExtentPlans.{ClearsItems, MovesItems, StaysInPlace};
-ghost use Rattle.catalog.specs.Items.{ItemsAreOneList, ItemsOfRecords, ItemsSayTables, TablesHaveItems, UnitsOfItems};
+ghost use Rattle.catalog.specs.Items.{ItemsAreOneList, ItemsOfRecords, ItemsSayTables, RecordsAreTold, TablesHaveItems, UnitsOfItems};
+ghost use Rattle.catalog.specs.NameChecks.{ChecksAgree, ChecksHold};
 ghost use Rattle.catalog.specs.NamePlans.{FilesAsWorld, RefusesAsWorld};
+ghost use Rattle.catalog.specs.RegularHomes.{AppendingKeepsRegular, CopiesAreRegular, CuttingKeepsRegular, HomesAreRegular, MovingKeepsRegular, RegularStays};
 
 /// Where a record is at fault, no value is a catalog of the records.
 pub fn a_fault_leaves_no_catalog()
@@ -24,6 +26,11 @@ pub fn tables_have_items()
 /// The items of a group's records are those of the tables that have these records.
 pub fn items_are_of_tables()
     ensures { ItemsOfRecords }
+{}
+
+/// At each key the tables of a group's records say what the record of the key says, and nothing where there is none.
+pub fn tables_say_records()
+    ensures { RecordsAreTold }
 {}
 
 /// What items say of files, extents, marks, homes and copies is what the tables say whose items they are.
@@ -49,7 +56,8 @@ pub fn a_planned_clearing_is_a_recopy()
     ensures stays { StaysInPlace }
 {}
 
-/// The tree of names with a new file, to which its plan leads, is that of the world's group with the file.
+/// The tree of names with a new file, to which its plan leads, and the next incarnation are those of the world's group with the
+/// file.
 pub fn a_new_name_is_the_worlds()
     ensures { FilesAsWorld }
 {}
@@ -57,4 +65,26 @@ pub fn a_new_name_is_the_worlds()
 /// A new file is refused in the world by its template and its size, and then by the causes by which the plan of its name is.
 pub fn a_new_file_is_refused_as_its_name()
     ensures { RefusesAsWorld }
+{}
+
+/// What was found of the name of a new file before it was made, stays while chunks are added and an operation on the file is
+/// pending: the tree of names and the settings are the same.
+pub fn a_checked_name_stays()
+    ensures agree { ChecksAgree }
+    ensures hold { ChecksHold }
+{}
+
+/// Where no home of the tables lies on a disk of a quorum failure group, none that their items name does.
+pub fn homes_are_on_regular_disks()
+    ensures homes { HomesAreRegular }
+    ensures copies { CopiesAreRegular }
+{}
+
+/// It stays so by the plans of extents, where new homes lie on no such disk, and where the entries change so that each disk
+/// that was in no such group still isn't. The tables of other plans have the same homes.
+pub fn homes_stay_on_regular_disks()
+    ensures appended { AppendingKeepsRegular }
+    ensures moved { MovingKeepsRegular }
+    ensures cut { CuttingKeepsRegular }
+    ensures entries { RegularStays }
 {}

@@ -17,6 +17,7 @@ mod giving;
 mod laws;
 mod listing;
 mod mark_rules;
+mod marked;
 mod name_rules;
 mod new_file;
 mod next_file;
@@ -33,8 +34,9 @@ pub use changing::a_change_leaves_one_set_of_tables;
 pub use disk_info::DiskInfo;
 pub use error::CatalogError;
 pub use laws::{
-    a_fault_leaves_no_catalog, a_new_file_is_refused_as_its_name, a_new_name_is_the_worlds,
-    a_planned_clearing_is_a_recopy, a_planned_move_is_a_move, items_are_of_tables,
-    items_say_tables, tables_have_items, units_are_of_items,
+    a_checked_name_stays, a_fault_leaves_no_catalog, a_new_file_is_refused_as_its_name,
+    a_new_name_is_the_worlds, a_planned_clearing_is_a_recopy, a_planned_move_is_a_move,
+    homes_are_on_regular_disks, homes_stay_on_regular_disks, items_are_of_tables, items_say_tables,
+    tables_have_items, tables_say_records, units_are_of_items,
 };
 pub use new_file::{FileBy, NewFile};

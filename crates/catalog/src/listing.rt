@@ -1,15 +1,19 @@
 //! What a catalog tells of all extents in a row.
 
-ghost use Rattle.std.specs.Prelude.{◌≡◌, ◌≤◌, ◌==◌, ℕ, IfOk, IfSome};
+ghost use Rattle.std.specs.Prelude.{◌≡◌, ◌≤◌, ◌==◌, ℕ, length, IfNone, IfOk, IfSome, None, Some};
 ghost use Rattle.std.specs.List.{list_any};
 ghost use Rattle.std.specs.Option.{option_map};
-ghost use Rattle.alias_tree.specs.Nodes.{AreByName, is_under};
+ghost use Rattle.asm_group.specs.TreeEdits.{entry_at};
+ghost use Rattle.alias_tree.specs.Nodes.{AreByName, is_under, node_at, number_of};
+ghost use Rattle.alias_tree.specs.Spelling.{names_to};
+ghost use Rattle.alias_tree.specs.Trees.{tree_of};
 ghost use Rattle.asm_formats.specs.Items.{FileHead as FormatHead};
+ghost use Rattle.asm_formats.specs.Nodes.{entry_of_node};
 ghost use Rattle.extent_map.specs.Extents.{chunks_from};
 ghost use Rattle.file_directory.specs.Files.{head_at};
 
 use crate::catalog::Catalog;
-use asm_base::NoMemory;
+use asm_base::{Name, NoMemory, Path};
 use extent_map::Chunk;
 use std::alloc::Global;
 use std::collections::btree_map::{Iter, Range};
@@ -50,5 +54,25 @@ impl Catalog {
         ensures order { IfOk result (λ v. AreByName self.now.tables.nodes v.items) }
     {
         self.parts.tree.children(alloc, node)
+    }
+
+    /// The path of a node in a group of this name, as the nodes spell it. None where there is no such node, as for the
+    /// root. Work and memory go by the number of parts.
+    pub fn path_of(&self, alloc: Global, group: &Name, node: u32) -> Result<Option<Path>, NoMemory>
+        ensures spelt { IfOk result (λ path. IfSome path (λ p. p.parts ≡ names_to self.now.tables.nodes (length self.now.tables.nodes) node)) }
+        ensures group { IfOk result (λ path. IfSome path (λ p. p.group ≡ group.now)) }
+        // `find` gives the node back.
+        ensures at { IfOk result (λ path. IfSome path (λ p. number_of self.now.tables.nodes p.parts ≡ Some node)) }
+        // The tree of names has the node there.
+        ensures entry { IfOk result (λ path. IfSome path (λ p. entry_at (tree_of self.now.tables.nodes) p.parts ≡ option_map entry_of_node (node_at self.now.tables.nodes node))) }
+        ensures none { IfOk result (λ path. IfNone path (node_at self.now.tables.nodes node ≡ None)) }
+    {
+        let Some(parts) = self.parts.tree.path_to(alloc, node)? else {
+            return Ok(None);
+        };
+        Ok(Some(Path {
+            group: group.copy()?,
+            parts,
+        }))
     }
 }

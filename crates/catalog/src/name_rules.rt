@@ -2,7 +2,8 @@
 
 ghost use Rattle.std.specs.Prelude.{◌≡◌, None};
 ghost use Rattle.std.specs.Option.{option_copied};
-ghost use Rattle.catalog.specs.Rules.{first_wrong, has_names, is_name, is_named_back, kind_eq, names_back, names_file};
+ghost use Rattle.asm_placement.specs.Naming.{is_named_as, kind_eq, names_back};
+ghost use Rattle.catalog.specs.Rules.{first_wrong, has_names, is_named_back, names_file};
 
 use crate::parts::Parts;
 use alias_tree::Node;
@@ -61,12 +62,12 @@ impl Parts {
     fn names_file(&self, file: u32, kind: NodeKind, number: u32) -> bool
         ensures { result ≡ names_file self.now file kind number }
     {
-        number == 0 || is_name(kind, file, self.tree.get(number))
+        number == 0 || is_named_as(kind, file, self.tree.get(number))
     }
 }
 
-fn is_name(kind: NodeKind, file: u32, node: Option<&Node>) -> bool
-    ensures { result ≡ is_name kind file (option_copied node.entry) }
+fn is_named_as(kind: NodeKind, file: u32, node: Option<&Node>) -> bool
+    ensures { result ≡ is_named_as kind file (option_copied node.entry) }
 {
     match node {
         None => false,

@@ -8,17 +8,18 @@ use Rattle.catalog.specs.Faults.{IsCatalog}
 use Rattle.catalog.specs.Items.{AreItemsOf}
 use Rattle.catalog.specs.Tables.{Catalogued}
 use Rattle.catalog.proofs.ItemLists.{items_say}
+use Rattle.catalog.proofs.RegularHomes.{copies_are_regular}
 use Rattle.rebalance.specs.declared.moves.Next.{Next as CodeNext}
-use Rattle.rebalance.specs.Falling.{AreOnRegularDisks, Falls}
+use Rattle.rebalance.specs.Falling.{Falls}
 use Rattle.rebalance.specs.Moves.{next_meant}
 use Rattle.rebalance.specs.Searching.{IsStatusOf, next_in}
 use Rattle.rebalance.proofs.Searching.{next_is}
 
 -- the items of a catalog are records of a group
-pub records_are : (c : Catalogued) (r : Status) (items : List Item) → IsCatalog c → IsStatusOf c r → AreItemsOf c.tables items → AreOnRegularDisks r items → AreRecords r items
-records_are c r items cat of is regular =
+pub records_are : (c : Catalogued) (r : Status) (items : List Item) → IsCatalog c → IsStatusOf c r → AreItemsOf c.tables items → AreRecords r items
+records_are c r items cat of is =
     let say = items_say c.tables items cat.rules.tables is in
-    record { status = of.status; allowed = say.allowed; keys = say.keys; regular = regular }
+    record { status = of.status; allowed = say.allowed; keys = say.keys; regular = copies_are_regular r.entries c.tables items cat.rules.tables is of.regular }
 
 pub next_falls : (c : Catalogued) (r : Status) (n : CodeNext) → IsCatalog c → IsStatusOf c r → next_meant n ≡ next_in c r → Falls c r (next_meant n)
-next_falls c r n cat of found = λ m items e is regular. work_falls c.shape r items m (records_are c r items cat of is regular) (sym (next_is c r n cat of found items is) ∙ e)
+next_falls c r n cat of found = λ m items e is. work_falls c.shape r items m (records_are c r items cat of is) (sym (next_is c r n cat of found items is) ∙ e)

@@ -1,8 +1,5 @@
-pub mod Selected
-pub mod FailureGroups
-pub mod Rounds
 pub mod Searching
-pub mod TableSets
+pub mod TableMoves
 pub mod Sharing
 pub mod HomeLists
 pub mod Verdicts

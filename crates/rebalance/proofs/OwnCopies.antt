@@ -13,8 +13,9 @@ use Rattle.asm_placement.specs.Tables.{head_of, homes_in, if_is}
 use Rattle.asm_placement.specs.Copies.{Copy, copies_at, copies_from, file_copies, item_copies, all_copies, has_home, same_extent}
 use Rattle.asm_placement.specs.Work.{keys_differ}
 use Rattle.asm_placement.proofs.MovedCopies.{in_chunk}
-use Rattle.rebalance.specs.declared.extent.Extent.{Extent}
-use Rattle.rebalance.specs.Extents.{copy_of, copies_of, IsInRecords}
+use Rattle.extent_copies.specs.declared.extent.Extent.{Extent}
+use Rattle.extent_copies.specs.Extents.{copy_of, copies_of}
+use Rattle.rebalance.specs.Extents.{IsInRecords}
 
 abbrev is_its : ℕ → ℕ → Copy → Bool
 is_its f i y = eqb f y.file && eqb i y.index

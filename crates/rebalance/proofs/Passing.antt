@@ -18,7 +18,7 @@ use Rattle.extent_map.proofs.Laws.{chunk_total}
 use Rattle.file_directory.specs.Files.{head_at}
 use Rattle.catalog.specs.Tables.{AreTables, Catalogued, Tables}
 use Rattle.catalog.proofs.TableItems.{among_found, below, chunks_exact, found_is, tail_up}
-use Rattle.rebalance.specs.declared.extent.Extent.{Extent}
+use Rattle.extent_copies.specs.declared.extent.Extent.{Extent}
 use Rattle.rebalance.specs.declared.moves.Next.{Next as CodeNext}
 use Rattle.rebalance.specs.declared.stages.Stage.{Stage}
 use Rattle.rebalance.specs.declared.stages.Stage.TheVariants as stage

@@ -8,7 +8,7 @@ use Rattle.std.proofs.lemmas.Nat.{div-add-mod', mod_below}
 use Rattle.std.proofs.lemmas.Option.{same_Some, none-some}
 use Rattle.asm_group.specs.Shape.{Shape}
 use Rattle.asm_formats.specs.Among.{IsAmong}
-use Rattle.asm_formats.specs.Status.{Entry, Status, is_entry}
+use Rattle.asm_formats.specs.Status.{Entry, Status, entry_of, is_entry}
 use Rattle.asm_formats.specs.Items.{FileHead, Home, Homes, Item, is_homes, is_item, key}
 use Rattle.asm_formats.proofs.Among.{all_among}
 use Rattle.asm_placement.specs.Choices.{holds_copy, home_on, is_eligible, replacement, replacement_on}
@@ -19,8 +19,8 @@ use Rattle.asm_placement.specs.Rebalancing.{Move, Next, above_or_none, balancing
 use Rattle.asm_placement.specs.Space.{has_room, is_above, is_below, lowest_run, tried_first}
 use Rattle.asm_placement.specs.TableDisks.{directory_target, status_target}
 use Rattle.asm_placement.specs.Tables.{is_stale}
-use Rattle.asm_placement.specs.Work.{IsLess, is_marked_online, work}
-use Rattle.asm_placement.proofs.Chosen.{choice, holds_at, tried_among}
+use Rattle.asm_placement.specs.Work.{IsLess, is_marked_online, is_regular, work}
+use Rattle.asm_placement.proofs.Chosen.{choice, entry_found, holds_at, tried_among}
 use Rattle.asm_placement.proofs.Counting.{followed, mapped, said_by, when_said}
 use Rattle.asm_placement.proofs.Falling.{work_falls}
 use Rattle.asm_placement.proofs.Membership.{among_filter, among_flat_map}
@@ -37,7 +37,7 @@ use Rattle.catalog.specs.ExtentPlans.{MayMove, home_at, homes_at, is_copy_of}
 use Rattle.catalog.specs.Faults.{IsCatalog}
 use Rattle.catalog.specs.Items.{AreItemsOf, chunk_copies}
 use Rattle.catalog.specs.Placing.{home_taken}
-use Rattle.catalog.specs.Rules.{are_on_disks, are_on_two}
+use Rattle.catalog.specs.Rules.{AreOnRegular, are_on_disks, are_on_two, is_on_regular}
 use Rattle.catalog.specs.Tables.{Catalogued, Tables}
 use Rattle.catalog.proofs.EditLaws.{chunk_right}
 use Rattle.catalog.proofs.ExtentCounts.{few_copies}
@@ -46,11 +46,12 @@ use Rattle.catalog.proofs.MarkPlans.{some_of}
 use Rattle.catalog.proofs.MoveItems.{moves_items}
 use Rattle.catalog.proofs.MovePlans.{all_at}
 use Rattle.catalog.proofs.PlacingLaws.{all_in, units_some}
+use Rattle.catalog.proofs.RegularHomes.{moving_keeps}
 use Rattle.catalog.proofs.RecopyItems.{clears_items, may_clear}
 use Rattle.catalog.proofs.TableItems.{among_found, chunks_exact, each_of}
 use Rattle.catalog.proofs.UnitLaws.{units_are}
 use Rattle.status_table.proofs.Allowed.{entry_fits, parts_of}
-use Rattle.rebalance.specs.Falling.{MayBePlanned, NextMayBePlanned, PlannedWorkFalls, planned}
+use Rattle.rebalance.specs.Falling.{MayBePlanned, NextMayBePlanned, PlannedMovesAreRegular, PlannedWorkFalls, planned}
 use Rattle.rebalance.specs.Searching.{IsStatusOf}
 use Rattle.rebalance.proofs.Falling.{records_are}
 use Rattle.rebalance.proofs.Searching.{chunk_parts, same_home}
@@ -183,6 +184,7 @@ module _ (c : Catalogued) (r : Status) (items : List Item) (cat : IsCatalog c) (
   record IsMove (x : Copy) (h : Home) : Type 0 where
     may : MayMove c x.file x.index x.copy h
     unit : h.unit < 2 ^ 32
+    regular : is_on_regular r.entries (Some h) ≡ true
 
   may_move : (test : Entry → Bool) (x : Copy) (h : Home) → IsAmong (all_copies items) x → replacement_on test c.shape r.entries items (units c.shape x) x.copy x.homes ≡ Some h → IsMove x h
   may_move test x h among e =
@@ -206,24 +208,28 @@ module _ (c : Catalogued) (r : Status) (items : List Item) (cat : IsCatalog c) (
           free = inr free.0;
         };
         unit = free.1;
+        regular =
+            ap (λ (d : ℕ). is_regular (entry_of r.entries d)) kept.is ∙ ap is_regular (entry_found 0 r.entries kept.disk (parts_of r of.status).up kept.among)
+            ∙ (and_parts (is_online kept.disk.mode) (not kept.disk.quorum) kept.target).1;
       }
 
   -- what a move is that may be planned: the items after it are those of the tables that its plan leads to
   record IsReady (m : Move) : Type 0 where
     may : MayBePlanned c m
     after : AreItemsOf (planned m c.tables) (items_after m items)
+    regular : AreOnRegular r.entries (planned m c.tables)
 
   fill_ready : (x : Copy) (h : Home) → IsMove x h → IsReady (fill x.file x.index x.copy h)
-  fill_ready x h its = record { may = its.may; after = moves_items c x.file x.index x.copy h items cat its.may its.unit is }
+  fill_ready x h its = record { may = its.may; after = moves_items c x.file x.index x.copy h items cat its.may its.unit is; regular = moving_keeps r.entries c.tables x.file x.index x.copy h of.regular its.regular }
 
   shift_ready : (x : Copy) (h : Home) → IsMove x h → IsReady (shift x.file x.index x.copy h)
-  shift_ready x h its = record { may = its.may; after = moves_items c x.file x.index x.copy h items cat its.may its.unit is }
+  shift_ready x h its = record { may = its.may; after = moves_items c x.file x.index x.copy h items cat its.may its.unit is; regular = moving_keeps r.entries c.tables x.file x.index x.copy h of.regular its.regular }
 
   recopy_ready : (x : Copy) → IsAmong (all_copies items) x → is_some (home x) ≡ true → IsReady (recopy x.file x.index x.copy)
   recopy_ready x among there =
       let has : is_some (home_at c.tables x.file x.index x.copy) ≡ true = ap (λ (y : Homes). is_some (get_or y x.copy None)) (homes_are c x (copy_in c items x cat is among)) ∙ there in
       let h = some_of (home_at c.tables x.file x.index x.copy) has in
-      record { may = may_clear c x.file x.index x.copy h.0 cat h.1; after = clears_items c x.file x.index x.copy items cat has is }
+      record { may = may_clear c x.file x.index x.copy h.0 cat h.1; after = clears_items c x.file x.index x.copy items cat has is; regular = of.regular }
 
   -- ---- stage by stage
 
@@ -261,12 +267,12 @@ module _ (c : Catalogued) (r : Status) (items : List Item) (cat : IsCatalog c) (
   by_directory : (m : Move) → next_directory c.shape r ≡ Some (move m) → IsReady m
   by_directory m e =
       let d = mapped (λ d. move (directory d)) (directory_target c.shape.kind r) (move m) e in
-      subst IsReady (move_is (directory d.0) m d.2) (record { may = tt; after = is })
+      subst IsReady (move_is (directory d.0) m d.2) (record { may = tt; after = is; regular = of.regular })
 
   by_tables : (m : Move) → next_tables c.shape r ≡ Some (move m) → IsReady m
   by_tables m e =
       let d = mapped (λ d. move (tables d)) (status_target c.shape.kind r) (move m) e in
-      subst IsReady (move_is (tables d.0) m d.2) (record { may = tt; after = is })
+      subst IsReady (move_is (tables d.0) m d.2) (record { may = tt; after = is; regular = of.regular })
 
   by_lost : (m : Move) → next_lost r.entries items (all_copies items) ≡ Some (move m) → IsReady m
   by_lost m e =
@@ -327,12 +333,15 @@ module _ (c : Catalogued) (r : Status) (items : List Item) (cat : IsCatalog c) (
 pub may_be_planned : NextMayBePlanned
 may_be_planned c r m items cat of is e = (next_ready c r items cat of is m e).may
 
+pub planned_regular : PlannedMovesAreRegular
+planned_regular c r m items cat of is e = (next_ready c r items cat of is m e).regular
+
 -- tables have one list of items
 one_items : (t : Tables) (xs ys : List Item) → AreItemsOf t xs → AreItemsOf t ys → xs ≡ ys
 one_items t xs ys a b = one_list xs ys 0 a.in_order b.in_order (λ i h. b.from_table (key i) i (a.to_table i h)) (λ i h. a.from_table (key i) i (b.to_table i h))
 
 pub planned_falls : PlannedWorkFalls
-planned_falls c r m items later cat of is regular e after =
+planned_falls c r m items later cat of is e after =
     let ready = next_ready c r items cat of is m e in
     subst (λ (xs : List Item). IsLess (work c.shape (record_after m r) xs) (work c.shape r items)) (one_items (planned m c.tables) (items_after m items) later ready.after after)
-    (work_falls c.shape r items m (records_are c r items cat of is regular) e)
+    (work_falls c.shape r items m (records_are c r items cat of is) e)

@@ -31,18 +31,18 @@ use Rattle.catalog.proofs.PlacingLaws.{units_some}
 use Rattle.catalog.proofs.TableItems.{among_found, chunks_exact, each_of}
 use Rattle.catalog.proofs.UnitLaws.{units_are}
 use Rattle.status_table.proofs.Allowed.{parts_of}
-use Rattle.rebalance.specs.declared.extent.Extent.{Extent}
+use Rattle.extent_copies.specs.declared.extent.Extent.{Extent}
 use Rattle.rebalance.specs.declared.moves.Next.{Next as CodeNext}
 use Rattle.rebalance.specs.declared.stages.Stage.{Stage}
 use Rattle.rebalance.specs.declared.stages.Stage.TheVariants as stage
-use Rattle.rebalance.specs.Extents.{IsExtentOf}
+use Rattle.extent_copies.specs.Extents.{IsExtentOf}
 use Rattle.rebalance.specs.Moves.{next_meant}
-use Rattle.rebalance.specs.Selections.{AreNumbered}
+use Rattle.partnership.specs.Selections.{AreNumbered}
 use Rattle.rebalance.specs.Sums.{Sums, sums_at, sums_of}
 use Rattle.rebalance.specs.Stages.{StagesAreNext, first_said, said}
 use Rattle.rebalance.specs.Searching.{IsStatusOf, all_said, extent_of, extent_says, first_of_chunk, first_of_chunks, first_of_extents, group_says, next_in, rest_said, with_copies}
 use Rattle.rebalance.proofs.OwnCopies.{own_copies}
-use Rattle.rebalance.proofs.Selected.{status_numbered}
+use Rattle.partnership.proofs.Selected.{status_numbered}
 use Rattle.rebalance.proofs.Sharing.{sums_placed}
 use Rattle.rebalance.proofs.Verdicts.{first_parts, said_agrees}
 

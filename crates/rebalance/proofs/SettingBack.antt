@@ -16,7 +16,7 @@ use Rattle.staleness_directory.specs.Marks.{marks_at}
 use Rattle.catalog.specs.Tables.{Catalogued}
 use Rattle.catalog.specs.Rules.{marks_of}
 use Rattle.catalog.proofs.TableItems.{chunks_exact, each_of, found_is}
-use Rattle.rebalance.specs.declared.extent.Extent.{Extent}
+use Rattle.extent_copies.specs.declared.extent.Extent.{Extent}
 use Rattle.rebalance.specs.declared.stages.Stage.{Stage}
 use Rattle.rebalance.specs.declared.stages.Stage.TheVariants as stage
 use Rattle.rebalance.specs.Sums.{Sums, sums_at}

@@ -1,13 +1,12 @@
 -- What copies say, by the records and by an extent's homes and marks.
-use Rattle.std.proofs.Common.{◌≡◌, ℕ, zero, suc, ◌+◌, ◌-◌, ◌<◌, ◌≤◌, Bool, true, false, not, ◌&&◌, ◌||◌, List, [], ◌∷◌, ◌++◌, filter, get_or, refl, sym, ap, ◌∙◌, Option, Some, None, arith, add-one, eqb}
+use Rattle.std.proofs.Common.{◌≡◌, ℕ, zero, suc, ◌+◌, ◌-◌, ◌<◌, ◌≤◌, Bool, true, false, not, ◌&&◌, ◌||◌, List, [], ◌∷◌, ◌++◌, filter, refl, sym, ap, ◌∙◌, Option, Some, None, arith, add-one, eqb}
 use Rattle.std.specs.Prelude.{IsSomeAnd, slice_get}
 use Rattle.std.specs.List.{list_any, AllByRecursion}
 use Rattle.std.specs.Option.{is_some, option_or, option_map, option_and_then}
-use Rattle.std.proofs.lemmas.List.{get_or_past}
 use Rattle.std.proofs.lemmas.List.Elements.{recursion_from_All}
 use Rattle.asm_group.specs.Shape.{Shape}
 use Rattle.asm_formats.specs.Status.{Entry, entry_of}
-use Rattle.asm_formats.specs.Items.{Item, Home, Homes}
+use Rattle.asm_formats.specs.Items.{Item, Home}
 use Rattle.allocator.specs.UnitMaps.{UnitMap}
 use Rattle.asm_placement.specs.Layout.{units_of}
 use Rattle.asm_placement.specs.Modes.{serves}
@@ -19,21 +18,17 @@ use Rattle.asm_placement.proofs.Bits.{passing_is}
 use Rattle.partnership.specs.Candidates.{is_within}
 use Rattle.partnership.specs.UnitsOf.{AreUnits, AreUnitsOf, held, kept}
 use Rattle.partnership.proofs.Kept.{copy_is, copy_on_is}
-use Rattle.rebalance.specs.declared.extent.Extent.{Extent}
+use Rattle.extent_copies.specs.declared.extent.Extent.{Extent}
 use Rattle.rebalance.specs.declared.moves.Next.{Next as CodeNext}
 use Rattle.rebalance.specs.declared.stages.Stage.{Stage}
 use Rattle.rebalance.specs.declared.stages.Stage.TheVariants as stage
-use Rattle.rebalance.specs.Extents.{copy_of, copies_of, IsExtentOf, any_from, first_from, is_marked_at, can_be_read_at, has_source_at, is_other_source_at, has_other_at}
+use Rattle.extent_copies.specs.Extents.{copy_of, copies_of, IsExtentOf, can_be_read_at}
+use Rattle.rebalance.specs.Extents.{any_from, first_from, is_marked_at, has_source_at, is_other_source_at, has_other_at}
 use Rattle.rebalance.specs.Moves.{next_meant}
-use Rattle.rebalance.specs.Selections.{AreNumbered}
+use Rattle.partnership.specs.Selections.{AreNumbered}
 use Rattle.rebalance.specs.Sums.{Sums, sums_of, below_set, below_from, is_below_of}
 use Rattle.rebalance.specs.Stages.{said, said_at, home_for, home_below, below_if_above, balancing_at}
 use Rattle.rebalance.proofs.Sharing.{own_map, above_number, below_number}
-
--- ---- an extent has three homes
-
-pub no_home : (homes : Homes) (a b c : Option Home) (k : ℕ) → a ∷ b ∷ c ∷ [] ≡ homes → (k ≡ 0 → ⊥) → (k ≡ 1 → ⊥) → (k ≡ 2 → ⊥) → None ≡ get_or homes k None
-no_home homes a b c k is no_first no_second no_third = sym (get_or_past (a ∷ b ∷ c ∷ []) k None (omega (arith, no_first, no_second, no_third))) ∙ ap (λ (hs : Homes). get_or hs k None) is
 
 -- ---- numbers of copies, one by one
 
@@ -187,7 +182,3 @@ pub said_agrees : (stage : Stage) (s : Shape) (items : List Item) (all : List Co
 said_agrees stage s items all es ms t x small long units is are =
     first_agree (said_at stage es ms t x) (λ k. said stage s es items all (copy_of x k)) 0 x.copies (λ k less. said_copy stage s items all es ms t x k small long units is are (omega arith))
     ∙ sym (first_copies (said stage s es items all) x 0 x.copies)
-
-pub said_is : (stage : Stage) (s : Shape) (items : List Item) (all : List Copy) (es : List Entry) (ms : List UnitMap) (t : Sums) (x : Extent) (next : Option CodeNext) → AreNumbered es → 0 < x.units → AreUnitsOf s items es ms → t ≡ sums_of s items es → IsExtentOf s items all x
-    → option_map next_meant next ≡ first_from (said_at stage es ms t x) 0 x.copies → option_map next_meant next ≡ first_of (said stage s es items all) (copies_of x)
-said_is stage s items all es ms t x next small long units is are found = found ∙ said_agrees stage s items all es ms t x small long units is are

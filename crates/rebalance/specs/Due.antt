@@ -10,11 +10,12 @@ use Rattle.allocator.specs.UnitMaps.{UnitMap}
 use Rattle.extent_map.specs.Extents.{Chunk, Chunked, has_home}
 use Rattle.file_directory.specs.Files.{head_at}
 use Rattle.catalog.specs.Tables.{Catalogued, Tables}
-use Rattle.rebalance.specs.declared.extent.Extent.{Extent}
+use Rattle.extent_copies.specs.declared.extent.Extent.{Extent}
 use Rattle.rebalance.specs.declared.stages.Stage.{Stage}
 use Rattle.rebalance.specs.declared.stages.Stage.TheVariants as stage
 use Rattle.rebalance.specs.Sums.{Sums}
-use Rattle.rebalance.specs.Extents.{any_from, copy_of, has_other_at, has_source_at, is_marked_at}
+use Rattle.extent_copies.specs.Extents.{copy_of}
+use Rattle.rebalance.specs.Extents.{any_from, has_other_at, has_source_at, is_marked_at}
 use Rattle.rebalance.specs.Stages.{balancing_at}
 use Rattle.rebalance.specs.Searching.{extent_of}
 

@@ -1,25 +1,20 @@
 -- That the work which a rebalance has left falls with each move.
-use Rattle.std.specs.Prelude.{◌≡◌, ◌^◌, ◌<◌, List, IsTrue}
-use Rattle.std.specs.List.{list_all}
+use Rattle.std.specs.Prelude.{◌≡◌, ◌^◌, ◌<◌, List}
 use Rattle.asm_formats.specs.Status.{Status}
 use Rattle.asm_formats.specs.Items.{Item}
-use Rattle.asm_placement.specs.Copies.{all_copies, entry_at_home, home}
 use Rattle.asm_placement.specs.Moves.{items_after, record_after}
 use Rattle.asm_placement.specs.Rebalancing.{Move, Next, directory, fill, move, next, recopy, shift, tables}
-use Rattle.asm_placement.specs.Work.{IsLess, is_regular, work}
+use Rattle.asm_placement.specs.Work.{IsLess, work}
 use Rattle.catalog.specs.ExtentPlans.{MayMark, MayMove, with_marks_changed, with_move}
 use Rattle.catalog.specs.Faults.{IsCatalog}
 use Rattle.catalog.specs.Items.{AreItemsOf}
+use Rattle.catalog.specs.Rules.{AreOnRegular}
 use Rattle.catalog.specs.Tables.{Catalogued, Tables}
 use Rattle.rebalance.specs.Searching.{IsStatusOf}
 
--- no copy lies on a quorum disk
-abbrev pub AreOnRegularDisks : Status → List Item → Type 0
-AreOnRegularDisks r items = IsTrue (list_all (λ x. is_regular (entry_at_home r.entries (home x))) (all_copies items))
-
 -- Where the next is a move, the work that is left once it is committed is less.
 abbrev pub Falls : Catalogued → Status → Next → Type 0
-Falls c r n = (m : Move) (items : List Item) → n ≡ move m → AreItemsOf c.tables items → AreOnRegularDisks r items → IsLess (work c.shape (record_after m r) (items_after m items)) (work c.shape r items)
+Falls c r n = (m : Move) (items : List Item) → n ≡ move m → AreItemsOf c.tables items → IsLess (work c.shape (record_after m r) (items_after m items)) (work c.shape r items)
 
 -- ---- in the words of plans
 
@@ -43,8 +38,12 @@ MayBePlanned c (tables to) = Unit {0}
 abbrev pub NextMayBePlanned : Type 0
 NextMayBePlanned = (c : Catalogued) (r : Status) (m : Move) (items : List Item) → IsCatalog c → IsStatusOf c r → AreItemsOf c.tables items → next c.shape r items ≡ move m → MayBePlanned c m
 
+-- By the tables that its plan leads to no home lies on a quorum disk either.
+abbrev pub PlannedMovesAreRegular : Type 0
+PlannedMovesAreRegular = (c : Catalogued) (r : Status) (m : Move) (items : List Item) → IsCatalog c → IsStatusOf c r → AreItemsOf c.tables items → next c.shape r items ≡ move m → AreOnRegular r.entries (planned m c.tables)
+
 -- The work that is left by the items of the tables that the plan of the next move leads to is less.
 abbrev pub PlannedWorkFalls : Type 0
 PlannedWorkFalls =
-    (c : Catalogued) (r : Status) (m : Move) (items later : List Item) → IsCatalog c → IsStatusOf c r → AreItemsOf c.tables items → AreOnRegularDisks r items → next c.shape r items ≡ move m
+    (c : Catalogued) (r : Status) (m : Move) (items later : List Item) → IsCatalog c → IsStatusOf c r → AreItemsOf c.tables items → next c.shape r items ≡ move m
     → AreItemsOf (planned m c.tables) later → IsLess (work c.shape (record_after m r) later) (work c.shape r items)

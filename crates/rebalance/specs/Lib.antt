@@ -1,5 +1,3 @@
-pub mod Selections
-pub mod Rounds
 pub mod Sums
 pub mod Extents
 pub mod Moves

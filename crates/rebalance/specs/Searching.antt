@@ -10,19 +10,20 @@ use Rattle.allocator.specs.UnitMaps.{UnitMap}
 use Rattle.extent_map.specs.Extents.{Chunked, has_home}
 use Rattle.file_directory.specs.Files.{head_at}
 use Rattle.catalog.specs.Tables.{Catalogued, Tables}
-use Rattle.catalog.specs.Rules.{marks_of}
+use Rattle.catalog.specs.Rules.{AreOnRegular, marks_of}
 use Rattle.catalog.specs.Placing.{HasUnits}
-use Rattle.rebalance.specs.declared.extent.Extent.{Extent}
+use Rattle.extent_copies.specs.declared.extent.Extent.{Extent}
 use Rattle.rebalance.specs.declared.stages.Stage.{Stage}
 use Rattle.rebalance.specs.declared.stages.Stage.TheVariants as stage
 use Rattle.rebalance.specs.Sums.{Sums, sums_at}
 use Rattle.rebalance.specs.Extents.{first_from}
 use Rattle.rebalance.specs.Stages.{said_at}
 
--- The status record is that of the catalog: one of the formats, and the used units are those of its entries' disks.
+-- The status record is that of the catalog: one of the formats, the used units are those of its entries' disks, and no home lies on a quorum disk.
 pub record IsStatusOf (c : Catalogued) (r : Status) : Type 0 where
   pub status : IsTrue (is_status r)
   pub units : HasUnits c.shape r.entries c.tables c.units
+  pub regular : AreOnRegular r.entries c.tables
 
 -- ---- one extent after the other
 

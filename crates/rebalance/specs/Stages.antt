@@ -10,11 +10,12 @@ use Rattle.asm_placement.specs.Copies.{Copy, home, all_copies, entry_at_home, is
 use Rattle.asm_placement.specs.Rebalancing.{Next, move, recopy, fill, shift, done, no_space, lost, first_of, when, new_home, balancing, next_directory, next_tables, next}
 use Rattle.partnership.specs.Candidates.{candidates, chosen_copy, chosen_copy_of}
 use Rattle.partnership.specs.UnitsOf.{held, kept}
-use Rattle.rebalance.specs.declared.extent.Extent.{Extent}
+use Rattle.extent_copies.specs.declared.extent.Extent.{Extent}
 use Rattle.rebalance.specs.declared.stages.Stage.{Stage}
 use Rattle.rebalance.specs.declared.stages.Stage.TheVariants as stage
 use Rattle.rebalance.specs.Sums.{Sums, is_above_at, below_set}
-use Rattle.rebalance.specs.Extents.{copy_of, is_marked_at, has_source_at, has_other_at}
+use Rattle.extent_copies.specs.Extents.{copy_of}
+use Rattle.rebalance.specs.Extents.{is_marked_at, has_source_at, has_other_at}
 
 -- among all copies of files, by the records
 abbrev pub said : Stage → Shape → List Entry → List Item → List Copy → Copy → Option Next
@@ -36,10 +37,6 @@ StagesAreNext =
     next s r items
     ≡ unwrap_or (option_or (first_said stage.Recopy s r.entries items) (option_or (first_said stage.Fill s r.entries items) (option_or (first_said stage.Shift s r.entries items) (option_or (next_directory s r)
     (option_or (next_tables s r) (option_or (first_said stage.Lost s r.entries items) (option_or (first_said stage.NoSpace s r.entries items) (first_said stage.Balance s r.entries items)))))))) done
-
--- the first copy of two lists says what the first of the one says, else what the first of the other says
-abbrev pub FirstOfParts : Type 0
-FirstOfParts = (says : Copy → Option Next) (xs ys : List Copy) → first_of says (xs ++ ys) ≡ option_or (first_of says xs) (first_of says ys)
 
 -- ---- the same for copy k of an extent, by its homes and marks, maps of units and sums
 

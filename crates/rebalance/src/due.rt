@@ -5,13 +5,14 @@ ghost use Rattle.rebalance.specs.Due.{any_of_chunk, any_of_extents, is_due, is_d
 ghost use Rattle.rebalance.specs.Searching.{extent_of};
 
 use crate::extent::{
-    Extent, has_other_source, has_source, is_stale_online, wants_fill, wants_shift,
+    extent_of, has_other_source, has_source, is_stale_online, wants_fill, wants_shift,
 };
 use crate::shares::Shares;
 use crate::stages::{Stage, balancing};
 use allocator::Units;
 use asm_base::{ExtentId, Homes};
 use catalog::Catalog;
+use extent_copies::Extent;
 use extent_map::has_home;
 use status_table::PstEntry;
 
@@ -89,7 +90,7 @@ fn is_due_there(
         file,
         index: index as u32,
     };
-    let extent = Extent::of(catalog, id, copies, homes);
+    let extent = extent_of(catalog, id, copies, homes);
     is_due(disks, catalog.units(), shares, &extent, stage)
 }
 

@@ -1,11 +1,12 @@
 //! What holds of every next move.
 
-ghost use Rattle.rebalance.specs.Falling.{NextMayBePlanned, PlannedWorkFalls};
+ghost use Rattle.rebalance.specs.Falling.{NextMayBePlanned, PlannedMovesAreRegular, PlannedWorkFalls};
 
 /// The catalog's plan of the next move may be made: where a copy is written anew, that which clears its mark, and where it
-/// gets a home, that which moves it there.
+/// gets a home, that which moves it there. By the tables that it leads to no home lies on a quorum disk either.
 pub fn next_moves_may_be_planned()
-    ensures { NextMayBePlanned }
+    ensures may { NextMayBePlanned }
+    ensures regular { PlannedMovesAreRegular }
 {}
 
 /// By the tables that this plan leads to, and the record after the move, less work is left.

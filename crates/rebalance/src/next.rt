@@ -19,7 +19,7 @@ ghost use Rattle.rebalance.specs.Searching.{IsStatusOf, all_said, extent_of, ext
 
 use crate::cursor::Cursor;
 use crate::due::is_due_in;
-use crate::extent::Extent;
+use crate::extent::extent_of;
 use crate::moves::Next;
 use crate::shares::Shares;
 use crate::stages::{Stage, said_by_tables, said_first};
@@ -33,8 +33,8 @@ use status_table::{PstEntry, PstRecord};
 /// a Forced disk gets a home, and one on a Dropping disk or in the failure group of an earlier copy another one, on the
 /// first disk in order that may take it; a directory copy is added; the status tables move; an extent without a usable copy
 /// is lost; a copy that must go elsewhere has no space; a copy shifts from a disk above its share to one below; else all is
-/// done. Each move lowers the work that is left, where no copy lies on a quorum disk. It takes no memory, and goes over all
-/// extents once for each stage that has nothing to say.
+/// done. Each move lowers the work that is left. It takes no memory, and goes over all extents once for each stage that has
+/// nothing to say.
 pub fn next_move(catalog: &Catalog, status: &PstRecord) -> Next
     requires { IsStatusOf catalog.now status.now }
     ensures is_next { (items : List Item) → AreItemsOf catalog.now.tables items → next_meant result ≡ next catalog.now.shape status.now items }
@@ -345,6 +345,6 @@ fn said_by_extent(
     requires { copies ≤ 3 }
     ensures { option_map next_meant result ≡ extent_says stage disks.now catalog.now.units shares.now (extent_of catalog.now.shape catalog.now.tables id.file copies id.index homes.now) }
 {
-    let extent = Extent::of(catalog, id, copies, homes);
+    let extent = extent_of(catalog, id, copies, homes);
     said_first(disks, catalog.units(), shares, &extent, stage)
 }

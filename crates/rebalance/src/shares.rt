@@ -6,13 +6,13 @@ ghost use Rattle.asm_group.specs.Shape.{Shape};
 ghost use Rattle.asm_formats.specs.Items.{Item};
 ghost use Rattle.asm_formats.specs.Status.{Entry, entry_of};
 ghost use Rattle.allocator.specs.UnitMaps.{total_of, used_of};
+ghost use Rattle.asm_placement.specs.Modes.{is_target};
 ghost use Rattle.asm_placement.specs.Space.{is_above, is_below, share};
 ghost use Rattle.partnership.specs.UnitsOf.{AreUnitsOf};
 ghost use Rattle.rebalance.specs.Sums.{below_set, is_above_at, is_below_at, is_below_of, share_at, share_of, sums_at, sums_of, with_target};
 
-use crate::disks::Which;
 use allocator::Units;
-use asm_base::DiskSet;
+use asm_base::{DiskSet, Mode};
 use status_table::{PstEntry, PstRecord};
 use std::marker::Model;
 
@@ -60,7 +60,7 @@ impl Shares {
         ensures sums { result ≡ with_target self units.now disk.now }
         ensures small { result.units ≤ self.units + 2 ^ 32 }
     {
-        if !Which::Targets.has(disk) {
+        if !is_target(disk) {
             return self;
         }
         match map_at(units, disk.number) {
@@ -181,4 +181,11 @@ fn sums(disks: &[PstEntry], units: &[Units]) -> Shares
         shares = shares.with_disk(disk, units);
     }
     shares
+}
+
+/// Whether the disk may take copies: it is Online and regular.
+fn is_target(disk: &PstEntry) -> bool
+    ensures { result ≡ is_target disk.now }
+{
+    matches!(disk.mode, Mode::Online) && !disk.quorum
 }

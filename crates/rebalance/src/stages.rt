@@ -1,30 +1,23 @@
 //! What an extent says at each stage of the search for the next move.
 
-ghost use Rattle.std.specs.Prelude.{◌≡◌, ◌<◌, ◌≤◌, IsTrue, List};
+ghost use Rattle.std.specs.Prelude.{◌≡◌, ◌<◌, ◌≤◌, IsTrue};
 ghost use Rattle.std.specs.Option.{option_map, option_or};
 ghost use Rattle.asm_group.specs.Shape.{Shape};
-ghost use Rattle.asm_formats.specs.Items.{Item};
 ghost use Rattle.asm_formats.specs.Status.{is_status};
-ghost use Rattle.asm_placement.specs.Copies.{Copy};
 ghost use Rattle.asm_placement.specs.TableDisks.{directory_target, status_target};
-ghost use Rattle.asm_placement.specs.Rebalancing.{directory, first_of, move, next_directory, next_tables, tables};
-ghost use Rattle.partnership.specs.UnitsOf.{AreUnitsOf};
-ghost use Rattle.rebalance.specs.Selections.{AreNumbered};
-ghost use Rattle.rebalance.specs.Sums.{sums_of};
-ghost use Rattle.rebalance.specs.Extents.{ExtentsOwnCopies, IsExtentOf, copies_of, first_from};
+ghost use Rattle.asm_placement.specs.Rebalancing.{directory, move, next_directory, next_tables, tables};
+ghost use Rattle.rebalance.specs.Extents.{first_from};
 ghost use Rattle.rebalance.specs.Moves.{next_meant};
-ghost use Rattle.rebalance.specs.Stages.{FirstOfParts, StagesAreNext, balanced_at, balancing_at, filled_at, home_below, home_for, lost_at, recopied_at, said, said_at, shifted_at, without_space_at};
+ghost use Rattle.rebalance.specs.Stages.{balanced_at, balancing_at, filled_at, home_below, home_for, lost_at, recopied_at, said_at, shifted_at, without_space_at};
 
-use crate::extent::{
-    Extent, has_other_source, has_source, is_stale_online, wants_fill, wants_shift,
-};
+use crate::extent::{has_other_source, has_source, is_stale_online, wants_fill, wants_shift};
 use crate::homes::{HomeList, entry_at};
 use crate::moves::{Move, Next};
 use crate::shares::Shares;
-use crate::tables::{directory_target, status_target};
 use allocator::Units;
 use asm_base::{GroupKind, Home};
-use partnership::{choose_copy, choose_copy_on};
+use extent_copies::Extent;
+use partnership::{choose_copy, choose_copy_on, directory_target, status_target};
 use status_table::{PstEntry, PstRecord};
 
 /// The stages of the search in which the extents are asked, in their order. Between `Shift` and `Lost` come the moves of
@@ -45,24 +38,8 @@ pub enum Stage {
     Balance,
 }
 
-/// The stages are those of the next move.
-#[tactic(auto, unfolding(asm_placement::specs::Rebalancing::next))]
-pub fn stages_are_next()
-    ensures { StagesAreNext }
-{}
-
-/// Of all copies of files, those of an extent are its own.
-pub fn extents_own_copies()
-    ensures { ExtentsOwnCopies }
-{}
-
-/// Extents can be asked one after the other.
-pub fn first_of_parts()
-    ensures { FirstOfParts }
-{}
-
 /// The move of a directory copy, or else of the status tables, where one is due.
-#[tactic(auto, using(crate::proofs::TableSets::table_said))]
+#[tactic(auto, using(crate::proofs::TableMoves::table_said))]
 pub fn said_by_tables(kind: GroupKind, status: &PstRecord) -> Option<Next>
     requires { IsTrue (is_status status.now) }
     ensures { (s : Shape) → s.kind ≡ kind → option_map next_meant result ≡ option_or (next_directory s status.now) (next_tables s status.now) }
@@ -82,42 +59,8 @@ fn table_move(kind: GroupKind, status: &PstRecord) -> Option<Next>
 }
 
 /// What the first copy of an extent says at a stage, by its number. `units` has the map of disk k at place k.
-#[tactic(auto, using(crate::proofs::Selected::entries_numbered))]
-pub fn said(
-    status: &PstRecord,
-    units: &[Units],
-    shares: &Shares,
-    extent: &Extent,
-    stage: Stage,
-) -> Option<Next>
-    requires status { IsTrue (is_status status.now) }
-    requires copies { extent.now.copies ≤ 3 }
-    requires long { 0 < extent.now.units }
-    // Where the units, the sums and the extent are those of a group's records, it is what its copies say there.
-    ensures { (s : Shape) (items : List Item) (all : List Copy) → AreUnitsOf s items status.now.entries units.now → shares.now ≡ sums_of s items status.now.entries → IsExtentOf s items all extent.now → option_map next_meant result ≡ first_of (said stage s status.now.entries items all) (copies_of extent.now) }
-{
-    said_on(status.entries(), units, shares, extent, stage)
-}
-
-/// The same on these disks.
-#[tactic(auto, using(crate::proofs::Verdicts::said_is))]
-fn said_on(
-    disks: &[PstEntry],
-    units: &[Units],
-    shares: &Shares,
-    extent: &Extent,
-    stage: Stage,
-) -> Option<Next>
-    requires numbers { AreNumbered disks.now }
-    requires copies { extent.now.copies ≤ 3 }
-    requires long { 0 < extent.now.units }
-    ensures { (s : Shape) (items : List Item) (all : List Copy) → AreUnitsOf s items disks.now units.now → shares.now ≡ sums_of s items disks.now → IsExtentOf s items all extent.now → option_map next_meant result ≡ first_of (said stage s disks.now items all) (copies_of extent.now) }
-{
-    said_first(disks, units, shares, extent, stage)
-}
-
 #[tactic(auto, using(crate::proofs::Verdicts::said_more, crate::proofs::Verdicts::said_found, crate::proofs::Verdicts::said_start, crate::proofs::Verdicts::said_end))]
-pub(crate) fn said_first(
+pub fn said_first(
     disks: &[PstEntry],
     units: &[Units],
     shares: &Shares,
@@ -242,7 +185,7 @@ fn balanced(
 }
 
 /// The home that a copy gets in place of its own.
-pub fn new_home(disks: &[PstEntry], units: &[Units], extent: &Extent, copy: u8) -> Option<Home>
+fn new_home(disks: &[PstEntry], units: &[Units], extent: &Extent, copy: u8) -> Option<Home>
     requires { 0 < extent.now.units }
     ensures { result ≡ home_for disks.now units.now extent.now copy }
 {
@@ -252,7 +195,7 @@ pub fn new_home(disks: &[PstEntry], units: &[Units], extent: &Extent, copy: u8) 
 }
 
 /// The home to which a copy shifts to balance the disks, where its own is on a disk above its share: on one below.
-pub(crate) fn balancing(
+pub fn balancing(
     disks: &[PstEntry],
     units: &[Units],
     shares: &Shares,

@@ -1,8 +1,12 @@
 ghost use Rattle.std.specs.Prelude.{◌≡◌};
 
-use super::*;
+use crate::moves::{Move, Next};
+use crate::shares::Shares;
+use crate::stages::{Stage, said_by_tables, said_first};
 use allocator::Units;
 use asm_base::{DiskSet, ExtentId, GroupKind, Home, Homes, Mode};
+use extent_copies::Extent;
+use partnership::{directory_target, status_target};
 use status_table::{PstEntry, PstRecord, is_status};
 use std::alloc::Global;
 use std::test::*;
@@ -114,15 +118,15 @@ fn dropped_disk(rt: HostRuntime) {
     let apart = mirrored(0, home(0, 9), home(1, 9), 0);
     let leaving = mirrored(1, home(2, 9), home(3, 9), 0);
     assert!(rt; is_status(&status));
-    let moved = said(&status, &units, &shares, &leaving, Stage::Shift);
+    let moved = said_first(status.entries(), &units, &shares, &leaving, Stage::Shift);
     let x = ExtentId {
         file: 256,
         index: 1,
     };
     let to = home(0, 11);
     assert!(rt; moved == Some(Next::Move(Move::Shift { x, copy: 1, to })));
-    assert!(rt; said(&status, &units, &shares, &apart, Stage::Shift).is_none());
-    assert!(rt; said(&status, &units, &shares, &leaving, Stage::Fill).is_none());
+    assert!(rt; said_first(status.entries(), &units, &shares, &apart, Stage::Shift).is_none());
+    assert!(rt; said_first(status.entries(), &units, &shares, &leaving, Stage::Fill).is_none());
 }
 
 /// A fifth disk takes one copy, and then the disks are balanced.
@@ -134,7 +138,7 @@ fn added_disk(rt: HostRuntime) {
     assert!(rt; shares.share(&units, 4) == 1);
     let extent = mirrored(0, home(0, 9), home(1, 9), 0);
     assert!(rt; is_status(&status));
-    let moved = said(&status, &units, &shares, &extent, Stage::Balance);
+    let moved = said_first(status.entries(), &units, &shares, &extent, Stage::Balance);
     let x = ExtentId {
         file: 256,
         index: 0,
@@ -143,7 +147,7 @@ fn added_disk(rt: HostRuntime) {
     assert!(rt; moved == Some(Next::Move(Move::Shift { x, copy: 0, to })));
     let units = five_used(rt.alloc(), [1, 2, 2, 2, 1]).expect(&rt, "memory");
     let shares = Shares::of(&status, &units);
-    assert!(rt; said(&status, &units, &shares, &extent, Stage::Balance).is_none());
+    assert!(rt; said_first(status.entries(), &units, &shares, &extent, Stage::Balance).is_none());
 }
 
 /// A holder that has a directory copy is dropped: disk 3 takes the copy, and the tables move to disks 1, 2 and 3.
@@ -175,12 +179,14 @@ fn stale_copies(rt: HostRuntime) {
         file: 256,
         index: 0,
     };
-    let moved = said(&status, &units, &shares, &stale, Stage::Recopy);
+    let moved = said_first(status.entries(), &units, &shares, &stale, Stage::Recopy);
     assert!(rt; moved == Some(Next::Move(Move::Recopy { x, copy: 1 })));
-    assert!(rt; said(&status, &units, &shares, &alone, Stage::Recopy).is_none());
+    assert!(rt; said_first(status.entries(), &units, &shares, &alone, Stage::Recopy).is_none());
     let lost = ExtentId {
         file: 256,
         index: 1,
     };
-    assert!(rt; said(&status, &units, &shares, &alone, Stage::Lost) == Some(Next::Lost(lost)));
+    assert!(rt;
+        said_first(status.entries(), &units, &shares, &alone, Stage::Lost) == Some(Next::Lost(lost))
+    );
 }

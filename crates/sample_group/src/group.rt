@@ -71,6 +71,16 @@ pub fn usual(alloc: Global) -> Result<Records, Fail> {
     Ok(records)
 }
 
+/// The records of the group after edits, with so many directories more in the root.
+pub fn edited(alloc: Global, edits: &[Edit<'_>], directories: u8) -> Result<Records, Fail> {
+    let mut records = usual(alloc)?;
+    for edit in edits {
+        apply(alloc, &mut records, *edit)?;
+    }
+    put_directories(alloc, &mut records, directories)?;
+    Ok(records)
+}
+
 /// The status record with the first disks of the group.
 pub fn disks(count: u8) -> PstRecord {
     let mut entries = [PstEntry::blank(); 64];

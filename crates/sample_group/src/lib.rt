@@ -6,6 +6,6 @@ mod group;
 mod moving;
 mod told;
 
-pub use group::{Edit, NO, SHAPE, apply, disks, put_directories, read, usual};
-pub use moving::make_move;
+pub use group::{Edit, NO, SHAPE, apply, disks, edited, put_directories, read, usual};
+pub use moving::{is_regular, make_move};
 pub use told::{catalog, operations_of, operations_told};

@@ -1,6 +1,6 @@
 //! Moves of copies, made by their plans.
 
-ghost use Rattle.std.specs.Prelude.{◌≡◌, ◌<◌, IfOk, IsTrue, List as Items, OnOk, Some, is_some, slice_set};
+ghost use Rattle.std.specs.Prelude.{◌≡◌, ◌<◌, IfOk, IsTrue, List as Items, OnErr, OnOk, Some, is_some, slice_set};
 ghost use Rattle.std.specs.Bool.{OnTrue};
 ghost use Rattle.asm_formats.specs.Status.{Entry as StatusEntry};
 ghost use Rattle.asm_placement.specs.Layout.{units_of};
@@ -11,12 +11,14 @@ ghost use Rattle.catalog.specs.Changing.{IsAfter};
 ghost use Rattle.catalog.specs.ExtentPlans.{MayMove, homes_moved, is_copy_of, with_move};
 ghost use Rattle.catalog.specs.Placing.{HasUnits, home_taken};
 ghost use Rattle.catalog.specs.Plans.{IsPlan};
-ghost use Rattle.catalog.specs.Rules.{are_on_disks, are_on_two};
+ghost use Rattle.catalog.specs.Rules.{AreOnRegular, are_on_disks, are_on_two, is_on_regular};
 ghost use Rattle.catalog.specs.Tables.{Tables};
 
 use allocator::Units;
 use asm_base::{Change, ExtentId, Home, Homes, NoMemory};
 use catalog::{Catalog, a_change_leaves_one_set_of_tables};
+use partnership::entry_of;
+use status_table::PstEntry;
 use std::alloc::Global;
 
 /// Moves a copy of an extent to a disk's lowest run of free units, by the plan of the move. False, with nothing changed,
@@ -32,6 +34,8 @@ pub fn make_move(
     ensures moved { IfOk result (λ moved. OnTrue moved (catalog.new.tables ≡ with_move catalog.old.tables x.file x.index copy to)) }
     ensures shape { catalog.new.shape ≡ catalog.old.shape }
     ensures units { (entries : Items StatusEntry) → HasUnits catalog.old.shape entries catalog.old.tables catalog.old.units → HasUnits catalog.new.shape entries catalog.new.tables catalog.new.units }
+    // No home lies on a quorum disk then, where none did and the new one doesn't.
+    ensures regular { (entries : Items StatusEntry) → AreOnRegular entries catalog.old.tables → IsTrue (is_on_regular entries (Some to)) → AreOnRegular entries catalog.new.tables }
 {
     if !may_move(catalog, x, copy, to) {
         return Ok(false);
@@ -44,10 +48,21 @@ pub fn make_move(
     Ok(true)
 }
 
+/// Whether the disk of a home, where it has an entry, is in no quorum failure group.
+pub fn is_regular(disks: &[PstEntry], home: Home) -> bool
+    ensures { result ≡ is_on_regular disks.now (Some home) }
+{
+    match entry_of(disks, home.disk) {
+        None => true,
+        Some(disk) => !disk.quorum,
+    }
+}
+
 /// Takes the memory for a planned change, and applies it.
 fn make(alloc: Global, catalog: &mut Catalog, change: &Change) -> Result<(), NoMemory>
     requires { (u : Tables) × IsPlan catalog.old change.now.put change.now.gone u }
     ensures after { OnOk result (IsAfter catalog.old.tables change.now.put change.now.gone catalog.new.tables) }
+    ensures stays { OnErr result (catalog.new.tables ≡ catalog.old.tables) }
     ensures shape { catalog.new.shape ≡ catalog.old.shape }
     ensures units { (entries : Items StatusEntry) → HasUnits catalog.old.shape entries catalog.old.tables catalog.old.units → HasUnits catalog.new.shape entries catalog.new.tables catalog.new.units }
 {

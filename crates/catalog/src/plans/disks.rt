@@ -81,7 +81,11 @@ impl Catalog {
 }
 
 /// The record of a disk.
-fn disk_record(alloc: Global, number: u8, info: &DiskInfo) -> Result<(Key, Value), NoMemory>
+pub(crate) fn disk_record(
+    alloc: Global,
+    number: u8,
+    info: &DiskInfo,
+) -> Result<(Key, Value), NoMemory>
     requires { is_item (disk_item number info.now) ≡ true }
     ensures { IfOk result (λ made. made ≡ item_record (disk_item number info.now)) }
 {

@@ -1,7 +1,10 @@
 //! Plans: changes of a group's records that keep its rules.
 
+mod added;
 mod attributes;
+mod checks;
 mod chunks;
+mod cuts;
 mod disks;
 mod files;
 mod making;

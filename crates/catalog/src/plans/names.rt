@@ -90,7 +90,7 @@ impl Catalog {
     }
 
     /// The nodes of a file's name at a path.
-    fn file_nodes(
+    pub(crate) fn file_nodes(
         &self,
         alloc: Global,
         path: &Path,

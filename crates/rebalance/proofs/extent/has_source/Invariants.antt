@@ -1,4 +1,4 @@
-use Rattle.rebalance.specs.Extents.{can_be_read_at}
+use Rattle.extent_copies.specs.Extents.{can_be_read_at}
 use Rattle.rebalance.proofs.Verdicts.{IsAny}
 use Rattle.rebalance.proofs.extent.has_source.Given as goal
 

@@ -2,7 +2,7 @@ use Rattle.std.proofs.Common.{List, subst, ◌≡◌, None}
 use Rattle.asm_formats.specs.Status.{Entry}
 use Rattle.catalog.specs.Faults.{BreaksRule}
 use Rattle.catalog.specs.Placing.{HasUnits}
-use Rattle.catalog.specs.Rules.{first_unknown}
+use Rattle.catalog.specs.Rules.{AreOnRegular, first_unknown}
 use Rattle.catalog.proofs.StoreLaws.{broken_at, catalog_is, invariant_is}
 use Rattle.catalog.proofs.catalog.Catalog.from_store.Goals as goal
 
@@ -18,4 +18,5 @@ pub returns-clause-catalog : goal.returns-clause-catalog
 returns-clause-catalog c =
     catalog_is c.args.content.now c.args.status.now.entries _ c.in-Ok.ensures.records (rw c.in_default.is at c.fault.ensures.rules)
     (subst (λ (es : List Entry). first_unknown c.in-Ok.parts es ≡ None) c.entries-entries.ensures.entries (rw c.in_default.is at c.fault.ensures.infos))
+    (subst (λ (es : List Entry). AreOnRegular es c.in-Ok.parts) c.entries-entries.ensures.entries (rw c.in_default.is at c.fault.ensures.regular))
     (subst (λ (es : List Entry). HasUnits c.args.shape es c.in-Ok.parts c.in_ok-units.units.items) c.entries-entries.ensures.entries c.in_ok-units.ensures.units)

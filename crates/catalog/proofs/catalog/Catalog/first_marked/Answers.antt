@@ -1,0 +1,8 @@
+use Rattle.std.proofs.Common.{◌≡◌, subst}
+use Rattle.staleness_directory.specs.Marks.{marks_from}
+use Rattle.catalog.specs.MarkedExtents.{first_marked}
+use Rattle.catalog.specs.Tables.{Catalogued}
+use Rattle.catalog.proofs.catalog.Catalog.first_marked.Goals as goal
+
+pub returns : goal.returns
+returns c = subst (λ (x : Catalogued). c.first_marked.result ≡ first_marked x.tables c.args.disk (marks_from x.tables.stale c.args.first)) c.self.view_is c.first_marked.ensures

@@ -1,0 +1,6 @@
+use Rattle.std.proofs.Common.{◌≡◌, ◌++◌, map, take}
+use Rattle.catalog.specs.Disks.{record_of}
+use Rattle.catalog.proofs.plans.added.put_disks.Given as goal
+
+abbrev pub invariant-loop-number : goal.invariant-loop-number
+invariant-loop-number l = l.put ≡ l.fn.put ++ map record_of (take l.number-index l.added)

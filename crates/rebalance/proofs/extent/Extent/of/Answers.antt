@@ -1,5 +1,0 @@
-use Rattle.catalog.proofs.PlacingLaws.{units_some}
-use Rattle.rebalance.proofs.extent.Extent.of.Goals as goal
-
-pub returns-clause-long : goal.returns-clause-long
-returns-clause-long c = units_some _ _ c.units_of.result c.units_of.ensures

@@ -1,7 +1,0 @@
-use Rattle.std.proofs.Common.{◌≡◌}
-use Rattle.asm_placement.specs.TableDisks.{has_leaving}
-use Rattle.rebalance.proofs.TableSets.{leaving_from}
-use Rattle.rebalance.proofs.tables.has_leaving.Given as goal
-
-abbrev pub invariant-loop-d : goal.invariant-loop-d
-invariant-loop-d l = leaving_from l.disks l.set l.d ≡ has_leaving l.disks l.set
