@@ -1,0 +1,23 @@
+use Rattle.std.proofs.Common.{◌∙◌, sym, arith}
+use Rattle.std.proofs.lemmas.Result.{IfOk-weaker}
+use Rattle.disk_images.proofs.Settling.{read_short, read_shut, read_open}
+use Rattle.disk_images.proofs.looking.read_header.Goals as goal
+
+pub returns-then-size-lt-LEAST_SIZE-clause-header : goal.returns-then-size-lt-LEAST_SIZE-clause-header
+returns-then-size-lt-LEAST_SIZE-clause-header g c = read_short c.args.slot c.args.size (g.met.B.Bay.sound c.args.bay.now) c.requires.attached (omega arith)
+
+pub returns-in-Ok-true-clause-header : goal.returns-in-Ok-true-clause-header
+returns-in-Ok-true-clause-header g c =
+    IfOk-weaker c.read_body.result _ _
+    (λ header read. read_open c.args.slot c.args.size (g.met.B.Bay.sound c.args.bay.now) c.requires.attached _ (omega arith) header
+    (λ image was. sym c.in-Ok-true.field-0-test ∙ (rw c.header_slot.ensures at c.in-Ok-true.ensures.«open») image was) c.is_open.ensures.runs c.read_body.ensures.runs read)
+    c.read_body.ensures.header
+
+pub returns-in-Ok-true-clause-allowed : goal.returns-in-Ok-true-clause-allowed
+returns-in-Ok-true-clause-allowed g c =
+    IfOk-weaker c.read_body.result _ _ (λ header all h is. record { header = all h is; long = omega arith }) c.read_body.ensures.allowed
+
+pub returns-in-Ok-false-clause-header : goal.returns-in-Ok-false-clause-header
+returns-in-Ok-false-clause-header g c =
+    read_shut c.args.slot c.args.size (g.met.B.Bay.sound c.args.bay.now) c.requires.attached (g.B.Bay.state c.is_open.new.bay) (omega arith)
+    (λ image was. sym c.in-Ok-false.field-0-test ∙ (rw c.header_slot.ensures at c.in-Ok-false.ensures.«open») image was) c.is_open.ensures.runs
