@@ -1,0 +1,27 @@
+use Rattle.std.proofs.Common.{◌∙◌, List, length, ap, subst, arith}
+use Rattle.bay.proofs.Calls.{on_more}
+use Rattle.asm_placement.specs.Among.{IsAmong}
+use Rattle.status_register.specs.Answers.{IsSurveyed}
+use Rattle.status_register.specs.declared.member.Member.{Member}
+use Rattle.group_mount.proofs.Choices.{members_attached, members_in, fewer_members}
+use Rattle.group_mount.proofs.choosing.judge.Goals as goal
+
+pub read-answer-requires-clause-slots : goal.read-answer-requires-clause-slots
+read-answer-requires-clause-slots g c = λ m among.
+    members_attached c.args.id c.args.headed.now (g.B.Bay.state c.args.bay.now) c.requires.attached m (subst (λ (l : List Member). IsAmong l m) (c.deref.ensures.value ∙ c.in_ok-members.ensures) among)
+
+pub read-answer-requires-clause-few : goal.read-answer-requires-clause-few
+read-answer-requires-clause-few g c = omega (arith, c.requires.few, ap length c.deref.ensures.value, ap length c.in_ok-members.ensures, fewer_members c.args.id c.args.headed.now)
+
+pub returns-clause-calls : goal.returns-clause-calls
+returns-clause-calls g c = omega (arith, c.read-answer.ensures.calls, ap length c.deref.ensures.value, ap length c.in_ok-members.ensures)
+
+pub returns-clause-judged : goal.returns-clause-judged
+returns-clause-judged g c = (
+  c.read-answer.result,
+  subst (λ (l : List Member). IsSurveyed c.args.id l c.read-answer.result (g.B.Bay.state c.args.bay.now) (g.B.Bay.state c.read-answer.new.bay)) (c.deref.ensures.value ∙ c.in_ok-members.ensures) c.read-answer.ensures.answer,
+  c.verdict_of.ensures,
+)
+
+pub returns-clause-runs : goal.returns-clause-runs
+returns-clause-runs g c = on_more (λ slot of. members_in c.args.id c.args.headed.now slot (of.0, subst (λ (l : List Member). IsAmong l of.0) (c.deref.ensures.value ∙ c.in_ok-members.ensures) of.1, of.2)) c.read-answer.ensures.runs

@@ -1,0 +1,14 @@
+pub mod Renewing
+pub mod Taking
+pub mod Narrowing
+pub mod Histories
+pub mod Leaving
+pub mod Bringing
+pub mod Mounting
+pub mod Finding
+pub mod Verdicts
+pub mod Founds
+pub mod Syncing
+pub mod Writing
+pub mod Surveying
+pub mod Modes

@@ -1,0 +1,93 @@
+-- The record of a mount that was surveyed, as it is written.
+use Rattle.std.specs.Prelude.{◌≡◌, ℕ, ◌≤◌, false, List, [], ◌∷◌, Some, None, Result, MatchResult}
+use Rattle.bay.specs.Moments.{Ends, LeavesOnly, NowOnly, Runs}
+use Rattle.asm_group.specs.Group.{Group}
+use Rattle.asm_placement.specs.Among.{IsAmong}
+use Rattle.bay.specs.State.{BayState}
+use Rattle.bay.specs.Counts.{Rose}
+use Rattle.asm_formats.specs.Content.{Content}
+use Rattle.asm_formats.specs.Status.{Status, status_spelling}
+use Rattle.status_register.specs.Answers.{Surveyed}
+use Rattle.status_register.specs.Holders.{attached_to, next_turn, numbered}
+use Rattle.status_register.specs.Registered.{Registered, registered}
+use Rattle.status_register.specs.Rows.{HaveBody, PutsRow}
+use Rattle.status_register.specs.Slots.{status_gate}
+use Rattle.status_register.specs.Surveys.{AreRead, missing}
+use Rattle.status_register.specs.Tallies.{IsSlotOf}
+use Rattle.status_register.specs.declared.member.Member.{Member}
+use Rattle.status_register.specs.Keeping.{Keeps}
+use Rattle.asm_images.specs.Kept.{IsHeld}
+use Rattle.group_mount.specs.Mounting.{Allows, AllTaken, HasRecorded, IsMount, MayMount, IsRead, IsSource, MeansOne, Mount, kept_of}
+use Rattle.group_mount.specs.declared.writing.RenewError.{RenewError}
+use Rattle.group_mount.specs.declared.writing.Renewed.{Renewed}
+use Rattle.group_mount.specs.declared.writing.RenewError.TheVariants.{NoMajority, Dead}
+
+-- what a mount does that has surveyed this, with the record that is written anew and the content that is taken
+abbrev pub mount_of : Surveyed → Status → Content → Mount
+mount_of survey next content = record {
+  id = survey.id;
+  members = survey.members;
+  seen = survey.read;
+  read = survey.value;
+  next = numbered (registered survey) next;
+  content = content;
+}
+
+-- so it is of a mount by this survey and record, whichever content is taken
+abbrev pub EachMount : Surveyed → Status → (Mount → Type 0) → Type 0
+EachMount survey next P = (content : Content) → P (mount_of survey next content)
+
+-- the calls are those of a mount, whichever copy the content was read on
+abbrev pub RunsAsMount : Mount → BayState → BayState → Type 0
+RunsAsMount mount s t = (source : Member) → Runs (IsSlotOf mount.members) (MayMount mount source) s t
+
+-- the record is complete in the end
+abbrev pub HasRenewed : Mount → BayState → BayState → Type 0
+HasRenewed mount s t = Ends (HasRecorded mount) s t
+
+-- the register of the record anew
+abbrev pub renewed_register : Surveyed → Status → Registered
+renewed_register survey next = record (registered survey) { value = numbered (registered survey) next; turn = 1; is_fresh = false }
+
+-- the calls put the record on the attached disks of its sets
+abbrev pub RunsAsRecord : Registered → Status → BayState → BayState → Type 0
+RunsAsRecord register next s t =
+    let ms = attached_to register.members next in
+    Runs (IsSlotOf ms) (PutsRow (status_gate register.id) ms (status_spelling (numbered register next))) s t
+
+-- so few members took the claim, or a member's slot failed while the record was written
+abbrev pub RenewCause : Surveyed → Status → RenewError → BayState → BayState → Type 0
+RenewCause survey next (NoMajority seen need) s t =
+    (took : List Member) × AreRead (λ slot. Rose (s.faults slot) (t.faults slot)) survey.members took × (missing took (Some survey.value) ≡ Some (seen, need))
+RenewCause survey next (Dead slot) s t = IsSlotOf survey.members slot × Rose (s.faults slot) (t.faults slot)
+
+-- Some of the attached disks of the record's sets took it, a majority of each, and the register holds it; or a slot of one of them failed.
+abbrev pub WritesAnew : Registered → Status → Result Renewed RenewError → BayState → BayState → Type 0
+WritesAnew register next answer s t = MatchResult answer
+    (λ renewed. (took : List Member) × ((m : Member) → IsAmong took m → IsAmong (attached_to register.members next) m)
+    × Ends (HaveBody 6 8 (status_spelling (numbered register next)) took) s t × (missing took (Some (numbered register next)) ≡ None)
+    × (renewed.register ≡ record register { value = numbered register next; turn = next_turn register.turn; is_fresh = false }))
+    (λ error. (slot : ℕ) × (error ≡ Dead slot) × IsSlotOf (attached_to register.members next) slot × Rose (s.faults slot) (t.faults slot))
+
+-- ---- what is kept over it
+
+-- What a mount has read is so on each image that a stop may leave now, and each stands for groups of the list.
+pub record IsReadNow (n : ℕ) (mount : Mount) (source : Member) (groups : List Group) (state : BayState) : Type 0 where
+  pub read : NowOnly state (IsRead n mount)
+  pub source_ : NowOnly state (IsSource mount source)
+  pub allows : NowOnly state (Allows mount.id groups)
+
+-- Each image of each moment stands for groups of the list.
+abbrev pub KeepsGroups : Mount → BayState → BayState → Type 0
+KeepsGroups mount s t = (n : ℕ) (source : Member) (groups : List Group) → IsMount mount → IsReadNow n mount source groups s → LeavesOnly s t (Allows mount.id groups)
+
+-- Where no copy lags behind, in the end the one group is held for which the content stood on each image.
+abbrev pub HoldsOne : Mount → BayState → BayState → Type 0
+HoldsOne mount s t =
+    (n : ℕ) (source : Member) (groups : List Group) (g : Group) → IsMount mount → IsReadNow n mount source groups s → NowOnly s (AllTaken mount) → IsAmong groups g → NowOnly s (MeansOne n mount g)
+    → NowOnly t (IsHeld n mount.id (g ∷ []) (kept_of mount))
+
+-- The register keeps the history that begins with the record.
+abbrev pub KeepsRegister : Mount → Registered → BayState → BayState → Type 0
+KeepsRegister mount register s t =
+    (n slots : ℕ) (source : Member) (groups : List Group) → IsMount mount → IsReadNow n mount source groups s → n ≤ slots → Keeps slots register (Some mount.next) [] t
