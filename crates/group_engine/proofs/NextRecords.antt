@@ -1,0 +1,105 @@
+-- A record with the same disks may come next.
+use Rattle.std.proofs.Common.{◌≡◌, ℕ, Bool, true, false, cond, List, [], ◌∷◌, map, refl, sym, ap, subst, ◌∙◌, Option, Some, None, ◌==◌}
+use Rattle.std.specs.Prelude.{find}
+use Rattle.std.specs.List.{flat_map, range_with_len}
+use Rattle.std.specs.Option.{option_map}
+use Rattle.std.proofs.lemmas.Option.{same_Some}
+use Rattle.allocator.specs.UnitMaps.{UnitMap, unused}
+use Rattle.asm_formats.specs.Following.{holder_of, disks_of, sets_of, sets}
+use Rattle.asm_formats.specs.Regions.{reserved_units}
+use Rattle.asm_formats.specs.Sets.{elements, most_disks}
+use Rattle.asm_formats.specs.Status.{Entry, Status, entry_of, is_status}
+use Rattle.asm_formats.proofs.Orders.{same_sets_follow}
+use Rattle.asm_group.specs.Shape.{Shape}
+use Rattle.asm_placement.specs.Among.{IsAmong}
+use Rattle.asm_images.specs.RecordLaws.{bare}
+use Rattle.catalog.specs.Placing.{after_chunks, disk_units, entry_units, unused_maps}
+use Rattle.status_register.specs.Holders.{is_of}
+use Rattle.status_register.specs.Registered.{is_birth}
+use Rattle.status_register.specs.declared.member.Member.{Member}
+use Rattle.status_register.proofs.Reaching.{same_sets_reach}
+use Rattle.group_engine.specs.Mounts.{IsWhole, MountedGroup}
+use Rattle.group_engine.specs.NextRecords.{KeepsDisks, SameDisksAreNext}
+
+abbrev Bare : Type 0
+Bare = ℕ × ℕ × ℕ × Bool
+
+bare_entry : (entries : List Entry) (d : ℕ) → option_map bare (entry_of entries d) ≡ find (λ (b : Bare). b.0 == d) (map bare entries)
+unfolding entry_of
+bare_entry [] d = refl
+bare_entry (e ∷ entries) d = go (e.number == d) (bare_entry entries d)
+  where
+    go : (b : Bool) → option_map bare (entry_of entries d) ≡ find (λ (b : Bare). b.0 == d) (map bare entries)
+        → option_map bare (cond b (Some e) (entry_of entries d)) ≡ cond b (Some (bare e)) (find (λ (b : Bare). b.0 == d) (map bare entries))
+    go true same = refl
+    go false same = same
+
+same_entry : (xs ys : List Entry) (d : ℕ) → map bare xs ≡ map bare ys → option_map bare (entry_of xs d) ≡ option_map bare (entry_of ys d)
+same_entry xs ys d e = bare_entry xs d ∙ ap (λ (l : List Bare). find (λ (b : Bare). b.0 == d) l) e ∙ sym (bare_entry ys d)
+
+-- ---- the sets
+
+same_holder : (d : ℕ) (o p : Option Entry) → option_map bare o ≡ option_map bare p → holder_of d o ≡ holder_of d p
+same_holder d None None e = refl
+same_holder d None (Some y) e = absurd cc
+same_holder d (Some x) None e = absurd cc
+same_holder d (Some x) (Some y) e = ap (λ (b : Bare). (d, b.1) ∷ []) (same_Some (bare x) (bare y) e)
+
+same_disks : (xs ys : List Entry) (set : ℕ) → map bare xs ≡ map bare ys → disks_of xs set ≡ disks_of ys set
+unfolding disks_of
+same_disks xs ys set e = λ i. flat_map (λ (d : ℕ). same_holder d (entry_of xs d) (entry_of ys d) (same_entry xs ys d e) i) (elements set)
+
+same_sets : (xs ys : List Entry) (holders next : ℕ) → map bare xs ≡ map bare ys → sets_of xs holders next ≡ sets_of ys holders next
+unfolding sets_of
+same_sets xs ys holders next e = λ i. same_disks xs ys holders e i ∷ (cond (next == 0) [] (same_disks xs ys next e i ∷ []))
+
+-- ---- births and units
+
+same_birth : (o p : Option Entry) → option_map bare o ≡ option_map bare p → option_map (λ (e : Entry). e.birth) o ≡ option_map (λ (e : Entry). e.birth) p
+same_birth None None e = refl
+same_birth None (Some y) e = absurd cc
+same_birth (Some x) None e = absurd cc
+same_birth (Some x) (Some y) e = ap (λ (b : Bare). Some b.1) (same_Some (bare x) (bare y) e)
+
+same_is_of : (xs ys : List Entry) (m : Member) → map bare xs ≡ map bare ys → is_of xs m ≡ is_of ys m
+same_is_of xs ys m e = ap (λ (o : Option ℕ). is_birth o m.birth) (same_birth (entry_of xs m.number) (entry_of ys m.number) (same_entry xs ys m.number e))
+
+same_units : (o p : Option Entry) → option_map bare o ≡ option_map bare p → entry_units o ≡ entry_units p
+same_units None None e = refl
+same_units None (Some y) e = absurd cc
+same_units (Some x) None e = absurd cc
+same_units (Some x) (Some y) e = ap (λ (b : Bare). b.2) (same_Some (bare x) (bare y) e)
+
+units_of : (xs ys : List Entry) (d : ℕ) → map bare xs ≡ map bare ys → disk_units xs d ≡ disk_units ys d
+unfolding entry_of
+units_of xs ys d e = same_units (entry_of xs d) (entry_of ys d) (same_entry xs ys d e)
+
+same_maps : (s : Shape) (xs ys : List Entry) → map bare xs ≡ map bare ys → unused_maps s xs ≡ unused_maps s ys
+same_maps s xs ys e = λ i. map (λ (d : ℕ). unused (reserved_units s) (units_of xs ys d e i)) (range_with_len 0 most_disks)
+
+-- ---- the record
+
+pub same_disks_are_next : SameDisksAreNext
+same_disks_are_next = λ m next whole allowed keeps.
+    let r = m.register.value in
+    let all : sets next ≡ sets r = (λ i. sets_of next.entries (keeps.holders i) (keeps.next_holders i)) ∙ same_sets next.entries r.entries r.holders r.next_holders keeps.entries in
+    record {
+      status = allowed;
+      group = keeps.id;
+      alive = keeps.gone ∙ whole.alive;
+      follows = same_sets_follow r next all;
+      reached = same_sets_reach m.register.members r next all whole.reached;
+      copies = record {
+        each = λ c among named. let is = whole.copies.each c among in record {
+          named = named;
+          member = is.member;
+          attached = is.attached;
+          slot = is.slot;
+          entry = same_is_of next.entries r.entries is.member keeps.entries ∙ is.entry;
+          pages = is.pages;
+          sector = is.sector;
+        };
+        all = λ d named. whole.copies.all d (subst (λ (set : ℕ). IsAmong (elements set) d) keeps.directories named);
+      };
+      units = (m.catalog.units, subst (λ (maps : List UnitMap). after_chunks m.catalog.shape.step maps m.catalog.tables.extents ≡ Some m.catalog.units) (sym (same_maps m.catalog.shape next.entries r.entries keeps.entries)) whole.units);
+    }

@@ -1,0 +1,102 @@
+-- What a commit of a mounted group does.
+use Rattle.std.specs.Prelude.{◌≡◌, ◌⊎◌, ⊤, ℕ, ◌+◌, ◌<◌, ◌^◌, List, [], ◌∷◌, Some, IfErr, OnErr, OnOk, Result}
+use Rattle.bay.specs.Image.{Image}
+use Rattle.bay.specs.State.{BayState}
+use Rattle.bay.specs.Counts.{Rose}
+use Rattle.bay.specs.Moments.{LeavesOnly, NowOnly}
+use Rattle.asm_group.specs.Group.{Group}
+use Rattle.asm_formats.specs.Items.{Key}
+use Rattle.asm_formats.specs.Following.{sets}
+use Rattle.asm_base.specs.Records.{Entry}
+use Rattle.asm_base.specs.declared.refusal.DiskRef.{DiskRef}
+use Rattle.asm_base.specs.declared.refusal.DiskRef.TheVariants as disk
+use Rattle.asm_base.specs.declared.refusal.Refusal.{Refusal}
+use Rattle.asm_base.specs.declared.refusal.Refusal.TheVariants as cause
+use Rattle.asm_placement.specs.Among.{IsAmong}
+use Rattle.asm_images.specs.Kept.{Kept, IsHeld}
+use Rattle.catalog.specs.Changing.{IsAfter}
+use Rattle.catalog.specs.Tables.{Tables}
+use Rattle.change_directory.specs.declared.copy.DirCopy.{DirCopy}
+use Rattle.asm_formats.specs.Status.{Status}
+use Rattle.page_map.specs.Tables.{new_in, room}
+use Rattle.status_register.specs.Holders.{attached_to}
+use Rattle.status_register.specs.Surveys.{AreRead}
+use Rattle.status_register.specs.Writes.{IsLost}
+use Rattle.status_register.specs.declared.member.Member.{Member}
+use Rattle.group_engine.specs.Becoming.{HoldsIn, Leads}
+use Rattle.group_engine.specs.Mounts.{IsMounted, MountedGroup, Mounts, slot_at}
+use Rattle.group_engine.specs.Own.{KeepsGroup}
+use Rattle.group_engine.specs.declared.access.Access.TheVariants as access
+
+-- The image is held for the groups, by the history that was kept or by one that goes on from it, with the same attached disks.
+pub record StandsIn (n id : ℕ) (groups : List Group) (kept : Kept) (image : Image) : Type 0 where
+  pub by : Kept
+  pub slots : by.slots ≡ kept.slots
+  pub is : IsHeld n id groups by image
+
+-- The group that a change leads to: its tables say so, and its bytes stand on the disks as they are.
+pub record LeadsTo (n : ℕ) (m : MountedGroup) (put : List Entry) (gone : List Key) (s : BayState) (g h : Group) (kept : Kept) : Type 0 where
+  pub mounts : Mounts n m s g kept
+  pub tables : Tables
+  pub after : IsAfter m.catalog.tables put gone tables
+  pub leads : Leads m.register.value tables g h
+  pub holds : NowOnly s (HoldsIn m.register.id m.register.value tables h)
+  -- turns don't run out
+  pub turns : m.register.turn + 1 < 2 ^ 64
+
+-- The group is dismounted, by the disk whose image is in the slot.
+pub record IsDismountedBy (old : MountedGroup) (slot : ℕ) (refusal : Refusal) (new : MountedGroup) : Type 0 where
+  pub number : ℕ
+  pub small : number < 64
+  pub found : (k : ℕ) → k < 64 → slot_at old.disks k ≡ Some slot → slot_at old.disks number ≡ Some slot
+  pub refusal_is : refusal ≡ cause.Dismounted (disk.Number number)
+  pub new_is : new ≡ record old { access = access.Dismounted number }
+
+-- ---- causes
+
+-- A record was written, and a disk of a set failed of which too few took it.
+pub record LosesMajority (m : MountedGroup) (next : Status) (slot : ℕ) (s t : BayState) : Type 0 where
+  pub took : List Member
+  pub read : AreRead (λ (k : ℕ). Rose (s.faults k) (t.faults k)) (attached_to m.register.members next) took
+  pub disk : Member
+  pub lost : IsLost (attached_to m.register.members next) took (sets next) disk
+  pub at : slot ≡ disk.slot
+
+-- The disk failed, and with it all directory copies, or a majority of a set of a record.
+pub record IsLostIn (m : MountedGroup) (d : ℕ) (s t : BayState) : Type 0 where
+  pub slot : ℕ
+  pub at : slot_at m.disks d ≡ Some slot
+  pub rose : Rose (s.faults slot) (t.faults slot)
+  pub by : ((c : DirCopy) → IsAmong m.store.copies c → Rose (s.faults c.slot) (t.faults c.slot)) ⊎ ((next : Status) × LosesMajority m next slot s t)
+
+-- the group was dismounted by the disk before the call, or in it
+abbrev pub DismountCause : MountedGroup → MountedGroup → BayState → BayState → DiskRef → Type 0
+DismountCause old new s t (disk.Number d) = (old.access ≡ access.Dismounted d) ⊎ ((new.access ≡ access.Dismounted d) × IsLostIn old d s t)
+DismountCause old new s t (disk.Spelt text) = ⊥
+
+-- When a commit is refused. Want of memory is free.
+abbrev pub CommitCause : MountedGroup → List Entry → MountedGroup → BayState → BayState → Refusal → Type 0
+CommitCause old put new s t (cause.DirectoryFull need free) = (need ≡ new_in old.store.table put) × (free ≡ room old.store.table) × (free < need)
+CommitCause old put new s t (cause.Dismounted by) = DismountCause old new s t by
+CommitCause old put new s t cause.NoMemory = ⊤
+CommitCause old put new s t _ = ⊥
+
+-- When the writing of a status record is refused.
+abbrev pub StatusCause : MountedGroup → MountedGroup → BayState → BayState → Refusal → Type 0
+StatusCause old new s t (cause.Dismounted by) = DismountCause old new s t by
+StatusCause old new s t cause.NoMemory = ⊤
+StatusCause old new s t _ = ⊥
+
+-- ---- what the calls do
+
+-- A commit on a group that takes calls: what it keeps, why it is refused, what each image of each moment is held for, and what is
+-- mounted at the end.
+pub record CommitsChange (old : MountedGroup) (put : List Entry) (gone : List Key) (answer : Result (Unit {0}) Refusal) (new : MountedGroup)
+    (s t : BayState) : Type 0 where
+  pub keeps : KeepsGroup old new s t
+  pub cause : IfErr answer (CommitCause old put new s t)
+  pub moments : (n : ℕ) (g h : Group) (kept : Kept) → LeadsTo n old put gone s g h kept
+      → LeavesOnly s t (StandsIn n old.register.id (g ∷ h ∷ []) kept)
+  pub done : OnOk answer ((n : ℕ) (g h : Group) (kept : Kept) → LeadsTo n old put gone s g h kept
+      → (later : Kept) × (later.slots ≡ kept.slots) × Mounts n new t h later)
+  pub refused : IsMounted new → OnErr answer ((n : ℕ) (g : Group) (kept : Kept) → Mounts n old s g kept → Mounts n new t g kept)

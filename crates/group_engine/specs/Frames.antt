@@ -1,0 +1,24 @@
+-- A mounted group stays mounted over the calls of others.
+use Rattle.std.specs.Prelude.{◌≡◌, ◌⊎◌, ℕ, List}
+use Rattle.bay.specs.Image.{Image}
+use Rattle.asm_group.specs.Group.{Group}
+use Rattle.asm_images.specs.Kept.{Kept, IsHeld}
+use Rattle.status_register.specs.Elsewhere.{IsNoMember}
+use Rattle.group_engine.specs.Mounts.{IsOwn, MountedGroup}
+
+-- the disk in a slot stays
+pub record SameDisk (slot : ℕ) (old new : Image) : Type 0 where
+  pub size : new.size slot ≡ old.size slot
+  pub byte : (k : ℕ) → new.byte slot k ≡ old.byte slot k
+
+-- Each disk stays, or is no member of the id before and after.
+abbrev pub SparesGroup : ℕ → Image → Image → Type 0
+SparesGroup id old new = (slot : ℕ) → SameDisk slot old new ⊎ (IsNoMember id slot old × IsNoMember id slot new)
+
+-- A group is held where the disks of its members stay, whatever happens to any number of others.
+abbrev pub SparedIsHeld : Type 0
+SparedIsHeld = (n id : ℕ) (groups : List Group) (kept : Kept) (old new : Image) → SparesGroup id old new → IsHeld n id groups kept old → IsHeld n id groups kept new
+
+-- the disks that are attached to the group stay
+abbrev pub SparesDisks : MountedGroup → Image → Image → Type 0
+SparesDisks m old new = (slot : ℕ) → IsOwn m slot → SameDisk slot old new

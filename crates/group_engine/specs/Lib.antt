@@ -1,0 +1,13 @@
+pub mod CommitSteps
+pub mod Mounts
+pub mod Own
+pub mod Becoming
+pub mod Dropping
+pub mod Changes
+pub mod Commits
+pub mod Frames
+pub mod Recorded
+pub mod Statuses
+pub mod Making
+pub mod NextRecords
+pub mod Forgetting

@@ -1,0 +1,34 @@
+-- How a mounted group begins, and whether it takes calls.
+use Rattle.std.specs.Prelude.{ℕ, List, Option, Some, None}
+use Rattle.asm_group.specs.Names.{Bytes}
+use Rattle.catalog.specs.Tables.{Catalogued}
+use Rattle.directory_store.specs.Stores.{Stored}
+use Rattle.status_register.specs.Registered.{Registered}
+use Rattle.group_engine.specs.Mounts.{MountedGroup}
+use Rattle.group_engine.specs.declared.access.Access.{Access}
+use Rattle.group_engine.specs.declared.access.Access.TheVariants.{Mounted, Dismounted, Closed}
+use Rattle.group_engine.specs.declared.attached.Attached.{Attached}
+
+-- a group that takes calls, of these parts
+abbrev pub made : Bytes → Catalogued → Stored → Registered → List (Option Attached) → MountedGroup
+made name catalog store register disks = record {
+  name = name;
+  catalog = catalog;
+  store = store;
+  register = register;
+  disks = disks;
+  flight = None;
+  access = Mounted;
+}
+
+-- the disk by which it was dismounted
+abbrev pub dismounted_by : Access → Option ℕ
+dismounted_by Mounted = None
+dismounted_by (Dismounted disk) = Some disk
+dismounted_by Closed = None
+
+-- after a want of memory behind a commit
+abbrev pub closed : Access → Access
+closed Mounted = Closed
+closed (Dismounted disk) = Dismounted disk
+closed Closed = Closed

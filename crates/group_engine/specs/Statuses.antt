@@ -1,0 +1,46 @@
+-- What the writing of a group's status record does.
+use Rattle.std.specs.Prelude.{◌≡◌, ℕ, false, List, [], ◌∷◌, Some, IfErr, IsTrue, OnErr, OnOk, Result}
+use Rattle.bay.specs.State.{BayState}
+use Rattle.bay.specs.Moments.{LeavesOnly}
+use Rattle.allocator.specs.UnitMaps.{UnitMap}
+use Rattle.asm_base.specs.declared.refusal.Refusal.{Refusal}
+use Rattle.asm_formats.specs.Following.{Follows}
+use Rattle.asm_formats.specs.Sets.{elements}
+use Rattle.asm_formats.specs.Status.{Status, is_status}
+use Rattle.asm_placement.specs.Among.{IsAmong}
+use Rattle.change_directory.specs.declared.copy.DirCopy.{DirCopy}
+use Rattle.asm_group.specs.Group.{Group}
+use Rattle.asm_images.specs.Kept.{Kept}
+use Rattle.catalog.specs.Placing.{HasUnits}
+use Rattle.status_register.specs.Reaching.{Reaches}
+use Rattle.group_engine.specs.Commits.{StandsIn, StatusCause}
+use Rattle.group_engine.specs.Mounts.{IsCopyOf, IsMounted, MountedGroup, Mounts}
+use Rattle.group_engine.specs.Own.{KeepsGroup}
+use Rattle.group_engine.specs.Recorded.{MayGet}
+
+-- The record names copies of the store alone, each on its attached disk.
+pub record NamesCopies (m : MountedGroup) (next : Status) : Type 0 where
+  pub each : (c : DirCopy) → IsAmong m.store.copies c → IsAmong (elements next.directories) c.number
+      → IsCopyOf next m.register.members m.catalog.shape c
+  pub all : (d : ℕ) → IsAmong (elements next.directories) d → (c : DirCopy) × IsAmong m.store.copies c × (c.number ≡ d)
+
+-- What a record must have so that a mounted group may get it: it is one of the group, follows the one that holds, is reached by the
+-- attached disks, names copies of the store alone, and its entries have room for all homes.
+pub record IsNextOf (m : MountedGroup) (next : Status) : Type 0 where
+  pub status : IsTrue (is_status next)
+  pub group : next.id ≡ m.register.value.id
+  pub alive : next.gone ≡ false
+  pub follows : Follows m.register.value next
+  pub reached : Reaches m.register.members next
+  pub copies : NamesCopies m next
+  pub units : (us : List UnitMap) × HasUnits m.catalog.shape next.entries m.catalog.tables us
+
+-- The writing of a record on a group that takes calls.
+pub record WritesStatus (old : MountedGroup) (next : Status) (answer : Result (Unit {0}) Refusal) (new : MountedGroup)
+    (s t : BayState) : Type 0 where
+  pub keeps : KeepsGroup old new s t
+  pub cause : IfErr answer (StatusCause old new s t)
+  pub moments : (n : ℕ) (g : Group) (kept : Kept) → MayGet n old next s g kept → LeavesOnly s t (StandsIn n old.register.id (g ∷ []) kept)
+  pub done : OnOk answer ((n : ℕ) (g : Group) (kept : Kept) → MayGet n old next s g kept
+      → (later : Kept) × (later.slots ≡ kept.slots) × Mounts n new t g later)
+  pub refused : IsMounted new → OnErr answer ((n : ℕ) (g : Group) (kept : Kept) → Mounts n old s g kept → Mounts n new t g kept)

@@ -1,0 +1,25 @@
+//! A mounted group: the calls that change its metadata.
+#![tactic(auto)]
+
+mod access;
+mod attached;
+mod byte_laws;
+mod changing;
+mod commit;
+mod commit_laws;
+mod dropping;
+mod flight;
+mod forgetting;
+mod frames;
+mod mounted;
+mod next_laws;
+mod status;
+
+pub use access::Access;
+pub use attached::Attached;
+pub use byte_laws::{mounted_bytes_stand, same_bytes_hold};
+pub use commit_laws::{committed_is_sound, committing_is_sound, committing_is_standing};
+pub use flight::Flight;
+pub use frames::{calls_keep, mounted_elsewhere, ready_elsewhere, spared_is_held};
+pub use mounted::Mounted;
+pub use next_laws::same_disks_are_next;

@@ -1,0 +1,161 @@
+//! A mounted group as one value.
+ghost use Rattle.std.specs.Prelude.{◌≡◌, ◌<◌, ℕ, None, Some, get_or, length};
+ghost use Rattle.std.specs.Option.{option_map};
+ghost use Rattle.group_engine.specs.declared.attached.Attached.{Attached as AttachedDisk};
+ghost use Rattle.group_engine.specs.Making.{closed, dismounted_by, made};
+ghost use Rattle.group_engine.specs.Mounts.{IsWhole, slot_at};
+
+use crate::access::Access;
+use crate::attached::Attached;
+use crate::flight::Flight;
+use asm_base::Name;
+use catalog::Catalog;
+use directory_store::Store;
+use status_register::Register;
+use status_table::PstRecord;
+use std::marker::Model;
+
+/// A mounted group: its tables, the records of its directories on their copies, and its status on its disks. Contracts see it as
+/// one record of these.
+#[derive(Drop)]
+pub struct Mounted {
+    pub(crate) name: Name,
+    pub(crate) catalog: Catalog,
+    pub(crate) store: Store,
+    pub(crate) register: Register,
+    /// The attached disk of number k at place k.
+    pub(crate) disks: [Option<Attached>; 64],
+    pub(crate) flight: Option<Flight>,
+    pub(crate) access: Access,
+}
+
+impl Model for Mounted {
+    ghost use Rattle.std.specs.Prelude.{◌≡◌, length};
+    ghost use Rattle.group_engine.specs.Mounts.{MountedGroup};
+
+    ghost Value = { MountedGroup };
+
+    ghost view = { λ m. record { name = m.name; catalog = m.catalog; store = m.store; register = m.register; disks = m.disks; flight = m.flight; access = m.access } };
+
+    ghost invariant = { λ m. length m.disks ≡ 64 };
+}
+
+impl Mounted {
+    /// A group that takes calls, of its name, its tables, its directories, its status, and of each disk number the attached disk. These
+    /// say the same: the tables are those of the records, and of each attached member there is the slot.
+    pub fn new(
+        name: Name,
+        catalog: Catalog,
+        store: Store,
+        register: Register,
+        disks: [Option<Attached>; 64],
+    ) -> Mounted
+        requires { IsWhole (made name catalog store register disks) }
+        ensures { result ≡ made name catalog store register disks }
+    {
+        Mounted {
+            name,
+            catalog,
+            store,
+            register,
+            disks,
+            flight: None,
+            access: Access::Mounted,
+        }
+    }
+
+    /// The group's name as its headers have it.
+    pub fn name(&self) -> &Name
+        ensures { result.now ≡ self.now.name }
+    {
+        &self.name
+    }
+
+    /// The tables of the group.
+    pub fn catalog(&self) -> &Catalog
+        ensures { result.now ≡ self.now.catalog }
+    {
+        &self.catalog
+    }
+
+    /// The status record that holds.
+    pub fn status(&self) -> &PstRecord
+        ensures { result.now ≡ self.now.register.value }
+    {
+        self.register.value()
+    }
+
+    /// The slot of a disk's image, where it is attached.
+    pub fn slot(&self, disk: u8) -> Option<u32>
+        requires { disk < 64 }
+        ensures { result ≡ slot_at self.now.disks disk }
+    {
+        match self.disks[disk as usize] {
+            Some(attached) => Some(attached.slot),
+            None => None,
+        }
+    }
+
+    /// The size of a disk's image in bytes, where it is attached.
+    pub fn size(&self, disk: u8) -> Option<u64>
+        requires { disk < 64 }
+        ensures { result ≡ option_map (λ (a : AttachedDisk). a.size) (get_or self.now.disks disk None) }
+    {
+        match self.disks[disk as usize] {
+            Some(attached) => Some(attached.size),
+            None => None,
+        }
+    }
+
+    /// The move that is on its way.
+    pub fn in_flight(&self) -> Option<Flight>
+        ensures { result ≡ self.now.flight }
+    {
+        self.flight
+    }
+
+    /// Another move is on its way, or none.
+    pub fn set_flight(&mut self, flight: Option<Flight>)
+        ensures { self.new ≡ record self.old { flight = flight } }
+    {
+        self.flight = flight;
+    }
+
+    /// The disk by which the group is dismounted.
+    pub fn dismounted(&self) -> Option<u8>
+        ensures { result ≡ dismounted_by self.now.access }
+    {
+        match self.access {
+            Access::Mounted => None,
+            Access::Dismounted { disk } => Some(disk),
+            Access::Closed => None,
+        }
+    }
+
+    /// Each later call answers NoMemory, where the group isn't dismounted.
+    pub fn close(&mut self)
+        ensures { self.new ≡ record self.old { access = closed self.old.access } }
+    {
+        match self.access {
+            Access::Mounted => self.access = Access::Closed,
+            Access::Dismounted { .. } => {}
+            Access::Closed => {}
+        }
+    }
+}
+
+/// The number of the disk whose image is in a slot, and 0 where there is none.
+pub(crate) fn disk_in(disks: &[Option<Attached>], slot: u32) -> u8
+    requires { length disks.now ≡ 64 }
+    ensures small { result < 64 }
+    ensures found { (k : ℕ) → k < 64 → slot_at disks.now k ≡ Some slot → slot_at disks.now result ≡ Some slot }
+{
+    for disk in 0..64u8 {
+        if let Some(attached) = disks[disk as usize] {
+            if attached.slot == slot {
+                return disk;
+            }
+        }
+    }
+    0
+}

@@ -1,0 +1,9 @@
+pub mod Kept
+pub mod Writing
+pub mod Again
+pub mod Settling
+pub mod Reading
+pub mod Walks
+pub mod Rewriting
+pub mod FileSpans
+pub mod SpareWriting
