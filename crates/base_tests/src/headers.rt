@@ -1,20 +1,16 @@
+// Headers of disks in blocks.
+use crate::blocks::has_at;
 use asm_base::{Block, GroupKind, Name};
 use disk_header::{Header, decode, encode, is_header};
 use std::alloc::Global;
 use std::test::*;
 
-fn name(alloc: Global, bytes: &[u8]) -> Result<Name, Fail> {
-    let Ok(Some(name)) = Name::read(alloc, bytes, 30) else {
-        return Err(Fail::from("a name"));
-    };
-    Ok(name)
+fn name(alloc: Global, bytes: &[u8]) -> Option<Name> {
+    Name::read(alloc, bytes, 30).ok().flatten()
 }
 
-/// A header is read as it was written, and its first fields stand at their places.
-#[test]
-fn written_and_read(rt: HostRuntime) -> Result<(), Fail> {
-    let alloc = rt.alloc();
-    let header = Header {
+fn header(alloc: Global) -> Option<Header> {
+    Some(Header {
         group: name(alloc, b"DATA")?,
         id: 0x0102030405060708,
         number: 3,
@@ -27,21 +23,45 @@ fn written_and_read(rt: HostRuntime) -> Result<(), Fail> {
         sector: 512,
         step: 20_000,
         dir_blocks: 1_024,
-    };
+    })
+}
+
+/// The block of the header.
+fn block(alloc: Global) -> Option<Block> {
+    let header = header(alloc)?;
+    if !is_header(&header) {
+        return None;
+    }
     let mut block = Block::zeros();
-    assert!(rt; is_header(&header));
     encode(&header, &mut block);
-    let front: [u8; 10] = [65, 83, 77, 72, 2, 4, 68, 65, 84, 65];
-    assert_eq!(rt; &block.bytes[..10], front.as_slice());
-    let id: [u8; 8] = [1, 2, 3, 4, 5, 6, 7, 8];
-    assert_eq!(rt; &block.bytes[36..44], id.as_slice());
-    let Ok(Some(read)) = decode(alloc, &block) else {
-        return Err(Fail::from("the block is a header"));
-    };
-    assert_eq!(rt; read.group.as_bytes(), b"DATA".as_slice());
-    assert_eq!(rt; read.id, 0x0102030405060708);
-    assert_eq!(rt; read.dir_blocks, 1_024);
+    Some(block)
+}
+
+/// Whether a block is that of a header of this group, and its identity and record blocks.
+fn told(alloc: Global, block: &Block, group: &[u8]) -> Option<Option<(bool, u64, u32)>> {
+    match decode(alloc, block).ok()? {
+        Some(read) => {
+            let is_of = read.group.as_bytes() == group;
+            Some(Some((is_of, read.id, read.dir_blocks)))
+        }
+        None => Some(None),
+    }
+}
+
+/// Whether the first fields stand at their places: the tag, the version, the group's name, and its identity.
+fn has_places(block: &Block) -> bool {
+    has_at(block, 0, &[65, 83, 77, 72, 2, 4, 68, 65, 84, 65])
+        && has_at(block, 36, &[1, 2, 3, 4, 5, 6, 7, 8])
+}
+
+/// A header is read as it was written, and its first fields stand at their places.
+#[test]
+fn written_and_read(rt: HostRuntime) -> Result<(), Fail> {
+    let mut block = block(rt.alloc()).ok_or("a header")?;
+    assert!(rt; has_places(&block));
+    let read = Some((true, 0x0102030405060708, 1_024));
+    assert_eq!(rt; told(rt.alloc(), &block, b"DATA"), Some(read));
     block.bytes[4] = 1;
-    assert!(rt; matches!(decode(alloc, &block), Ok(None)));
+    assert_eq!(rt; told(rt.alloc(), &block, b"DATA"), Some(None));
     Ok(())
 }

@@ -1,39 +1,65 @@
+// Names, paths, lists and records.
+use crate::blocks::{has_at, with_last};
 use asm_base::{
-    Block, DiskRef, ExtentId, Key, Limited, List, Mode, Name, Path, Reader, Records, Refusal,
-    Value, Writer, decode_record, encode_record, no_memory_line, put_text, take_name, take_text,
+    Block, Key, List, Name, Path, Reader, Records, Value, Writer, decode_record, encode_record,
+    put_text, take_name, take_text,
 };
 use std::alloc::Global;
 use std::cmp::Ordering;
 use std::test::*;
 
-fn name(alloc: Global, bytes: &[u8]) -> Result<Name, Fail> {
-    let Ok(Some(name)) = Name::read(alloc, bytes, 80) else {
-        return Err(Fail::from("a part of a path"));
-    };
-    Ok(name)
+/// A part of a path. The inner None where the bytes aren't one.
+fn name(alloc: Global, bytes: &[u8]) -> Option<Option<Name>> {
+    Name::read(alloc, bytes, 80).ok()
 }
 
-fn is_no_part(alloc: Global, bytes: &[u8]) -> bool {
-    matches!(Name::read(alloc, bytes, 80), Ok(None))
+/// Whether a part of a path, if the bytes are one, may be the name of a group, a disk or a template.
+fn may_be_name(alloc: Global, bytes: &[u8]) -> Option<Option<bool>> {
+    match name(alloc, bytes)? {
+        Some(name) => Some(Some(name.is_name())),
+        None => Some(None),
+    }
+}
+
+const NAMES: [(&[u8], Option<bool>); 3] = [
+    (b"Data_1", Some(true)),
+    (b"u.256.1", Some(false)),
+    (b".", None),
+];
+
+#[test]
+fn names(rt: HostRuntime) {
+    for (bytes, wanted) in NAMES {
+        assert_eq!(rt; may_be_name(rt.alloc(), bytes), Some(wanted));
+    }
+}
+
+/// How Data_1 stands to a name, and whether it is the same, without regard to case.
+fn order(alloc: Global, other: &[u8]) -> Option<(Ordering, bool)> {
+    let data = name(alloc, b"Data_1")??;
+    let other = name(alloc, other)??;
+    Some((data.folded_cmp(&other), data.is_same(&other)))
 }
 
 #[test]
-fn names(rt: HostRuntime) -> Result<(), Fail> {
-    let alloc = rt.alloc();
-    let data = name(alloc, b"Data_1")?;
-    let copy = data.copy().map_err(|_| Fail::from("memory"))?;
-    assert_eq!(rt; copy.as_bytes(), b"Data_1".as_slice());
-    assert!(rt; data.is_name());
-    assert!(rt; data.folded_cmp(&name(alloc, b"DATA_1")?) == Ordering::Equal);
-    assert!(rt; !data.is_same(&name(alloc, b"datb_1")?));
-    assert!(rt; !name(alloc, b"u.256.1")?.is_name());
-    assert!(rt; is_no_part(alloc, b"."));
-    Ok(())
+fn order_of_names(rt: HostRuntime) {
+    assert_eq!(rt; order(rt.alloc(), b"DATA_1"), Some((Ordering::Equal, true)));
+    assert_eq!(rt; order(rt.alloc(), b"datb_1"), Some((Ordering::Less, false)));
+}
+
+/// Whether a copy of a name is spelt as the name is.
+fn is_copied(alloc: Global, bytes: &[u8]) -> Option<bool> {
+    let copy = name(alloc, bytes)??.copy().ok()?;
+    Some(copy.as_bytes() == bytes)
 }
 
 #[test]
-fn fields_of_names(rt: HostRuntime) -> Result<(), Fail> {
-    let alloc = rt.alloc();
+fn copy_of_a_name(rt: HostRuntime) {
+    assert_eq!(rt; is_copied(rt.alloc(), b"Data_1"), Some(true));
+}
+
+/// A block with the fields of a name and of a text.
+fn fields() -> Block {
     let mut block = Block::zeros();
     let mut to = Writer {
         block: &mut block,
@@ -41,188 +67,124 @@ fn fields_of_names(rt: HostRuntime) -> Result<(), Fail> {
     };
     put_text(&mut to, b"fg1", 30);
     put_text(&mut to, b"11.2", 30);
+    block
+}
+
+/// Whether the fields are taken as this name and this text, and how many bytes are taken.
+fn taken(alloc: Global, name: &[u8], text: &[u8]) -> Option<(bool, u32)> {
+    let block = fields();
     let mut from = Reader {
         bytes: &block.bytes,
         at: 0,
     };
-    let Ok(Some(read)) = take_name(alloc, &mut from, 30) else {
-        return Err(Fail::from("a name"));
-    };
-    assert_eq!(rt; read.as_bytes(), b"fg1".as_slice());
-    let Ok(Some(text)) = take_text(alloc, &mut from, 30) else {
-        return Err(Fail::from("a text"));
-    };
-    assert_eq!(rt; text.as_slice(), b"11.2".as_slice());
-    assert_eq!(rt; from.at, 62);
-    Ok(())
+    let is_name = take_name(alloc, &mut from, 30).ok()??.as_bytes() == name;
+    let is_text = take_text(alloc, &mut from, 30).ok()??.as_slice() == text;
+    Some((is_name && is_text, from.at))
 }
 
 #[test]
-fn lists_and_records(rt: HostRuntime) -> Result<(), Fail> {
-    let alloc = rt.alloc();
-    let mut text = List::from_slice(alloc, b"ab").map_err(|_| Fail::from("memory"))?;
-    text.push(99).map_err(|_| Fail::from("memory"))?;
-    let copy = text.copy().map_err(|_| Fail::from("memory"))?;
-    assert_eq!(rt; copy.as_slice(), b"abc".as_slice());
-    let value = Value::from_slice(alloc, copy.as_slice()).map_err(|_| Fail::from("memory"))?;
-    let key = Key {
-        kind: 6,
-        a: 1,
-        b: 0,
-    };
-    let mut records = Records::new(alloc);
-    let copy = value.copy().map_err(|_| Fail::from("memory"))?;
-    records.insert(key, copy).map_err(|_| Fail::from("memory"))?;
-    assert!(rt; records.get(key).is_some());
-    Ok(())
+fn fields_of_names(rt: HostRuntime) {
+    assert_eq!(rt; taken(rt.alloc(), b"fg1", b"11.2"), Some((true, 62)));
 }
 
-/// The places of a record's fields in its block.
+/// The list of two bytes, to which a third is pushed, and then copied.
+fn list(alloc: Global) -> Option<List<u8>> {
+    let mut list = List::from_slice(alloc, b"ab").ok()?;
+    list.push(b'c').ok()?;
+    list.copy().ok()
+}
+
+const NODE: Key = Key {
+    kind: 6,
+    a: 1,
+    b: 0,
+};
+
+fn value(alloc: Global) -> Option<Value> {
+    Value::from_slice(alloc, b"abc").ok()
+}
+
+/// Whether the record of a key is there once a copy of a value is put.
+fn is_put(alloc: Global) -> Option<bool> {
+    let mut records = Records::new(alloc);
+    records.insert(NODE, value(alloc)?.copy().ok()?).ok()?;
+    Some(records.get(NODE).is_some())
+}
+
+fn is_list(alloc: Global, bytes: &[u8]) -> Option<bool> {
+    Some(list(alloc)?.as_slice() == bytes)
+}
+
+#[test]
+fn lists_and_records(rt: HostRuntime) {
+    assert_eq!(rt; is_list(rt.alloc(), b"abc"), Some(true));
+    assert_eq!(rt; is_put(rt.alloc()), Some(true));
+}
+
+/// The block of a record, written over other bytes.
+fn record(alloc: Global) -> Option<Block> {
+    let mut block = Block { bytes: [9; 4096] };
+    encode_record(&NODE, &value(alloc)?, &mut block);
+    Some(block)
+}
+
+/// Whether the block is that of the record of a key and these bytes. The inner None where it is no record's.
+fn is_of(alloc: Global, block: &Block, bytes: &[u8]) -> Option<Option<bool>> {
+    match decode_record(alloc, block).ok()? {
+        Some((key, value)) => Some(Some(key == NODE && value.as_bytes() == bytes)),
+        None => Some(None),
+    }
+}
+
+fn has_places(block: &Block) -> bool {
+    has_at(
+        block,
+        0,
+        &[65, 83, 77, 82, 0, 6, 0, 0, 0, 1, 0, 0, 0, 0, 0, 3],
+    ) && has_at(block, 32, b"abc")
+}
+
+/// The places of a record's fields in its block, which is read again.
 #[test]
 fn record_block(rt: HostRuntime) -> Result<(), Fail> {
-    let alloc = rt.alloc();
-    let mut block = Block { bytes: [9; 4096] };
-    let value = Value::from_slice(alloc, b"abc").map_err(|_| Fail::from("memory"))?;
-    encode_record(
-        &Key {
-            kind: 6,
-            a: 1,
-            b: 0,
-        },
-        &value,
-        &mut block,
-    );
-    let front: [u8; 16] = [65, 83, 77, 82, 0, 6, 0, 0, 0, 1, 0, 0, 0, 0, 0, 3];
-    assert_eq!(rt; &block.bytes[..16], front.as_slice());
-    assert_eq!(rt; &block.bytes[32..35], b"abc".as_slice());
-    let Ok(Some((key, value))) = decode_record(alloc, &block) else {
-        return Err(Fail::from("a record"));
-    };
-    assert_eq!(rt; key.kind, 6);
-    assert_eq!(rt; value.as_bytes(), b"abc".as_slice());
-    block.bytes[4095] = 1;
-    assert!(rt; matches!(decode_record(alloc, &block), Ok(None)));
-    Ok(())
-}
-
-fn line(alloc: Global, refusal: &Refusal) -> Result<Vec<u8>, Fail> {
-    refusal
-        .line(alloc, b"DATA_0000")
-        .map_err(|_| Fail::from("memory"))
-}
-
-/// The lines of a cause without arguments, and of one with a number, a name and a path.
-#[test]
-fn short_refusal_lines(rt: HostRuntime) -> Result<(), Fail> {
-    let alloc = rt.alloc();
-    let exists = line(alloc, &Refusal::GroupExists)?;
-    assert_eq!(rt; exists.as_slice(), b"error 3 GroupExists".as_slice());
-    let syntax = line(alloc, &Refusal::Syntax { at: 24 })?;
-    assert_eq!(rt; syntax.as_slice(), b"error 1 Syntax 24".as_slice());
-    let fault = Refusal::WriteFault {
-        disk: DiskRef::Number(0),
-    };
-    let fault = line(alloc, &fault)?;
+    let block = record(rt.alloc()).ok_or("memory")?;
+    assert!(rt; has_places(&block));
+    assert_eq!(rt; is_of(rt.alloc(), &block, b"abc"), Some(Some(true)));
     assert_eq!(rt;
-        fault.as_slice(),
-        b"error 31 WriteFault DATA_0000".as_slice()
-    );
-    let path = List::from_slice(alloc, b"./none").map_err(|_| Fail::from("memory"))?;
-    let host = line(alloc, &Refusal::HostFault { path })?;
-    assert_eq!(rt; host.as_slice(), b"error 37 HostFault ./none".as_slice());
-    assert_eq!(rt; no_memory_line(), b"error 39 NoMemory".as_slice());
-    Ok(())
-}
-
-/// The lines of causes with two numbers, and of one with a disk and a number.
-#[test]
-fn long_refusal_lines(rt: HostRuntime) -> Result<(), Fail> {
-    let alloc = rt.alloc();
-    let majority = line(alloc, &Refusal::NoMajority { seen: 0, need: 1 })?;
-    assert_eq!(rt; majority.as_slice(), b"error 9 NoMajority 0 1".as_slice());
-    let extent = ExtentId {
-        file: 256,
-        index: 16,
-    };
-    let space = line(alloc, &Refusal::NoSpace { extent })?;
-    assert_eq!(rt; space.as_slice(), b"error 25 NoSpace 256 16".as_slice());
-    let spelt = List::from_slice(alloc, b"DATA_0003").map_err(|_| Fail::from("memory"))?;
-    let small = Refusal::TooSmall {
-        disk: DiskRef::Spelt(spelt),
-        need: 65,
-    };
-    let small = line(alloc, &small)?;
-    assert_eq!(rt;
-        small.as_slice(),
-        b"error 8 TooSmall DATA_0003 65".as_slice()
+        is_of(rt.alloc(), &with_last(&block, 1), b"abc"),
+        Some(None)
     );
     Ok(())
 }
 
-/// The lines of causes with a text and a number, or with two texts.
-#[test]
-fn mixed_refusal_lines(rt: HostRuntime) -> Result<(), Fail> {
-    let alloc = rt.alloc();
-    let path = List::from_slice(alloc, b"d0").map_err(|_| Fail::from("memory"))?;
-    let damaged = line(alloc, &Refusal::Damaged { path, block: 1033 })?;
-    assert_eq!(rt; damaged.as_slice(), b"error 13 Damaged d0 1033".as_slice());
-    let state = Refusal::DiskState {
-        disk: DiskRef::Number(1),
-        mode: Mode::Online,
+/// How many parts a path has, and whether its group is DATA and the last part this. The inner None where the bytes aren't a path.
+fn parts(alloc: Global, bytes: &[u8], last: &[u8]) -> Option<Option<(usize, bool)>> {
+    let Some(path) = Path::read(alloc, bytes).ok()? else {
+        return Some(None);
     };
-    let state = line(alloc, &state)?;
-    assert_eq!(rt;
-        state.as_slice(),
-        b"error 34 DiskState DATA_0000 Online".as_slice()
-    );
-    let many = Refusal::TooMany {
-        kind: Limited::Groups,
-        limit: 8,
+    let path = path.copy().ok()?;
+    let is_group = path.group.as_bytes() == b"DATA".as_slice();
+    let is_last = match path.parts.as_slice().last() {
+        Some(part) => part.as_bytes() == last,
+        None => last.is_empty(),
     };
-    let many = line(alloc, &many)?;
-    assert_eq!(rt; many.as_slice(), b"error 36 TooMany groups 8".as_slice());
-    Ok(())
+    Some(Some((path.parts.len(), is_group && is_last)))
 }
 
-fn path(alloc: Global, bytes: &[u8]) -> Result<Path, Fail> {
-    let Ok(Some(path)) = Path::read(alloc, bytes) else {
-        return Err(Fail::from("a path of a group"));
-    };
-    Ok(path)
-}
+const PATHS: [(&[u8], &[u8], Option<(usize, bool)>); 8] = [
+    (b"+DATA/db/DATAFILE/u.256.1", b"u.256.1", Some((3, true))),
+    (b"+DATA", b"", Some((0, true))),
+    (b"DATA/a", b"a", None),
+    (b"+", b"", None),
+    (b"+1/a", b"a", None),
+    (b"+DATA/", b"", None),
+    (b"+DATA/a//b", b"b", None),
+    (b"+DATA/a/.", b".", None),
+];
 
 #[test]
-fn paths(rt: HostRuntime) -> Result<(), Fail> {
-    let alloc = rt.alloc();
-    let file = path(alloc, b"+DATA/db/DATAFILE/u.256.1")?;
-    let file = file.copy().map_err(|_| Fail::from("memory"))?;
-    assert_eq!(rt; file.group.as_bytes(), b"DATA".as_slice());
-    assert_eq!(rt; file.parts.len(), 3);
-    let [_, _, name] = file.parts.as_slice() else {
-        return Err(Fail::from("three parts"));
-    };
-    assert_eq!(rt; name.as_bytes(), b"u.256.1".as_slice());
-    assert_eq!(rt; path(alloc, b"+DATA")?.parts.len(), 0);
-    Ok(())
-}
-
-fn is_no_path(alloc: Global, bytes: &[u8]) -> bool {
-    matches!(Path::read(alloc, bytes), Ok(None))
-}
-
-#[test]
-fn no_paths(rt: HostRuntime) -> Result<(), Fail> {
-    let alloc = rt.alloc();
-    let texts: [&[u8]; 6] = [
-        b"DATA/a",
-        b"+",
-        b"+1/a",
-        b"+DATA/",
-        b"+DATA/a//b",
-        b"+DATA/a/.",
-    ];
-    for text in texts {
-        assert!(rt; is_no_path(alloc, text));
+fn paths(rt: HostRuntime) {
+    for (bytes, last, wanted) in PATHS {
+        assert_eq!(rt; parts(rt.alloc(), bytes, last), Some(wanted));
     }
-    Ok(())
 }

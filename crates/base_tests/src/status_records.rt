@@ -1,3 +1,5 @@
+// Status records and claims in blocks, and what changes of a record.
+use crate::blocks::{has_at, with_last};
 use asm_base::{Block, DiskSet, Mode};
 use status_table::{
     Claim, PstEntry, PstRecord, decode, decode_claim, encode, encode_claim, is_status,
@@ -38,55 +40,81 @@ fn one_disk() -> PstRecord {
     }
 }
 
+/// The block of a record of the format, written over other bytes.
+fn block_of(status: &PstRecord) -> Option<Block> {
+    if !is_status(status) {
+        return None;
+    }
+    let mut block = Block { bytes: [9; 4096] };
+    encode(status, &mut block);
+    Some(block)
+}
+
+fn block() -> Option<Block> {
+    block_of(&one_disk())
+}
+
+/// Whether the tag, the version and the id, the count, the first entry's birth, and zeros behind it stand at their places.
+fn has_places(block: &Block) -> bool {
+    has_at(block, 0, &[65, 83, 77, 80, 0, 2, 0, 0, 0, 0, 0, 0, 0, 7])
+        // Behind tag and version there are four numbers, a flag and three sets.
+        && has_at(block, 63, &[1])
+        && has_at(block, 73, &[1])
+        && has_at(block, 104, &[0])
+}
+
+/// How many disks a record in a block has, the majority of its holders, and that of its next holders.
+fn majorities(block: &Block) -> Option<(u8, u8, u8)> {
+    let read = decode(block)?;
+    Some((read.count, majority(&read), next_majority(&read)))
+}
+
 /// The places of the fields in a block of version 2.
 #[test]
 fn bytes_of_a_record(rt: HostRuntime) -> Result<(), Fail> {
-    let mut block = Block { bytes: [9; 4096] };
-    let status = one_disk();
-    assert!(rt; is_status(&status));
-    encode(&status, &mut block);
-    let front: [u8; 14] = [65, 83, 77, 80, 0, 2, 0, 0, 0, 0, 0, 0, 0, 7];
-    assert_eq!(rt; &block.bytes[..14], front.as_slice());
-    // tag and version, four numbers and a flag, three sets: then the count and the first entry
-    assert_eq!(rt; block.bytes[63], 1);
-    assert_eq!(rt; block.bytes[73], 1);
-    assert_eq!(rt; block.bytes[104], 0);
-    let read = decode(&block).ok_or("the block is a record")?;
-    assert_eq!(rt; read.count, 1);
-    assert_eq!(rt; majority(&read), 1);
-    block.bytes[4095] = 1;
-    assert!(rt; decode(&block).is_none());
+    let block = block().ok_or("a record")?;
+    assert!(rt; has_places(&block));
+    assert_eq!(rt; majorities(&block), Some((1, 1, 0)));
+    assert_eq!(rt; majorities(&with_last(&block, 1)), None);
     Ok(())
+}
+
+/// A block without the set of next holders, as version 1 has it, with a version.
+fn without_next(block: &Block, version: u8) -> Block {
+    let mut bytes = [0; 4096];
+    bytes[..47].copy_from_slice(&block.bytes[..47]);
+    bytes[47..4088].copy_from_slice(&block.bytes[55..]);
+    bytes[5] = version;
+    Block { bytes }
 }
 
 /// A record of version 1, without next holders, is read too.
 #[test]
 fn version_1(rt: HostRuntime) -> Result<(), Fail> {
-    let mut block = Block { bytes: [0; 4096] };
-    let status = one_disk();
-    assert!(rt; is_status(&status));
-    encode(&status, &mut block);
-    let mut old = Block { bytes: [0; 4096] };
-    old.bytes[..47].copy_from_slice(&block.bytes[..47]);
-    old.bytes[47..4088].copy_from_slice(&block.bytes[55..]);
-    assert!(rt; decode(&old).is_none());
-    old.bytes[5] = 1;
-    let read = decode(&old).ok_or("the block is a record of version 1")?;
-    assert_eq!(rt; next_majority(&read), 0);
+    let block = block().ok_or("a record")?;
+    assert_eq!(rt; majorities(&without_next(&block, 2)), None);
+    assert_eq!(rt; majorities(&without_next(&block, 1)), Some((1, 1, 0)));
     Ok(())
 }
 
-#[test]
-fn bytes_of_a_claim(rt: HostRuntime) -> Result<(), Fail> {
+fn claim_block() -> Block {
     let mut block = Block { bytes: [9; 4096] };
     encode_claim(&Claim { id: 7, epoch: 2 }, &mut block);
-    let front: [u8; 21] = [
-        65, 83, 77, 67, 0, 0, 0, 0, 0, 0, 0, 7, 0, 0, 0, 0, 0, 0, 0, 2, 0,
-    ];
-    assert_eq!(rt; &block.bytes[..21], front.as_slice());
-    let read = decode_claim(&block).ok_or("the block is a claim")?;
-    assert_eq!(rt; read.epoch, 2);
-    Ok(())
+    block
+}
+
+fn epoch_of(block: &Block) -> Option<u64> {
+    Some(decode_claim(block)?.epoch)
+}
+
+/// The tag, the id, the epoch, and zeros.
+const CLAIM: &[u8] = b"ASMC\0\0\0\0\0\0\0\x07\0\0\0\0\0\0\0\x02\0";
+
+#[test]
+fn bytes_of_a_claim(rt: HostRuntime) {
+    let block = claim_block();
+    assert!(rt; has_at(&block, 0, CLAIM));
+    assert_eq!(rt; epoch_of(&block), Some(2));
 }
 
 /// The record with a disk more, in the least free failure group.

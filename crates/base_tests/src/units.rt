@@ -1,26 +1,43 @@
+// The units of a disk that are taken and free.
 use allocator::Units;
+use std::alloc::Global;
 use std::test::*;
+
+fn units(alloc: Global, reserved: u32, all: u8) -> Option<Units> {
+    Units::new(alloc, reserved, all as u32).ok()
+}
+
+/// Where runs of 1, 191 and 192 units would begin on a new disk of 191 user units.
+fn lowest(alloc: Global) -> Option<[Option<u32>; 3]> {
+    let units = units(alloc, 9, 200)?;
+    Some([units.lowest(1), units.lowest(191), units.lowest(192)])
+}
 
 #[test]
 fn a_new_disk_has_room(rt: HostRuntime) {
-    let units = Units::new(rt.alloc(), 9, 200).expect(&rt, "memory");
-    assert_eq!(rt; units.lowest(1), Some(9));
-    assert_eq!(rt; units.lowest(191), Some(9));
-    assert_eq!(rt; units.lowest(192), None);
+    assert_eq!(rt; lowest(rt.alloc()), Some([Some(9), Some(9), None]));
+}
+
+/// Where runs of 1 and 16 units are taken, and how many units are used then.
+fn taken(alloc: Global) -> Option<([Option<u32>; 2], u32)> {
+    let mut units = units(alloc, 9, 200)?;
+    let taken = [units.take(1), units.take(16)];
+    Some((taken, units.used()))
 }
 
 #[test]
 fn runs_are_taken_in_order(rt: HostRuntime) {
-    let mut units = Units::new(rt.alloc(), 9, 200).expect(&rt, "memory");
-    assert_eq!(rt; units.take(1), Some(9));
-    assert_eq!(rt; units.take(16), Some(10));
-    assert_eq!(rt; units.used(), 17);
+    assert_eq!(rt; taken(rt.alloc()), Some(([Some(9), Some(10)], 17)));
+}
+
+/// Where two units are taken, and the lowest unit of a copy from before.
+fn copied(alloc: Global) -> Option<[Option<u32>; 2]> {
+    let mut units = units(alloc, 3, 5)?;
+    let copy = units.copy().ok()?;
+    Some([units.take(2), copy.lowest(1)])
 }
 
 #[test]
 fn a_copy_is_its_own(rt: HostRuntime) {
-    let mut units = Units::new(rt.alloc(), 3, 5).expect(&rt, "memory");
-    let copy = units.copy().expect(&rt, "memory");
-    assert_eq!(rt; units.take(2), Some(3));
-    assert_eq!(rt; copy.lowest(1), Some(3));
+    assert_eq!(rt; copied(rt.alloc()), Some([Some(3), Some(3)]));
 }

@@ -12,6 +12,3 @@ pub use change::{PageError, apply};
 pub use laws::shown_is_content;
 pub use loaded::{LoadedError, from_pages};
 pub use table::PageMap;
-
-#[cfg(test)]
-mod tests;

@@ -1,7 +1,9 @@
-//! Tests of the store of a group's directories over disks in memory: commits that are stopped, and what a load takes and
-//! refuses.
+//! Tests of the store of a group's directories over disks in memory: what a commit writes, commits that are stopped, and what
+//! a load takes and refuses; and of the map of its pages.
 #![tactic(auto)]
 
+#[cfg(test)]
+mod commits;
 #[cfg(test)]
 mod copies;
 #[cfg(test)]
@@ -12,6 +14,8 @@ mod counting;
 mod loads;
 #[cfg(test)]
 mod many;
+#[cfg(test)]
+mod page_maps;
 #[cfg(test)]
 mod stale;
 #[cfg(test)]

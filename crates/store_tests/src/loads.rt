@@ -1,27 +1,35 @@
 // What a load of several copies takes, and what it refuses.
-use crate::trials::{REBALANCE, load_both, load_turned};
+use crate::trials::{Order, REBALANCE, load, two_disks};
 use bay::Bay;
 use bay_mem::MemBay;
 use directory_store::{LoadError, Store};
 use std::alloc::Global;
-use std::test::Fail;
+use std::test::*;
 
-// Two disks of zeros.
-fn two_disks(alloc: Global) -> Result<MemBay, Fail> {
-    let size = Some(1_105_920);
-    MemBay::new(alloc, &[size, size]).map_err(|_| Fail::from("memory"))
+/// What stands on two disks of zeros, or happens to them.
+#[derive(Clone, Copy)]
+enum Given {
+    /// The first log slot of a disk's copy is open, with a commit number and an image of page 3: the record of a power.
+    Log(u32, u8, u8),
+    /// A block of a disk is a page with the record of a power.
+    Power(u32, u64, u8),
+    /// The bytes of a block of a disk are sevens.
+    Sevens(u32, u64),
+    /// The call that comes so many calls later fails. The first two calls of a load attach the disks.
+    Fault(u64),
 }
 
-// Writes a block.
-fn put(bay: &mut MemBay, slot: u32, block: u64, bytes: &[u8; 4096]) -> Result<(), Fail> {
-    if bay.attach(slot, "disk").map_err(|_| "attach")? < 1_105_920 || block >= 270 {
-        return Err(Fail::from("a disk"));
+/// The first byte of a gate that is open.
+const GATE: [u8; 1] = [0xa5];
+
+fn put(bay: &mut MemBay, slot: u32, block: u64, bytes: &[u8; 4096]) -> Option<()> {
+    if bay.attach(slot, "disk").ok()? < 1_105_920 || block >= 270 {
+        return None;
     }
-    bay.write(slot, block * 4096, bytes)
-        .map_err(|_| Fail::from("write"))
+    bay.write(slot, block * 4096, bytes).ok()
 }
 
-// The page of the record of the active rebalance, of a power.
+/// The page of the record of the active rebalance, of a power.
 fn power_page(power: u8) -> [u8; 4096] {
     let mut page = [0; 4096];
     page[..4].copy_from_slice(b"ASMR");
@@ -31,7 +39,7 @@ fn power_page(power: u8) -> [u8; 4096] {
     page
 }
 
-// The head of a log slot: a commit number, and page 3.
+/// The head of a log slot: a commit number, and page 3.
 fn log_head(number: u8) -> [u8; 4096] {
     let mut head = [0; 4096];
     head[..4].copy_from_slice(b"ASML");
@@ -41,169 +49,186 @@ fn log_head(number: u8) -> [u8; 4096] {
     head
 }
 
-// Opens the first log slot of a copy, with an image of page 3: the record of a power.
-fn open_log(bay: &mut MemBay, slot: u32, number: u8, power: u8) -> Result<(), Fail> {
+fn gate() -> [u8; 4096] {
     let mut gate = [0; 4096];
-    gate[0] = 0xa5;
+    gate[..1].copy_from_slice(&GATE);
+    gate
+}
+
+fn open_log(bay: &mut MemBay, slot: u32, number: u8, power: u8) -> Option<()> {
     put(bay, slot, 139, &log_head(number))?;
     put(bay, slot, 140, &power_page(power))?;
-    put(bay, slot, 138, &gate)
+    put(bay, slot, 138, &gate())
 }
 
-// Two copies of one number with the same page.
-fn two_copies(alloc: Global) -> Result<MemBay, Fail> {
+fn give(bay: &mut MemBay, given: Given) -> Option<()> {
+    match given {
+        Given::Log(slot, number, power) => open_log(bay, slot, number, power),
+        Given::Power(slot, block, power) => put(bay, slot, block, &power_page(power)),
+        Given::Sevens(slot, block) => put(bay, slot, block, &[7; 4096]),
+        Given::Fault(calls) => bay.fail_at(bay.calls().saturating_add(calls)).ok(),
+    }
+}
+
+/// The disks with all that is given.
+fn disks(alloc: Global, all: &[Given]) -> Option<MemBay> {
     let mut bay = two_disks(alloc)?;
-    open_log(&mut bay, 0, 7, 1)?;
-    open_log(&mut bay, 1, 7, 1)?;
-    Ok(bay)
-}
-
-// Why both copies aren't loaded.
-fn refusal(alloc: Global, bay: &mut MemBay) -> Result<Option<LoadError>, Fail> {
-    Ok(load_both(alloc, bay).ok_or("disks")?.err())
-}
-
-// The power of a store's active rebalance.
-fn power_of(store: &Store) -> Result<u8, Fail> {
-    let value = store.content().get(REBALANCE).ok_or("a record")?;
-    let bytes = value.as_bytes();
-    if bytes.len() < 2 {
-        return Err(Fail::from("two bytes"));
+    for given in all {
+        give(&mut bay, *given)?;
     }
-    Ok(bytes[1])
+    Some(bay)
 }
 
-// The power that both copies are loaded with.
-fn power(alloc: Global, bay: &mut MemBay) -> Result<u8, Fail> {
-    let store = load_both(alloc, bay).ok_or("disks")?.map_err(|_| "load")?;
-    power_of(&store)
+/// The power of a store's active rebalance.
+fn power_of(store: &Store) -> Option<u8> {
+    let value = store.content().get(REBALANCE)?;
+    value.as_bytes().get(1).copied()
 }
 
-// The same, of the copies in the other order.
-fn power_turned(alloc: Global, bay: &mut MemBay) -> Result<u8, Fail> {
-    let store = load_turned(alloc, bay).ok_or("disks")?;
-    power_of(&store.map_err(|_| "load")?)
-}
-
-#[test]
-fn damage_in_one_copy_refuses(rt: HostRuntime) -> Result<(), Fail> {
-    for block in [20, 139, 140] {
-        let mut bay = two_copies(rt.alloc())?;
-        put(&mut bay, 1, block, &[7; 4096])?;
-        assert_eq!(rt;
-            refusal(rt.alloc(), &mut bay)?,
-            Some(LoadError::Damaged { slot: 1, block })
-        );
+/// The power that the copies are loaded with, in an order, or why they aren't.
+fn loaded(alloc: Global, all: &[Given], order: Order) -> Option<Result<u8, LoadError>> {
+    let mut bay = disks(alloc, all)?;
+    match load(alloc, &mut bay, order)? {
+        Ok(store) => Some(Ok(power_of(&store)?)),
+        Err(cause) => Some(Err(cause)),
     }
-    Ok(())
 }
 
-#[test]
-fn first_damaged_copy_in_the_order_given_is_named(rt: HostRuntime) -> Result<(), Fail> {
-    let mut bay = two_copies(rt.alloc())?;
-    put(&mut bay, 0, 140, &[7; 4096])?;
-    put(&mut bay, 1, 20, &[7; 4096])?;
-    assert_eq!(rt;
-        refusal(rt.alloc(), &mut bay)?,
-        Some(LoadError::Damaged {
+/// What the disks are given, the order of their copies, and what is loaded.
+type Row = (&'static [Given], Order, Result<u8, LoadError>);
+
+/// The place of a row that isn't so.
+fn other_row(alloc: Global, rows: &[Row]) -> Option<usize> {
+    for (place, (all, order, wanted)) in rows.iter().enumerate() {
+        if loaded(alloc, all, *order) != Some(*wanted) {
+            return Some(place);
+        }
+    }
+    None
+}
+
+const LOST: Result<u8, LoadError> = Err(LoadError::DirectoriesLost);
+
+/// Two copies of one number with the same page.
+const FIRST: Given = Given::Log(0, 7, 1);
+
+const SECOND: Given = Given::Log(1, 7, 1);
+
+const DAMAGED: [Row; 7] = [
+    (
+        &[FIRST, SECOND, Given::Sevens(1, 20)],
+        Order::Given,
+        Err(LoadError::Damaged { slot: 1, block: 20 }),
+    ),
+    (
+        &[FIRST, SECOND, Given::Sevens(1, 139)],
+        Order::Given,
+        Err(LoadError::Damaged {
+            slot: 1,
+            block: 139,
+        }),
+    ),
+    (
+        &[FIRST, SECOND, Given::Sevens(1, 140)],
+        Order::Given,
+        Err(LoadError::Damaged {
+            slot: 1,
+            block: 140,
+        }),
+    ),
+    // The first damaged copy in the order given is named.
+    (
+        &[FIRST, SECOND, Given::Sevens(0, 140), Given::Sevens(1, 20)],
+        Order::Given,
+        Err(LoadError::Damaged {
             slot: 0,
-            block: 140
-        })
-    );
-    let turned = load_turned(rt.alloc(), &mut bay).ok_or("disks")?;
-    assert_eq!(rt;
-        turned.err(),
-        Some(LoadError::Damaged { slot: 1, block: 20 })
-    );
-    Ok(())
-}
-
-#[test]
-fn home_under_an_image_is_not_asked(rt: HostRuntime) -> Result<(), Fail> {
-    let mut bay = two_copies(rt.alloc())?;
-    put(&mut bay, 1, 13, &[7; 4096])?;
-    assert_eq!(rt; power(rt.alloc(), &mut bay)?, 1);
-    Ok(())
-}
-
-#[test]
-fn later_of_two_pages_with_one_key_is_named(rt: HostRuntime) -> Result<(), Fail> {
-    let mut bay = two_copies(rt.alloc())?;
-    put(&mut bay, 0, 17, &power_page(1))?;
-    assert_eq!(rt;
-        refusal(rt.alloc(), &mut bay)?,
-        Some(LoadError::Damaged { slot: 0, block: 17 })
-    );
-    let mut bay = two_copies(rt.alloc())?;
-    put(&mut bay, 0, 12, &power_page(1))?;
-    assert_eq!(rt;
-        refusal(rt.alloc(), &mut bay)?,
-        Some(LoadError::Damaged {
+            block: 140,
+        }),
+    ),
+    (
+        &[FIRST, SECOND, Given::Sevens(0, 140), Given::Sevens(1, 20)],
+        Order::Turned,
+        Err(LoadError::Damaged { slot: 1, block: 20 }),
+    ),
+    // The later of two pages with one key is named.
+    (
+        &[FIRST, SECOND, Given::Power(0, 17, 1)],
+        Order::Given,
+        Err(LoadError::Damaged { slot: 0, block: 17 }),
+    ),
+    (
+        &[FIRST, SECOND, Given::Power(0, 12, 1)],
+        Order::Given,
+        Err(LoadError::Damaged {
             slot: 0,
-            block: 140
-        })
-    );
-    Ok(())
+            block: 140,
+        }),
+    ),
+];
+
+#[test]
+fn damage_in_one_copy_refuses(rt: HostRuntime) {
+    assert_eq!(rt; other_row(rt.alloc(), &DAMAGED), None);
+}
+
+const TAKEN: [Row; 6] = [
+    // A home under an image isn't asked.
+    (&[FIRST, SECOND, Given::Sevens(1, 13)], Order::Given, Ok(1)),
+    // The greater number is taken.
+    (
+        &[Given::Log(0, 6, 1), Given::Log(1, 7, 2)],
+        Order::Given,
+        Ok(2),
+    ),
+    (
+        &[
+            Given::Log(0, 6, 1),
+            Given::Log(1, 7, 2),
+            Given::Log(0, 7, 3),
+        ],
+        Order::Given,
+        Ok(3),
+    ),
+    // Of equal numbers that of the least disk is taken.
+    (&[FIRST, Given::Log(1, 7, 2)], Order::Given, Ok(1)),
+    (&[FIRST, Given::Log(1, 7, 2)], Order::Turned, Ok(1)),
+    // One copy fails.
+    (&[FIRST, SECOND, Given::Fault(3)], Order::Given, Ok(1)),
+];
+
+#[test]
+fn greatest_number_and_least_disk_are_taken(rt: HostRuntime) {
+    assert_eq!(rt; other_row(rt.alloc(), &TAKEN), None);
+}
+
+const WITHOUT: [Row; 2] = [
+    (&[Given::Power(0, 12, 1)], Order::Given, LOST),
+    (
+        &[FIRST, SECOND, Given::Fault(3), Given::Fault(4)],
+        Order::Given,
+        LOST,
+    ),
+];
+
+#[test]
+fn shut_and_failing_copies_have_no_directories(rt: HostRuntime) {
+    assert_eq!(rt; other_row(rt.alloc(), &WITHOUT), None);
+}
+
+const LAGGING: [Given; 3] = [
+    Given::Log(0, 6, 1),
+    Given::Power(0, 17, 1),
+    Given::Log(1, 7, 2),
+];
+
+/// The power that is loaded, and whether the copies of disks 0 and 1 are the store's.
+fn lagging(alloc: Global) -> Option<(u8, [bool; 2])> {
+    let mut bay = disks(alloc, &LAGGING)?;
+    let store = load(alloc, &mut bay, Order::Given)?.ok()?;
+    Some((power_of(&store)?, [store.has(0), store.has(1)]))
 }
 
 #[test]
-fn greater_number_is_taken(rt: HostRuntime) -> Result<(), Fail> {
-    let mut bay = two_disks(rt.alloc())?;
-    open_log(&mut bay, 0, 6, 1)?;
-    open_log(&mut bay, 1, 7, 2)?;
-    assert_eq!(rt; power(rt.alloc(), &mut bay)?, 2);
-    open_log(&mut bay, 0, 7, 3)?;
-    assert_eq!(rt; power(rt.alloc(), &mut bay)?, 3);
-    Ok(())
-}
-
-#[test]
-fn least_disk_of_equal_numbers_is_taken(rt: HostRuntime) -> Result<(), Fail> {
-    let mut bay = two_disks(rt.alloc())?;
-    open_log(&mut bay, 0, 7, 1)?;
-    open_log(&mut bay, 1, 7, 2)?;
-    assert_eq!(rt; power(rt.alloc(), &mut bay)?, 1);
-    assert_eq!(rt; power_turned(rt.alloc(), &mut bay)?, 1);
-    Ok(())
-}
-
-#[test]
-fn two_pages_with_one_key_in_a_lagging_copy_are_no_damage(rt: HostRuntime) -> Result<(), Fail> {
-    let mut bay = two_disks(rt.alloc())?;
-    open_log(&mut bay, 0, 6, 1)?;
-    put(&mut bay, 0, 17, &power_page(1))?;
-    open_log(&mut bay, 1, 7, 2)?;
-    let store = load_both(rt.alloc(), &mut bay).ok_or("disks")?;
-    let store = store.map_err(|_| "load")?;
-    assert_eq!(rt; power_of(&store)?, 2);
-    assert!(rt; store.has(1) && !store.has(0));
-    Ok(())
-}
-
-#[test]
-fn shut_copies_have_no_directories(rt: HostRuntime) -> Result<(), Fail> {
-    let mut bay = two_disks(rt.alloc())?;
-    put(&mut bay, 0, 12, &power_page(1))?;
-    assert_eq!(rt;
-        refusal(rt.alloc(), &mut bay)?,
-        Some(LoadError::DirectoriesLost)
-    );
-    Ok(())
-}
-
-#[test]
-fn failing_copies_have_no_directories(rt: HostRuntime) -> Result<(), Fail> {
-    let mut bay = two_copies(rt.alloc())?;
-    // Each copy fails at its first call, behind two that attach the disks.
-    let call = bay.calls().saturating_add(3);
-    bay.fail_at(call).map_err(|_| "memory")?;
-    assert_eq!(rt; power(rt.alloc(), &mut bay)?, 1);
-    let call = bay.calls().saturating_add(3);
-    bay.fail_at(call).map_err(|_| "memory")?;
-    bay.fail_at(call.saturating_add(1)).map_err(|_| "memory")?;
-    assert_eq!(rt;
-        refusal(rt.alloc(), &mut bay)?,
-        Some(LoadError::DirectoriesLost)
-    );
-    Ok(())
+fn two_pages_with_one_key_in_a_lagging_copy_are_no_damage(rt: HostRuntime) {
+    assert_eq!(rt; lagging(rt.alloc()), Some((2, [false, true])));
 }

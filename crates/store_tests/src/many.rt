@@ -4,17 +4,14 @@ ghost use Rattle.bay_mem.specs.MemState.{state_of};
 ghost use Rattle.directory_store.specs.Stores.{Keeps};
 
 use crate::stale::{stale_change, stale_key};
-use crate::trials::{FIRST, SECOND, create_on_two, is_there, load_one};
+use crate::trials::{FIRST, SECOND, SIZE, create_on_two, is_there, load_one, two_disks};
 use asm_base::{Records, Value};
 use bay::Bay;
 use bay_mem::MemBay;
 use change_directory::DirCopy;
 use directory_store::Store;
 use std::alloc::Global;
-use std::test::Fail;
-
-/// The bytes of a disk.
-const SIZE: u64 = 1_105_920;
+use std::test::*;
 
 /// How many commits there are.
 const COMMITS: u32 = 200;
@@ -70,60 +67,79 @@ fn have_marks(records: &Records, marks: &Marks) -> bool {
 }
 
 /// Commits a batch on both copies.
-fn commit_batch<B: Bay>(
-    alloc: Global,
-    bay: &mut B,
-    store: &mut Store,
-    batch: Batch,
-) -> Result<(), Fail>
-    requires kept { Keeps store.old (B.state bay.old) }
+fn commit_batch(alloc: Global, bay: &mut MemBay, store: &mut Store, batch: Batch) -> Option<()>
+    requires kept { Keeps store.old (state_of bay.old) }
     requires few { batch.count ≤ 64 }
-    ensures kept { Keeps store.new (B.state bay.new) }
+    ensures kept { Keeps store.new (state_of bay.new) }
 {
-    let change = stale_change(alloc, batch.first, batch.count, batch.mark)?;
+    let Ok(change) = stale_change(alloc, batch.first, batch.count, batch.mark) else {
+        return None;
+    };
     match store.commit(alloc, bay, &change) {
-        Ok(_) => Ok(()),
-        Err(_) => Err(Fail::from("commit")),
+        Ok(_) => Some(()),
+        Err(_) => None,
     }
 }
 
 /// Commits all batches but the last, and gives the marks then.
-fn commit_many(alloc: Global, bay: &mut MemBay) -> Result<Marks, Fail> {
+fn commit_many(alloc: Global, bay: &mut MemBay) -> Option<Marks> {
     let mut marks = [None; 101];
-    let mut store = create_on_two(alloc, bay).ok_or("create")?;
+    let mut store = create_on_two(alloc, bay)?;
     for number in 1..COMMITS {
         let put = batch_of(number);
         commit_batch(alloc, bay, &mut store, put)?;
         put_marks(&mut marks, put);
     }
-    Ok(marks)
+    Some(marks)
 }
 
 /// The bytes of a disk.
-fn disk_bytes(alloc: Global, bay: &mut MemBay, slot: u32) -> Result<Vec<u8>, Fail> {
-    let mut bytes = vec![in alloc; 0; SIZE as usize].map_err(|_| "memory")?;
-    if bay.attach(slot, "disk").map_err(|_| "attach")? < SIZE {
-        return Err(Fail::from("a disk"));
+fn disk_bytes(alloc: Global, bay: &mut MemBay, slot: u32) -> Option<Vec<u8>> {
+    let mut bytes = vec![in alloc; 0; SIZE as usize].ok()?;
+    if bay.attach(slot, "disk").ok()? < SIZE {
+        return None;
     }
-    bay.read(slot, 0, &mut bytes).map_err(|_| "read")?;
-    Ok(bytes)
+    bay.read(slot, 0, &mut bytes).ok()?;
+    Some(bytes)
 }
 
 /// Writes the bytes of a disk.
-fn put_disk(bay: &mut MemBay, slot: u32, bytes: &[u8]) -> Result<(), Fail> {
-    let size = bay.attach(slot, "disk").map_err(|_| "attach")?;
+fn put_disk(bay: &mut MemBay, slot: u32, bytes: &[u8]) -> Option<()> {
+    let size = bay.attach(slot, "disk").ok()?;
     if size < SIZE || bytes.len() as u64 != SIZE {
-        return Err(Fail::from("a disk"));
+        return None;
     }
-    bay.write(slot, 0, bytes).map_err(|_| Fail::from("write"))
+    bay.write(slot, 0, bytes).ok()
+}
+
+/// The bytes of both disks after all commits but the last, and the marks before it and after it.
+#[derive(Drop)]
+struct Disks {
+    first: Vec<u8>,
+    second: Vec<u8>,
+    before: Marks,
+    after: Marks,
+}
+
+fn committed(alloc: Global) -> Option<Disks> {
+    let mut bay = two_disks(alloc)?;
+    let before = commit_many(alloc, &mut bay)?;
+    let mut after = before;
+    put_marks(&mut after, batch_of(COMMITS));
+    Some(Disks {
+        first: disk_bytes(alloc, &mut bay, 0)?,
+        second: disk_bytes(alloc, &mut bay, 1)?,
+        before,
+        after,
+    })
 }
 
 /// Two disks with these bytes.
-fn disks_of(alloc: Global, first: &[u8], second: &[u8]) -> Result<MemBay, Fail> {
-    let mut bay = MemBay::new(alloc, &[Some(SIZE), Some(SIZE)]).map_err(|_| "memory")?;
-    put_disk(&mut bay, 0, first)?;
-    put_disk(&mut bay, 1, second)?;
-    Ok(bay)
+fn disks_of(alloc: Global, disks: &Disks) -> Option<MemBay> {
+    let mut bay = two_disks(alloc)?;
+    put_disk(&mut bay, 0, &disks.first)?;
+    put_disk(&mut bay, 1, &disks.second)?;
+    Some(bay)
 }
 
 /// Loads the store of both copies on disks in memory, where a stop leaves what they hold. None where it may not be asked,
@@ -143,69 +159,56 @@ fn load_kept(alloc: Global, bay: &mut MemBay) -> Option<Store>
     }
 }
 
-/// Commits the last batch on two disks with these bytes, where each call after so many fails, and gives the disks and the
-/// calls before the commit.
-fn last_commit(
-    alloc: Global,
-    first: &[u8],
-    second: &[u8],
-    calls: u64,
-) -> Result<(MemBay, u64), Fail> {
-    let mut bay = disks_of(alloc, first, second)?;
+/// Commits the last batch on such disks, where each call after so many fails, and gives the disks and the calls before the
+/// commit.
+fn last_commit(alloc: Global, disks: &Disks, calls: u64) -> Option<(MemBay, u64)> {
+    let mut bay = disks_of(alloc, disks)?;
     bay.stop_after(calls);
-    let mut store = load_kept(alloc, &mut bay).ok_or("load")?;
+    let mut store = load_kept(alloc, &mut bay)?;
     let begin = bay.calls();
-    let last = batch_of(COMMITS);
-    let change = stale_change(alloc, last.first, last.count, last.mark)?;
-    let _ = store.commit(alloc, &mut bay, &change);
-    Ok((bay, begin))
+    let _ = commit_batch(alloc, &mut bay, &mut store, batch_of(COMMITS));
+    Some((bay, begin))
 }
 
-/// Whether a copy has the marks before the last commit, or those after it.
-fn has_either(
-    alloc: Global,
-    bay: &mut MemBay,
-    copy: DirCopy,
-    before: &Marks,
-    after: &Marks,
-) -> Result<bool, Fail>
+/// Whether a copy has the marks after the last commit. None where it hasn't those before it either.
+fn is_after(alloc: Global, bay: &mut MemBay, copy: DirCopy, disks: &Disks) -> Option<bool>
     requires { copy.number < 64 }
 {
-    let store = load_one(alloc, bay, copy).ok_or("a disk")?;
-    let store = store.map_err(|_| "a copy")?;
-    if have_marks(store.content(), after) {
-        return Ok(true);
+    let store = load_one(alloc, bay, copy)?.ok()?;
+    if have_marks(store.content(), &disks.after) {
+        Some(true)
+    } else if have_marks(store.content(), &disks.before) {
+        Some(false)
+    } else {
+        None
     }
-    if have_marks(store.content(), before) {
-        return Ok(false);
-    }
-    Err(Fail::from("other records"))
 }
 
+/// Whether each copy has the marks after the last commit, where each call after so many fails.
+fn left(alloc: Global, disks: &Disks, calls: u64) -> Option<[bool; 2]> {
+    let (mut bay, _) = last_commit(alloc, disks, calls)?;
+    bay.restart();
+    let first = is_after(alloc, &mut bay, FIRST, disks)?;
+    let second = is_after(alloc, &mut bay, SECOND, disks)?;
+    Some([first, second])
+}
+
+/// The calls before the last commit, and once it is done.
+fn calls_of_last(alloc: Global, disks: &Disks) -> Option<(u64, u64)> {
+    let (bay, begin) = last_commit(alloc, disks, u64::MAX)?;
+    Some((begin, bay.calls()))
+}
+
+/// The first copy is written first.
 #[test]
 fn stopped_commit_of_many_leaves_the_records_before_or_after(rt: HostRuntime) -> Result<(), Fail> {
-    let alloc = rt.alloc();
-    let mut bay = MemBay::new(alloc, &[Some(SIZE), Some(SIZE)]).map_err(|_| "memory")?;
-    let before = commit_many(alloc, &mut bay)?;
-    let mut after = before;
-    put_marks(&mut after, batch_of(COMMITS));
-    let first = disk_bytes(alloc, &mut bay, 0)?;
-    let second = disk_bytes(alloc, &mut bay, 1)?;
-    let (whole, begin) = last_commit(alloc, &first, &second, u64::MAX)?;
-    let end = whole.calls();
+    let disks = committed(rt.alloc()).ok_or("commits")?;
+    let (begin, end) = calls_of_last(rt.alloc(), &disks).ok_or("the last commit")?;
     for calls in begin..=end {
-        let (mut bay, _) = last_commit(alloc, &first, &second, calls)?;
-        bay.restart();
-        let one = has_either(alloc, &mut bay, FIRST, &before, &after)?;
-        let two = has_either(alloc, &mut bay, SECOND, &before, &after)?;
-        // The first copy is written first.
-        assert!(rt; one || !two);
-        if calls == begin {
-            assert!(rt; !one);
-        }
-        if calls == end {
-            assert!(rt; two);
-        }
+        let [first, second] = left(rt.alloc(), &disks, calls).ok_or("other records")?;
+        assert!(rt; first || !second, "after {calls} calls");
     }
+    assert_eq!(rt; left(rt.alloc(), &disks, begin), Some([false, false]));
+    assert_eq!(rt; left(rt.alloc(), &disks, end), Some([true, true]));
     Ok(())
 }

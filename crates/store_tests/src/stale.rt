@@ -6,7 +6,6 @@ use crate::trials::no_change;
 use asm_base::{Change, Key, NoMemory, Value};
 use staleness_directory::{Marks, StaleTable};
 use std::alloc::Global;
-use std::test::Fail;
 
 /// The key of the marks of a chunk of file 1.
 pub fn stale_key(chunk: u32) -> Key {
@@ -30,25 +29,25 @@ fn stale_record(alloc: Global, chunk: u32, mark: u8) -> Result<Option<(Key, Valu
 }
 
 /// Puts one such record more.
-fn put_stale(alloc: Global, change: &mut Change, chunk: u32, mark: u8) -> Result<(), Fail>
+fn put_stale(alloc: Global, change: &mut Change, chunk: u32, mark: u8) -> Result<(), NoMemory>
     ensures items { ArePutItems change.old.put → OnOk result (ArePutItems change.new.put) }
     ensures put { OnOk result (length change.new.put ≡ length change.old.put + 1) }
     ensures gone { change.new.gone ≡ change.old.gone }
 {
     let Ok(made) = stale_record(alloc, chunk, mark) else {
-        return Err(Fail::from("memory"));
+        return Err(NoMemory);
     };
     let Some(record) = made else {
-        return Err(Fail::from("a record"));
+        return Err(NoMemory);
     };
     match change.put.push(record) {
         Ok(()) => Ok(()),
-        Err(_) => Err(Fail::from("memory")),
+        Err(_) => Err(NoMemory),
     }
 }
 
 /// A change that puts the records of so many of 101 chunks from one on, round the end, with one mark.
-pub fn stale_change(alloc: Global, first: u32, count: u32, mark: u8) -> Result<Change, Fail>
+pub fn stale_change(alloc: Global, first: u32, count: u32, mark: u8) -> Result<Change, NoMemory>
     ensures items { IfOk result (λ change. ArePutItems change.put) }
     ensures few { IfOk result (λ change. length change.put + length change.gone ≤ count) }
 {

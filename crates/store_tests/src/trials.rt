@@ -7,9 +7,13 @@ ghost use Rattle.directory_store.specs.Stores.{Keeps};
 
 use asm_base::{Change, Key, List, NoMemory, Value};
 use bay::Bay;
+use bay_mem::MemBay;
 use change_directory::DirCopy;
 use directory_store::{LoadError, Store};
 use std::alloc::Global;
+
+/// The bytes of a disk.
+pub const SIZE: u64 = 1_105_920;
 
 /// Copies of 128 pages on two disks.
 pub const FIRST: DirCopy = DirCopy {
@@ -32,6 +36,11 @@ pub const REBALANCE: Key = Key {
     a: 0,
     b: 0,
 };
+
+/// Two disks of zeros.
+pub fn two_disks(alloc: Global) -> Option<MemBay> {
+    MemBay::new(alloc, &[Some(SIZE), Some(SIZE)]).ok()
+}
 
 /// Whether a copy of 128 pages lies on a disk of a size.
 fn lies_on(copy: DirCopy, size: u64) -> bool
@@ -122,11 +131,7 @@ pub fn create_and_copy<B: Bay>(alloc: Global, bay: &mut B) -> Option<Store>
 }
 
 /// Loads the store of one copy. None where it isn't there.
-pub fn load_one<B: Bay>(
-    alloc: Global,
-    bay: &mut B,
-    copy: DirCopy,
-) -> Option<Result<Store, LoadError>>
+pub fn load_one(alloc: Global, bay: &mut MemBay, copy: DirCopy) -> Option<Result<Store, LoadError>>
     requires { copy.number < 64 }
 {
     if !is_there(bay, copy) {
@@ -135,24 +140,23 @@ pub fn load_one<B: Bay>(
     Some(Store::load(alloc, bay, &[copy]))
 }
 
-/// Loads the store of both copies. None where one isn't there.
-pub fn load_both<B: Bay>(alloc: Global, bay: &mut B) -> Option<Result<Store, LoadError>> {
-    if !is_there(bay, FIRST) {
-        return None;
-    }
-    if !is_there(bay, SECOND) {
-        return None;
-    }
-    Some(Store::load(alloc, bay, &[FIRST, SECOND]))
+/// In which order the copies are given.
+#[derive(Clone, Copy)]
+pub enum Order {
+    Given,
+    Turned,
 }
 
-/// Loads the store of both copies, given in the other order. None where one isn't there.
-pub fn load_turned<B: Bay>(alloc: Global, bay: &mut B) -> Option<Result<Store, LoadError>> {
+/// Loads the store of both copies. None where one isn't there.
+pub fn load(alloc: Global, bay: &mut MemBay, order: Order) -> Option<Result<Store, LoadError>> {
     if !is_there(bay, FIRST) {
         return None;
     }
     if !is_there(bay, SECOND) {
         return None;
     }
-    Some(Store::load(alloc, bay, &[SECOND, FIRST]))
+    match order {
+        Order::Given => Some(Store::load(alloc, bay, &[FIRST, SECOND])),
+        Order::Turned => Some(Store::load(alloc, bay, &[SECOND, FIRST])),
+    }
 }

@@ -1,31 +1,36 @@
+// The table of where extents begin.
+ghost use Rattle.std.specs.Prelude.{IfSome};
+ghost use Rattle.extent_map.specs.Changing.{AreChunks};
 ghost use Rattle.extent_map.specs.Extents.{IsTable};
 
-use asm_base::{Change, ExtentId, Home, Homes, Key, List, Records, Value};
+use crate::given::{no_change, put, value};
+use asm_base::{ExtentId, Home, Homes, Key, Records};
 use extent_map::{ExtentMap, may_stand};
 use std::alloc::Global;
 use std::test::*;
 
-const ABSENT: [u8; 5] = [255, 0, 0, 0, 0];
-
-/// The value of a chunk in which so many extents stand first, but for one, each with its first copy on disk 1.
-fn value_of(alloc: Global, count: u32, gap: u32) -> Result<Value, Fail> {
-    let mut bytes = Vec::new(alloc);
-    for place in 0..256u32 {
-        if place < count && place != gap {
-            bytes.extend_from_slice(&[1, 0, 0, 0, place as u8])?;
-        } else {
-            bytes.extend_from_slice(&ABSENT)?;
-        }
-        bytes.extend_from_slice(&ABSENT)?;
-        bytes.extend_from_slice(&ABSENT)?;
+/// The bytes of a chunk without extents.
+fn no_extents() -> [u8; 3840] {
+    let mut bytes = [0; 3840];
+    for home in 0..768 {
+        bytes[5 * home] = 255;
     }
-    if bytes.len() > 4064 {
-        return Err(Fail::from("more than a record"));
-    }
-    Value::from_slice(alloc, &bytes).map_err(|_| Fail::from("memory"))
+    bytes
 }
 
-fn chunk_key(chunk: u32) -> Key {
+/// The bytes of a chunk whose first extents are there, but for one. Each has its first copy on disk 1, at the unit of its place.
+fn first_extents(count: usize, absent: usize) -> [u8; 3840] {
+    let mut bytes = no_extents();
+    for place in 0..256 {
+        if place < count && place != absent {
+            bytes[15 * place] = 1;
+            bytes[15 * place + 4] = place as u8;
+        }
+    }
+    bytes
+}
+
+fn key(chunk: u32) -> Key {
     Key {
         kind: 1,
         a: 256,
@@ -33,6 +38,12 @@ fn chunk_key(chunk: u32) -> Key {
     }
 }
 
+/// The extent of an index of file 256.
+fn extent(index: u32) -> ExtentId {
+    ExtentId { file: 256, index }
+}
+
+/// The homes of an extent with one copy.
 fn homes(disk: u8, unit: u32) -> Homes {
     Homes {
         first: Some(Home { disk, unit }),
@@ -41,100 +52,77 @@ fn homes(disk: u8, unit: u32) -> Homes {
     }
 }
 
-/// The records of a file of 258 extents.
-fn two_chunks(alloc: Global) -> Result<Records, Fail> {
+/// The records of a file of so many extents in each of its first two chunks.
+fn records_of(alloc: Global, counts: [usize; 2]) -> Option<Records> {
     let mut records = Records::new(alloc);
-    let first = value_of(alloc, 256, 256)?;
-    let second = value_of(alloc, 2, 256)?;
-    let full = records.insert(chunk_key(0), first).is_ok();
-    let rest = records.insert(chunk_key(1), second).is_ok();
-    if full && rest {
-        Ok(records)
-    } else {
-        Err(Fail::from("memory"))
-    }
+    let [first, second] = counts;
+    put(alloc, &mut records, key(0), &first_extents(first, 256))?;
+    put(alloc, &mut records, key(1), &first_extents(second, 256))?;
+    Some(records)
 }
 
-fn read(alloc: Global, records: &Records) -> Option<ExtentMap> {
+/// The map that is read from these records. None where they are no map's.
+fn read(alloc: Global, records: &Records) -> Option<ExtentMap>
+    ensures { IfSome result IsTable }
+{
     match ExtentMap::from_records(alloc, records) {
-        Ok(read) => read,
+        Ok(map) => map,
         Err(_) => None,
     }
 }
 
-#[test]
-fn extents_of_two_chunks(rt: HostRuntime) -> Result<(), Fail> {
-    let alloc = rt.alloc();
-    let records = two_chunks(alloc)?;
-    let Some(map) = read(alloc, &records) else {
-        return Err(Fail::from("the records of a map"));
-    };
-    let last = ExtentId {
-        file: 256,
-        index: 257,
-    };
-    let Some(found) = map.get(last) else {
-        return Err(Fail::from("the last extent"));
-    };
-    let found = *found;
-    let first = Some(Home { disk: 1, unit: 1 });
-    let homes = Homes {
-        first,
-        second: None,
-        third: None,
-    };
-    assert!(rt; found == homes);
-    let next = ExtentId {
-        file: 256,
-        index: 258,
-    };
-    assert!(rt; map.get(next).is_none());
-    Ok(())
+/// The homes of the last extent of 258, and of the one behind it.
+fn last_homes(alloc: Global) -> Option<[Option<Homes>; 2]> {
+    let records = records_of(alloc, [256, 2])?;
+    let map = read(alloc, &records)?;
+    Some([map.get(extent(257)).copied(), map.get(extent(258)).copied()])
 }
 
 #[test]
-fn records_are_written_again(rt: HostRuntime) -> Result<(), Fail> {
-    let alloc = rt.alloc();
-    let records = two_chunks(alloc)?;
-    let Ok(Some(map)) = ExtentMap::from_records(alloc, &records) else {
-        return Err(Fail::from("the records of a map"));
-    };
-    let mut change = Change {
-        put: List::new(alloc),
-        gone: List::new(alloc),
-    };
-    assert!(rt; map.to_records(alloc, &mut change).is_ok());
-    assert_eq!(rt; change.put.len(), 2);
-    let Ok(Some(record)) = map.to_record(alloc, 256, 1) else {
-        return Err(Fail::from("the record of a chunk"));
-    };
-    assert!(rt; record.0 == chunk_key(1));
-    assert_eq!(rt; record.1.as_bytes(), value_of(alloc, 2, 256)?.as_bytes());
-    Ok(())
+fn extents_of_two_chunks(rt: HostRuntime) {
+    assert_eq!(rt; last_homes(rt.alloc()), Some([Some(homes(1, 1)), None]));
 }
 
-/// Without an extent before the last the records are no table's.
+/// How many records a map has, and whether that of its second chunk is the one that it was read from.
+fn written(alloc: Global) -> Option<(usize, bool)> {
+    let records = records_of(alloc, [256, 2])?;
+    let map = read(alloc, &records)?;
+    let mut change = no_change(alloc);
+    map.to_records(alloc, &mut change).ok()?;
+    let (at, value) = map.to_record(alloc, 256, 1).ok()??;
+    let is_same = at == key(1) && value.as_bytes() == first_extents(2, 256).as_slice();
+    Some((change.put.len(), is_same))
+}
+
 #[test]
-fn gap(rt: HostRuntime) -> Result<(), Fail> {
-    let alloc = rt.alloc();
+fn records_are_written_again(rt: HostRuntime) {
+    assert_eq!(rt; written(rt.alloc()), Some((2, true)));
+}
+
+/// Whether three extents are a map's, but for one of them.
+fn is_map_without(alloc: Global, absent: usize) -> Option<bool> {
     let mut records = Records::new(alloc);
-    let value = value_of(alloc, 3, 1)?;
-    assert!(rt; records.insert(chunk_key(0), value).is_ok());
-    assert!(rt; read(alloc, &records).is_none());
-    Ok(())
+    put(alloc, &mut records, key(0), &first_extents(3, absent))?;
+    let read = ExtentMap::from_records(alloc, &records).ok()?;
+    Some(read.is_some())
+}
+
+/// Without an extent before the last the records are no map's.
+#[test]
+fn gap(rt: HostRuntime) {
+    assert_eq!(rt; is_map_without(rt.alloc(), 2), Some(true));
+    assert_eq!(rt; is_map_without(rt.alloc(), 1), Some(false));
 }
 
 /// Puts the extent of an index, which must be the file's next one.
-fn append(map: &mut ExtentMap, index: u32, homes: Homes) -> Result<(), Fail>
+fn append(map: &mut ExtentMap, index: u32, homes: Homes) -> Option<()>
     requires { IsTable map.old }
     ensures { IsTable map.new }
 {
-    if map.count(256) != index as u64 || !may_stand(index, &homes) {
-        return Err(Fail::from("the next extent"));
-    }
-    match map.put(ExtentId { file: 256, index }, homes) {
-        Ok(()) => Ok(()),
-        Err(_) => Err(Fail::from("memory")),
+    if map.count(256) == index as u64 && may_stand(index, &homes) {
+        map.put(ExtentId { file: 256, index }, homes).ok()
+    } else {
+        None
     }
 }
 
@@ -146,32 +134,49 @@ fn take_last(map: &mut ExtentMap, index: u32) -> bool
     map.count(256) == index as u64 + 1 && map.remove(ExtentId { file: 256, index })
 }
 
-/// Extents are put behind the last one, at need in a new chunk, and the last one is taken away.
-#[test]
-fn put_at_the_end(rt: HostRuntime) -> Result<(), Fail> {
-    let alloc = rt.alloc();
+/// The homes of an extent that is put in a new chunk, whether it is then taken away, and the extents of files 256 and 257.
+fn grown(alloc: Global) -> Option<(Option<Homes>, bool, [u64; 2])> {
     let mut records = Records::new(alloc);
-    let value = value_of(alloc, 255, 256)?;
-    assert!(rt; records.insert(chunk_key(0), value).is_ok());
-    let Ok(Some(read)) = ExtentMap::from_records(alloc, &records) else {
-        return Err(Fail::from("the records of a map"));
-    };
-    let mut map = read;
+    put(alloc, &mut records, key(0), &first_extents(255, 256))?;
+    let mut map = read(alloc, &records)?;
     append(&mut map, 255, homes(3, 70))?;
     append(&mut map, 256, homes(4, 71))?;
-    let last = ExtentId {
-        file: 256,
-        index: 256,
-    };
-    let Some(found) = map.get(last) else {
-        return Err(Fail::from("the extent that was put"));
-    };
-    let found = *found;
-    assert!(rt; found == homes(4, 71));
-    if !take_last(&mut map, 256) {
-        return Err(Fail::from("the last extent"));
-    }
-    assert_eq!(rt; map.count(256), 256);
-    assert_eq!(rt; map.count(257), 0);
-    Ok(())
+    let put = map.get(extent(256)).copied();
+    let is_taken = take_last(&mut map, 256);
+    Some((put, is_taken, [map.count(256), map.count(257)]))
+}
+
+/// Extents are put behind the last one, at need in a new chunk, and the last one is taken away.
+#[test]
+fn put_at_the_end(rt: HostRuntime) {
+    assert_eq!(rt;
+        grown(rt.alloc()),
+        Some((Some(homes(4, 71)), true, [256, 0]))
+    );
+}
+
+/// Puts a record as that of the first chunk, and tells whether it is one of the format.
+fn put_chunk(alloc: Global, map: &mut ExtentMap, bytes: &[u8]) -> Option<bool>
+    requires { AreChunks map.old }
+    ensures { AreChunks map.new }
+{
+    let value = value(alloc, bytes)?;
+    map.put_record(alloc, 256, 0, &value).ok()
+}
+
+/// Whether zeros are put as a chunk, whether a chunk is, whether an equal map has it, and whether it is there once it has been
+/// taken away twice.
+fn chunks(alloc: Global) -> Option<[bool; 4]> {
+    let mut map = ExtentMap::new(alloc);
+    let zeros = put_chunk(alloc, &mut map, &[0; 57])?;
+    let put = put_chunk(alloc, &mut map, &first_extents(1, 256))?;
+    let is_copied = map.copy(alloc).ok()?.chunk(256, 0).is_some();
+    map.remove_record(256, 0);
+    map.remove_record(256, 0);
+    Some([zeros, put, is_copied, map.chunk(256, 0).is_some()])
+}
+
+#[test]
+fn a_chunk_is_put_by_its_record(rt: HostRuntime) {
+    assert_eq!(rt; chunks(rt.alloc()), Some([false, true, true, false]));
 }

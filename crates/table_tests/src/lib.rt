@@ -1,12 +1,13 @@
-//! Tests of the tables of a group's directories.
+//! Tests of the tables of a group's directories. Their cases are rows, and of each table one function plays them, so that a row
+//! more costs no proof.
 #![tactic(auto)]
 
-#[cfg(test)]
-mod changing;
 #[cfg(test)]
 mod extents;
 #[cfg(test)]
 mod files;
+#[cfg(test)]
+mod given;
 #[cfg(test)]
 mod name_edits;
 #[cfg(test)]
@@ -17,5 +18,7 @@ mod new_names;
 mod operations;
 #[cfg(test)]
 mod stale_marks;
+#[cfg(test)]
+mod template_edits;
 #[cfg(test)]
 mod templates;

@@ -1,11 +1,12 @@
-use asm_base::{Change, List, Records};
-use operations_directory::{OperationTable, Pending, PendingKind};
+// The table of operations that are begun and not ended.
+use crate::given::{no_change, put_all_but, value};
+use asm_base::{Key, PendingKind, Records};
+use operations_directory::{OperationTable, Pending};
+use std::alloc::Global;
 use std::test::*;
 
-/// What is written is read again, also from records of other kinds.
-#[test]
-fn written_and_read(rt: HostRuntime) -> Result<(), Fail> {
-    let alloc = rt.alloc();
+/// A rebalance of power 4, and a file that grows.
+fn begun() -> OperationTable {
     let mut table = OperationTable::new();
     table.set_rebalance(Some(4));
     table.set_pending(Some(Pending {
@@ -13,23 +14,53 @@ fn written_and_read(rt: HostRuntime) -> Result<(), Fail> {
         file: 256,
         kept: 7,
     }));
-    let mut change = Change {
-        put: List::new(alloc),
-        gone: List::new(alloc),
-    };
-    assert!(rt; table.to_records(alloc, &mut change).is_ok());
+    table
+}
+
+/// The table that is read from the records of another.
+fn read_again(alloc: Global, table: &OperationTable) -> Option<OperationTable> {
+    let mut change = no_change(alloc);
+    table.to_records(alloc, &mut change).ok()?;
     let mut records = Records::new(alloc);
-    for (key, value) in change.put.into_vec() {
-        assert!(rt; records.insert(key, value).is_ok());
+    put_all_but(&mut records, change, 0)?;
+    OperationTable::from_records(&records).ok().flatten()
+}
+
+/// The power of the rebalance, and the file that is pending with the extents that it keeps.
+fn told(table: &OperationTable) -> Option<(Option<u16>, u32, u64)> {
+    let pending = table.pending()?;
+    Some((table.rebalance(), pending.file, pending.kept))
+}
+
+fn told_again(alloc: Global) -> Option<(Option<u16>, u32, u64)> {
+    told(&read_again(alloc, &begun())?)
+}
+
+/// What is written is read again.
+#[test]
+fn written_and_read(rt: HostRuntime) {
+    assert_eq!(rt; told_again(rt.alloc()), Some((Some(4), 256, 7)));
+}
+
+const REBALANCE: Key = Key {
+    kind: 4,
+    a: 0,
+    b: 0,
+};
+
+/// The power once a record is put, and once it is taken away.
+fn powers(alloc: Global) -> Option<[Option<u16>; 2]> {
+    let mut table = OperationTable::new();
+    let power = value(alloc, &[0, 4])?;
+    if !table.put_record(REBALANCE, &power) {
+        return None;
     }
-    let Ok(Some(read)) = OperationTable::from_records(&records) else {
-        return Err(Fail::from("the records of a table"));
-    };
-    assert_eq!(rt; read.rebalance(), Some(4));
-    let Some(op) = read.pending() else {
-        return Err(Fail::from("a pending operation"));
-    };
-    assert_eq!(rt; op.file, 256);
-    assert_eq!(rt; op.kept, 7);
-    Ok(())
+    let put = table.rebalance();
+    table.remove_record(REBALANCE);
+    Some([put, table.rebalance()])
+}
+
+#[test]
+fn a_rebalance_is_put_by_its_record(rt: HostRuntime) {
+    assert_eq!(rt; powers(rt.alloc()), Some([Some(4), None]));
 }

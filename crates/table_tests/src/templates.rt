@@ -1,278 +1,112 @@
-use asm_base::{Change, GroupKind, Key, Limited, List, Name, Records, Refusal, Stripe, Value};
+// The table of templates and settings: what is read of records and written to them.
+ghost use Rattle.std.specs.Prelude.{IfSome, IsTrue};
+ghost use Rattle.asm_formats.specs.Items.{is_item, settings_item};
+
+use crate::given::{no_change, put, put_all_but};
+use asm_base::{GroupKind, Key, Records};
 use std::alloc::Global;
 use std::test::*;
-use template_directory::{Settings, TemplateEdit, TemplateTable, are_allowed, system};
-
-#[test]
-fn system_templates_are_made(rt: HostRuntime) -> Result<(), Fail> {
-    let Ok(templates) = system(rt.alloc(), GroupKind::Normal) else {
-        return Err(Fail::from("memory"));
-    };
-    let all = templates.as_slice();
-    if all.len() != 13 {
-        return Err(Fail::from("thirteen"));
-    }
-    let control = &all[4];
-    assert_eq!(rt; control.name.as_bytes(), b"CONTROLFILE".as_slice());
-    assert_eq!(rt; control.copies, 3);
-    let next = &all[5];
-    assert_eq!(rt; next.copies, 2);
-    Ok(())
-}
-
-fn name(alloc: Global, bytes: &[u8]) -> Result<Name, Fail> {
-    let Ok(Some(name)) = Name::read(alloc, bytes, 30) else {
-        return Err(Fail::from("a name"));
-    };
-    Ok(name)
-}
+use template_directory::{Settings, TemplateTable, are_allowed, settings_value, system};
 
 /// The table of a new group of a kind.
-fn table(alloc: Global, kind: GroupKind) -> Result<TemplateTable, Fail> {
-    let Ok(templates) = system(alloc, kind) else {
-        return Err(Fail::from("memory"));
-    };
+pub fn new_table(alloc: Global, kind: GroupKind) -> Option<TemplateTable> {
+    let templates = system(alloc, kind).ok()?;
     let settings = Settings::usual(alloc);
-    if !are_allowed(templates.as_slice()) || !settings.is_allowed() {
-        return Err(Fail::from("a table"));
-    }
-    Ok(TemplateTable::new(templates, settings))
-}
-
-/// Applies an edit that must succeed.
-fn done(
-    table: &mut TemplateTable,
-    kind: GroupKind,
-    edit: Result<TemplateEdit, Fail>,
-) -> Result<(), Fail> {
-    let edit = edit?;
-    if !edit.is_allowed() || table.edit(kind, &edit).is_err() {
-        return Err(Fail::from("the edit is refused"));
-    }
-    Ok(())
-}
-
-/// The refusal of an edit.
-fn refused(
-    table: &mut TemplateTable,
-    kind: GroupKind,
-    edit: Result<TemplateEdit, Fail>,
-) -> Result<Refusal, Fail> {
-    let edit = edit?;
-    if !edit.is_allowed() {
-        return Err(Fail::from("no edit"));
-    }
-    match table.edit(kind, &edit) {
-        Ok(()) => Err(Fail::from("the edit is done")),
-        Err(refusal) => Ok(refusal),
+    if are_allowed(templates.as_slice()) && settings.is_allowed() {
+        Some(TemplateTable::new(templates, settings))
+    } else {
+        None
     }
 }
 
-fn add(alloc: Global, bytes: &[u8], copies: Option<u8>) -> Result<TemplateEdit, Fail> {
-    Ok(TemplateEdit::Add {
-        name: name(alloc, bytes)?,
-        copies,
-        stripe: Stripe::Coarse,
-    })
-}
-
-fn modify(alloc: Global, bytes: &[u8], copies: Option<u8>) -> Result<TemplateEdit, Fail> {
-    Ok(TemplateEdit::Modify {
-        name: name(alloc, bytes)?,
-        copies,
-        stripe: Stripe::Fine,
-    })
-}
-
-fn drop_of(alloc: Global, bytes: &[u8]) -> Result<TemplateEdit, Fail> {
-    Ok(TemplateEdit::Drop {
-        name: name(alloc, bytes)?,
-    })
-}
-
-/// A template is added in its place, with the usual copies.
-#[test]
-fn template_is_added(rt: HostRuntime) -> Result<(), Fail> {
-    let alloc = rt.alloc();
-    let kind = GroupKind::Normal;
-    let mut table = table(alloc, kind)?;
-    done(&mut table, kind, add(alloc, b"Bravo", None))?;
-    let all = table.list();
-    assert_eq!(rt; all.len(), 14);
-    let fourth = all.get(3).ok_or("the fourth")?;
-    assert_eq!(rt; fourth.name.as_bytes(), b"Bravo".as_slice());
-    assert_eq!(rt; fourth.copies, 2);
-    Ok(())
-}
-
-/// A template is changed in any case of its name, and keeps its spelling and that it is the system's.
-#[test]
-fn template_is_modified(rt: HostRuntime) -> Result<(), Fail> {
-    let alloc = rt.alloc();
-    let kind = GroupKind::Normal;
-    let mut table = table(alloc, kind)?;
-    done(&mut table, kind, modify(alloc, b"datafile", Some(3)))?;
-    let changed = table.list().get(5).ok_or("the sixth")?;
-    assert_eq!(rt; changed.name.as_bytes(), b"DATAFILE".as_slice());
-    assert_eq!(rt; changed.copies, 3);
-    assert!(rt; changed.system);
-    Ok(())
-}
-
-/// A template is dropped.
-#[test]
-fn template_is_dropped(rt: HostRuntime) -> Result<(), Fail> {
-    let alloc = rt.alloc();
-    let kind = GroupKind::High;
-    let mut table = table(alloc, kind)?;
-    done(&mut table, kind, add(alloc, b"new", None))?;
-    done(&mut table, kind, drop_of(alloc, b"NEW"))?;
-    assert_eq!(rt; table.list().len(), 13);
-    Ok(())
-}
-
-/// The refusals of an added template, and which comes first.
-#[test]
-fn adding_is_refused(rt: HostRuntime) -> Result<(), Fail> {
-    let alloc = rt.alloc();
-    let kind = GroupKind::External;
-    let mut table = table(alloc, kind)?;
-    let taken = refused(&mut table, kind, add(alloc, b"datafile", Some(2)))?;
-    assert!(rt; matches!(taken, Refusal::NameTaken));
-    let bad = refused(&mut table, kind, add(alloc, b"new", Some(2)))?;
-    assert!(rt; matches!(bad, Refusal::BadRedundancy));
-    Ok(())
-}
-
-/// The refusals of a changed template, and which comes first.
-#[test]
-fn modifying_is_refused(rt: HostRuntime) -> Result<(), Fail> {
-    let alloc = rt.alloc();
-    let kind = GroupKind::External;
-    let mut table = table(alloc, kind)?;
-    let unknown = refused(&mut table, kind, modify(alloc, b"new", Some(2)))?;
-    assert!(rt; matches!(unknown, Refusal::NoTemplate));
-    let bad = refused(&mut table, kind, modify(alloc, b"datafile", Some(3)))?;
-    assert!(rt; matches!(bad, Refusal::BadRedundancy));
-    Ok(())
-}
-
-/// The refusals of a dropped template.
-#[test]
-fn dropping_is_refused(rt: HostRuntime) -> Result<(), Fail> {
-    let alloc = rt.alloc();
-    let kind = GroupKind::External;
-    let mut table = table(alloc, kind)?;
-    let unknown = refused(&mut table, kind, drop_of(alloc, b"new"))?;
-    assert!(rt; matches!(unknown, Refusal::NoTemplate));
-    let system = refused(&mut table, kind, drop_of(alloc, b"datafile"))?;
-    assert!(rt; matches!(system, Refusal::SystemTemplate));
-    Ok(())
-}
-
-/// A group has at most 64 templates.
-#[test]
-fn at_most_64(rt: HostRuntime) -> Result<(), Fail> {
-    let alloc = rt.alloc();
-    let kind = GroupKind::High;
-    let mut table = table(alloc, kind)?;
-    for i in 0..51 {
-        let new = add(alloc, &[b'T', b'0' + i / 10, b'0' + i % 10], None);
-        done(&mut table, kind, new)?;
-    }
-    let last = refused(&mut table, kind, add(alloc, b"one_more", None))?;
-    assert!(rt;
-        matches!(
-            last,
-            Refusal::TooMany {
-                kind: Limited::Templates,
-                limit: 64
-            }
-        )
-    );
-    Ok(())
-}
-
-fn is_of(key: Key, kind: u16) -> bool {
-    key.kind == kind
-}
-
-/// The records of a change but those of a kind.
-fn stored(alloc: Global, change: &Change, left_out: u16) -> Result<Records, Fail> {
-    let mut records = Records::new(alloc);
-    for (key, value) in change.put.as_slice() {
-        if is_of(*key, left_out) {
-            continue;
-        }
-        let Ok(value) = value.copy() else {
-            return Err(Fail::from("memory"));
-        };
-        if records.insert(*key, value).is_err() {
-            return Err(Fail::from("memory"));
-        }
-    }
-    Ok(records)
-}
-
-/// The change that puts the records of a table of a new group with this incarnation.
-fn records_put(alloc: Global, incarnation: u64) -> Result<Change, Fail> {
-    let mut table = table(alloc, GroupKind::Normal)?;
+/// The settings of a new group, with another incarnation.
+fn settings(alloc: Global, incarnation: u64) -> Option<Settings>
+    ensures { IfSome result (λ made. IsTrue (is_item (settings_item made))) }
+{
     let mut settings = Settings::usual(alloc);
     settings.incarnation = incarnation;
-    if !settings.is_allowed() {
-        return Err(Fail::from("settings"));
+    if settings.is_allowed() {
+        Some(settings)
+    } else {
+        None
     }
-    table.set_settings(settings);
-    let mut change = Change {
-        put: List::new(alloc),
-        gone: List::new(alloc),
-    };
-    if table.to_records(alloc, &mut change).is_err() {
-        return Err(Fail::from("memory"));
-    }
-    Ok(change)
 }
 
-/// A table is read from the records that it makes.
-#[test]
-fn read_again(rt: HostRuntime) -> Result<(), Fail> {
-    let alloc = rt.alloc();
-    let change = records_put(alloc, 9)?;
-    let records = stored(alloc, &change, 0)?;
-    let Ok(Some(read)) = TemplateTable::from_records(alloc, &records) else {
-        return Err(Fail::from("the records are a table"));
-    };
-    let settings = read.settings();
-    assert_eq!(rt; settings.incarnation, 9);
-    assert_eq!(rt; settings.repair, 12_960);
-    assert_eq!(rt; read.list().len(), 13);
-    Ok(())
+/// The records of a new group of incarnation 9, but those of a kind.
+fn records_but(alloc: Global, left_out: u16) -> Option<Records> {
+    let mut table = new_table(alloc, GroupKind::Normal)?;
+    table.set_settings(settings(alloc, 9)?);
+    let mut change = no_change(alloc);
+    table.to_records(alloc, &mut change).ok()?;
+    let mut records = Records::new(alloc);
+    put_all_but(&mut records, change, left_out)?;
+    Some(records)
 }
 
-/// Records of which one is missing make no table.
+/// The incarnation, the repair time in seconds, and how many templates there are.
+type Told = (u64, u64, usize);
+
+fn told(table: &TemplateTable) -> Told {
+    let settings = table.settings();
+    (settings.incarnation, settings.repair, table.list().len())
+}
+
+/// What is told of the table of these records. The inner None where they are no table's.
+fn read(alloc: Global, records: &Records) -> Option<Option<Told>> {
+    match TemplateTable::from_records(alloc, records).ok()? {
+        Some(table) => Some(Some(told(&table))),
+        None => Some(None),
+    }
+}
+
+/// What is told of the records of a new group but those of a kind.
+fn read_but(alloc: Global, left_out: u16) -> Option<Option<Told>> {
+    read(alloc, &records_but(alloc, left_out)?)
+}
+
+/// A table is read from the records that it makes. Without one of them there is none.
 #[test]
-fn one_is_missing(rt: HostRuntime) -> Result<(), Fail> {
-    let alloc = rt.alloc();
-    let change = records_put(alloc, 9)?;
-    let records = stored(alloc, &change, 5)?;
-    assert!(rt; matches!(TemplateTable::from_records(alloc, &records), Ok(None)));
-    Ok(())
+fn read_again(rt: HostRuntime) {
+    assert_eq!(rt; read_but(rt.alloc(), 0), Some(Some((9, 12_960, 13))));
+    assert_eq!(rt; read_but(rt.alloc(), 5), Some(None));
+}
+
+const OTHER_KEY: Key = Key {
+    kind: 5,
+    a: 0,
+    b: 1,
+};
+
+fn read_other_key(alloc: Global) -> Option<Option<Told>> {
+    let mut records = Records::new(alloc);
+    put(alloc, &mut records, OTHER_KEY, &[0])?;
+    read(alloc, &records)
 }
 
 /// A record of their kinds with another key makes no table.
 #[test]
-fn another_key(rt: HostRuntime) -> Result<(), Fail> {
-    let alloc = rt.alloc();
-    let mut records = Records::new(alloc);
-    let Ok(value) = Value::from_slice(alloc, &[0]) else {
-        return Err(Fail::from("memory"));
-    };
-    let key = Key {
-        kind: 5,
-        a: 0,
-        b: 1,
-    };
-    assert!(rt; records.insert(key, value).is_ok());
-    assert!(rt; matches!(TemplateTable::from_records(alloc, &records), Ok(None)));
-    Ok(())
+fn another_key(rt: HostRuntime) {
+    assert_eq!(rt; read_other_key(rt.alloc()), Some(None));
+}
+
+const SETTINGS: Key = Key {
+    kind: 9,
+    a: 0,
+    b: 0,
+};
+
+/// What is told of a copy of a table that is given settings by their record.
+fn told_put(alloc: Global) -> Option<Told> {
+    let settings = settings(alloc, 8)?;
+    let value = settings_value(alloc, &settings).ok()?;
+    let mut table = new_table(alloc, GroupKind::Normal)?;
+    if table.put_record(alloc, SETTINGS, &value) != Ok(true) {
+        return None;
+    }
+    Some(told(&table.copy(alloc).ok()?))
+}
+
+#[test]
+fn settings_are_put_by_their_record(rt: HostRuntime) {
+    assert_eq!(rt; told_put(rt.alloc()), Some((8, 12_960, 13)));
 }
