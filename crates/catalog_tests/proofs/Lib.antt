@@ -1,1 +1,6 @@
+pub mod ExtentConditions
+pub mod FilesMade
+pub mod NewDisks
 pub mod NewFiles
+pub mod Planned
+pub mod SameHomes

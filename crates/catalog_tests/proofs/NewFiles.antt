@@ -10,9 +10,9 @@ use Rattle.asm_base.specs.Records.{Entry}
 use Rattle.asm_placement.specs.Layout.{first_of_set, start}
 use Rattle.file_directory.specs.Files.{head_at}
 use Rattle.catalog.specs.NamePlans.{IsCreated, IsNamePlan, is_within_file, made_file, named, new_head}
-use Rattle.catalog.specs.Plans.{IsPlan}
 use Rattle.catalog.specs.Rules.{first_wrong}
-use Rattle.catalog.specs.Tables.{Catalogued, Tables}
+use Rattle.catalog.specs.Tables.{Catalogued}
+use Rattle.catalog_tests.specs.Planned.{IsPlanned}
 
 pub created : (c : Catalogued) (op : Pending) → Some op ≡ c.tables.operations.pending → op.kind ≡ Create → head_at c.tables.files op.file ≡ None → first_wrong (is_within_file op.file 2) c.tables.extents ≡ None → IsCreated c 0 2 Fine
 created c op pending kind new within = record {
@@ -27,5 +27,5 @@ created c op pending kind new within = record {
   is : op ≡ record { kind = Create; file = op.file; kept = op.kept }
   is = λ i. record { kind = kind i; file = op.file; kept = op.kept }
 
-pub planned : (c : Catalogued) (path : Path) (size copies : ℕ) (stripe : Stripe) (put : List Entry) (gone : List Key) → IsNamePlan c path size copies stripe put gone → (u : Tables) × IsPlan c put gone u
-planned c path size copies stripe put gone plan = (named c.tables (made_file c.tables) (new_head c.tables plan.name size copies stripe plan.filing.number) plan.made, plan.plan)
+pub planned : (c : Catalogued) (path : Path) (size copies : ℕ) (stripe : Stripe) (put : List Entry) (gone : List Key) → IsNamePlan c path size copies stripe put gone → IsPlanned c put gone
+planned c path size copies stripe put gone plan = record { tables = named c.tables (made_file c.tables) (new_head c.tables plan.name size copies stripe plan.filing.number) plan.made; plan = plan.plan }

@@ -1,155 +1,139 @@
+//! Records that are refused, and the key that is named.
+
+use crate::disk_units::with_second;
 use asm_base::{NodeKind, Records};
-use catalog::CatalogError;
-use sample_group::{Edit, NO, apply, disks, put_directories, read, usual};
+use catalog::{Catalog, CatalogError};
+use sample_group::{Edit, NO, disks, edited, read};
 use status_table::PstRecord;
 use std::alloc::Global;
 use std::test::*;
 
 /// The kind and the numbers of a key.
-type Numbers = (u16, u32, u32);
+type Key = (u16, u32, u32);
 
-/// The key that an error names.
-fn key_in(error: &CatalogError) -> Option<Numbers> {
-    match error {
-        CatalogError::Damaged { key } => Some((key.kind, key.a, key.b)),
-        CatalogError::NoMemory => None,
+/// The key that a reading names.
+fn key_of(read: &Result<Catalog, CatalogError>) -> Option<Key> {
+    match read {
+        Err(CatalogError::Damaged { key }) => Some((key.kind, key.a, key.b)),
+        _ => None,
     }
 }
 
-fn refusal(
+/// The key that is named where records are read by a status record.
+fn named_in(alloc: Global, records: &Records, status: &PstRecord) -> Result<Option<Key>, Fail> {
+    match read(alloc, records, status) {
+        Ok(read) => Ok(key_of(&read)),
+        Err(fail) => Err(fail),
+    }
+}
+
+/// The same of the usual records after edits, with so many directories more in the root.
+fn named(
     alloc: Global,
-    records: &Records,
+    edits: &[Edit<'_>],
+    directories: u8,
     status: &PstRecord,
-) -> Result<Option<CatalogError>, Fail> {
-    let read = read(alloc, records, status)?;
-    Ok(read.err())
-}
-
-/// The key that a refusal names.
-fn named(alloc: Global, records: &Records, status: &PstRecord) -> Result<Numbers, Fail> {
-    let Some(error) = refusal(alloc, records, status)? else {
-        return Err(Fail::from("the records are taken"));
-    };
-    match key_in(&error) {
-        Some(key) => Ok(key),
-        None => Err(Fail::from("memory")),
+) -> Result<Option<Key>, Fail> {
+    match edited(alloc, edits, directories) {
+        Ok(records) => named_in(alloc, &records, status),
+        Err(fail) => Err(fail),
     }
 }
 
-/// The key that is named where one record of the usual group is another.
-fn named_after(alloc: Global, edit: Edit) -> Result<Numbers, Fail> {
-    let mut records = usual(alloc)?;
-    apply(alloc, &mut records, edit)?;
-    named(alloc, &records, &disks(2))
-}
-
-/// Whether after each edit this key is named.
-fn are_named(alloc: Global, rows: &[(Edit, Numbers)]) -> Result<bool, Fail> {
-    for (edit, key) in rows {
-        if named_after(alloc, *edit)? != *key {
-            return Ok(false);
+/// The place of the first row after which another key is named, or none.
+fn wrong_fault(alloc: Global, rows: &[(Edit<'_>, Key)]) -> Result<Option<usize>, Fail> {
+    for (place, (edit, key)) in rows.iter().enumerate() {
+        if named(alloc, &[*edit], 0, &disks(2))? != Some(*key) {
+            return Ok(Some(place));
         }
     }
-    Ok(true)
+    Ok(None)
 }
 
-/// Records that aren't of the formats, and those that must be there.
-#[test]
-fn records_that_cannot_be_read(rt: HostRuntime) -> Result<(), Fail> {
-    let rows = [
-        // a second operation, a kind that there isn't, a head and a disk that are no spelling of one
-        (Edit::Byte(4, 2, 0), (4, 2, 0)),
-        (Edit::Byte(3, 0, 0), (3, 0, 0)),
-        (Edit::Byte(1, 256, 0), (1, 256, 0)),
-        (Edit::Byte(2, 64, 0), (2, 64, 0)),
-        (Edit::Gone(5, 0, 0), (5, 0, 0)),
-        (Edit::Gone(9, 0, 0), (9, 0, 0)),
-    ];
-    assert!(rt; are_named(rt.alloc(), &rows)?);
-    Ok(())
-}
+/// Edits of the usual records, after each of which a key is named.
+const FAULTS: [(Edit<'static>, Key); 32] = [
+    // records that aren't of the formats, and those that must be there
+    // a second operation, a kind that there isn't, a head and a disk that are no spelling of one
+    (Edit::Byte(4, 2, 0), (4, 2, 0)),
+    (Edit::Byte(3, 0, 0), (3, 0, 0)),
+    (Edit::Byte(1, 256, 0), (1, 256, 0)),
+    (Edit::Byte(2, 64, 0), (2, 64, 0)),
+    (Edit::Gone(5, 0, 0), (5, 0, 0)),
+    (Edit::Gone(9, 0, 0), (9, 0, 0)),
+    // extents behind a gap, and nodes without a place of their own
+    (
+        Edit::Chunk(256, 0, &[[0, 2, 1, 2], [NO, 0, NO, 0], [0, 4, 1, 4]]),
+        (1, 256, 1),
+    ),
+    (Edit::Chunk(256, 1, &[[0, 5, 1, 5]]), (1, 256, 2)),
+    (Edit::Chunk(257, 1, &[[0, 5, 1, 5]]), (1, 257, 2)),
+    // a parent that isn't there, one that is no directory, and a name that differs in case alone
+    (Edit::Node(4, 9, NodeKind::Directory, 0, b"y"), (6, 4, 0)),
+    (Edit::Node(4, 2, NodeKind::Directory, 0, b"y"), (6, 4, 0)),
+    (Edit::Node(4, 0, NodeKind::Directory, 0, b"DB"), (6, 4, 0)),
+    // chunks that break a rule
+    // without marks, without an owner, with a home too many, and twice on a disk
+    (Edit::Gone(12, 256, 0), (1, 256, 1)),
+    (Edit::Gone(1, 256, 0), (1, 256, 1)),
+    (Edit::Head(1, 3_145_728), (1, 256, 1)),
+    (
+        Edit::Chunk(256, 0, &[[0, 2, 1, 2], [1, 3, 1, 4], [0, 4, 1, 5]]),
+        (1, 256, 1),
+    ),
+    // homes whose units aren't free: they meet, are reserved, lie behind the disk's end, or on no disk
+    (
+        Edit::Chunk(256, 0, &[[0, 2, 1, 2], [1, 3, 0, 3], [0, 2, 1, 4]]),
+        (1, 256, 1),
+    ),
+    (
+        Edit::Chunk(256, 0, &[[0, 2, 1, 2], [1, 3, 0, 3], [0, 1, 1, 4]]),
+        (1, 256, 1),
+    ),
+    (
+        Edit::Chunk(256, 0, &[[0, 2, 1, 2], [1, 3, 0, 3], [0, 64, 1, 4]]),
+        (1, 256, 1),
+    ),
+    (
+        Edit::Chunk(256, 0, &[[0, 2, 1, 2], [1, 3, 0, 3], [2, 4, 1, 4]]),
+        (1, 256, 1),
+    ),
+    // marks, names, sizes and disks that nothing stands behind
+    (Edit::Gone(1, 256, 1), (12, 256, 0)),
+    (Edit::Marks(256, 1, &[]), (12, 256, 1)),
+    // a mark of a third copy, and one of an extent that isn't there
+    (Edit::Marks(256, 0, &[4]), (12, 256, 0)),
+    (Edit::Marks(256, 0, &[0, 0, 0, 1]), (12, 256, 0)),
+    // a second alias, and a system name of a file that isn't there
+    (Edit::Node(4, 1, NodeKind::Alias, 256, b"y"), (6, 4, 0)),
+    (
+        Edit::Node(2, 1, NodeKind::System, 257, b"u.256.1"),
+        (6, 2, 0),
+    ),
+    // the alias of the file isn't there, or is a directory
+    (Edit::Gone(6, 3, 0), (1, 256, 0)),
+    (Edit::Node(3, 0, NodeKind::Directory, 0, b"x"), (1, 256, 0)),
+    // a copy less, and a byte more
+    (
+        Edit::Chunk(256, 0, &[[0, 2, 1, 2], [1, 3, 0, 3], [0, 4, NO, 0]]),
+        (1, 256, 0),
+    ),
+    (Edit::Head(2, 3_145_729), (1, 256, 0)),
+    (Edit::Gone(2, 1, 0), (2, 1, 0)),
+    (Edit::Disk(1, 3), (2, 1, 0)),
+];
 
-/// Extents behind a gap, and nodes without a place of their own.
+/// The key that is named of records at fault.
 #[test]
-fn gaps_and_loose_nodes(rt: HostRuntime) -> Result<(), Fail> {
-    let homes = [[0, 2, 1, 2], [NO, 0, NO, 0], [0, 4, 1, 4]];
-    let rows = [
-        (Edit::Chunk(256, 0, &homes), (1, 256, 1)),
-        (Edit::Chunk(256, 1, &[[0, 5, 1, 5]]), (1, 256, 2)),
-        (Edit::Chunk(257, 1, &[[0, 5, 1, 5]]), (1, 257, 2)),
-        // a parent that isn't there, one that is no directory, and a name that differs in case alone
-        (Edit::Node(4, 9, NodeKind::Directory, 0, b"y"), (6, 4, 0)),
-        (Edit::Node(4, 2, NodeKind::Directory, 0, b"y"), (6, 4, 0)),
-        (Edit::Node(4, 0, NodeKind::Directory, 0, b"DB"), (6, 4, 0)),
-    ];
-    assert!(rt; are_named(rt.alloc(), &rows)?);
-    Ok(())
-}
-
-/// Chunks that break a rule.
-#[test]
-fn chunks_at_fault(rt: HostRuntime) -> Result<(), Fail> {
-    let on_one_disk = [[0, 2, 1, 2], [1, 3, 1, 4], [0, 4, 1, 5]];
-    let rows = [
-        // without marks, without an owner, with a home too many, and twice on a disk
-        (Edit::Gone(12, 256, 0), (1, 256, 1)),
-        (Edit::Gone(1, 256, 0), (1, 256, 1)),
-        (Edit::Head(1, 3_145_728), (1, 256, 1)),
-        (Edit::Chunk(256, 0, &on_one_disk), (1, 256, 1)),
-    ];
-    assert!(rt; are_named(rt.alloc(), &rows)?);
-    Ok(())
-}
-
-/// Homes whose units aren't free: they meet, are reserved, lie behind the disk's end, or on no disk.
-#[test]
-fn homes_out_of_place(rt: HostRuntime) -> Result<(), Fail> {
+fn faults(rt: HostRuntime) -> Result<(), Fail> {
     let alloc = rt.alloc();
-    for home in [[0, 2], [0, 1], [0, 64], [2, 4]] {
-        let homes = [[0, 2, 1, 2], [1, 3, 0, 3], [home[0], home[1], 1, 4]];
-        let key = named_after(alloc, Edit::Chunk(256, 0, &homes))?;
-        assert_eq!(rt; key, (1, 256, 1));
-    }
-    let key = named(alloc, &usual(alloc)?, &disks(1))?;
-    assert_eq!(rt; key, (1, 256, 1));
-    Ok(())
-}
-
-/// Marks, names, sizes and disks that nothing stands behind.
-#[test]
-fn what_must_stand_together(rt: HostRuntime) -> Result<(), Fail> {
-    let short = [[0, 2, 1, 2], [1, 3, 0, 3], [0, 4, NO, 0]];
-    let rows = [
-        (Edit::Gone(1, 256, 1), (12, 256, 0)),
-        (Edit::Marks(256, 1, &[]), (12, 256, 1)),
-        // a mark of a third copy, and one of an extent that isn't there
-        (Edit::Marks(256, 0, &[4]), (12, 256, 0)),
-        (Edit::Marks(256, 0, &[0, 0, 0, 1]), (12, 256, 0)),
-        // a second alias, and a system name of a file that isn't there
-        (Edit::Node(4, 1, NodeKind::Alias, 256, b"y"), (6, 4, 0)),
-        (
-            Edit::Node(2, 1, NodeKind::System, 257, b"u.256.1"),
-            (6, 2, 0),
-        ),
-        // the alias of the file isn't there, or is a directory
-        (Edit::Gone(6, 3, 0), (1, 256, 0)),
-        (Edit::Node(3, 0, NodeKind::Directory, 0, b"x"), (1, 256, 0)),
-        // a copy less, and a byte more
-        (Edit::Chunk(256, 0, &short), (1, 256, 0)),
-        (Edit::Head(2, 3_145_729), (1, 256, 0)),
-        (Edit::Gone(2, 1, 0), (2, 1, 0)),
-        (Edit::Disk(1, 3), (2, 1, 0)),
-    ];
-    assert!(rt; are_named(rt.alloc(), &rows)?);
-    Ok(())
-}
-
-/// A record more than there is room for.
-#[test]
-fn no_room(rt: HostRuntime) -> Result<(), Fail> {
-    let alloc = rt.alloc();
-    let mut records = usual(alloc)?;
-    put_directories(alloc, &mut records, 117)?;
-    assert_eq!(rt; named(alloc, &records, &disks(2))?, (9, 0, 0));
+    assert_eq!(rt; wrong_fault(alloc, &FAULTS)?, None);
+    // homes on a disk that the status record doesn't have, and on one of a quorum failure group
+    assert_eq!(rt; named(alloc, &[], 0, &disks(1))?, Some((1, 256, 1)));
+    assert_eq!(rt;
+        named(alloc, &[], 0, &with_second(64, true))?,
+        Some((1, 256, 1))
+    );
+    // a record more than there is room for
+    assert_eq!(rt; named(alloc, &[], 117, &disks(2))?, Some((9, 0, 0)));
     Ok(())
 }

@@ -1,4 +1,4 @@
-//! Groups of disks of their own failure groups, with files of two copies, and what their rebalance does next.
+//! Groups of disks of their own failure groups, and what their rebalance does.
 
 ghost use Rattle.std.specs.Prelude.{IfOk};
 ghost use Rattle.rebalance.specs.Searching.{IsStatusOf};
@@ -6,20 +6,48 @@ ghost use Rattle.rebalance.specs.Searching.{IsStatusOf};
 use asm_base::{DiskSet, ExtentId, Home, Mode, Records};
 use catalog::Catalog;
 use rebalance::{Move, Next, next_move};
-use sample_group::{Edit, SHAPE, apply, make_move, usual};
+use sample_group::{Edit, SHAPE, edited, is_regular, make_move};
 use status_table::{PstEntry, PstRecord, is_status};
 use std::alloc::Global;
 use std::test::Fail;
 
-/// The homes of an extent: disk and unit of the one copy and of the other.
-pub type Pair = [u8; 4];
+/// What a rebalance does with file 256, by the index of the extent.
+#[derive(Clone, Copy)]
+pub enum Step {
+    /// A copy shifts to a disk and a unit: index, copy, disk, unit.
+    Shift(u32, u8, u8, u32),
+    /// A copy gets a home: index, copy, disk, unit.
+    Fill(u32, u8, u8, u32),
+    NoSpace(u32),
+    Lost(u32),
+    Done,
+}
 
-/// A shift of a copy of file 256: the extent, the copy's number, and the disk and unit that it goes to.
-pub type Shift = (u8, u8, u8, u8);
+fn extent(index: u32) -> ExtentId {
+    ExtentId { file: 256, index }
+}
+
+fn next_of(step: Step) -> Next {
+    match step {
+        Step::Shift(index, copy, disk, unit) => Next::Move(Move::Shift {
+            x: extent(index),
+            copy,
+            to: Home { disk, unit },
+        }),
+        Step::Fill(index, copy, disk, unit) => Next::Move(Move::Fill {
+            x: extent(index),
+            copy,
+            to: Home { disk, unit },
+        }),
+        Step::NoSpace(index) => Next::NoSpace(extent(index)),
+        Step::Lost(index) => Next::Lost(extent(index)),
+        Step::Done => Next::Done,
+    }
+}
 
 /// The status record of disks in these modes, at most five, each of so many units and a partner of all others that stay.
 /// Tables and directory copies are on the first three.
-pub fn status(modes: &[Mode], units: u32) -> PstRecord {
+fn status(modes: &[Mode], units: u32) -> PstRecord {
     let mut entries = [PstEntry::blank(); 64];
     let count = modes.len().min(5);
     let stays = staying(modes);
@@ -69,30 +97,9 @@ fn entry(number: u8, mode: Mode, units: u32, stays: u64) -> PstEntry {
     }
 }
 
-/// The records of a group of five disks whose file 256 has extents of one unit with these homes, of which none is stale.
-pub fn records(alloc: Global, homes: &[Pair]) -> Result<Records, Fail> {
-    let mut records = usual(alloc)?;
-    let size = homes.len().min(14) as u64 * 1_048_576;
-    apply(alloc, &mut records, Edit::Head(2, size))?;
-    apply(alloc, &mut records, Edit::Chunk(256, 0, homes))?;
-    apply(alloc, &mut records, Edit::Marks(256, 0, &[]))?;
-    for number in 2..5 {
-        apply(alloc, &mut records, Edit::Disk(number, number as u64 + 1))?;
-    }
-    Ok(records)
-}
-
-/// The same with file 257, whose extents have these homes.
-pub fn with_second(alloc: Global, records: &mut Records, homes: &[Pair]) -> Result<(), Fail> {
-    let size = homes.len().min(14) as u64 * 1_048_576;
-    apply(alloc, records, Edit::Second(2, size))?;
-    apply(alloc, records, Edit::Chunk(257, 0, homes))?;
-    apply(alloc, records, Edit::Marks(257, 0, &[]))
-}
-
 /// The catalog of these records.
 #[tactic(auto, unfolding(asm_formats::specs::Status::is_status))]
-pub fn catalog(alloc: Global, records: &Records, status: &PstRecord) -> Result<Catalog, Fail>
+fn catalog(alloc: Global, records: &Records, status: &PstRecord) -> Result<Catalog, Fail>
     ensures { IfOk result (λ catalog. IsStatusOf catalog status.now) }
 {
     if !SHAPE.is_allowed() || !is_status(status) {
@@ -104,69 +111,105 @@ pub fn catalog(alloc: Global, records: &Records, status: &PstRecord) -> Result<C
     }
 }
 
-/// Whether the rebalance does these shifts one after the other. Each is made by its plan.
-pub fn does(
+/// Shifts a copy by the plan of the move. Whether it is shifted.
+fn is_shifted(
     alloc: Global,
     catalog: &mut Catalog,
     status: &PstRecord,
-    shifts: &[Shift],
-) -> Result<bool, Fail>
+    x: ExtentId,
+    copy: u8,
+    to: Home,
+) -> bool
     requires { IsStatusOf catalog.old status.now }
     ensures { IsStatusOf catalog.new status.now }
 {
-    for made in shifts {
-        if !does_one(alloc, catalog, status, *made)? {
-            return Ok(false);
+    if !is_regular(status.entries(), to) {
+        return false;
+    }
+    matches!(make_move(alloc, catalog, x, copy, to), Ok(true))
+}
+
+/// Whether this is what the rebalance does next. A shift is made by its plan.
+fn does(alloc: Global, catalog: &mut Catalog, status: &PstRecord, step: Step) -> bool
+    requires { IsStatusOf catalog.old status.now }
+    ensures { IsStatusOf catalog.new status.now }
+{
+    if next_move(catalog, status) != next_of(step) {
+        return false;
+    }
+    match step {
+        Step::Shift(index, copy, disk, unit) => {
+            let to = Home { disk, unit };
+            is_shifted(alloc, catalog, status, extent(index), copy, to)
+        }
+        _ => true,
+    }
+}
+
+/// The place of the first step that the rebalance doesn't do, of these one after the other.
+fn wrong_in(
+    alloc: Global,
+    catalog: &mut Catalog,
+    status: &PstRecord,
+    steps: &[Step],
+) -> Option<usize>
+    requires { IsStatusOf catalog.old status.now }
+{
+    for (place, step) in steps.iter().enumerate() {
+        if !does(alloc, catalog, status, *step) {
+            return Some(place);
         }
     }
-    Ok(true)
+    None
 }
 
-fn does_one(
+/// Fails by the name of a row where a step of it isn't right, and tells its place.
+fn judged(name: &'static str, wrong: Option<usize>) -> Result<(), Fail> {
+    match wrong {
+        Some(place) => Err(Fail::from((name, place))),
+        None => Ok(()),
+    }
+}
+
+/// Does the steps, and lets the catalog go.
+fn judged_in(
     alloc: Global,
-    catalog: &mut Catalog,
+    name: &'static str,
+    mut group: Catalog,
     status: &PstRecord,
-    made: Shift,
-) -> Result<bool, Fail>
-    requires { IsStatusOf catalog.old status.now }
-    ensures { IsStatusOf catalog.new status.now }
+    steps: &[Step],
+) -> Result<(), Fail>
+    requires { IsStatusOf group status.now }
 {
-    let (index, copy, disk, unit) = made;
-    let unit = unit as u32;
-    if next_move(catalog, status) != shift(index as u32, copy, disk, unit) {
-        return Ok(false);
+    judged(name, wrong_in(alloc, &mut group, status, steps))
+}
+
+/// The same by the catalog of some records.
+fn judged_of(
+    alloc: Global,
+    name: &'static str,
+    records: &Records,
+    status: &PstRecord,
+    steps: &[Step],
+) -> Result<(), Fail> {
+    match catalog(alloc, records, status) {
+        Ok(group) => judged_in(alloc, name, group, status, steps),
+        Err(fail) => Err(fail),
     }
-    match make_move(
-        alloc,
-        catalog,
-        extent(index as u32),
-        copy,
-        Home { disk, unit },
-    ) {
-        Ok(is_made) => Ok(is_made),
-        Err(_) => Err(Fail::from("memory")),
+}
+
+/// Plays a row: the usual records of a small group after edits, its disks' modes, at most five, how many units each has, and
+/// what the rebalance does there, in turn. A shift is made before the next is asked for. Fails by its name where it does
+/// another thing.
+pub fn play(
+    alloc: Global,
+    name: &'static str,
+    edits: &[Edit<'_>],
+    disks: (&[Mode], u32),
+    steps: &[Step],
+) -> Result<(), Fail> {
+    match edited(alloc, edits, 0) {
+        Ok(records) => judged_of(alloc, name, &records, &status(disks.0, disks.1), steps),
+        Err(fail) => Err(fail),
     }
-}
-
-/// Extent i of file 256.
-pub fn extent(index: u32) -> ExtentId {
-    ExtentId { file: 256, index }
-}
-
-/// A copy of an extent of file 256 shifts to this disk and unit.
-pub fn shift(index: u32, copy: u8, disk: u8, unit: u32) -> Next {
-    Next::Move(Move::Shift {
-        x: extent(index),
-        copy,
-        to: Home { disk, unit },
-    })
-}
-
-/// A copy of an extent of file 256 gets this home.
-pub fn fill(index: u32, copy: u8, disk: u8, unit: u32) -> Next {
-    Next::Move(Move::Fill {
-        x: extent(index),
-        copy,
-        to: Home { disk, unit },
-    })
 }

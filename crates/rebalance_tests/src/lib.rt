@@ -2,8 +2,6 @@
 #![tactic(auto)]
 
 #[cfg(test)]
-mod first;
-#[cfg(test)]
 mod group;
 #[cfg(test)]
 mod rows;

@@ -1,0 +1,71 @@
+//! Plans of records of disks.
+
+ghost use Rattle.std.specs.Prelude.{◌≡◌, IfOk, None};
+ghost use Rattle.std.specs.Bool.{OnTrue};
+ghost use Rattle.catalog.specs.Disks.{info_at};
+ghost use Rattle.catalog_tests.specs.Planned.{IsPlanned};
+
+use crate::operations::name;
+use crate::steps::{Answer, answer_of};
+use asm_base::Change;
+use catalog::{Catalog, DiskInfo};
+use std::alloc::Global;
+
+fn info(alloc: Global, birth: u64) -> Result<DiskInfo, Answer> {
+    Ok(DiskInfo {
+        birth,
+        name: name(alloc, b"d", 30)?,
+        failgroup: name(alloc, b"fg", 30)?,
+    })
+}
+
+/// The change by which a disk has a record.
+#[tactic(auto, using(crate::proofs::Planned::planned))]
+pub fn disk(alloc: Global, group: &Catalog, number: u8, birth: u64) -> Result<Change, Answer>
+    ensures { IfOk result (λ change. IsPlanned group.now change.put change.gone) }
+{
+    let info = info(alloc, birth)?;
+    if !info.is_allowed(number) {
+        return Err(Answer::Another);
+    }
+    match group.plan_disk(alloc, number, Some(&info)) {
+        Ok(change) => Ok(change),
+        Err(refusal) => Err(answer_of(&refusal)),
+    }
+}
+
+/// The change by which a disk has none.
+#[tactic(auto, using(crate::proofs::Planned::planned))]
+pub fn no_disk(alloc: Global, group: &Catalog, number: u8) -> Result<Change, Answer>
+    ensures { IfOk result (λ change. IsPlanned group.now change.put change.gone) }
+{
+    match group.plan_disk(alloc, number, None) {
+        Ok(change) => Ok(change),
+        Err(refusal) => Err(answer_of(&refusal)),
+    }
+}
+
+/// Whether two disks are two, and neither has a record.
+fn are_new(group: &Catalog, first: u8, second: u8) -> bool
+    ensures first { OnTrue result (info_at group.now.tables.disks first ≡ None) }
+    ensures second { OnTrue result (info_at group.now.tables.disks second ≡ None) }
+    ensures apart { OnTrue result (second ≡ first → ⊥) }
+{
+    group.disk(first).is_none() && group.disk(second).is_none() && second != first
+}
+
+/// The change by which two disks have records.
+#[tactic(auto, using(crate::proofs::NewDisks::may_add, crate::proofs::Planned::planned))]
+pub fn two_disks(alloc: Global, group: &Catalog, first: u8, second: u8) -> Result<Change, Answer>
+    ensures { IfOk result (λ change. IsPlanned group.now change.put change.gone) }
+{
+    let infos = (info(alloc, 3)?, info(alloc, 4)?);
+    if !infos.0.is_allowed(first) || !infos.1.is_allowed(second) || !are_new(group, first, second) {
+        return Err(Answer::Another);
+    }
+    let added = [(first, infos.0), (second, infos.1)];
+    match group.plan_disks(alloc, &added) {
+        Ok(change) => Ok(change),
+        Err(refusal) => Err(answer_of(&refusal)),
+    }
+}

@@ -1,0 +1,97 @@
+//! A row of steps, played over the catalog of a small group.
+
+ghost use Rattle.catalog_tests.specs.Planned.{IsPlanned};
+
+use crate::facts::is_told;
+use crate::plans::planned;
+use crate::steps::{Answer, Plan, Step};
+use asm_base::{Change, ExtentId, Home};
+use catalog::Catalog;
+use sample_group::{Edit, catalog, edited, make_move};
+use std::alloc::Global;
+use std::test::Fail;
+
+/// Takes the memory for a change, and applies it.
+fn make(alloc: Global, catalog: &mut Catalog, change: &Change) -> Answer
+    requires { IsPlanned catalog.old change.now.put change.now.gone }
+{
+    match catalog.ready(alloc, change) {
+        Ok(()) => {
+            catalog.apply(change);
+            Answer::Done
+        }
+        Err(_) => Answer::Another,
+    }
+}
+
+/// Makes the change of a plan. What comes of it.
+fn made(alloc: Global, group: &mut Catalog, plan: Plan<'_>) -> Answer {
+    match planned(alloc, group, plan) {
+        Ok(change) => make(alloc, group, &change),
+        Err(answer) => answer,
+    }
+}
+
+/// Does a step. Whether this comes of it.
+fn is_right(alloc: Global, group: &mut Catalog, step: Step<'_>) -> bool {
+    match step {
+        Step::Make(plan, answer) => made(alloc, group, plan) == answer,
+        Step::Move(file, index, copy, disk, unit) => {
+            let x = ExtentId { file, index };
+            matches!(
+                make_move(alloc, group, x, copy, Home { disk, unit }),
+                Ok(true)
+            )
+        }
+        Step::Tells(fact) => is_told(alloc, group, fact),
+    }
+}
+
+/// Does steps one after the other, up to the first that isn't right. Which one that is.
+pub fn wrong_in(alloc: Global, group: &mut Catalog, steps: &[Step<'_>]) -> Option<usize> {
+    for (place, step) in steps.iter().enumerate() {
+        if !is_right(alloc, group, *step) {
+            return Some(place);
+        }
+    }
+    None
+}
+
+/// The catalog of the usual records after edits, with so many directories more in the root.
+fn group_with(alloc: Global, edits: &[Edit<'_>], directories: u8) -> Result<Catalog, Fail> {
+    let records = edited(alloc, edits, directories)?;
+    catalog(alloc, &records)
+}
+
+/// Fails by the name of a row where a step of it isn't right, and tells its place.
+fn judged(name: &'static str, wrong: Option<usize>) -> Result<(), Fail> {
+    match wrong {
+        Some(place) => Err(Fail::from((name, place))),
+        None => Ok(()),
+    }
+}
+
+/// Does steps one after the other, and lets the group go.
+fn judged_in(
+    alloc: Global,
+    name: &'static str,
+    mut group: Catalog,
+    steps: &[Step<'_>],
+) -> Result<(), Fail> {
+    judged(name, wrong_in(alloc, &mut group, steps))
+}
+
+/// Plays a row: steps in the group of the usual records after edits, with so many directories more in the root. Fails by its
+/// name where a step isn't right.
+pub fn play(
+    alloc: Global,
+    name: &'static str,
+    edits: &[Edit<'_>],
+    directories: u8,
+    steps: &[Step<'_>],
+) -> Result<(), Fail> {
+    match group_with(alloc, edits, directories) {
+        Ok(group) => judged_in(alloc, name, group, steps),
+        Err(fail) => Err(fail),
+    }
+}

@@ -1,4 +1,0 @@
-pub mod ExtentConditions
-pub mod FilesMade
-pub mod Planned
-pub mod SameHomes
