@@ -21,7 +21,6 @@ use Rattle.catalog.proofs.DiskPlans.{disk_rules, put_at, with_disks}
 use Rattle.catalog.proofs.NumberedLists.{new_longer}
 use Rattle.catalog.proofs.SetLaws.{disks_set}
 use Rattle.catalog.proofs.TableItems.{each_of, map_among}
-use Rattle.catalog.proofs.NewBlocks.{new_few}
 
 abbrev AreItems : List Disk → Type 0
 AreItems added = AllByRecursion (λ (x : Disk). is_item (disk_item x.0 x.1) ≡ true) added
@@ -62,7 +61,6 @@ added_planned c added first put gone is may room none p g =
       rules = disk_rules c.shape c.tables new is.rules table (omega (arith, size, room));
       units = λ es has. (c.units, has);
       few = omega (arith, length-map added record_of, may.few);
-      blocks = omega (arith, new_few c.tables (map record_of added), length-map added record_of, room);
       items = λ e among.
           let x = map_among record_of added e among in
           (disk_item x.0.0 x.0.1, record { is = each_of (λ (y : Disk). is_item (disk_item y.0 y.1) ≡ true) added x.0 items x.1; key = ap (λ (y : Entry). y.0) (sym x.2); value = ap (λ (y : Entry). y.1) (sym x.2) });

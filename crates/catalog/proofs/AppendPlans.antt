@@ -42,7 +42,6 @@ use Rattle.catalog.proofs.MarkPlans.{Stands as ChunkStands, stands, some_of, zip
 use Rattle.catalog.proofs.MovePlans.{units_long}
 use Rattle.catalog.proofs.PlacingLaws.{no_extents}
 use Rattle.catalog.proofs.UnitEdits.{as_many, cut, glue, units_edited, units_new}
-use Rattle.catalog.proofs.NewBlocks.{chunk_told, marks_told, two_any, two_old}
 
 -- ---- lists in parts
 
@@ -471,10 +470,7 @@ module _ (c : Catalogued) (is : IsCatalog c) (f n : ℕ) (homes : List Homes) (m
   pub append_planned : (put : List Entry) (gone : List Key) → HasChunkRoom c f n → put ≡ record_of ((f, n), homes_appended c.tables f n homes) ∷ stale.record_of ((f, n), marks_appended c.tables f n marks) ∷ [] → gone ≡ []
       → IsPlan c put gone (with_appended c.tables f n homes marks)
   append_planned put gone blocks e g =
-      rw (e, g) (edited_plan c k xs ms (record_of ((f, n), more) ∷ stale.record_of ((f, n), new_marks) ∷ []) [] is (edit blocks.room) (two_records blocks.room) (units blocks.room) (omega arith) refl (elim old_or_new [
-        | inl s ↦ two_old c is (record_of ((f, n), more)) (stale.record_of ((f, n), new_marks)) (chunk_told c.tables is.rules.tables f n more s.0 s.2.homes) (marks_told c.tables is.rules.tables f n new_marks s.1 s.2.marks)
-        | inr none ↦ two_any c is (record_of ((f, n), more)) (stale.record_of ((f, n), new_marks)) (blocks.room none.0)
-      ]))
+      rw (e, g) (edited_plan c k xs ms (record_of ((f, n), more) ∷ stale.record_of ((f, n), new_marks) ∷ []) [] is (edit blocks.room) (two_records blocks.room) (units blocks.room) (omega arith) refl)
 
 -- ---- whether blocks are wanting
 

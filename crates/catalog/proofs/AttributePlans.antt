@@ -16,7 +16,6 @@ use Rattle.catalog.proofs.PlanLaws.{after_put}
 use Rattle.catalog.proofs.SetLaws.{templates_set}
 use Rattle.catalog.proofs.TemplatePlans.{with_templates}
 use Rattle.catalog.proofs.PutItems.{plan_is}
-use Rattle.catalog.proofs.NewBlocks.{one_old, settings_told}
 
 pub settings_planned : (c : Catalogued) (put : List Entry) (gone : List Key) → IsCatalog c → (s : Settings) → is_item (settings_item s) ≡ true → put ≡ item_record (settings_item s) ∷ [] → gone ≡ []
     → IsPlan c put gone (record c.tables { templates = record { templates = c.tables.templates.templates; settings = s } })
@@ -42,7 +41,7 @@ settings_planned c put gone is s ok p g =
       room = r.room;
     })
     (λ es has. (c.units, has))
-    (omega arith) refl (one_old c is (item_record (settings_item s)) (settings_told c.tables r.tables s)))
+    (omega arith) refl)
 
 pub edit_planned : (c : Catalogued) (put : List Entry) (gone : List Key) (name v : Bytes) (s : Settings) → Some s ≡ settings_with c.tables.templates.settings name v
     → IsPlan c put gone (record c.tables { templates = record { templates = c.tables.templates.templates; settings = s } }) → IsAttributePlan c name v put gone

@@ -36,7 +36,6 @@ use Rattle.catalog.proofs.EditLaws.{IsEdited, IsRightChunk, after_two, changed, 
 use Rattle.catalog.proofs.EntryLaws.{both, either, three_true}
 use Rattle.catalog.proofs.MarkPlans.{Stands, stands, zip_at}
 use Rattle.catalog.proofs.UnitEdits.{cut, units_edited}
-use Rattle.catalog.proofs.NewBlocks.{chunk_told, marks_told, two_old}
 
 -- ---- lists that are cut
 
@@ -212,7 +211,6 @@ module _ (c : Catalogued) (is : IsCatalog c) (f n kept : ℕ) (may : MayCut c.sh
 
   fewer_planned : IsPlan c (chunk_entry ∷ marks_entry ∷ []) [] (changed c.tables xs ms)
   fewer_planned = edited_plan c k xs ms (chunk_entry ∷ marks_entry ∷ []) [] is edit after units (omega arith) refl
-      (two_old c is chunk_entry marks_entry (chunk_told c.tables is.rules.tables f n (cut_to kept w) w s.homes) (marks_told c.tables is.rules.tables f n (marks_to kept m) m s.marks))
 
 pub cut_planned : (c : Catalogued) (f n kept : ℕ) (put : List Entry) (gone : List Key) → IsCatalog c → MayCut c.shape c.tables f n kept → (kept ≡ 0 → ⊥)
     → put ≡ record_of ((f, n), cut_to kept (chunk_or_blank c.tables.extents (f, n))) ∷ stale.record_of ((f, n), marks_to kept (marks_or_none c.tables.stale (f, n))) ∷ [] → gone ≡ []

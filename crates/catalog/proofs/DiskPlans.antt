@@ -23,7 +23,6 @@ use Rattle.catalog.proofs.NumberedLists.{either, gone_at, gone_few, new_longer, 
 use Rattle.catalog.proofs.PlanLaws.{after_gone, after_put}
 use Rattle.catalog.proofs.SetLaws.{disks_set}
 use Rattle.catalog.proofs.PutItems.{plan_is}
-use Rattle.catalog.proofs.NewBlocks.{HasBlocks, disk_told, nothing, one_any, one_old}
 
 -- ---- what stands at each number then
 
@@ -67,12 +66,6 @@ put_room c d info is room = by (info_at c.tables.disks d) refl where
       let same = there_as_long d info x c.tables.disks is.rules.tables.disks.0 e in
       omega (arith, same, is.rules.room)
 
-put_blocks : (c : Catalogued) (d : ℕ) (info : DiskInfo) → IsCatalog c → (info_at c.tables.disks d ≡ None → blocks_used c.tables + 2 < c.shape.dir_blocks) → HasBlocks c (item_record (disk_item d info) ∷ [])
-put_blocks c d info is room = by (info_at c.tables.disks d) refl where
-  by : (o : Option DiskInfo) → info_at c.tables.disks d ≡ o → HasBlocks c (item_record (disk_item d info) ∷ [])
-  by None e = one_any c is (item_record (disk_item d info)) (room e)
-  by (Some x) e = one_old c is (item_record (disk_item d info)) (disk_told c.tables is.rules.tables d info x e)
-
 module _ (c : Catalogued) (put : List Entry) (gone : List Key) (is : IsCatalog c) where
   abbrev old : List Disk
   old = c.tables.disks
@@ -87,7 +80,7 @@ module _ (c : Catalogued) (put : List Entry) (gone : List Key) (is : IsCatalog c
       (after_put c.tables (record c.tables { disks = new }) (item_record (disk_item d info)) (with_disks c.tables new is.rules.tables table) sets)
       (disk_rules c.shape c.tables new is.rules table (put_room c d info is room))
       (λ es has. (c.units, has))
-      (omega arith) refl (put_blocks c d info is room))
+      (omega arith) refl)
 
   pub gone_planned : (d : ℕ) → put ≡ [] → gone ≡ disk_key d ∷ [] → IsPlan c put gone (record c.tables { disks = without_disk old d })
   gone_planned d p g =
@@ -99,7 +92,7 @@ module _ (c : Catalogued) (put : List Entry) (gone : List Key) (is : IsCatalog c
       (after_gone c.tables (record c.tables { disks = new }) (disk_key d) (with_disks c.tables new is.rules.tables table) sets)
       (disk_rules c.shape c.tables new is.rules table (omega (arith, few, is.rules.room)))
       (λ es has. (c.units, has))
-      (omega arith) refl (nothing c is))
+      (omega arith) refl)
 
 -- ---- whether a block is wanting
 

@@ -32,7 +32,6 @@ use Rattle.catalog.specs.Tables.{AreTables, Catalogued, Tables, records_of}
 use Rattle.catalog.proofs.EntryLaws.{edited, either, holds_all, holds_at, right_at}
 use Rattle.catalog.proofs.SetLaws.{extents_set, stale_set}
 use Rattle.catalog.proofs.PutItems.{is_once, plan_is}
-use Rattle.catalog.proofs.NewBlocks.{HasBlocks}
 
 -- the tables with these extents and marks
 abbrev pub changed : Tables → List Chunked → List Marked → Tables
@@ -159,6 +158,6 @@ after_two_gone t mid u j l are first second = record { tables = are; records = �
 pub edited_plan : (c : Catalogued) (k : Chunk) (xs : List Chunked) (ms : List Marked) (put : List Entry) (gone : List Key) → IsCatalog c → IsEdited c.shape c.tables k xs ms
     → (AreTables (changed c.tables xs ms) → IsAfter c.tables put gone (changed c.tables xs ms))
     → ((entries : List status.Entry) → HasUnits c.shape entries c.tables c.units → (us : List UnitMap) × HasUnits c.shape entries (changed c.tables xs ms) us)
-    → length put + length gone ≤ 64 → is_once put gone ≡ true → HasBlocks c put → IsPlan c put gone (changed c.tables xs ms)
-edited_plan c k xs ms put gone is e after units few once blocks =
-    plan_is c put gone (changed c.tables xs ms) (after (edited_tables c.shape c.tables k xs ms is.rules.tables e)) (edited_rules c.shape c.tables k xs ms is.rules e) units few once blocks
+    → length put + length gone ≤ 64 → is_once put gone ≡ true → IsPlan c put gone (changed c.tables xs ms)
+edited_plan c k xs ms put gone is e after units few once =
+    plan_is c put gone (changed c.tables xs ms) (after (edited_tables c.shape c.tables k xs ms is.rules.tables e)) (edited_rules c.shape c.tables k xs ms is.rules e) units few once

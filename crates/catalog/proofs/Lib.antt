@@ -21,7 +21,6 @@ pub mod UnusedLaws
 pub mod SetLaws
 pub mod SameTables
 pub mod AfterLaws
-pub mod NewBlocks
 pub mod PutItems
 pub mod PlanLaws
 pub mod NumberedLists

@@ -45,7 +45,6 @@ use Rattle.catalog.proofs.HomeUnits.{chunks_are_homes, takes}
 use Rattle.catalog.proofs.MarkPlans.{Stands, marks_small, set_allowed, stands, zip_at}
 use Rattle.catalog.proofs.PlanLaws.{after_put}
 use Rattle.catalog.proofs.UnitEdits.{as_many, moved, units_edited}
-use Rattle.catalog.proofs.NewBlocks.{chunk_told, marks_told, one_old, two_old}
 
 -- ---- marks without one
 
@@ -352,7 +351,6 @@ module _ (c : Catalogued) (is : IsCatalog c) (f i copy : ℕ) (h : Home) (may : 
 
   pub two_planned : IsPlan c (chunk_entry ∷ marks_entry ∷ []) [] (changed c.tables xs ms)
   two_planned = edited_plan c k xs ms (chunk_entry ∷ marks_entry ∷ []) [] is edit two_records units (omega arith) refl
-      (two_old c is chunk_entry marks_entry (chunk_told c.tables is.rules.tables f (i / 256) new w s.homes) (marks_told c.tables is.rules.tables f (i / 256) new_marks m s.marks))
 
   -- where the copy has no mark, the marks stay
   same_marks : has_bit (get_or m (i % 256) 0) copy ≡ false → ms ≡ c.tables.stale
@@ -367,7 +365,6 @@ module _ (c : Catalogued) (is : IsCatalog c) (f i copy : ℕ) (h : Home) (may : 
 
   pub one_planned : has_bit (get_or m (i % 256) 0) copy ≡ false → IsPlan c (chunk_entry ∷ []) [] (changed c.tables xs ms)
   one_planned none = edited_plan c k xs ms (chunk_entry ∷ []) [] is edit (one_record (same_marks none)) units (omega arith) refl
-      (one_old c is chunk_entry (chunk_told c.tables is.rules.tables f (i / 256) new w s.homes))
 
 -- ---- as the code says it
 

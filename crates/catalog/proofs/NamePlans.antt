@@ -53,7 +53,6 @@ use Rattle.catalog.proofs.PlanLaws.{or_false, pending_key}
 use Rattle.catalog.proofs.SetLaws.{operations_set, templates_set}
 use Rattle.catalog.proofs.TableItems.{append_among, each_of, map_among}
 use Rattle.catalog.proofs.TreePlans.{Stays, both_true, first_right, has_of, has_stay, head_put, named_dir, named_of, node_put, or_more, or_true}
-use Rattle.catalog.proofs.NewBlocks.{but_last, settings_told}
 
 -- ---- nodes that are put one after the other
 
@@ -311,11 +310,6 @@ made_planned c f head made put gone is new few p g = (
     units = λ es has. (c.units, has);
     few = (let one : length gone ≡ 1 = ap (λ (ks : List Key). length ks) g in omega (arith, five, one));
     items = subst ArePutItems (sym p) (puts_items f head made c.tables.templates.settings new.item new.items is.rules.tables.templates.settings);
-    blocks =
-        (let rest = map nodes.record_of made in
-        let next = item_record (settings_item (settings_next c.tables.templates.settings)) in
-        let few = but_last c.tables (record_of (f, head) ∷ rest) next (settings_told c.tables is.rules.tables (settings_next c.tables.templates.settings)) in
-        rw p (omega (arith, few, length-map made nodes.record_of, new.room)));
   },
   five,
 ) where

@@ -28,7 +28,6 @@ use Rattle.catalog.proofs.EditLaws.{IsEdited, after_two_gone, changed, edited_pl
 use Rattle.catalog.proofs.EntryLaws.{either}
 use Rattle.catalog.proofs.MarkPlans.{some_of}
 use Rattle.catalog.proofs.UnitEdits.{units_gone}
-use Rattle.catalog.proofs.NewBlocks.{nothing}
 
 -- a chunk that is there has a number with room in its key
 pub numbered : (c : Catalogued) (f n : ℕ) → IsCatalog c → is_some (chunk_at c.tables.extents (f, n)) ≡ true → n + 1 < 2 ^ 32
@@ -98,7 +97,7 @@ module _ (c : Catalogued) (is : IsCatalog c) (f n : ℕ) (may : MayCut c.shape c
       units_gone c.shape.step (unused_maps c.shape es) c.units k c.tables.extents xs is.rules.tables.extents.0.0 edit.extents.0.0 others has w.0 w.1 gone
 
   release_planned : (put : List Entry) (keys : List Key) → put ≡ [] → keys ≡ chunk_key f n ∷ key_of_marks (f, n) ∷ [] → IsPlan c put keys (with_cut c.tables f n 0)
-  release_planned put keys p g = rw (p, g) (edited_plan c k xs ms [] (chunk_key f n ∷ key_of_marks (f, n) ∷ []) is edit after units (omega arith) refl (nothing c is))
+  release_planned put keys p g = rw (p, g) (edited_plan c k xs ms [] (chunk_key f n ∷ key_of_marks (f, n) ∷ []) is edit after units (omega arith) refl)
 
 -- where no extent is kept
 pub whole_planned : (c : Catalogued) (f n kept : ℕ) (put : List Entry) (keys : List Key) → IsCatalog c → MayCut c.shape c.tables f n kept → kept ≡ 0 → put ≡ [] → keys ≡ chunk_key f n ∷ key_of_marks (f, n) ∷ [] → IsPlan c put keys (with_cut c.tables f n kept)

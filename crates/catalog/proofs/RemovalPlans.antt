@@ -38,7 +38,6 @@ use Rattle.catalog.proofs.PlanLaws.{pending_key}
 use Rattle.catalog.proofs.SetLaws.{file_gone, nodes_set, operations_set}
 use Rattle.catalog.proofs.TableItems.{among_found, numbers_exact}
 use Rattle.catalog.proofs.PutItems.{plan_is}
-use Rattle.catalog.proofs.NewBlocks.{one_kept}
 
 system_of_item : (f : ℕ) (head : FileHead) → is_item (file_item f head) ≡ true → 0 < head.system
 unfolding is_item
@@ -360,7 +359,7 @@ removal_planned c f head put gone is there ok p g = by (eqb head.alias 0) refl w
       (record { tables = tables_kept c.shape c.tables f head is.rules there ns (λ m. is_at (nat_cmp head.system) m) goes at items few part table; records = λ k. rw (p, keys) (system_left c.shape c.tables f head is.rules there k ∙ two_go (is_key (file_key f) k) (is_key (node_key head.system) k) (cond (is_key pending_key k) (Some (value (pending_item (removal_of f)))) (records_of c.tables k))) })
       (rules_kept c.shape c.tables f head is.rules there ns (λ m. is_at (nat_cmp head.system) m) goes at items few part table owned)
       (λ es has. (c.units, has))
-      (rw (p, keys) (omega arith)) (rw (p, keys) refl) (rw p (one_kept c is (item_record (pending_item (removal_of f))) refl)))
+      (rw (p, keys) (omega arith)) (rw (p, keys) refl))
       (owned_then c.shape c.tables f head is.rules there ns (λ m. is_at (nat_cmp head.system) m) goes at items few part)
   by false q =
       let ns = without_node (without_node c.tables.nodes head.system) head.alias in
@@ -377,5 +376,5 @@ removal_planned c f head put gone is there ok p g = by (eqb head.alias 0) refl w
       (record { tables = tables_kept c.shape c.tables f head is.rules there ns (λ m. is_either c.shape c.tables f head is.rules there m) goes at items few part table; records = λ k. rw (p, keys) (alias_left c.shape c.tables f head is.rules there k ∙ three_go (is_key (file_key f) k) (is_key (node_key head.system) k) (is_key (node_key head.alias) k) (cond (is_key pending_key k) (Some (value (pending_item (removal_of f)))) (records_of c.tables k))) })
       (rules_kept c.shape c.tables f head is.rules there ns (λ m. is_either c.shape c.tables f head is.rules there m) goes at items few part table owned)
       (λ es has. (c.units, has))
-      (rw (p, keys) (omega arith)) (rw (p, keys) refl) (rw p (one_kept c is (item_record (pending_item (removal_of f))) refl)))
+      (rw (p, keys) (omega arith)) (rw (p, keys) refl))
       (owned_then c.shape c.tables f head is.rules there ns (λ m. is_either c.shape c.tables f head is.rules there m) goes at items few part)

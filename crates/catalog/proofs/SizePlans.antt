@@ -37,7 +37,6 @@ use Rattle.catalog.proofs.PlanLaws.{or_false, pending_key}
 use Rattle.catalog.proofs.SetLaws.{operations_set}
 use Rattle.catalog.proofs.TreePlans.{head_put}
 use Rattle.catalog.proofs.PutItems.{is_once, plan_is}
-use Rattle.catalog.proofs.NewBlocks.{HasBlocks, file_told, old_kept, one_old}
 
 -- ---- the head
 
@@ -154,11 +153,11 @@ module _ (c : Catalogued) (f : ℕ) (head : FileHead) (size : ℕ) (put : List E
   abbrev to : Option Pending → Tables
   to pending = sized c.tables f head size pending
 
-  plan_of : (pending : Option Pending) → operations.IsTable (record old { pending = pending }) → ((k : Key) → records_of (to pending) k ≡ value_after put gone k (records_of c.tables k)) → length put + length gone ≤ 64 → is_once put gone ≡ true → HasBlocks c put
+  plan_of : (pending : Option Pending) → operations.IsTable (record old { pending = pending }) → ((k : Key) → records_of (to pending) k ≡ value_after put gone k (records_of c.tables k)) → length put + length gone ≤ 64 → is_once put gone ≡ true
       → AreOwned (to pending) → IsPlan c put gone (to pending)
-  plan_of pending table after few once blocks owned =
+  plan_of pending table after few once owned =
       plan_is c put gone (to pending) (record { tables = tables_kept c.shape c.tables f head size pending is.rules there less table; records = after })
-      (rules_kept c.shape c.tables f head size pending is.rules there less table may owned) (λ es has. (c.units, has)) few once blocks
+      (rules_kept c.shape c.tables f head size pending is.rules there less table may owned) (λ es has. (c.units, has)) few once
 
   grown_after : put ≡ entry ∷ [] → gone ≡ pending_key ∷ [] → (k : Key) → records_of (to None) k ≡ value_after put gone k (records_of c.tables k)
   grown_after p g k = rw (p, g) (
@@ -172,7 +171,7 @@ module _ (c : Catalogued) (f : ℕ) (head : FileHead) (size : ℕ) (put : List E
     file = there;
     pending = None;
     operation = record { grown = λ e. refl; shrunk = λ e. absurd (omega arith); as_long = λ e. absurd (omega arith) };
-    plan = plan_of None (operation_laws.no_pending old (record old { pending = None }) refl is.rules.tables.operations) (grown_after p g) (rw (p, g) (omega arith)) (rw (p, g) refl) (rw p (one_old c is entry (file_told c.tables is.rules.tables f (with_size head size) head there)));
+    plan = plan_of None (operation_laws.no_pending old (record old { pending = None }) refl is.rules.tables.operations) (grown_after p g) (rw (p, g) (omega arith)) (rw (p, g) refl);
     owned = owned_then c.shape c.tables f head size None is.rules there;
   }
 
@@ -188,8 +187,7 @@ module _ (c : Catalogued) (f : ℕ) (head : FileHead) (size : ℕ) (put : List E
     file = there;
     pending = Some op;
     operation = record { grown = λ e. absurd (omega arith); shrunk = λ e. (op.kept, ap (λ (o : Pending). Some o) same, kept_then); as_long = λ e. absurd (omega arith) };
-    plan = plan_of (Some op) (operation_laws.operation_allowed old op ok is.rules.tables.operations) (shrunk_after op records g) (rw (records, g) (omega arith)) (rw (records, g) refl)
-        (rw records (old_kept c is entry (item_record (pending_item op)) (file_told c.tables is.rules.tables f (with_size head size) head there) refl));
+    plan = plan_of (Some op) (operation_laws.operation_allowed old op ok is.rules.tables.operations) (shrunk_after op records g) (rw (records, g) (omega arith)) (rw (records, g) refl);
     owned = owned_then c.shape c.tables f head size (Some op) is.rules there;
   } where
     same : op ≡ record { kind = Shrink; file = f; kept = op.kept }
@@ -207,6 +205,6 @@ module _ (c : Catalogued) (f : ℕ) (head : FileHead) (size : ℕ) (put : List E
     file = there;
     pending = old.pending;
     operation = record { grown = λ e. absurd (omega arith); shrunk = λ e. absurd (omega arith); as_long = λ e. refl };
-    plan = plan_of old.pending is.rules.tables.operations (λ k. rw (p, g) (head_set c.shape c.tables f head size old.pending is.rules there k)) (rw (p, g) (omega arith)) (rw (p, g) refl) (rw p (one_old c is entry (file_told c.tables is.rules.tables f (with_size head size) head there)));
+    plan = plan_of old.pending is.rules.tables.operations (λ k. rw (p, g) (head_set c.shape c.tables f head size old.pending is.rules there k)) (rw (p, g) (omega arith)) (rw (p, g) refl);
     owned = owned_then c.shape c.tables f head size old.pending is.rules there;
   }

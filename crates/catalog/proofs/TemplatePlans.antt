@@ -17,7 +17,6 @@ use Rattle.catalog.specs.Tables.{AreTables, Catalogued, Tables}
 use Rattle.catalog.proofs.PlanLaws.{after_put}
 use Rattle.catalog.proofs.SetLaws.{templates_set}
 use Rattle.catalog.proofs.PutItems.{plan_is}
-use Rattle.catalog.proofs.NewBlocks.{one_old, templates_told}
 
 pub with_templates : (t : Tables) (new : templates.Table) → AreTables t → templates.IsTable new → AreTables (record t { templates = new })
 with_templates t new a is = record { files = a.files; extents = a.extents; nodes = a.nodes; templates = is; stale = a.stale; operations = a.operations; disks = a.disks }
@@ -46,7 +45,7 @@ set_planned c put gone is ts ok p g =
       room = r.room;
     })
     (λ es has. (c.units, has))
-    (omega arith) refl (one_old c is (item_record (templates_item ts)) (templates_told c.tables r.tables ts)))
+    (omega arith) refl)
 
 pub edit_planned : (c : Catalogued) (put : List Entry) (gone : List Key) (edit : TemplateEdit) (ts : List Template) → templates_edited c.shape.kind (templates_by_name c.tables.templates.templates) edit ≡ Ok (templates_by_name ts)
     → IsPlan c put gone (record c.tables { templates = record { templates = ts; settings = c.tables.templates.settings } }) → IsTemplatePlan c edit put gone

@@ -36,7 +36,6 @@ use Rattle.catalog.proofs.NumberedLists.{all_there, either, gone_few, new_longer
 use Rattle.catalog.proofs.PlanLaws.{after_gone, after_put}
 use Rattle.catalog.proofs.SetLaws.{files_set, nodes_set}
 use Rattle.catalog.proofs.PutItems.{plan_is}
-use Rattle.catalog.proofs.NewBlocks.{HasBlocks, any_old, file_told, node_told, nothing, one_any, one_old}
 
 -- ---- entries that are right
 
@@ -423,12 +422,6 @@ module _ (c : Catalogued) (put : List Entry) (gone : List Key) (is : IsCatalog c
       let few = gone_few (is_at (nat_cmp n)) t.nodes in
       omega (arith, few, as_many, is.rules.room)
 
-  put_blocks : (n : ℕ) (x : Node) → (node_at t.nodes n ≡ None → blocks_used t + 2 < c.shape.dir_blocks) → HasBlocks c (item_record (node_item n x) ∷ [])
-  put_blocks n x room = by (node_at t.nodes n) refl where
-    by : (o : Option Node) → node_at t.nodes n ≡ o → HasBlocks c (item_record (node_item n x) ∷ [])
-    by None e = one_any c is (item_record (node_item n x)) (room e)
-    by (Some was) e = one_old c is (item_record (node_item n x)) (node_told t is.rules.tables n x was e)
-
   -- A node is put, and no head changes.
   pub node_planned : (n : ℕ) (x : Node) → nodes.IsTable (with_node t.nodes n x) → KeepsName (node_at t.nodes n) x → (node_at t.nodes n ≡ None → blocks_used t + 2 < c.shape.dir_blocks)
       → put ≡ item_record (node_item n x) ∷ [] → gone ≡ [] → IsPlan c put gone (record t { nodes = with_node t.nodes n x })
@@ -439,7 +432,7 @@ module _ (c : Catalogued) (put : List Entry) (gone : List Key) (is : IsCatalog c
       (after_put t (record t { nodes = with_node t.nodes n x }) (item_record (node_item n x)) are (node_put t n x))
       (after_rules c.shape t (with_node t.nodes n x) t.files r (λ f. like_itself (head_at t.files f)) are (kept_named c.shape t r n x keeps) (kept_has c.shape t r n x keeps) (put_room n x t.files refl room))
       (λ es has. (c.units, has))
-      (omega arith) refl (put_blocks n x room))
+      (omega arith) refl)
 
   -- A new alias is put, and the head of its file has it.
   pub alias_planned : (n : ℕ) (x : Node) (h : FileHead) → nodes.IsTable (with_node t.nodes n x) → n < 2 ^ 32 → node_at t.nodes n ≡ None → x.kind ≡ Alias → head_at t.files x.file ≡ Some h → HasNoAlias t.nodes x.file → blocks_used t + 2 < c.shape.dir_blocks
@@ -457,7 +450,7 @@ module _ (c : Catalogued) (put : List Entry) (gone : List Key) (is : IsCatalog c
       (after_rules c.shape t (with_node t.nodes n x) heads r (like_put t.files x.file h n head) are (alias_named c.shape t r n x x.file h free kind refl head none) (alias_has c.shape t r n x x.file h free kind refl head none)
       (put_room n x heads as_many (λ e. room)))
       (λ es has. (c.units, has))
-      (omega arith) refl (any_old c is (item_record (node_item n x)) (item_record (file_item x.file (with_alias h n))) room (file_told t r.tables x.file (with_alias h n) h head)))
+      (omega arith) refl)
 
   -- A directory goes.
   pub dir_gone_planned : (n : ℕ) (x : Node) → nodes.IsTable (without_node t.nodes n) → node_at t.nodes n ≡ Some x → x.kind ≡ Directory → put ≡ [] → gone ≡ node_key n ∷ [] → IsPlan c put gone (record t { nodes = without_node t.nodes n })
@@ -468,7 +461,7 @@ module _ (c : Catalogued) (put : List Entry) (gone : List Key) (is : IsCatalog c
       (after_gone t (record t { nodes = without_node t.nodes n }) (node_key n) are (node_gone t n r.tables))
       (after_rules c.shape t (without_node t.nodes n) t.files r (λ f. like_itself (head_at t.files f)) are (dir_named c.shape t r n x at) (dir_has c.shape t r n x at kind) (gone_room n t.files refl))
       (λ es has. (c.units, has))
-      (omega arith) refl (nothing c is))
+      (omega arith) refl)
 
   -- An alias goes, and the head of its file has none.
   pub alias_gone_planned : (n : ℕ) (x : Node) (h : FileHead) → nodes.IsTable (without_node t.nodes n) → node_at t.nodes n ≡ Some x → x.kind ≡ Alias → head_at t.files x.file ≡ Some h
@@ -488,7 +481,7 @@ module _ (c : Catalogued) (put : List Entry) (gone : List Key) (is : IsCatalog c
       (after_rules c.shape t (without_node t.nodes n) heads r (like_put t.files x.file h 0 head) are (unalias_named c.shape t r n x at x.file h kind refl head) (unalias_has c.shape t r n x at x.file h kind refl head)
       (gone_room n heads as_many))
       (λ es has. (c.units, has))
-      (omega arith) refl (one_old c is (item_record (file_item x.file (with_alias h 0))) (file_told t r.tables x.file (with_alias h 0) h head)))
+      (omega arith) refl)
 
 -- ---- the same, by what the steps of a plan give
 

@@ -7,41 +7,28 @@ use Rattle.asm_group.specs.TemplateEdits.{TemplateEdit, templates_edited}
 use Rattle.asm_formats.specs.Among.{IsAmong}
 use Rattle.asm_formats.specs.Items.{DiskInfo, Item, Key, disk_item, is_item}
 use Rattle.asm_formats.specs.Status as status
-use Rattle.asm_base.specs.Records.{Entry, record_at}
+use Rattle.asm_base.specs.Records.{Entry}
 use Rattle.asm_base.specs.declared.refusal.Refusal.{Refusal}
 use Rattle.asm_base.specs.declared.refusal.Refusal.TheVariants as cause
 use Rattle.allocator.specs.UnitMaps.{UnitMap}
-use Rattle.page_map.specs.Changes.{is_put}
 use Rattle.page_map.specs.Contents.{IsItemOf}
-use Rattle.page_map.specs.Tables as pages
-use Rattle.page_map.specs.Tables.{PageTable, is_kept, new_in, one_if}
 use Rattle.catalog.specs.Changing.{IsAfter}
 use Rattle.catalog.specs.Disks.{Disk, info_at, with_info, without_disk}
 use Rattle.catalog.specs.Placing.{HasUnits}
 use Rattle.catalog.specs.Rules.{KeepsRules, blocks_used, first_wrong, is_owned}
-use Rattle.catalog.specs.Tables.{Catalogued, Tables, records_of}
+use Rattle.catalog.specs.Tables.{Catalogued, Tables}
 
 -- each of the records is one of the formats
 abbrev pub ArePutItems : List Entry → Type 0
 ArePutItems put = (e : Entry) → IsAmong put e → (i : Item) × IsItemOf e.0 e.1 i
 
--- how many blocks the records take that are put and weren't there, but for those of the rebalance and of the pending operation: each counted where it is put last
-abbrev pub new_blocks : Tables → List Entry → ℕ
-new_blocks t [] = 0
-new_blocks t (p ∷ ps) = one_if (not (is_kept p.0) && not (is_some (records_of t p.0)) && not (is_put ps p.0)) + new_blocks t ps
-
--- They are as many as those for which a commit of the directories asks for room.
-abbrev pub NewBlocksAreNewRecords : Type 0
-NewBlocksAreNewRecords = (t : Tables) (table : PageTable) (put : List Entry) → pages.IsTable table → ((k : Key) → record_at table.records k ≡ records_of t k) → new_in table put ≡ new_blocks t put
-
--- The change leads from the catalog to these tables: at each key they give what it leaves there, the rules hold of them, their homes have units where the catalog's have, it has at most 64 keys, each record that it puts is one of the formats, and there is room for those that are new.
+-- The change leads from the catalog to these tables: at each key they give what it leaves there, the rules hold of them, their homes have units where the catalog's have, it has at most 64 keys, and each record that it puts is one of the formats.
 pub record IsPlan (c : Catalogued) (put : List Entry) (gone : List Key) (u : Tables) : Type 0 where
   pub after : IsAfter c.tables put gone u
   pub rules : KeepsRules c.shape u
   pub units : (entries : List status.Entry) → HasUnits c.shape entries c.tables c.units → (ms : List UnitMap) × HasUnits c.shape entries u ms
   pub few : length put + length gone ≤ 64
   pub items : ArePutItems put
-  pub blocks : new_blocks c.tables put + (blocks_used c.tables + 2) ≤ c.shape.dir_blocks
 
 -- each chunk is one of a file or of the pending operation's
 abbrev pub AreOwned : Tables → Type 0

@@ -10,7 +10,6 @@ ghost use Rattle.catalog.specs.ExtentPlans.{ClearsItems, MovesItems, StaysInPlac
 ghost use Rattle.catalog.specs.Items.{ItemsAreOneList, ItemsOfRecords, ItemsSayTables, RecordsAreTold, TablesHaveItems, UnitsOfItems};
 ghost use Rattle.catalog.specs.NameChecks.{ChecksAgree, ChecksHold};
 ghost use Rattle.catalog.specs.NamePlans.{FilesAsWorld, RefusesAsWorld};
-ghost use Rattle.catalog.specs.Plans.{NewBlocksAreNewRecords};
 ghost use Rattle.catalog.specs.RegularHomes.{AppendingKeepsRegular, CopiesAreRegular, CuttingKeepsRegular, HomesAreRegular, MovingKeepsRegular, RegularStays};
 
 /// Where a record is at fault, no value is a catalog of the records.
@@ -32,11 +31,6 @@ pub fn items_are_of_tables()
 /// At each key the tables of a group's records say what the record of the key says, and nothing where there is none.
 pub fn tables_say_records()
     ensures { RecordsAreTold }
-{}
-
-/// The records that a plan puts and that are new are as many as those for which a commit of the directories wants room.
-pub fn new_blocks_are_new_records()
-    ensures { NewBlocksAreNewRecords }
 {}
 
 /// What items say of files, extents, marks, homes and copies is what the tables say whose items they are.
