@@ -1,3 +1,0 @@
-pub mod Extents
-pub mod Disks
-pub mod Listing
