@@ -1,3 +1,5 @@
+pub mod FirstParts
+pub mod Mounting
 pub mod Found
 pub mod Creating
 pub mod Planned

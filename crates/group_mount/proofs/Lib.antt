@@ -19,3 +19,6 @@ pub mod Reaching
 pub mod Renewals
 pub mod Surveyed
 pub mod Modes
+pub mod Alikes
+pub mod CopyLoads
+pub mod Quorums

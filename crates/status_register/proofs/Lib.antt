@@ -24,3 +24,4 @@ pub mod Rewriting
 pub mod Ordering
 pub mod Reaching
 pub mod Elsewhere
+pub mod Allowing
