@@ -1,5 +1,3 @@
-pub mod FirstParts
-pub mod Mounting
 pub mod Found
 pub mod Creating
 pub mod Planned

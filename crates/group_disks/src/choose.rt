@@ -4,7 +4,7 @@ ghost use Rattle.bay.specs.Counts.{last_count};
 ghost use Rattle.asm_group.specs.Names.{is_name};
 ghost use Rattle.asm_base.specs.Refusals.{said};
 ghost use Rattle.asm_group.specs.Refusal.{NoDisk, DiskTaken, TooSmall, WriteFault};
-ghost use Rattle.group_disks.specs.Probes.{IsUsable, IsUnusable, Says, size_shown};
+ghost use Rattle.group_disks.specs.Probes.{IsUsable, IsUnusable, Says};
 
 use crate::find::Probe;
 use asm_base::{DiskRef, Name, NoMemory, Refusal, Text};
@@ -36,17 +36,6 @@ pub fn usable_units(alloc: Global, path: &[u8], disk: &Name, probe: Probe) -> Re
                 Ok(units)
             }
         }
-    }
-}
-
-/// The size in bytes that a look has shown, and 0 of an image that wasn't attached.
-pub fn shown_size(probe: Probe) -> u64
-    ensures { result ≡ size_shown probe }
-{
-    match probe {
-        Probe::Absent => 0,
-        Probe::Unread { size } => size,
-        Probe::Read { size, .. } => size,
     }
 }
 

@@ -1,4 +1,4 @@
-//! The disks of a group: how a group comes to be on them, and how it is mounted.
+//! The disks of a group: how a group comes to be on them.
 #![tactic(auto)]
 
 mod choose;
@@ -8,12 +8,7 @@ mod find;
 mod first_change;
 mod give;
 mod laws;
-mod mount;
-mod mount_new;
 mod new_group;
-mod pending;
 
 pub use create::create_group;
 pub use laws::{formed_is_held, forming_creates};
-pub use mount::mount_group;
-pub use pending::end_pending;

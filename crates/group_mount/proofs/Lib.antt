@@ -19,6 +19,3 @@ pub mod Reaching
 pub mod Renewals
 pub mod Surveyed
 pub mod Modes
-pub mod Alikes
-pub mod CopyLoads
-pub mod Quorums

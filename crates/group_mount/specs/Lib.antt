@@ -12,9 +12,3 @@ pub mod Syncing
 pub mod Writing
 pub mod Surveying
 pub mod Modes
-pub mod Alike
-pub mod NamedCopies
-pub mod Missing
-pub mod Loads
-pub mod Quorum
-pub mod Recovering

@@ -5,7 +5,7 @@ ghost use Rattle.std.specs.Option.{option_or};
 ghost use Rattle.bay.specs.Image.{Same};
 ghost use Rattle.bay.specs.Moments.{Runs};
 ghost use Rattle.group_mount.specs.Finding.{AreThere};
-ghost use Rattle.group_mount.specs.Founds.{FindCause, IsFound, not_held};
+ghost use Rattle.group_mount.specs.Founds.{FindCause, IsFound};
 ghost use Rattle.group_mount.specs.Verdicts.{chosen};
 
 use crate::choosing::{Choice, choose, ids_named};
@@ -20,8 +20,6 @@ use std::marker::Model;
 #[derive(Debug, Drop)]
 pub struct Found {
     id: u64,
-    /// The images, of which those in the first so many slots are looked at.
-    slots: u32,
     headed: Vec<Headed>,
 }
 
@@ -31,7 +29,7 @@ impl Model for Found {
 
     ghost Value = { FoundDisks };
 
-    ghost view = { λ f. record { id = f.id; slots = f.slots; headed = f.headed.items } };
+    ghost view = { λ f. record { id = f.id; headed = f.headed.items } };
 
     ghost invariant = { λ f. length f.headed.items ≤ 512 };
 }
@@ -60,7 +58,6 @@ impl Found {
             (λ found. IsFound name.now (length paths.now) found (B.state bay.old) (B.state bay.new))
             (λ error. FindCause name.now (length paths.now) error (B.state bay.old) (B.state bay.new)) }
         ensures there { IfOk result (λ found. AreThere (length paths.now) found.headed (B.state bay.new)) }
-        ensures slots { IfOk result (λ found. found.slots ≡ length paths.now) }
         ensures calls { (B.state bay.new).calls ≤ (B.state bay.old).calls + 11 * length paths.now }
         ensures runs { Runs (λ slot. slot < length paths.now) Same (B.state bay.old) (B.state bay.new) }
     {
@@ -71,11 +68,7 @@ impl Found {
             return Err(MountError::TwoGroups);
         }
         match chosen(&choice) {
-            Some(id) => Ok(Found {
-                id,
-                slots: paths.len() as u32,
-                headed,
-            }),
+            Some(id) => Ok(Found { id, headed }),
             None => Err(MountError::NoGroup),
         }
     }
@@ -85,29 +78,6 @@ impl Found {
         ensures { result ≡ self.now.id }
     {
         self.id
-    }
-
-    /// Without the images in these slots, which are attached to other groups.
-    pub fn without(self, held: &[u32]) -> Found
-        ensures { result ≡ record self { headed = not_held held.now self.headed } }
-    {
-        let Found {
-            id,
-            slots,
-            mut headed,
-        } = self;
-        headed.retain(|disk| !held.contains(&disk.slot));
-        Found { id, slots, headed }
-    }
-
-    /// The group's id, how many images there are, and those with an open header.
-    pub(crate) fn into_parts(self) -> (u64, u32, Vec<Headed>)
-        ensures id { result.0 ≡ self.id }
-        ensures slots { result.1 ≡ self.slots }
-        ensures headed { result.2.items ≡ self.headed }
-        ensures few { length result.2.items ≤ 512 }
-    {
-        (self.id, self.slots, self.headed)
     }
 
     /// The images with an open header.

@@ -5,6 +5,7 @@ pub mod Chains
 pub mod Creation
 pub mod Causes
 pub mod Outcomes
+pub mod Counting
 pub mod Named
 pub mod Giving
 pub mod Moves

@@ -17,11 +17,6 @@ pub mod Counts
 pub mod Claims
 pub mod Acts
 pub mod Sessions
-pub mod Mounting
-pub mod Naming
-pub mod Lines
-pub mod GroupRows
-pub mod Listing
 pub mod Stops
 pub mod Serves
 pub mod Quiet

@@ -7,7 +7,6 @@ ghost use Rattle.asm_world.specs.Statement.{Alter, CreateDisk, AddDisks, DropDis
 ghost use Rattle.asm_world.specs.Statement as s;
 ghost use Rattle.group_sql.specs.Said.{disks_said, maybe_kind_said};
 ghost use Rattle.session.specs.Desks.{IsAnswered};
-ghost use Rattle.session.specs.Sessions.{AreReady};
 
 use crate::answer::Answer;
 use crate::desk::Desk;
@@ -24,7 +23,6 @@ pub fn create_disk<B: Bay, H: Host>(
     _size: u64,
 ) -> Answer
     requires asked { command_of text.now ≡ Said (CreateDisk _path _size) }
-    requires ready { AreReady desk.old.session.groups (B.state desk.old.bay) }
     ensures answers { IsAnswered text.now result desk.old desk.new }
 {
     unserved(desk, text)
@@ -39,7 +37,6 @@ pub fn add_disks<B: Bay, H: Host>(
     _rebalance: Option<Rebalance>,
 ) -> Answer
     requires asked { command_of text.now ≡ Said (Alter _group (AddDisks _groups _rebalance)) }
-    requires ready { AreReady desk.old.session.groups (B.state desk.old.bay) }
     ensures answers { IsAnswered text.now result desk.old desk.new }
 {
     unserved(desk, text)
@@ -54,7 +51,6 @@ pub fn drop_disks<B: Bay, H: Host>(
     _rebalance: Option<Rebalance>,
 ) -> Answer
     requires asked { command_of text.now ≡ Said (Alter _group (DropDisks _disks _rebalance)) }
-    requires ready { AreReady desk.old.session.groups (B.state desk.old.bay) }
     ensures answers { IsAnswered text.now result desk.old desk.new }
 {
     unserved(desk, text)
@@ -72,7 +68,6 @@ pub fn drop_failgroup<B: Bay, H: Host>(
 ) -> Answer
     requires asked { command_of text.now
         ≡ Said (Alter _group (DropFailgroup (maybe_kind_said _kind) _name _force _rebalance)) }
-    requires ready { AreReady desk.old.session.groups (B.state desk.old.bay) }
     ensures answers { IsAnswered text.now result desk.old desk.new }
 {
     unserved(desk, text)
@@ -81,7 +76,6 @@ pub fn drop_failgroup<B: Bay, H: Host>(
 /// UNDROP DISKS.
 pub fn undrop_disks<B: Bay, H: Host>(desk: &mut Desk<B, H>, text: &[u8], _group: Name) -> Answer
     requires asked { command_of text.now ≡ Said (Alter _group UndropDisks) }
-    requires ready { AreReady desk.old.session.groups (B.state desk.old.bay) }
     ensures answers { IsAnswered text.now result desk.old desk.new }
 {
     unserved(desk, text)
@@ -96,7 +90,6 @@ pub fn resize_all<B: Bay, H: Host>(
     _rebalance: Option<Rebalance>,
 ) -> Answer
     requires asked { command_of text.now ≡ Said (Alter _group (ResizeAll _size _rebalance)) }
-    requires ready { AreReady desk.old.session.groups (B.state desk.old.bay) }
     ensures answers { IsAnswered text.now result desk.old desk.new }
 {
     unserved(desk, text)
@@ -112,7 +105,6 @@ pub fn resize_disk<B: Bay, H: Host>(
     _rebalance: Option<Rebalance>,
 ) -> Answer
     requires asked { command_of text.now ≡ Said (Alter _group (ResizeDisk _name _size _rebalance)) }
-    requires ready { AreReady desk.old.session.groups (B.state desk.old.bay) }
     ensures answers { IsAnswered text.now result desk.old desk.new }
 {
     unserved(desk, text)
@@ -126,7 +118,6 @@ pub fn start_rebalance<B: Bay, H: Host>(
     _rebalance: Rebalance,
 ) -> Answer
     requires asked { command_of text.now ≡ Said (Alter _group (Rebalancing _rebalance)) }
-    requires ready { AreReady desk.old.session.groups (B.state desk.old.bay) }
     ensures answers { IsAnswered text.now result desk.old desk.new }
 {
     unserved(desk, text)
@@ -140,7 +131,6 @@ pub fn online_all<B: Bay, H: Host>(
     _wait: bool,
 ) -> Answer
     requires asked { command_of text.now ≡ Said (Alter _group (Online s.All _wait)) }
-    requires ready { AreReady desk.old.session.groups (B.state desk.old.bay) }
     ensures answers { IsAnswered text.now result desk.old desk.new }
 {
     unserved(desk, text)
@@ -155,7 +145,6 @@ pub fn online_disks<B: Bay, H: Host>(
     _wait: bool,
 ) -> Answer
     requires asked { command_of text.now ≡ Said (Alter _group (Online (disks_said _disks) _wait)) }
-    requires ready { AreReady desk.old.session.groups (B.state desk.old.bay) }
     ensures answers { IsAnswered text.now result desk.old desk.new }
 {
     unserved(desk, text)
@@ -170,7 +159,6 @@ pub fn offline_disks<B: Bay, H: Host>(
     _minutes: Option<u64>,
 ) -> Answer
     requires asked { command_of text.now ≡ Said (Alter _group (Offline (disks_said _disks) _minutes)) }
-    requires ready { AreReady desk.old.session.groups (B.state desk.old.bay) }
     ensures answers { IsAnswered text.now result desk.old desk.new }
 {
     unserved(desk, text)
@@ -184,7 +172,6 @@ pub fn offline_disk<B: Bay, H: Host>(
     _disk: Name,
 ) -> Answer
     requires asked { command_of text.now ≡ Asked (OfflineDisk _group _disk) }
-    requires ready { AreReady desk.old.session.groups (B.state desk.old.bay) }
     ensures answers { IsAnswered text.now result desk.old desk.new }
 {
     unserved(desk, text)
@@ -198,7 +185,6 @@ pub fn online_disk<B: Bay, H: Host>(
     _disk: Name,
 ) -> Answer
     requires asked { command_of text.now ≡ Asked (OnlineDisk _group _disk) }
-    requires ready { AreReady desk.old.session.groups (B.state desk.old.bay) }
     ensures answers { IsAnswered text.now result desk.old desk.new }
 {
     unserved(desk, text)
@@ -212,7 +198,6 @@ pub fn set_power<B: Bay, H: Host>(
     _power: u64,
 ) -> Answer
     requires asked { command_of text.now ≡ Asked (SetPower _group _power) }
-    requires ready { AreReady desk.old.session.groups (B.state desk.old.bay) }
     ensures answers { IsAnswered text.now result desk.old desk.new }
 {
     unserved(desk, text)

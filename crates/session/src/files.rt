@@ -5,7 +5,6 @@ ghost use Rattle.asm_world.specs.Command.{Said, Asked, DbCreate, DbWrite, DbFill
 ghost use Rattle.asm_world.specs.Language.{command_of};
 ghost use Rattle.asm_world.specs.Statement.{Alter, DropFile};
 ghost use Rattle.session.specs.Desks.{IsAnswered};
-ghost use Rattle.session.specs.Sessions.{AreReady};
 
 use crate::answer::Answer;
 use crate::desk::Desk;
@@ -22,7 +21,6 @@ pub fn create_file<B: Bay, H: Host>(
     _template: Option<Name>,
 ) -> Answer
     requires asked { command_of text.now ≡ Asked (DbCreate _path _size _template) }
-    requires ready { AreReady desk.old.session.groups (B.state desk.old.bay) }
     ensures answers { IsAnswered text.now result desk.old desk.new }
 {
     unserved(desk, text)
@@ -37,7 +35,6 @@ pub fn write_file<B: Bay, H: Host>(
     _bytes: Text,
 ) -> Answer
     requires asked { command_of text.now ≡ Asked (DbWrite _path _at _bytes) }
-    requires ready { AreReady desk.old.session.groups (B.state desk.old.bay) }
     ensures answers { IsAnswered text.now result desk.old desk.new }
 {
     unserved(desk, text)
@@ -53,7 +50,6 @@ pub fn fill_file<B: Bay, H: Host>(
     _byte: u8,
 ) -> Answer
     requires asked { command_of text.now ≡ Asked (DbFill _path _at _size _byte) }
-    requires ready { AreReady desk.old.session.groups (B.state desk.old.bay) }
     ensures answers { IsAnswered text.now result desk.old desk.new }
 {
     unserved(desk, text)
@@ -68,7 +64,6 @@ pub fn read_file<B: Bay, H: Host>(
     _size: u64,
 ) -> Answer
     requires asked { command_of text.now ≡ Asked (DbRead _path _at _size) }
-    requires ready { AreReady desk.old.session.groups (B.state desk.old.bay) }
     ensures answers { IsAnswered text.now result desk.old desk.new }
 {
     unserved(desk, text)
@@ -82,7 +77,6 @@ pub fn resize_file<B: Bay, H: Host>(
     _size: u64,
 ) -> Answer
     requires asked { command_of text.now ≡ Asked (DbResize _path _size) }
-    requires ready { AreReady desk.old.session.groups (B.state desk.old.bay) }
     ensures answers { IsAnswered text.now result desk.old desk.new }
 {
     unserved(desk, text)
@@ -96,7 +90,6 @@ pub fn copy_file<B: Bay, H: Host>(
     _target: Text,
 ) -> Answer
     requires asked { command_of text.now ≡ Asked (Copy _source _target) }
-    requires ready { AreReady desk.old.session.groups (B.state desk.old.bay) }
     ensures answers { IsAnswered text.now result desk.old desk.new }
 {
     unserved(desk, text)
@@ -110,7 +103,6 @@ pub fn drop_file<B: Bay, H: Host>(
     _path: Text,
 ) -> Answer
     requires asked { command_of text.now ≡ Said (Alter _group (DropFile _path)) }
-    requires ready { AreReady desk.old.session.groups (B.state desk.old.bay) }
     ensures answers { IsAnswered text.now result desk.old desk.new }
 {
     unserved(desk, text)

@@ -1,7 +1,6 @@
 // How groups come and go: CREATE and DROP DISKGROUP, MOUNT, DISMOUNT and CHECK.
 // What isn't served yet is a function of one line, to which its command is given with its operands.
-ghost use Rattle.std.specs.Prelude.{◌≡◌, true, false, is_some, map, nat_le};
-ghost use Rattle.std.specs.String.{string_bytes};
+ghost use Rattle.std.specs.Prelude.{◌≡◌, true, false, is_some, nat_le};
 ghost use Rattle.asm_group.specs.Names.{is_name};
 ghost use Rattle.asm_world.specs.Causes.{mounted_count};
 ghost use Rattle.asm_world.specs.World.{World, entry_among};
@@ -9,15 +8,13 @@ ghost use Rattle.asm_world.specs.Command.{Said};
 ghost use Rattle.asm_world.specs.Language.{command_of};
 ghost use Rattle.asm_world.specs.Statement.{CreateGroup, DropGroup, Alter, Mount, Dismount, Check};
 ghost use Rattle.session.specs.Desks.{IsAnswered};
-ghost use Rattle.session.specs.Sessions.{AreReady, holds_path};
 ghost use Rattle.session.specs.Groups.{only, plain_path, path_in_group, external_path, creation_of};
 ghost use Rattle.session.specs.Meaning.{meaning};
 
 use crate::answer::Answer;
 use crate::desk::Desk;
 use crate::found::FoundIds;
-use crate::mounting::{mount_named, option_of};
-use crate::refusing::{disk_taken, no_memory, refused, unserved};
+use crate::refusing::{no_memory, unserved};
 use crate::reply::Reply;
 use crate::session::MAX_GROUPS;
 use asm_base::{GroupKind, Limited, List, Name, NoMemory, Refusal, Text};
@@ -97,7 +94,6 @@ pub fn create<B: Bay, H: Host>(
     attributes: List<Attribute>,
 ) -> Answer
     requires asked { command_of text.now ≡ Said (CreateGroup name kind groups attributes) }
-    requires ready { AreReady desk.old.session.groups (B.state desk.old.bay) }
     ensures answers { IsAnswered text.now result desk.old desk.new }
 {
     match external_path(kind, groups, attributes) {
@@ -115,7 +111,6 @@ fn create_external<B: Bay, H: Host>(
 ) -> Answer
     requires says { meaning text.now ≡ Said (creation_of name path.now) }
     requires named { is_name name ≡ true }
-    requires ready { AreReady desk.old.session.groups (B.state desk.old.bay) }
     ensures answers { IsAnswered text.now result desk.old desk.new }
 {
     if desk.session.is_full() {
@@ -131,9 +126,6 @@ fn create_external<B: Bay, H: Host>(
     if desk.session.make_room().is_err() {
         return no_memory(desk, text);
     }
-    if desk.session.holds_path(&desk.paths, path) {
-        return refused(desk.alloc, disk_taken(desk.alloc, path));
-    }
     form(desk, text, path, name)
 }
 
@@ -144,8 +136,6 @@ fn form<B: Bay, H: Host>(desk: &mut Desk<B, H>, text: &[u8], path: &[u8], name: 
     requires absent { is_some (entry_among desk.old.session.entries name) ≡ false }
     requires room { (w : World) → w.session ≡ desk.old.session.entries
         → nat_le 8 (mounted_count w) ≡ false }
-    requires free { holds_path desk.old.session.groups (map string_bytes desk.old.paths.items) path.now ≡ false }
-    requires ready { AreReady desk.old.session.groups (B.state desk.old.bay) }
     ensures answers { IsAnswered text.now result desk.old desk.new }
 {
     let mut ids = Vec::new(desk.alloc);
@@ -161,7 +151,7 @@ fn form<B: Bay, H: Host>(desk: &mut Desk<B, H>, text: &[u8], path: &[u8], name: 
     );
     let found = FoundIds { ids, made };
     match answer {
-        Ok(group) => match desk.session.enter(name, made, group) {
+        Ok(()) => match desk.session.enter(name, made) {
             Ok(()) => Answer {
                 reply: Reply::Done(List::new(desk.alloc)),
                 found,
@@ -189,7 +179,6 @@ pub fn dismount<B: Bay, H: Host>(
     _force: bool,
 ) -> Answer
     requires asked { command_of text.now ≡ Said (Alter name (Dismount _force)) }
-    requires ready { AreReady desk.old.session.groups (B.state desk.old.bay) }
     ensures answers { IsAnswered text.now result desk.old desk.new }
 {
     if !desk.session.leave(&name) {
@@ -206,44 +195,27 @@ pub fn drop_group<B: Bay, H: Host>(
     _contents: bool,
 ) -> Answer
     requires asked { command_of text.now ≡ Said (DropGroup _name _contents) }
-    requires ready { AreReady desk.old.session.groups (B.state desk.old.bay) }
     ensures answers { IsAnswered text.now result desk.old desk.new }
 {
     unserved(desk, text)
 }
 
-/// MOUNT. Its refusals in order: AlreadyMounted, TooMany, and then those of the disks. A group that was dismounted is tried
-/// afresh, and stays so where it is refused.
+/// MOUNT.
 pub fn mount<B: Bay, H: Host>(
     desk: &mut Desk<B, H>,
     text: &[u8],
-    group: Name,
-    force: bool,
+    _group: Name,
+    _force: bool,
 ) -> Answer
-    requires asked { command_of text.now ≡ Said (Alter group (Mount force)) }
-    requires ready { AreReady desk.old.session.groups (B.state desk.old.bay) }
+    requires asked { command_of text.now ≡ Said (Alter _group (Mount _force)) }
     ensures answers { IsAnswered text.now result desk.old desk.new }
 {
-    if desk.session.has_mounted(&group) {
-        return refused(desk.alloc, Refusal::AlreadyMounted);
-    }
-    if desk.session.is_full() {
-        let refusal = Refusal::TooMany {
-            kind: Limited::Groups,
-            limit: MAX_GROUPS as u64,
-        };
-        return refused(desk.alloc, refusal);
-    }
-    match mount_named(desk, &group, option_of(force)) {
-        Ok(()) => Answer::plain(desk.alloc, Reply::Done(List::new(desk.alloc))),
-        Err(refusal) => refused(desk.alloc, refusal),
-    }
+    unserved(desk, text)
 }
 
 /// CHECK.
 pub fn check<B: Bay, H: Host>(desk: &mut Desk<B, H>, text: &[u8], _group: Name) -> Answer
     requires asked { command_of text.now ≡ Said (Alter _group Check) }
-    requires ready { AreReady desk.old.session.groups (B.state desk.old.bay) }
     ensures answers { IsAnswered text.now result desk.old desk.new }
 {
     unserved(desk, text)

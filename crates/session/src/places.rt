@@ -4,7 +4,6 @@ ghost use Rattle.std.specs.Prelude.{◌≡◌, IfOk, [], ◌∷◌};
 ghost use Rattle.asm_world.specs.Command.{Asked, Cd, Pwd};
 ghost use Rattle.asm_world.specs.Language.{command_of};
 ghost use Rattle.session.specs.Desks.{IsAnswered};
-ghost use Rattle.session.specs.Sessions.{AreReady};
 ghost use Rattle.session.specs.Places.{is_top};
 
 use crate::answer::Answer;
@@ -18,7 +17,6 @@ use std::alloc::Global;
 /// cd. It is served to `+` alone, where the session stands as long as it goes nowhere else.
 pub fn cd<B: Bay, H: Host>(desk: &mut Desk<B, H>, text: &[u8], path: Text) -> Answer
     requires asked { command_of text.now ≡ Asked (Cd path) }
-    requires ready { AreReady desk.old.session.groups (B.state desk.old.bay) }
     ensures answers { IsAnswered text.now result desk.old desk.new }
 {
     if !is_top(path.as_slice()) {
@@ -36,7 +34,6 @@ fn is_top(path: &[u8]) -> bool
 /// pwd: the line of the session's place.
 pub fn pwd<B: Bay, H: Host>(desk: &mut Desk<B, H>, text: &[u8]) -> Answer
     requires asked { command_of text.now ≡ Asked Pwd }
-    requires ready { AreReady desk.old.session.groups (B.state desk.old.bay) }
     ensures answers { IsAnswered text.now result desk.old desk.new }
 {
     match top_line(desk.alloc) {

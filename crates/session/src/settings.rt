@@ -5,7 +5,6 @@ ghost use Rattle.asm_world.specs.Command.{Said};
 ghost use Rattle.asm_world.specs.Language.{command_of};
 ghost use Rattle.asm_world.specs.Statement.{Alter, AddTemplate, ModifyTemplate, DropTemplate, SetAttribute};
 ghost use Rattle.session.specs.Desks.{IsAnswered};
-ghost use Rattle.session.specs.Sessions.{AreReady};
 
 use crate::answer::Answer;
 use crate::desk::Desk;
@@ -23,7 +22,6 @@ pub fn add_template<B: Bay, H: Host>(
     _words: TemplateWords,
 ) -> Answer
     requires asked { command_of text.now ≡ Said (Alter _group (AddTemplate _name _words)) }
-    requires ready { AreReady desk.old.session.groups (B.state desk.old.bay) }
     ensures answers { IsAnswered text.now result desk.old desk.new }
 {
     unserved(desk, text)
@@ -38,7 +36,6 @@ pub fn modify_template<B: Bay, H: Host>(
     _words: TemplateWords,
 ) -> Answer
     requires asked { command_of text.now ≡ Said (Alter _group (ModifyTemplate _name _words)) }
-    requires ready { AreReady desk.old.session.groups (B.state desk.old.bay) }
     ensures answers { IsAnswered text.now result desk.old desk.new }
 {
     unserved(desk, text)
@@ -52,7 +49,6 @@ pub fn drop_template<B: Bay, H: Host>(
     _name: Name,
 ) -> Answer
     requires asked { command_of text.now ≡ Said (Alter _group (DropTemplate _name)) }
-    requires ready { AreReady desk.old.session.groups (B.state desk.old.bay) }
     ensures answers { IsAnswered text.now result desk.old desk.new }
 {
     unserved(desk, text)
@@ -66,7 +62,6 @@ pub fn set_attribute<B: Bay, H: Host>(
     _attribute: Attribute,
 ) -> Answer
     requires asked { command_of text.now ≡ Said (Alter _group (SetAttribute _attribute)) }
-    requires ready { AreReady desk.old.session.groups (B.state desk.old.bay) }
     ensures answers { IsAnswered text.now result desk.old desk.new }
 {
     unserved(desk, text)

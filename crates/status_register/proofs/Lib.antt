@@ -24,4 +24,3 @@ pub mod Rewriting
 pub mod Ordering
 pub mod Reaching
 pub mod Elsewhere
-pub mod Allowing

@@ -1,10 +1,5 @@
-use Rattle.std.proofs.Common.{inr, sym, subst}
-use Rattle.status_register.specs.Sayings.{IsAllowed}
-use Rattle.status_register.proofs.Allowing.{greater_allowed}
+use Rattle.std.proofs.Common.{inr}
 use Rattle.status_register.proofs.tally.read_one.Goals as goal
-
-pub returns-in-Ok-clause-allowed : goal.returns-in-Ok-clause-allowed
-returns-in-Ok-clause-allowed g c = λ was. subst IsAllowed (sym c.greater_of.ensures) (greater_allowed c.args.tally.status c.in-Ok.found.status was c.in-Ok.ensures.allowed)
 
 pub returns-in-Ok-clause-adds : goal.returns-in-Ok-clause-adds
 returns-in-Ok-clause-adds g c = inr (

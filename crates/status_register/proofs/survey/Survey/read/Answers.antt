@@ -1,6 +1,4 @@
-use Rattle.status_register.proofs.Allowing.{value_allowed, answer_read}
 use Rattle.status_register.proofs.Answering.{answered, judged}
-use Rattle.status_register.proofs.Tallying.{RoseAt}
 use Rattle.status_register.proofs.survey.Survey.read.Goals as goal
 
 pub returns-clause-answer : goal.returns-clause-answer
@@ -10,10 +8,3 @@ returns-clause-answer g c =
 
 pub returns-clause-surveyed : goal.returns-clause-surveyed
 returns-clause-surveyed g c = judged c.args.id c.args.members.now c.read_all-tally.result c.judge.result c.judge.ensures
-
-pub returns-clause-allowed : goal.returns-clause-allowed
-returns-clause-allowed g c = value_allowed c.args.id c.args.members.now c.read_all-tally.result c.judge.result c.judge.ensures c.read_all-tally.ensures.allowed
-
-pub returns-clause-seen : goal.returns-clause-seen
-returns-clause-seen g c =
-    answer_read (RoseAt (g.B.Bay.state c.args.bay.now) (g.B.Bay.state c.read_all-tally.new.bay)) c.args.id c.args.members.now c.read_all-tally.result c.judge.result c.judge.ensures c.read_all-tally.ensures.read
