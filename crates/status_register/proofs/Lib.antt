@@ -24,3 +24,5 @@ pub mod Rewriting
 pub mod Ordering
 pub mod Reaching
 pub mod Elsewhere
+pub mod Allowing
+pub mod Standing

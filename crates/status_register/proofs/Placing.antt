@@ -55,6 +55,28 @@ module _ (entries : List Entry) where
   pub placed_is : (ms : List Member) (i : ℕ) (n : Member) → AreNumbered ms → get_or (all_placed entries (replicate 64 None) ms) i None ≡ Some n → IsAmong ms n × (n.number ≡ i)
   placed_is ms i n small is = ⊎_elim (λ before. absurd (none-some n (sym (none_there 64 i) ∙ before))) (λ here. here) (all_was_there ms (replicate 64 None) i n small is)
 
+  -- who is there was there, or is the disk of its number's entry
+  was_of : (places : List (Option Member)) (m : Member) (i : ℕ) (n : Member) → m.number < length places → get_or (placed entries places m) i None ≡ Some n
+      → (get_or places i None ≡ Some n) ⊎ (is_of entries n ≡ true)
+  was_of places m i n lt is = cond_both (is_of entries m) (set places m.number (Some m)) places
+      (λ (l : List (Option Member)). get_or l i None ≡ Some n → (get_or places i None ≡ Some n) ⊎ (is_of entries n ≡ true))
+      (λ here there. elim (cases_eq i m.number) [
+        | inl same ↦ inr (subst (λ (k : Member). is_of entries k ≡ true)
+            (same_Some m n (sym (get_or-set_same places m.number (Some m) None lt) ∙ (ap (λ (k : ℕ). get_or (set places m.number (Some m)) k None) (sym same) ∙ there))) here)
+        | inr other ↦ inl (sym (get_or-set_other places m.number i (Some m) None other) ∙ there)
+      ])
+      (λ out there. inl there) is
+
+  all_was_of : (ms : List Member) (places : List (Option Member)) (i : ℕ) (n : Member) → ((m : Member) → IsAmong ms m → m.number < length places)
+      → get_or (all_placed entries places ms) i None ≡ Some n → (get_or places i None ≡ Some n) ⊎ (is_of entries n ≡ true)
+  all_was_of [] places i n small is = inl is
+  all_was_of (m ∷ ms) places i n small is = ⊎_elim (λ before. was_of places m i n (small m (inl refl)) before) (λ later. inr later)
+      (all_was_of ms (placed entries places m) i n (λ k h. omega (arith, small k (inr h), placed_long places m)) is)
+
+  pub placed_of : (ms : List Member) (i : ℕ) (n : Member) → AreNumbered ms → get_or (all_placed entries (replicate 64 None) ms) i None ≡ Some n → is_of entries n ≡ true
+  placed_of ms i n small is =
+      ⊎_elim (λ before. absurd (none-some n (sym (none_there 64 i) ∙ before))) (λ here. here) (all_was_of ms (replicate 64 None) i n small is)
+
   -- the place of a number has the disk of its entry
   abbrev Good : List (Option Member) → ℕ → Type 0
   Good places d = (m : Member) × (get_or places d None ≡ Some m) × (m.number ≡ d) × (is_of entries m ≡ true)

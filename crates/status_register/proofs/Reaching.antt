@@ -92,6 +92,14 @@ of_its_entry : (r : Status) (h : Holder) (m : Member) → IsInSets r h → m.num
 of_its_entry r h m disk number birth =
     has_birth r.entries m (ap (λ (d : ℕ). option_map (λ (e : Entry). e.birth) (entry_of r.entries d)) number ∙ disk.birth ∙ ap (λ (b : ℕ). Some b) (sym birth))
 
+-- more members are enough where some are
+pub more_reach : (some more : List Member) (r : Status) → ((m : Member) → IsAmong some m → IsAmong more m) → missing some (Some r) ≡ None → missing more (Some r) ≡ None
+more_reach some more r among = none_short some more (sets r)
+    (λ one h of_sets in_one is.
+    let k = seen some h is in
+    any_among (λ (n : Member). (n.number == h.0) && (n.birth == h.1)) more k.member (among k.member k.among)
+    (λ i. eq-eqb k.member.number h.0 k.number i && eq-eqb k.member.birth h.1 k.birth i))
+
 -- ---- a record with the same sets
 
 pub same_sets_reach : (places : List (Option Member)) (r s : Status) → sets s ≡ sets r → Reaches places r → Reaches places s

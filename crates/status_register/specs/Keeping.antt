@@ -91,6 +91,11 @@ abbrev pub KeepsFromFirst : Status → List Member → Result Registered Dead �
 KeepsFromFirst r ms answer s t =
     (slots : ℕ) → missing (first_holders r ms) (Some r) ≡ None → NowOnly s (HasNoRecord slots r ms) → KeepsFirst r answer s t slots
 
+-- Where each image fits the history in which the register's record is complete, the register keeps it.
+abbrev pub KeepsStanding : Registered → BayState → Type 0
+KeepsStanding register s =
+    (slots : ℕ) → NowOnly s (HasHistory slots register (Some register.value) []) → Keeps slots register (Some register.value) [] s
+
 -- before a claim: the surveyed record counts, and the next epoch is above all that count
 pub record IsSurveyOf (slots : ℕ) (survey : Surveyed) (completed : Option Status) (begun : List Status) : Type 0 where
   pub group : survey.value.id ≡ survey.id

@@ -9,6 +9,7 @@ ghost use Rattle.bay.specs.State.{KeepsAttached, IsSlot};
 ghost use Rattle.bay.specs.Counts.{Rose};
 ghost use Rattle.bay.specs.Moments.{Runs};
 ghost use Rattle.status_register.specs.Places.{HasSlots};
+ghost use Rattle.status_register.specs.Sayings.{ShowsAllowed};
 ghost use Rattle.status_register.specs.Slots.{said};
 ghost use Rattle.status_register.specs.Told.{Told};
 
@@ -68,6 +69,7 @@ fn read_record<B: Bay>(
 ) -> Result<Option<Option<PstRecord>>, Fault>
     requires slots { HasSlots (B.state bay.old) slot sector }
     requires gate { gate ≤ 8 }
+    ensures allowed { IfOk result ShowsAllowed }
     ensures record_is { IfOk result (λ status. Told (B.state bay.old) (B.state bay.new) (λ image. status ≡ said decoded_status image slot gate)) }
     ensures attached { KeepsAttached (B.state bay.old) (B.state bay.new) }
     ensures calls { (B.state bay.new).calls ≤ (B.state bay.old).calls + 2 }
@@ -107,6 +109,7 @@ pub fn read_records<B: Bay>(
     sector: u32,
 ) -> Result<(Option<Option<PstRecord>>, Option<Option<PstRecord>>), Fault>
     requires slots { HasSlots (B.state bay.old) slot sector }
+    ensures allowed { IfOk result (λ both. ShowsAllowed both.0 × ShowsAllowed both.1) }
     ensures records { IfOk result (λ both. Told (B.state bay.old) (B.state bay.new) (λ image. (both.0 ≡ said decoded_status image slot 6) × (both.1 ≡ said decoded_status image slot 8))) }
     ensures attached { KeepsAttached (B.state bay.old) (B.state bay.new) }
     ensures calls { (B.state bay.new).calls ≤ (B.state bay.old).calls + 4 }

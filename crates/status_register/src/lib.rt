@@ -23,6 +23,7 @@ mod writing;
 
 pub use claiming::claim_first;
 pub use error::{Dead, SurveyError};
+pub use holders::is_of_entry;
 pub use kept_laws::{
     attached_keeps, fits_stay, history_stays, no_records_fit, register_keeps_elsewhere,
     same_sets_reach,

@@ -10,7 +10,7 @@ ghost use Rattle.bay.specs.State.{KeepsAttached, IsSlot};
 ghost use Rattle.bay.specs.Counts.{Rose};
 ghost use Rattle.bay.specs.Moments.{Runs};
 ghost use Rattle.status_register.specs.Places.{HasSlots};
-ghost use Rattle.status_register.specs.Sayings.{listed, spoiled, claim_damage, status_damage};
+ghost use Rattle.status_register.specs.Sayings.{IsOwnRecord, listed, spoiled, claim_damage, status_damage};
 ghost use Rattle.status_register.specs.Surveys.{disk_in, greater_of, greatest_epoch};
 ghost use Rattle.status_register.specs.Told.{Told};
 
@@ -144,6 +144,7 @@ pub fn read_slots<B: Bay>(bay: &mut B, id: u64, slot: u32, sector: u32) -> Resul
     requires slots { HasSlots (B.state bay.old) slot sector }
     ensures epoch { IfOk result (λ found. Told (B.state bay.old) (B.state bay.new) (λ image. greatest_epoch (claims_of_group id (disk_in image slot).claims) ≡ found.epoch)) }
     ensures status { IfOk result (λ found. Told (B.state bay.old) (B.state bay.new) (λ image. greatest (of_group id (disk_in image slot).statuses) ≡ found.status)) }
+    ensures own { IfOk result (λ found. IsOwnRecord id found.status) }
     ensures damage { IfOk result (λ found. Told (B.state bay.old) (B.state bay.new) (λ image. body_damage (disk_bytes image slot) ≡ found.damage)) }
     ensures attached { KeepsAttached (B.state bay.old) (B.state bay.new) }
     ensures calls { (B.state bay.new).calls ≤ (B.state bay.old).calls + 8 }

@@ -9,7 +9,7 @@ ghost use Rattle.bay.specs.State.{KeepsAttached};
 ghost use Rattle.bay.specs.Moments.{Ends, Runs};
 ghost use Rattle.status_register.specs.Elsewhere.{with_attached};
 ghost use Rattle.status_register.specs.Holders.{HoldSlots, SlotsDiffer, attached_to, numbered};
-ghost use Rattle.status_register.specs.Keeping.{IsReady, KeepsFromFirst, KeepsWritten};
+ghost use Rattle.status_register.specs.Keeping.{IsReady, KeepsFromFirst, KeepsStanding, KeepsWritten};
 ghost use Rattle.status_register.specs.Reaching.{Reaches};
 ghost use Rattle.status_register.specs.Surveys.{is_there, missing};
 ghost use Rattle.status_register.specs.Writes.{FailedAlone, HoldersShow, IsDeadOf, IsWriteAnswer, ShowBut, after_write, first_holders, first_register};
@@ -53,6 +53,31 @@ impl Model for Register {
 }
 
 impl Register {
+    /// The register of a record that stands on members, as a creation has put it there: nothing is written. Of the members those
+    /// that are disks of the record's entries are attached.
+    pub fn standing<B: Bay>(bay: &B, value: &PstRecord, members: &[Member]) -> Register
+        requires status { IsTrue (is_status value.now) }
+        requires slots { HaveSlots (B.state bay.now) members.now }
+        requires apart { AreApart members.now }
+        requires numbers { AreNumbered members.now }
+        ensures register { result ≡ first_register value.now members.now }
+        ensures ready { IsReady result (B.state bay.now) }
+        // Where the members are enough for the record, the attached ones are.
+        ensures reaches { missing members.now (Some value.now) ≡ None → Reaches result.members result.value }
+        // Where each image that a stop may leave fits the history in which the record is complete, the register keeps it.
+        ensures history { KeepsStanding result (B.state bay.now) }
+    {
+        let _bay = bay;
+        Register {
+            id: value.id,
+            members: by_number(members, value.entries()),
+            value: value.copy(),
+            epoch: value.epoch,
+            turn: value.turn,
+            is_fresh: false,
+        }
+    }
+
     /// The record that holds.
     pub fn value(&self) -> &PstRecord
         ensures { result.now ≡ self.now.value }

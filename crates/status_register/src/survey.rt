@@ -1,9 +1,12 @@
 //! What a mount reads of the members before it claims an epoch.
 
-ghost use Rattle.std.specs.Prelude.{◌≡◌, ◌≤◌, ◌+◌, ◌*◌, length, IfOk};
+ghost use Rattle.std.specs.Prelude.{◌≡◌, ◌≤◌, ◌+◌, ◌*◌, length, IfOk, IsTrue};
 ghost use Rattle.bay.specs.Image.{Same};
 ghost use Rattle.bay.specs.State.{KeepsAttached};
 ghost use Rattle.bay.specs.Moments.{Runs};
+ghost use Rattle.bay.specs.Counts.{Rose};
+ghost use Rattle.asm_formats.specs.Status.{is_status};
+ghost use Rattle.status_register.specs.Surveys.{AreRead};
 ghost use Rattle.status_register.specs.Tallies.{HaveSlots, IsSlotOf};
 ghost use Rattle.status_register.specs.Answers.{IsSurveyed, Judges};
 ghost use Rattle.asm_formats.specs.Claim.{claim_spelling};
@@ -47,6 +50,9 @@ impl Survey {
         requires few { length members.now ≤ 512 }
         ensures answer { IsSurveyed id members.now result (B.state bay.old) (B.state bay.new) }
         ensures surveyed { IfOk result (λ survey. (survey.id ≡ id) × (survey.members ≡ members.now)) }
+        // The record is one of the formats and of the group, and the members that were read are told, whatever the disks hold.
+        ensures own { IfOk result (λ survey. IsTrue (is_status survey.value) × (survey.value.id ≡ id)) }
+        ensures seen { IfOk result (λ survey. AreRead (λ slot. Rose ((B.state bay.old).faults slot) ((B.state bay.new).faults slot)) members.now survey.read) }
         ensures attached { KeepsAttached (B.state bay.old) (B.state bay.new) }
         ensures calls { (B.state bay.new).calls ≤ (B.state bay.old).calls + 8 * length members.now }
         ensures runs { Runs (IsSlotOf members.now) Same (B.state bay.old) (B.state bay.new) }
@@ -72,6 +78,20 @@ impl Survey {
         ensures kept { KeepsFromClaim self result (B.state bay.old) (B.state bay.new) }
     {
         claim_epoch(bay, self.id, self.members, self.value, self.epoch)
+    }
+
+    /// The members that were surveyed.
+    pub fn members(&self) -> &[Member]
+        ensures { result.now ≡ self.now.members }
+    {
+        self.members.members()
+    }
+
+    /// Those of them that were read.
+    pub fn seen(&self) -> &[Member]
+        ensures { result.now ≡ self.now.read }
+    {
+        self.read.members()
     }
 
     /// The greatest record that was read.

@@ -6,6 +6,7 @@ ghost use Rattle.bay.specs.State.{KeepsAttached, IsSlot};
 ghost use Rattle.bay.specs.Counts.{Rose};
 ghost use Rattle.bay.specs.Moments.{Runs};
 ghost use Rattle.status_register.specs.Places.{HasSlots};
+ghost use Rattle.status_register.specs.Sayings.{IsOwnRecord};
 ghost use Rattle.status_register.specs.Surveys.{AreRead, Says};
 ghost use Rattle.status_register.specs.Tallies.{Adds, HaveSlots, IsSlotOf};
 ghost use Rattle.status_register.specs.Told.{Told};
@@ -43,6 +44,7 @@ fn first_of(damage: Option<(u32, u64)>, slot: u32, block: Option<u64>) -> Option
 fn read_one<B: Bay>(bay: &mut B, id: u64, member: Member, tally: Tally) -> Tally
     requires slots { HasSlots (B.state bay.old) member.slot member.sector }
     requires room { length tally.read < 512 }
+    ensures own { IsOwnRecord id tally.status → IsOwnRecord id result.status }
     ensures adds { Adds id member (B.state bay.old) (B.state bay.new) tally result }
     ensures attached { KeepsAttached (B.state bay.old) (B.state bay.new) }
     ensures calls { (B.state bay.new).calls ≤ (B.state bay.old).calls + 8 }
@@ -64,6 +66,7 @@ pub fn read_all<B: Bay>(bay: &mut B, id: u64, members: &[Member]) -> Tally
     requires slots { HaveSlots (B.state bay.old) members.now }
     requires few { length members.now ≤ 512 }
     ensures read { AreRead (λ slot. Rose ((B.state bay.old).faults slot) ((B.state bay.new).faults slot)) members.now result.read }
+    ensures own { IsOwnRecord id result.status }
     ensures says { Told (B.state bay.old) (B.state bay.new) (Says id result.read result.epoch result.status result.damage) }
     ensures attached { KeepsAttached (B.state bay.old) (B.state bay.new) }
     ensures calls { (B.state bay.new).calls ≤ (B.state bay.old).calls + 8 * length members.now }

@@ -1,15 +1,16 @@
-use Rattle.std.proofs.Common.{◌≡◌, ◌∙◌, ◌++◌, List, Option, sym, ap}
+use Rattle.std.proofs.Common.{◌≡◌, ◌∙◌, ◌++◌, List, Option, sym, subst, ap}
 use Rattle.std.specs.Option.{option_or}
 use Rattle.bay.specs.Image.{Image}
 use Rattle.asm_formats.specs.Claim.{Claim, decoded_claim}
 use Rattle.asm_formats.specs.Status.{Status, decoded_status}
 use Rattle.asm_images.specs.Members.{claims_of_group, of_group}
 use Rattle.asm_images.specs.Register.{greatest}
-use Rattle.status_register.specs.Sayings.{listed, claim_damage, status_damage}
+use Rattle.status_register.specs.Sayings.{IsOwnRecord, listed, claim_damage, status_damage}
 use Rattle.status_register.specs.Slots.{said}
 use Rattle.status_register.specs.Surveys.{greatest_epoch}
 use Rattle.status_register.proofs.Shown.{same_said}
 use Rattle.status_register.proofs.Surveying.{claims_said, statuses_said, damage_said}
+use Rattle.status_register.proofs.Allowing.{greatest_own}
 use Rattle.status_register.proofs.Telling.{told_later, told_before, slots_long}
 use Rattle.status_register.proofs.reading.read_slots.Goals as goal
 
@@ -25,6 +26,11 @@ returns-clause-epoch g c =
     ap (λ (cs : List (Option Claim)). greatest_epoch (claims_of_group c.args.id cs))
     (claims_said image slot (slots_long slot c.args.sector sound c.requires.slots image (sound.held image was)) ∙ sym (λ i. listed (both.0 i) ++ listed (both.1 i)))
     ∙ sym c.epoch_in_both.ensures
+
+pub returns-clause-own : goal.returns-clause-own
+returns-clause-own g c = subst (IsOwnRecord c.args.id) (sym c.record_in_both.ensures)
+    (greatest_own c.args.id c.in_ok-first_status.first_status c.in_ok-first_status.second_status
+    c.in_ok-first_status.ensures.allowed.0 c.in_ok-first_status.ensures.allowed.1)
 
 pub returns-clause-status : goal.returns-clause-status
 returns-clause-status g c =

@@ -15,6 +15,7 @@ loop-member-init g c =
     record {
       few = omega (arith, ap length c.empty.ensures);
       read = subst (λ (l : List Member). AreRead (RoseAt s s) [] l) (sym c.empty.ensures) none_yet;
+      own = tt;
       says = λ now holds image was. subst (λ (l : List Member). Says c.args.id l 0 None None image) (sym c.empty.ensures) (says_nothing c.args.id image);
       attached = record { same = λ slot. refl };
       calls = omega arith;
@@ -43,6 +44,7 @@ loop-member-preserved g c =
     record {
       few = omega (arith, c.loop-member.invariant.few, adds_few s m t first next c.args.id member old new adds);
       read = subst (λ (l : List Member). AreRead (RoseAt s t) l new.read) (sym (take_more ms i none c.loop-member-test.true)) (adds_read s m t first next c.args.id member old new adds (take i ms) c.loop-member.invariant.read);
+      own = c.read_one-tally.ensures.own c.loop-member.invariant.own;
       says = adds_says s m t first next c.args.id member old new adds c.loop-member.invariant.says;
       attached = attached-trans c.loop-member.invariant.attached c.read_one-tally.ensures.attached;
       calls = omega (arith, c.loop-member.invariant.calls, c.read_one-tally.ensures.calls);

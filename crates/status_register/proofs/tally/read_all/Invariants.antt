@@ -5,6 +5,7 @@ use Rattle.bay.specs.Moments.{Runs}
 use Rattle.status_register.specs.Told.{Told}
 use Rattle.status_register.specs.Surveys.{AreRead, Says}
 use Rattle.status_register.specs.Tallies.{IsSlotOf}
+use Rattle.status_register.specs.Sayings.{IsOwnRecord}
 use Rattle.status_register.proofs.Tallying.{RoseAt}
 use Rattle.status_register.proofs.tally.read_all.Given as goal
 
@@ -12,6 +13,7 @@ abbrev pub invariant-loop-member : goal.invariant-loop-member
 invariant-loop-member g l = record {
   few : length l.tally.read ≤ l.member-index;
   read : AreRead (RoseAt (g.B.Bay.state l.fn.bay) (g.B.Bay.state l.bay)) (take l.member-index l.members) l.tally.read;
+  own : IsOwnRecord l.id l.tally.status;
   says : Told (g.B.Bay.state l.fn.bay) (g.B.Bay.state l.bay) (Says l.id l.tally.read l.tally.epoch l.tally.status l.tally.damage);
   attached : KeepsAttached (g.B.Bay.state l.fn.bay) (g.B.Bay.state l.bay);
   calls : (g.B.Bay.state l.bay).calls ≤ (g.B.Bay.state l.fn.bay).calls + 8 * l.member-index;
