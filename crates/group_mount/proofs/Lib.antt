@@ -6,7 +6,6 @@ pub mod Histories
 pub mod Leaving
 pub mod Bringing
 pub mod Rows
-pub mod Enough
 pub mod Mounting
 pub mod Shown
 pub mod Told
@@ -19,3 +18,12 @@ pub mod Reaching
 pub mod Renewals
 pub mod Surveyed
 pub mod Modes
+pub mod Alikes
+pub mod CopyLoads
+pub mod Quorums
+pub mod Entries
+pub mod PartnersAnew
+pub mod NextRecords
+pub mod Catalogs
+pub mod Fronts
+pub mod Recovered

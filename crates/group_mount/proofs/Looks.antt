@@ -1,18 +1,19 @@
 -- One look after another.
-use Rattle.std.proofs.Common.{◌≡◌, ◌≢◌, ◌⊎◌, inl, inr, ⊎_elim, ℕ, ◌+◌, ◌<◌, ◌≤◌, List, [], ◌∷◌, ◌++◌, length, Option, Some, None, refl, sym, ap, subst, ◌∙◌, arith}
-use Rattle.std.proofs.lemmas.Bool.{cases_lt}
+use Rattle.std.proofs.Common.{◌≡◌, ◌≢◌, ◌⊎◌, inl, inr, ⊎_elim, ℕ, ◌+◌, ◌<◌, ◌≤◌, false, not, List, [], ◌∷◌, ◌++◌, length, Option, Some, None, refl, sym, ap, subst, ◌∙◌, arith}
+use Rattle.std.proofs.lemmas.Bool.{cases_eq, cases_lt, cond_both, not-true}
 use Rattle.std.proofs.lemmas.Option.{same_Some, none-some}
 use Rattle.std.specs.Option.{ForSome}
 use Rattle.bay.specs.Image.{Same}
-use Rattle.bay.specs.State.{BayState, IsSlot, AttachesOnly}
+use Rattle.bay.specs.State.{BayState, IsSlot, AttachesOnly, KeepsAttached}
 use Rattle.bay.specs.Counts.{Rose}
 use Rattle.bay.specs.Moments.{Runs}
 use Rattle.asm_formats.specs.Header.{Header}
 use Rattle.asm_placement.specs.Among.{IsAmong}
-use Rattle.asm_placement.proofs.Membership.{among_left, among_right, among_split}
+use Rattle.asm_placement.proofs.Membership.{among_filter, among_left, among_right, among_split, filter_out}
 use Rattle.asm_images.specs.Kept.{header_in}
 use Rattle.status_register.specs.Told.{Told}
-use Rattle.group_mount.specs.Finding.{IsHeaded, IsSeen, seen_of, AreApart, AreHeaded, IsFoundIn, AreAllHeaded}
+use Rattle.group_mount.specs.Finding.{AttachedStays, IsHeaded, IsSeen, seen_of, AreApart, AreHeaded, AreThere, IsFoundIn, AreAllHeaded}
+use Rattle.group_mount.specs.Founds.{is_held, not_held}
 use Rattle.group_mount.specs.declared.finding.Headed.{Headed}
 use Rattle.group_mount.proofs.Told.{told_later, header_before, rose_before, rose_later}
 
@@ -109,3 +110,50 @@ module _ (s m t : BayState) {early : ℕ → Type 0} (n : ℕ) (first : Runs ear
         (λ (le : n ≤ slot). subst (Tells (found ++ seen_of o)) (omega (arith, below, le)) (new_tells found o seen))
         (cases_lt slot n);
   }
+
+-- ---- what is attached
+
+-- an attach leaves a slot that was attached as it was
+pub attach_stays : (s t : BayState) (slot : ℕ) → ForSome (s.attached slot) (λ size. t.attached slot ≡ Some size) → AttachesOnly slot s t → AttachedStays s t
+attach_stays s t slot has only k size is = ⊎_elim
+    (λ (same : k ≡ slot).
+    subst (λ (j : ℕ). t.attached j ≡ Some size) (sym same) (has size (subst (λ (j : ℕ). s.attached j ≡ Some size) same is)))
+    (λ other. only.others k other ∙ is)
+    (cases_eq k slot)
+
+-- so it is over calls that attach nothing
+pub stays_keeps : (s m t : BayState) → AttachedStays s m → KeepsAttached m t → AttachedStays s t
+stays_keeps s m t stays keeps k size is = keeps.same k ∙ stays k size is
+
+-- ---- without some of the images
+
+left_apart : (held : List ℕ) (hs : List Headed) → AreApart hs → AreApart (not_held held hs)
+left_apart held [] apart = tt
+left_apart held (h ∷ hs) (here, rest) =
+    let later : AreApart (not_held held hs) = left_apart held hs rest in
+    cond_both (not (is_held held h.slot)) (h ∷ not_held held hs) (not_held held hs) AreApart
+    (λ is. ((λ k among. here k (among_filter (λ (x : Headed). not (is_held held x.slot)) hs k among)), later)) (λ no. later)
+
+pub left_there : (n : ℕ) (held : List ℕ) (hs : List Headed) (state : BayState) → AreThere n hs state → AreThere n (not_held held hs) state
+left_there n held hs state there = record {
+  inside = λ h among. there.inside h (was h among);
+  attached = λ h among. there.attached h (was h among);
+  allowed = λ h among. there.allowed h (was h among);
+  held = λ h among. there.held h (was h among);
+  apart = left_apart held hs there.apart;
+}
+  where
+    was : (h : Headed) → IsAmong (not_held held hs) h → IsAmong hs h
+    was h among = among_filter (λ (x : Headed). not (is_held held x.slot)) hs h among
+
+-- none of those that are left is in one of the slots
+pub left_not_held : (held : List ℕ) (hs : List Headed) (h : Headed) → IsAmong (not_held held hs) h → is_held held h.slot ≡ false
+left_not_held held hs h among = not-true (is_held held h.slot) (filter_out (λ (x : Headed). not (is_held held x.slot)) hs h among)
+
+-- they are no more
+pub left_few : (held : List ℕ) (hs : List Headed) → length (not_held held hs) ≤ length hs
+left_few held [] = omega arith
+left_few held (h ∷ hs) =
+    let rest = left_few held hs in
+    cond_both (not (is_held held h.slot)) (h ∷ not_held held hs) (not_held held hs) (λ (l : List Headed). length l ≤ length (h ∷ hs))
+    (λ is. omega (arith, rest)) (λ no. omega (arith, rest))

@@ -58,7 +58,7 @@ use Rattle.group_mount.specs.Narrowing.{HasCopy}
 use Rattle.group_mount.specs.Renewing.{Renews}
 use Rattle.group_mount.proofs.Bare.{births_in, has_bare}
 use Rattle.group_mount.proofs.Bringing.{bringing_keeps}
-use Rattle.group_mount.proofs.Enough.{more_enough}
+use Rattle.asm_images.proofs.Enough.{more_enough}
 use Rattle.asm_images.proofs.Held.{complete_stands}
 use Rattle.group_mount.proofs.Histories.{any_below}
 use Rattle.group_mount.proofs.Reaching.{attached_among}

@@ -1,6 +1,6 @@
 -- An epoch is claimed and a record written anew: each moment is one of a mount.
 use Rattle.std.proofs.Common.{◌≡◌, inl, ⊎_elim, ℕ, get_or, arith, false, List, sym, ap, subst, ◌∙◌, Some, None, Result, Ok, Err, IfErr, IfOk, OnOk}
-use Rattle.bay.specs.Image.{Image}
+use Rattle.bay.specs.Image.{ChangesOnly, Image}
 use Rattle.bay.specs.State.{BayState}
 use Rattle.bay.specs.Moments.{Runs, Ends}
 use Rattle.bay.proofs.Calls.{widened, goes_on, stops, on_more, both_done, leaves_only}
@@ -22,13 +22,14 @@ use Rattle.status_register.proofs.Taking.{kept_among}
 use Rattle.status_register.proofs.Tallying.{RoseAt}
 use Rattle.group_mount.specs.Mounting.{HasClaimed, HasRecorded, MayMount, claiming, recording, Mount, IsRead, IsSource, Allows}
 use Rattle.group_mount.specs.Renewing.{Renews}
-use Rattle.group_mount.specs.Writing.{RenewCause, WritesAnew, mount_of, KeepsGroups, HoldsOne, KeepsRegister}
+use Rattle.group_mount.specs.Writing.{FrontOf, RenewCause, WritesAnew, mount_of, KeepsGroups, HoldsOne, KeepsRegister}
 use Rattle.group_mount.proofs.Mounting.{mounting_keeps, mounted_is_held, recorded_is_mounted, recorded_has_history}
 use Rattle.asm_formats.specs.Following.{rank}
 use Rattle.group_mount.specs.declared.writing.RenewError.{RenewError}
 use Rattle.group_mount.specs.declared.writing.Renewed.{Renewed}
 use Rattle.status_register.specs.Reaching.{Reaches}
 use Rattle.status_register.proofs.Reaching.{same_sets_reach}
+use Rattle.group_mount.proofs.Fronts.{claims_change, record_changes}
 use Rattle.group_mount.proofs.Reaching.{attached_among}
 use Rattle.group_mount.proofs.Renewing.{renewed_follows}
 use Rattle.group_mount.proofs.Told.{rose_before}
@@ -81,6 +82,11 @@ module _ (s m : BayState) (survey : Surveyed) (next : Status) (renews : Renews s
       record_run = on_more (λ slot of. (of.0, among of.0 of.1, of.2))
           (widened (λ x y row. row_wider (status_gate survey.id) (attached_to register.members next) survey.members (status_spelling (numbered (registered survey) next)) among x y
           (subst (λ (r : Registered). PutsRow (status_gate r.id) (attached_to register.members next) (status_spelling (numbered r next)) x y) register_is row)) write_run)
+
+      -- nothing changes but the claim and status slots
+      pub renewing_front : Runs (IsSlotOf survey.members) (ChangesOnly (FrontOf survey.members)) s t
+      renewing_front = record_changes register.id survey.members (attached_to register.members next) (status_spelling (numbered register next)) s m t among
+          (claims_change survey.id survey.members (claim_spelling (claim_of survey)) s m run) write_run
 
       pub renewing_runs : (content : Content) (source : Member) → Runs (IsSlotOf survey.members) (MayMount (mount_of survey next content) source) s t
       renewing_runs content source = goes_on (λ x y z claimed row. recording y claimed row) (claiming_runs content source) (claimed_done content) record_run

@@ -29,7 +29,7 @@ use Rattle.group_mount.specs.declared.error.MountError.{MountError}
 use Rattle.group_mount.specs.declared.error.MountError.TheVariants as error
 use Rattle.std.specs.Option.{option_map}
 use Rattle.status_register.specs.Told.{Told}
-use Rattle.group_mount.specs.Syncing.{AreDurable, AreSynced, IsSurveyNow}
+use Rattle.group_mount.specs.Syncing.{AreDurable, AreSynced, IsSurveyNow, IsWellRead}
 use Rattle.status_register.specs.declared.error.SurveyError.{SurveyError}
 use Rattle.status_register.specs.declared.error.SurveyError.TheVariants.{NoMajority, Damaged}
 use Rattle.status_register.specs.Surveys.{records_on, first_damage, missing}
@@ -83,7 +83,7 @@ read_apart failed ms read (one_failed before earlier m fail are) apart = read_ap
 
 -- ---- members of each image
 
-header_number : (h : Header) → is_header h ≡ true → h.number < 64
+pub header_number : (h : Header) → is_header h ≡ true → h.number < 64
 unfolding is_header
 header_number h ok =
     let a = and_parts (is_shape h.shape) _ ok in
@@ -178,8 +178,9 @@ module _ (s m t : BayState) {early later : ℕ → Type 0} (first : Runs early S
     gone = sym (ap (λ (l : List Status). option_map (λ (r : Status). r.gone) (greatest l)) (records_before id read x y same)) ∙ is.gone;
   }) told
 
-  pub surveyed : (survey : Surveyed) → IsSurveyed id synced (Ok survey) m t → (survey.id ≡ id) × (survey.members ≡ synced) → IsSurveyNow survey t → AreDurable synced t → survey.value.gone ≡ false → AreSurveyed id ms survey s t
-  surveyed survey answered of now durable stays = record {
+  pub surveyed : (survey : Surveyed) → IsSurveyed id synced (Ok survey) m t → (survey.id ≡ id) × (survey.members ≡ synced) → IsSurveyNow survey t → AreDurable synced t → IsWellRead survey → survey.value.gone ≡ false → AreSurveyed id ms survey s t
+  surveyed survey answered of now durable well stays = record {
+    well = well;
     not_gone = stays;
     id_is = of.0;
     are = subst (λ (l : List Member). AreRead (RoseAt s t) ms l) (sym of.1) synced_read;
@@ -205,11 +206,11 @@ module _ (s m t : BayState) {early later : ℕ → Type 0} (first : Runs early S
       ))
 
   pub answer_surveyed : (answer : Result Surveyed SurveyError) → IsSurveyed id synced answer m t → IfOk answer (λ survey. (survey.id ≡ id) × (survey.members ≡ synced)) → IfOk answer (λ survey. IsSurveyNow survey t)
-      → AreDurable synced t → IfOk (answer_of answer) (λ survey. AreSurveyed id ms survey s t)
-  answer_surveyed (Err e) answered of now durable = tt
-  answer_surveyed (Ok survey) answered of now durable =
+      → AreDurable synced t → IfOk answer IsWellRead → IfOk (answer_of answer) (λ survey. AreSurveyed id ms survey s t)
+  answer_surveyed (Err e) answered of now durable well = tt
+  answer_surveyed (Ok survey) answered of now durable well =
       cond_both survey.value.gone (Err error.NoGroup) (Ok survey) (λ (a : Result Surveyed MountError). IfOk a (λ survey. AreSurveyed id ms survey s t))
-      (λ is. tt) (λ stays. surveyed survey answered of now durable stays)
+      (λ is. tt) (λ stays. surveyed survey answered of now durable well stays)
 
   pub answer_cause : (answer : Result Surveyed SurveyError) → IsSurveyed id synced answer m t → IfErr (answer_of answer) (λ e. MembersCause id ms e s t)
   answer_cause (Err e) answered = members_cause e answered
@@ -240,6 +241,7 @@ module _ (n id : ℕ) (named : List Headed) (s t : BayState) (sound : IsSound t)
         numbers = λ m h. numbered n id named t sound now_there m (among m h);
         durable = are.durable;
         not_gone = are.not_gone;
+        well = are.well;
         members = record { now = λ image left m h. subst (λ (k : ℕ). IsMemberOn n k image m) (sym are.id_is) (member_on n id named t sound now_there m (among m h) (are.durable m h) image left) };
         now = are.now;
       }

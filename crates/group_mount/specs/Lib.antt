@@ -12,3 +12,10 @@ pub mod Syncing
 pub mod Writing
 pub mod Surveying
 pub mod Modes
+pub mod Alike
+pub mod NamedCopies
+pub mod Missing
+pub mod Loads
+pub mod Quorum
+pub mod NextRecord
+pub mod Recovering

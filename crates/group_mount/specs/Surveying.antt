@@ -21,7 +21,7 @@ use Rattle.status_register.specs.declared.error.SurveyError.{SurveyError}
 use Rattle.status_register.specs.declared.error.SurveyError.TheVariants as survey_error
 use Rattle.group_mount.specs.declared.finding.Headed.{Headed}
 use Rattle.group_mount.specs.Mounting.{IsRead}
-use Rattle.group_mount.specs.Syncing.{AreDurable, IsSurveyOn}
+use Rattle.group_mount.specs.Syncing.{AreDurable, IsSurveyOn, IsWellRead}
 use Rattle.group_mount.specs.Verdicts.{members_with}
 use Rattle.group_mount.specs.Writing.{mount_of}
 use Rattle.group_mount.specs.declared.error.MountError.{MountError}
@@ -35,6 +35,7 @@ pub record IsSurveyedNow (n id : ℕ) (survey : Surveyed) (state : BayState) : T
   pub numbers : AreNumbered survey.members
   pub durable : AreDurable survey.members state
   pub not_gone : survey.value.gone ≡ false
+  pub well : IsWellRead survey
   pub members : NowOnly state (λ image. (m : Member) → IsAmong survey.members m → IsMemberOn n survey.id image m)
   pub now : NowOnly state (IsSurveyOn survey)
 
@@ -44,6 +45,7 @@ pub record AreSurveyed (id : ℕ) (ms : List Member) (survey : Surveyed) (s t : 
   pub are : AreRead (λ slot. Rose (s.faults slot) (t.faults slot)) ms survey.members
   pub durable : AreDurable survey.members t
   pub not_gone : survey.value.gone ≡ false
+  pub well : IsWellRead survey
   pub now : NowOnly t (IsSurveyOn survey)
 
 -- a refusal of a survey as one of a mount

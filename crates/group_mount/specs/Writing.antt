@@ -1,11 +1,13 @@
 -- The record of a mount that was surveyed, as it is written.
-use Rattle.std.specs.Prelude.{◌≡◌, ℕ, ◌≤◌, false, List, [], ◌∷◌, Some, None, Result, MatchResult}
+use Rattle.std.specs.Prelude.{◌≡◌, ℕ, ◌*◌, ◌<◌, ◌≤◌, false, List, [], ◌∷◌, Some, None, Result, MatchResult}
 use Rattle.bay.specs.Moments.{Ends, LeavesOnly, NowOnly, Runs}
 use Rattle.asm_group.specs.Group.{Group}
 use Rattle.asm_placement.specs.Among.{IsAmong}
 use Rattle.bay.specs.State.{BayState}
 use Rattle.bay.specs.Counts.{Rose}
+use Rattle.asm_formats.specs.Bytes.{block_size}
 use Rattle.asm_formats.specs.Content.{Content}
+use Rattle.asm_formats.specs.Regions.{region_start}
 use Rattle.asm_formats.specs.Status.{Status, status_spelling}
 use Rattle.status_register.specs.Answers.{Surveyed}
 use Rattle.status_register.specs.Holders.{attached_to, next_turn, numbered}
@@ -40,6 +42,10 @@ EachMount survey next P = (content : Content) → P (mount_of survey next conten
 -- the calls are those of a mount, whichever copy the content was read on
 abbrev pub RunsAsMount : Mount → BayState → BayState → Type 0
 RunsAsMount mount s t = (source : Member) → Runs (IsSlotOf mount.members) (MayMount mount source) s t
+
+-- the claim and status slots of these disks
+abbrev pub FrontOf : List Member → ℕ → ℕ → Type 0
+FrontOf ms s k = IsSlotOf ms s × (2 * block_size ≤ k) × (k < region_start * block_size)
 
 -- the record is complete in the end
 abbrev pub HasRenewed : Mount → BayState → BayState → Type 0

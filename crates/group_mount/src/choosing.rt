@@ -33,7 +33,7 @@ pub struct Choice {
 }
 
 /// The disk as the register sees it.
-fn member_of(headed: &Headed) -> Member
+pub fn member_of(headed: &Headed) -> Member
     ensures { result ≡ member_of headed.now }
 {
     Member {

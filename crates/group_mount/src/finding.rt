@@ -2,7 +2,7 @@
 ghost use Rattle.std.specs.Prelude.{◌≡◌, ◌≤◌, ◌<◌, ◌+◌, ◌*◌, ◌++◌, [], length, IfOk, OnOk};
 ghost use Rattle.bay.specs.Image.{Same};
 ghost use Rattle.bay.specs.Moments.{Runs};
-ghost use Rattle.group_mount.specs.Finding.{AreHeaded, AreAllHeaded, seen_of};
+ghost use Rattle.group_mount.specs.Finding.{AttachedStays, AreHeaded, AreAllHeaded, seen_of};
 
 use crate::looking::look;
 use asm_base::NoMemory;
@@ -27,6 +27,7 @@ pub fn find_headed<B: Bay>(
     requires few { length paths.now ≤ 512 }
     ensures calls { (B.state bay.new).calls ≤ (B.state bay.old).calls + 3 * length paths.now }
     ensures runs { Runs (λ slot. slot < length paths.now) Same (B.state bay.old) (B.state bay.new) }
+    ensures stays { AttachedStays (B.state bay.old) (B.state bay.new) }
     ensures few { IfOk result (λ found. length found.items ≤ length paths.now) }
     ensures each { IfOk result (λ found. AreHeaded (length paths.now) found.items (B.state bay.old) (B.state bay.new)) }
     ensures all { IfOk result (λ found. AreAllHeaded (length paths.now) found.items (B.state bay.old) (B.state bay.new)) }

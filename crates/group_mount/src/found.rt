@@ -1,11 +1,11 @@
 //! The disks of the group that a name is looked for.
 
 ghost use Rattle.std.specs.Prelude.{◌≡◌, ◌≤◌, ◌<◌, ◌+◌, ◌*◌, length, IfOk, MatchResult};
-ghost use Rattle.std.specs.Option.{option_or};
 ghost use Rattle.bay.specs.Image.{Same};
 ghost use Rattle.bay.specs.Moments.{Runs};
-ghost use Rattle.group_mount.specs.Finding.{AreThere};
-ghost use Rattle.group_mount.specs.Founds.{FindCause, IsFound};
+ghost use Rattle.group_mount.specs.Finding.{AreThere, AttachedStays};
+ghost use Rattle.group_mount.specs.Founds.{FindCause, IsFound, is_held, not_held};
+ghost use Rattle.group_mount.specs.Recovering.{is_named, name_in};
 ghost use Rattle.group_mount.specs.Verdicts.{chosen};
 
 use crate::choosing::{Choice, choose, ids_named};
@@ -20,6 +20,8 @@ use std::marker::Model;
 #[derive(Debug, Drop)]
 pub struct Found {
     id: u64,
+    /// The images, of which those in the first so many slots are looked at.
+    slots: u32,
     headed: Vec<Headed>,
 }
 
@@ -29,9 +31,36 @@ impl Model for Found {
 
     ghost Value = { FoundDisks };
 
-    ghost view = { λ f. record { id = f.id; headed = f.headed.items } };
+    ghost view = { λ f. record { id = f.id; slots = f.slots; headed = f.headed.items } };
 
     ghost invariant = { λ f. length f.headed.items ≤ 512 };
+}
+
+/// Whether the first image of an id has a name.
+fn has_name(headed: &[Headed], id: u64, name: &Name) -> bool
+    ensures { result ≡ is_named (name_in id headed.now) name.now }
+{
+    let [first, rest @ ..] = headed else {
+        return false;
+    };
+    if first.header.id == id {
+        return first.header.group.is_same(name);
+    }
+    has_name(rest, id, name)
+}
+
+/// Whether a slot is one of these.
+fn is_held(held: &[u32], slot: u32) -> bool
+    ensures { result ≡ is_held held.now slot }
+{
+    held.iter().any(|other| *other == slot)
+}
+
+/// The images that aren't in these slots are left.
+fn leave_out(headed: &mut Vec<Headed>, held: &[u32])
+    ensures { headed.new.items ≡ not_held held.now headed.old.items }
+{
+    headed.retain(|disk| !is_held(held, disk.slot));
 }
 
 /// The id that is taken.
@@ -58,6 +87,9 @@ impl Found {
             (λ found. IsFound name.now (length paths.now) found (B.state bay.old) (B.state bay.new))
             (λ error. FindCause name.now (length paths.now) error (B.state bay.old) (B.state bay.new)) }
         ensures there { IfOk result (λ found. AreThere (length paths.now) found.headed (B.state bay.new)) }
+        // What is attached stays so, with its size.
+        ensures stays { AttachedStays (B.state bay.old) (B.state bay.new) }
+        ensures slots { IfOk result (λ found. found.slots ≡ length paths.now) }
         ensures calls { (B.state bay.new).calls ≤ (B.state bay.old).calls + 11 * length paths.now }
         ensures runs { Runs (λ slot. slot < length paths.now) Same (B.state bay.old) (B.state bay.new) }
     {
@@ -68,7 +100,11 @@ impl Found {
             return Err(MountError::TwoGroups);
         }
         match chosen(&choice) {
-            Some(id) => Ok(Found { id, headed }),
+            Some(id) => Ok(Found {
+                id,
+                slots: paths.len() as u32,
+                headed,
+            }),
             None => Err(MountError::NoGroup),
         }
     }
@@ -78,6 +114,33 @@ impl Found {
         ensures { result ≡ self.now.id }
     {
         self.id
+    }
+
+    /// Whether the first image of the id has a name, without regard to case.
+    pub fn is_named(&self, name: &Name) -> bool
+        ensures { result ≡ is_named (name_in self.now.id self.now.headed) name.now }
+    {
+        has_name(&self.headed, self.id, name)
+    }
+
+    /// Without the images in these slots, which are attached to other groups.
+    pub fn without(self, held: &[u32]) -> Found
+        ensures { result ≡ record self { headed = not_held held.now self.headed } }
+    {
+        let Found { id, slots, headed } = self;
+        let mut headed = headed;
+        leave_out(&mut headed, held);
+        Found { id, slots, headed }
+    }
+
+    /// The group's id, how many images there are, and those with an open header.
+    pub(crate) fn into_parts(self) -> (u64, u32, Vec<Headed>)
+        ensures id { result.0 ≡ self.id }
+        ensures slots { result.1 ≡ self.slots }
+        ensures headed { result.2.items ≡ self.headed }
+        ensures few { length result.2.items ≤ 512 }
+    {
+        (self.id, self.slots, self.headed)
     }
 
     /// The images with an open header.

@@ -1,12 +1,14 @@
 // The disks of an id are synced and surveyed.
 ghost use Rattle.std.specs.Prelude.{◌≡◌, ◌≤◌, ◌+◌, ◌*◌, length, IfErr, IfOk};
+ghost use Rattle.asm_placement.specs.Among.{IsAmong};
 ghost use Rattle.bay.specs.Image.{Same};
 ghost use Rattle.bay.specs.State.{KeepsAttached};
 ghost use Rattle.bay.specs.Moments.{Runs};
 ghost use Rattle.status_register.specs.Tallies.{HaveSlots, IsSlotOf};
+ghost use Rattle.status_register.specs.declared.member.Member.{Member as Disk};
 ghost use Rattle.group_mount.specs.Finding.{AreThere};
 ghost use Rattle.group_mount.specs.Surveying.{AreSurveyed, IsSurveyedNow, MembersCause, SurveyCause, answer_of, refusal_of};
-ghost use Rattle.group_mount.specs.Verdicts.{IsSlotIn};
+ghost use Rattle.group_mount.specs.Verdicts.{IsSlotIn, members_with};
 
 use crate::choosing::members_of;
 use crate::error::MountError;
@@ -76,6 +78,7 @@ pub fn survey_named<B: Bay>(
     requires there { AreThere slots named.now (B.state bay.old) }
     requires few { length named.now ≤ 512 }
     ensures now { IfOk result (λ survey. IsSurveyedNow slots id survey (B.state bay.new)) }
+    ensures among { IfOk result (λ survey. (m : Disk) → IsAmong survey.members m → IsAmong (members_with id named.now) m) }
     ensures cause { IfErr result (λ error. SurveyCause id named.now error (B.state bay.old) (B.state bay.new)) }
     ensures attached { KeepsAttached (B.state bay.old) (B.state bay.new) }
     ensures calls { (B.state bay.new).calls ≤ (B.state bay.old).calls + 9 * length named.now }

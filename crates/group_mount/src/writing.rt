@@ -2,14 +2,16 @@
 ghost use Rattle.std.specs.Prelude.{◌≡◌, ◌≤◌, ◌+◌, ◌*◌, false, length, IfOk, IfErr, OnOk, IsTrue};
 ghost use Rattle.asm_formats.specs.Following.{sets};
 ghost use Rattle.asm_formats.specs.Status.{is_status};
+ghost use Rattle.bay.specs.Image.{ChangesOnly};
+ghost use Rattle.bay.specs.Moments.{Runs};
 ghost use Rattle.bay.specs.State.{KeepsAttached};
 ghost use Rattle.status_register.specs.Keeping.{IsReady};
 ghost use Rattle.status_register.specs.Reaching.{Reaches};
 ghost use Rattle.status_register.specs.Registered.{AreNumbered};
 ghost use Rattle.status_register.specs.Rows.{AreApart};
-ghost use Rattle.status_register.specs.Tallies.{HaveSlots};
+ghost use Rattle.status_register.specs.Tallies.{HaveSlots, IsSlotOf};
 ghost use Rattle.group_mount.specs.Renewing.{Renews};
-ghost use Rattle.group_mount.specs.Writing.{EachMount, HasRenewed, HoldsOne, KeepsGroups, KeepsRegister, RenewCause, RunsAsMount, RunsAsRecord, WritesAnew, renewed_register};
+ghost use Rattle.group_mount.specs.Writing.{EachMount, FrontOf, HasRenewed, HoldsOne, KeepsGroups, KeepsRegister, RenewCause, RunsAsMount, RunsAsRecord, WritesAnew, renewed_register};
 
 use asm_base::DiskSet;
 use bay::Bay;
@@ -44,6 +46,10 @@ pub fn renew<B: Bay>(bay: &mut B, survey: Survey, next: &PstRecord) -> Result<Re
     ensures runs { EachMount survey next.now (λ mount. RunsAsMount mount (B.state bay.old) (B.state bay.new)) }
     ensures done { OnOk result (EachMount survey next.now (λ mount. HasRenewed mount (B.state bay.old) (B.state bay.new))) }
     ensures register { IfOk result (λ renewed. renewed.register ≡ renewed_register survey next.now) }
+    ensures allowed { IfOk result (λ renewed. IsTrue (is_status renewed.register.value)) }
+    ensures reaches { IfOk result (λ renewed. Reaches renewed.register.members renewed.register.value) }
+    // Nothing changes but the claim and status slots of these disks.
+    ensures front { Runs (IsSlotOf survey.members) (ChangesOnly (FrontOf survey.members)) (B.state bay.old) (B.state bay.new) }
     ensures cause { IfErr result (λ error. RenewCause survey next.now error (B.state bay.old) (B.state bay.new)) }
     ensures attached { KeepsAttached (B.state bay.old) (B.state bay.new) }
     ensures calls { (B.state bay.new).calls ≤ (B.state bay.old).calls + 13 * (length survey.members + 64) }
@@ -71,6 +77,8 @@ fn write_anew<B: Bay>(
     requires ready { IsReady register (B.state bay.old) }
     requires majority { Reaches register.members next.now }
     ensures answer { WritesAnew register next.now result (B.state bay.old) (B.state bay.new) }
+    ensures allowed { IfOk result (λ renewed. IsTrue (is_status renewed.register.value)) }
+    ensures reaches { IfOk result (λ renewed. Reaches renewed.register.members renewed.register.value) }
     ensures attached { KeepsAttached (B.state bay.old) (B.state bay.new) }
     ensures calls { (B.state bay.new).calls ≤ (B.state bay.old).calls + 13 * 64 }
     ensures runs { RunsAsRecord register next.now (B.state bay.old) (B.state bay.new) }

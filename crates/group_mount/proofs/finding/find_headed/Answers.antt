@@ -19,6 +19,7 @@ loop-slot-preserved g c =
       few = omega (arith, c.loop-slot.invariant.few, one_more c.loop-slot.found.items c.in_ok-seen.seen, ap length c.in_ok-put_seen.ensures);
       calls = omega (arith, c.loop-slot.invariant.calls, c.look.ensures.calls);
       runs = goes_on same-trans first (stops first) (on_more (λ (k : ℕ) is. subst (λ (j : ℕ). j < length c.args.paths.now) (sym is) c.loop-slot-test.true) next);
+      stays = λ slot size is. c.look.ensures.stays slot size (c.loop-slot.invariant.stays slot size is);
       each = subst (λ (l : List Headed). AreHeaded (n + 1) l s t) more (more_headed s m t n first next c.look.ensures.others c.loop-slot.found.items c.in_ok-seen.seen c.loop-slot.invariant.each c.in_ok-seen.ensures.seen);
       all = subst (λ (l : List Headed). AreAllHeaded (n + 1) l s t) more (more_all s m t n first next c.look.ensures.others c.loop-slot.found.items c.in_ok-seen.seen c.loop-slot.invariant.all c.in_ok-seen.ensures.seen);
     }

@@ -3,6 +3,8 @@ use Rattle.std.proofs.lemmas.Result.{IfOk-weaker}
 use Rattle.bay.proofs.Calls.{on_more}
 use Rattle.asm_placement.specs.Among.{IsAmong}
 use Rattle.status_register.specs.declared.member.Member.{Member}
+use Rattle.status_register.proofs.Taking.{kept_among}
+use Rattle.status_register.proofs.Tallying.{RoseAt}
 use Rattle.group_mount.specs.Surveying.{AreSurveyed}
 use Rattle.group_mount.proofs.Choices.{members_attached, members_in, fewer_members}
 use Rattle.group_mount.proofs.Searches.{there_attached}
@@ -30,3 +32,11 @@ returns-clause-calls g c = omega (arith, c.survey_members.ensures.calls, ap leng
 
 pub returns-clause-runs : goal.returns-clause-runs
 returns-clause-runs g c = on_more (λ slot of. members_in c.args.id c.args.named.now slot (of.0, subst (λ (l : List Member). IsAmong l of.0) (c.deref.ensures.value ∙ c.in_ok-members.ensures) of.1, of.2)) c.survey_members.ensures.runs
+
+pub returns-clause-among : goal.returns-clause-among
+returns-clause-among g c =
+    let s = g.B.Bay.state c.args.bay.now in
+    let t = g.B.Bay.state c.survey_members.new.bay in
+    IfOk-weaker c.survey_members.result _ _
+    (λ survey are. subst (λ (l : List Member). (m : Member) → IsAmong survey.members m → IsAmong l m) (c.deref.ensures.value ∙ c.in_ok-members.ensures)
+    (kept_among (RoseAt s t) c.deref.result.now survey.members are.are)) c.survey_members.ensures.surveyed

@@ -1,5 +1,8 @@
+use Rattle.asm_formats.specs.Claim.{claim_spelling}
+use Rattle.status_register.specs.Registered.{claim_of}
 use Rattle.group_mount.specs.Writing.{mount_of}
-use Rattle.group_mount.proofs.Renewals.{sets_same, is_reached, claiming_runs, renewing_runs, renewed_done, renew_cause, groups_kept, renew_groups, renew_held, renew_history}
+use Rattle.group_mount.proofs.Fronts.{claims_change}
+use Rattle.group_mount.proofs.Renewals.{sets_same, is_reached, claiming_runs, renewing_front, renewing_runs, renewed_done, renew_cause, groups_kept, renew_groups, renew_held, renew_history}
 use Rattle.group_mount.proofs.writing.renew.Goals as goal
 
 pub write_anew-requires-clause-sets : goal.write_anew-requires-clause-sets
@@ -44,3 +47,12 @@ pub returns-in-Err-NoMajority-clause-groups : goal.returns-in-Err-NoMajority-cla
 returns-in-Err-NoMajority-clause-groups g c = λ content.
     groups_kept (mount_of c.args.survey c.args.next.now content) (g.B.Bay.state c.args.bay.now) (g.B.Bay.state c.claim.new.bay)
     (claiming_runs (g.B.Bay.state c.args.bay.now) (g.B.Bay.state c.claim.new.bay) c.args.survey c.args.next.now c.requires.renews c.requires.numbers c.claim.ensures.runs content)
+
+pub returns-in-Ok-clause-front : goal.returns-in-Ok-clause-front
+returns-in-Ok-clause-front g c =
+    renewing_front (g.B.Bay.state c.args.bay.now) (g.B.Bay.state c.claim.new.bay) c.args.survey c.args.next.now c.requires.renews c.requires.numbers c.claim.ensures.runs c.in-Ok.register c.in-Ok.ensures.answer
+    (g.B.Bay.state c.write_anew.new.bay) c.write_anew.ensures.runs
+
+pub returns-in-Err-NoMajority-clause-front : goal.returns-in-Err-NoMajority-clause-front
+returns-in-Err-NoMajority-clause-front g c =
+    claims_change c.args.survey.id c.args.survey.members (claim_spelling (claim_of c.args.survey)) (g.B.Bay.state c.args.bay.now) (g.B.Bay.state c.claim.new.bay) c.claim.ensures.runs

@@ -1,0 +1,40 @@
+use Rattle.std.proofs.Common.{◌∙◌, List, sym, ap, subst}
+use Rattle.asm_formats.specs.Status.{Status}
+use Rattle.status_register.specs.Holders.{numbered}
+use Rattle.status_register.specs.Registered.{registered}
+use Rattle.status_register.specs.Writes.{first_register}
+use Rattle.status_register.specs.declared.member.Member.{Member}
+use Rattle.group_mount.specs.Recovering.{MayRenew, RefusesAnew}
+use Rattle.group_mount.specs.declared.finding.Headed.{Headed}
+use Rattle.group_mount.proofs.NextRecords.{next_renews}
+use Rattle.group_mount.proofs.Recovered.{may_renew, parts_are, refused, runs_on}
+use Rattle.group_mount.proofs.recovering.write_parts.Goals as goal
+
+pub write_register-requires : goal.write_register-requires
+write_register-requires g c =
+    let s = g.B.Bay.state c.args.bay.now in
+    let q = c.args.quorate in
+    let next = c.args.anew.next in
+    let a = c.requires.anew in
+    subst (λ (l : List Member). MayRenew q.survey next l s) (sym (c.deref.ensures.value ∙ a.1.members))
+    (may_renew q s c.requires.quorum next a.1.status (next_renews q s c.requires.quorum a.0 next a.1.next) (ap (λ (x : Status). x.id) a.1.next.next_is))
+
+pub returns-in-Ok-clause-parts : goal.returns-in-Ok-clause-parts
+returns-in-Ok-clause-parts g c = λ now is.
+    let q = c.args.quorate in
+    parts_are q (g.B.Bay.state c.args.bay.now) c.requires.quorum now c.args.anew is c.in-Ok.register
+    (c.in-Ok.ensures.register ∙ ap (λ (l : List Member). first_register (numbered (registered q.survey) c.args.anew.next) l) (c.deref.ensures.value ∙ is.members))
+    (g.B.Bay.state c.write_register.new.bay) c.in-Ok.ensures.stands c.write_register.ensures.attached c.write_register.ensures.front
+
+pub returns-in-Ok-clause-runs : goal.returns-in-Ok-clause-runs
+returns-in-Ok-clause-runs g c =
+    runs_on c.args.quorate (g.B.Bay.state c.args.bay.now) c.requires.quorum (g.B.Bay.state c.write_register.new.bay) c.write_register.ensures.front
+
+pub returns-clause-cause : goal.returns-clause-cause
+returns-clause-cause g c =
+    refused c.args.quorate (g.B.Bay.state c.args.bay.now) (g.B.Bay.state c.write_register.new.bay) c.requires.quorum c.args.anew.next c.in-Err.error c.refusal_of_renew.result
+    (subst (λ (l : List Headed). RefusesAnew l c.in-Err.error c.refusal_of_renew.result) c.deref-in-Err.ensures.value c.refusal_of_renew.ensures) c.in-Err.ensures.cause
+
+pub returns-clause-runs : goal.returns-clause-runs
+returns-clause-runs g c =
+    runs_on c.args.quorate (g.B.Bay.state c.args.bay.now) c.requires.quorum (g.B.Bay.state c.write_register.new.bay) c.write_register.ensures.front
