@@ -1,33 +1,60 @@
 -- Which disks a commit changes, and by which faults it dismounts a group.
-use Rattle.std.proofs.Common.{◌≡◌, inl, inr, ⊎_elim, ℕ, ◌<◌, ◌≤◌, List, get_or, refl, sym, ap, subst, ◌∙◌, Option, Some, None, Result, Err, arith}
+use Rattle.std.proofs.Common.{◌≡◌, inl, inr, ⊎_elim, ℕ, ◌<◌, ◌≤◌, Bool, true, false, List, get_or, refl, sym, ap, subst, ◌∙◌, Option, Some, None, Result, Err, arith}
 use Rattle.std.specs.Option.{option_map}
-use Rattle.std.proofs.lemmas.Bool.{cases_lt}
+use Rattle.std.proofs.lemmas.Bool.{cases_lt, false≢true}
+use Rattle.std.proofs.lemmas.Option.{same_Some}
 use Rattle.bay.specs.Counts.{Rose}
 use Rattle.bay.specs.Image as bay
 use Rattle.bay.specs.Image.{ChangesOnly}
 use Rattle.bay.specs.State.{BayState}
 use Rattle.bay.specs.Moments.{Runs}
 use Rattle.bay.proofs.Calls.{attached-trans, started}
+use Rattle.asm_base.specs.declared.refusal.DiskRef.{DiskRef}
+use Rattle.asm_base.specs.declared.refusal.DiskRef.TheVariants.{Number, Spelt}
+use Rattle.asm_base.specs.declared.refusal.Refusal.{Refusal}
+use Rattle.asm_base.specs.declared.refusal.Refusal.TheVariants as cause
+use Rattle.asm_formats.specs.Following.{sets}
+use Rattle.asm_formats.specs.Sets.{elements}
 use Rattle.asm_formats.specs.Status.{Status, status_spelling}
 use Rattle.asm_placement.specs.Among.{IsAmong}
+use Rattle.catalog.proofs.TableItems.{from_map}
 use Rattle.change_directory.specs.declared.copy.DirCopy.{DirCopy}
 use Rattle.directory_store.specs.Copies.{IsSlotOf, RegionsOf}
-use Rattle.status_register.specs.Holders.{attached_to, numbered}
+use Rattle.status_register.specs.Holders.{SlotsDiffer, attached_to, numbered}
 use Rattle.status_register.specs.Registered.{Registered}
 use Rattle.status_register.specs.Rows.{PutsRow, no_put, one_put}
 use Rattle.status_register.specs.Slots.{status_gate}
+use Rattle.status_register.specs.Surveys.{AreRead}
 use Rattle.status_register.specs.Tallies as tallies
-use Rattle.status_register.specs.Writes.{IsWriteAnswer}
+use Rattle.status_register.specs.Writes.{IsLost, IsWriteAnswer}
 use Rattle.status_register.specs.declared.error.Dead.{Dead}
 use Rattle.status_register.specs.declared.member.Member.{Member}
 use Rattle.status_register.proofs.Holding.{among_below}
 use Rattle.status_register.proofs.Ordering.{row_runs}
 use Rattle.status_register.proofs.Tallying.{still_read}
-use Rattle.group_engine.specs.Commits.{IsLostIn}
+use Rattle.group_engine.specs.Commits.{DismountCause, IsLostIn, LosesMajority, StatusCause}
 use Rattle.group_engine.specs.Dropping.{HasWritten}
-use Rattle.group_engine.specs.Mounts.{MountedGroup, IsMounted, IsOwn, IsReady, IsWhole, slot_at}
+use Rattle.group_engine.specs.Mounts.{MountedGroup, IsMounted, IsOwn, IsReady, IsWhole, Takes, slot_at}
 use Rattle.group_engine.specs.Own.{IsSameGroup, KeepsGroup, OnOwnDisks}
+use Rattle.group_engine.specs.declared.attached.Attached.{Attached}
+use Rattle.group_engine.specs.declared.access.Access.{Access}
+use Rattle.group_engine.specs.declared.access.Access.TheVariants.{Mounted, Dismounted, Closed}
 use Rattle.group_engine.proofs.Sets.{element_small}
+
+-- ---- a group that was dismounted or closed takes no calls
+
+takes_calls : Access → Bool
+takes_calls Mounted = true
+takes_calls (Dismounted disk) = false
+takes_calls Closed = false
+
+pub not_mounted : (m : MountedGroup) (disk : ℕ) → m.access ≡ Dismounted disk → IsMounted m → ⊥
+unfolding takes_calls
+not_mounted m disk is mounted = false≢true (sym (ap takes_calls is) ∙ ap takes_calls mounted)
+
+pub not_open : (m : MountedGroup) → m.access ≡ Closed → IsMounted m → ⊥
+unfolding takes_calls
+not_open m is mounted = false≢true (sym (ap takes_calls is) ∙ ap takes_calls mounted)
 
 -- ---- disks
 
@@ -77,11 +104,37 @@ nothing_own m s = started (λ x. record { size = λ k. refl; byte = λ k j out. 
 
 -- the same group
 pub same_itself : (m : MountedGroup) → IsSameGroup m m
-same_itself m = record { name = refl; id = refl; shape = refl; members = refl; disks = refl; flight = refl }
+same_itself m = record { name = refl; id = refl; shape = refl; members = refl; disks = refl; flight = inl refl }
 
 -- no call was made
 pub nothing_kept : (m : MountedGroup) (s : BayState) → (IsMounted m → IsWhole m) → (IsMounted m → IsReady m s) → KeepsGroup m m s s
 nothing_kept m s whole ready = record { same = same_itself m; attached = record { same = λ k. refl }; runs = nothing_own m s; whole = whole; ready = ready }
+
+-- the move that is on its way was given up
+pub gives_up : (m : MountedGroup) (s : BayState) → Takes m s → KeepsGroup m (record m { flight = None }) s s
+gives_up m s takes = record {
+  same = record { name = refl; id = refl; shape = refl; members = refl; disks = refl; flight = inr refl };
+  attached = record { same = λ k. refl };
+  runs = nothing_own m s;
+  whole = λ mounted.
+      let w = (takes mounted).0 in
+      record {
+        are_tables = w.are_tables;
+        tables = w.tables;
+        shape = w.shape;
+        units = w.units;
+        status = w.status;
+        alive = w.alive;
+        written = w.written;
+        group = w.group;
+        reached = w.reached;
+        numbers = w.numbers;
+        births = w.births;
+        copies = w.copies;
+        disks = w.disks;
+      };
+  ready = λ mounted. let r = (takes mounted).1 in record { store = r.store; register = r.register; sizes = r.sizes };
+}
 
 -- two calls, one after the other
 pub calls_keep : {a b c : MountedGroup} {s t u : BayState} → KeepsGroup a b s t → KeepsGroup b c t u → KeepsGroup a c s u
@@ -94,7 +147,10 @@ calls_keep {a} {b} {c} {s} {t} {u} one two =
         shape = two.same.shape ∙ one.same.shape;
         members = two.same.members ∙ one.same.members;
         disks = two.same.disks ∙ one.same.disks;
-        flight = two.same.flight ∙ one.same.flight;
+        flight = ⊎_elim
+            (λ goes. ⊎_elim (λ went. inl (goes ∙ went)) (λ none. inr (goes ∙ none)) one.same.flight)
+            (λ none. inr none)
+            two.same.flight;
       };
       attached = attached-trans one.attached two.attached;
       runs = run_on (own_joins a) one.runs
@@ -131,21 +187,37 @@ module _ (m : MountedGroup) (whole : IsWhole m) where
       let k = whole.copies.each c among in
       (element_small m.register.value.directories c.number k.named, whole.disks c.number ∙ ap (option_map (λ (x : Member). x.slot)) k.attached ∙ ap (λ (s : ℕ). Some s) k.slot)
 
-  pub gone_lost : (s t : BayState) (slot number : ℕ) → IsSlotOf m.store.copies slot → ((c : DirCopy) → IsAmong m.store.copies c → Rose (s.faults c.slot) (t.faults c.slot))
-      → ((k : ℕ) → k < 64 → slot_at m.disks k ≡ Some slot → slot_at m.disks number ≡ Some slot) → IsLostIn m number s t
-  gone_lost s t slot number of all found =
+  -- a disk in the slot of a copy is that of its number
+  copy_number : SlotsDiffer m.register.members → (c : DirCopy) → IsAmong m.store.copies c → (number : ℕ) → slot_at m.disks number ≡ Some c.slot → number ≡ c.number
+  copy_number apart c among number at =
+      let k = whole.copies.each c among in
+      let other = from_map (λ (x : Member). x.slot) (get_or m.register.members number None) c.slot (sym (whole.disks number) ∙ at) in
+      apart number c.number other.0 k.member other.1 k.attached (other.2 ∙ sym k.slot)
+
+  pub gone_lost : SlotsDiffer m.register.members → (s t : BayState) (slot number : ℕ) → IsSlotOf m.store.copies slot
+      → ((c : DirCopy) → IsAmong m.store.copies c → Rose (s.faults c.slot) (t.faults c.slot))
+      → ((k : ℕ) → k < 64 → slot_at m.disks k ≡ Some slot → slot_at m.disks number ≡ Some slot) → IsLostIn m m.register.value number s t
+  gone_lost apart s t slot number of all found =
       let own = copy_slot of.0 of.1 in
+      let at : slot_at m.disks number ≡ Some slot = found of.0.number own.0 (own.1 ∙ ap (λ (k : ℕ). Some k) (sym of.2)) in
+      let one : number ≡ of.0.number = copy_number apart of.0 of.1 number (at ∙ ap (λ (k : ℕ). Some k) of.2) in
       record {
         slot = slot;
-        at = found of.0.number own.0 (own.1 ∙ ap (λ (k : ℕ). Some k) (sym of.2));
+        at = at;
         rose = subst (λ (k : ℕ). Rose (s.faults k) (t.faults k)) (sym of.2) (all of.0 of.1);
-        by = inl all;
+        by = inl (record {
+          named = subst (λ (d : ℕ). IsAmong (elements m.register.value.directories) d) (sym one) (whole.copies.each of.0 of.1).named;
+          all = λ k place named there.
+              let c = whole.copies.all k named in
+              let same : place ≡ c.0.slot = same_Some place c.0.slot (sym there ∙ ap (slot_at m.disks) (sym c.2) ∙ (copy_slot c.0 c.1).1) in
+              subst (λ (j : ℕ). Rose (s.faults j) (t.faults j)) (sym same) (all c.0 c.1);
+        });
       }
 
-  pub dead_lost : (s t u : BayState) (next : Status) (answer : Result ℕ Dead) (dead : Dead) (number : ℕ) → ((k : ℕ) → s.faults k ≤ t.faults k) → answer ≡ Err dead
+  pub dead_lost : (r : Status) (s t u : BayState) (next : Status) (answer : Result ℕ Dead) (dead : Dead) (number : ℕ) → ((k : ℕ) → s.faults k ≤ t.faults k) → answer ≡ Err dead
       → IsWriteAnswer (attached_to m.register.members next) (numbered m.register next) answer t u
-      → ((k : ℕ) → k < 64 → slot_at m.disks k ≡ Some dead.slot → slot_at m.disks number ≡ Some dead.slot) → IsLostIn m number s u
-  dead_lost s t u next answer dead number before is answered found =
+      → ((k : ℕ) → k < 64 → slot_at m.disks k ≡ Some dead.slot → slot_at m.disks number ≡ Some dead.slot) → IsLostIn m r number s u
+  dead_lost r s t u next answer dead number before is answered found =
       let a = subst (λ (x : Result ℕ Dead). IsWriteAnswer (attached_to m.register.members next) (numbered m.register next) x t u) is answered in
       let lost = a.3 in
       let k = lost.0 in
@@ -166,3 +238,43 @@ module _ (m : MountedGroup) (whole : IsWhole m) where
           },
         );
       }
+
+-- ---- causes over two calls
+
+module _ {a b : MountedGroup} {s t : BayState} (keeps : KeepsGroup a b s t) (u : BayState) where
+  rises_on : (j : ℕ) → Rose (t.faults j) (u.faults j) → Rose (s.faults j) (u.faults j)
+  rises_on j rose = omega (arith, keeps.runs.faults j, rose)
+
+  majority_on : (next : Status) (slot : ℕ) → LosesMajority b next slot t u → LosesMajority a next slot s u
+  majority_on next slot lost = record {
+    took = lost.took;
+    read = still_read (λ (j : ℕ). Rose (t.faults j) (u.faults j)) (λ (j : ℕ). Rose (s.faults j) (u.faults j)) rises_on (attached_to a.register.members next) lost.took
+        (subst (λ (l : List (Option Member)). AreRead (λ (k : ℕ). Rose (t.faults k) (u.faults k)) (attached_to l next) lost.took) keeps.same.members lost.read);
+    disk = lost.disk;
+    lost = subst (λ (l : List (Option Member)). IsLost (attached_to l next) lost.took (sets next) lost.disk) keeps.same.members lost.lost;
+    at = lost.at;
+  }
+
+  -- a disk that was lost in the second call was lost in both
+  pub lost_on : (r : Status) (d : ℕ) → IsLostIn b r d t u → IsLostIn a r d s u
+  lost_on r d lost = record {
+    slot = lost.slot;
+    at = ap (λ (l : List (Option Attached)). slot_at l d) (sym keeps.same.disks) ∙ lost.at;
+    rose = rises_on lost.slot lost.rose;
+    by = ⊎_elim
+        (λ copies. inl (record {
+          named = copies.named;
+          all = λ k place named there. rises_on place (copies.all k place named (ap (λ (l : List (Option Attached)). slot_at l k) keeps.same.disks ∙ there));
+        }))
+        (λ wrote. inr (wrote.0, majority_on wrote.0 lost.slot wrote.1))
+        lost.by;
+  }
+
+  pub dismount_on : (c : MountedGroup) → IsMounted b → (by : DiskRef) → DismountCause b c t u by → DismountCause a c s u by
+  dismount_on c mounted (Number d) why = ⊎_elim (λ before. absurd (not_mounted b d before mounted)) (λ now. inr (now.0, lost_on c.register.value d now.1)) why
+  dismount_on c mounted (Spelt text) why = absurd why
+
+  pub cause_on : (c : MountedGroup) → IsMounted b → (refusal : Refusal) → StatusCause b c t u refusal → StatusCause a c s u refusal
+  cause_on c mounted (cause.Dismounted by) why = dismount_on c mounted by why
+  cause_on c mounted cause.NoMemory why = tt
+  cause_on c mounted _ why = absurd why

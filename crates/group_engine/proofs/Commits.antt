@@ -1,5 +1,5 @@
 -- What a commit of a mounted group does, on each way through it.
-use Rattle.std.proofs.Common.{◌≡◌, ◌⊎◌, inl, ⊎_elim, ℕ, ◌+◌, ◌<◌, Bool, true, false, not, List, [], ◌∷◌, ◌++◌, length, refl, sym, ap, subst, ◌∙◌, Some, Result, Ok, arith, IsTrue}
+use Rattle.std.proofs.Common.{◌≡◌, inl, ⊎_elim, ℕ, ◌<◌, Bool, true, false, not, List, [], ◌∷◌, ◌++◌, length, refl, sym, ap, subst, ◌∙◌, Some, Result, Ok, arith, IsTrue}
 use Rattle.std.proofs.lemmas.Bool.{cond-true}
 use Rattle.bay.specs.Image as bay
 use Rattle.bay.specs.State.{BayState, IsSound}
@@ -18,7 +18,6 @@ use Rattle.catalog.specs.Placing.{HasUnits}
 use Rattle.catalog.specs.Tables.{Catalogued, Tables}
 use Rattle.change_directory.specs.declared.copy.DirCopy.{DirCopy}
 use Rattle.change_directory.specs.StoreLaws.{SameRegion}
-use Rattle.directory_store.specs.Copies.{IsSlotOf}
 use Rattle.directory_store.specs.Stores.{Stored, others}
 use Rattle.directory_store.specs.Stores as stores
 use Rattle.directory_store.specs.declared.error.StoreError.{StoreError}
@@ -134,7 +133,7 @@ module _ (m : MountedGroup) (put : List Entry) (gone : List Key) (n : ℕ) (s : 
     pub all_done : new.copies ≡ m.store.copies → IsWhole (record m { catalog = cat; store = new }) → Mounts n (record m { catalog = cat; store = new }) t h kept
     all_done copies whole = record {
       whole = whole;
-      ready = still_ready m (record m { catalog = cat; store = new }) s t refl commits.kept commits.attached mounts.ready;
+      ready = still_ready m (record m { catalog = cat; store = new }) s t refl refl commits.kept commits.attached mounts.ready;
       represents = represents_after cat new m.register mounts.represents now_leads applies.shape refl;
       own = mounts.own;
       completed = mounts.completed;
@@ -183,7 +182,7 @@ module _ (m : MountedGroup) (put : List Entry) (gone : List Key) (n : ℕ) (s : 
     long : NowOnly t (AreLong ms)
     long = record {
       now = λ image left k among. slots_long k.slot k.sector sound
-          (have_slots t m.register.members next (still_ready m (record m { store = new }) s t refl commits.kept commits.attached mounts.ready).register.slots k among) image left;
+          (have_slots t m.register.members next (still_ready m (record m { store = new }) s t refl refl commits.kept commits.attached mounts.ready).register.slots k among) image left;
     }
 
     run : Runs (tallies.IsSlotOf ms) (PutsRow (status_gate id) ms (status_spelling (numbered m.register next))) t w
@@ -215,7 +214,7 @@ module _ (m : MountedGroup) (put : List Entry) (gone : List Key) (n : ℕ) (s : 
           refl,
           subst (λ (x : Registered). Mounts n (record m { catalog = cat; store = new; register = x }) w h kept_later) (sym is) (record {
             whole = subst (λ (x : Registered). IsWhole (record m { catalog = cat; store = new; register = x })) is whole;
-            ready = still_ready m now_later s w refl keeps (attached-trans commits.attached writes.written.attached) mounts.ready;
+            ready = still_ready m now_later s w refl refl keeps (attached-trans commits.attached writes.written.attached) mounts.ready;
             represents = represents_after cat new later mounts.represents (now_leads cat applies same) applies.shape refl;
             own = mounts.own;
             completed = refl;

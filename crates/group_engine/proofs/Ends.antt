@@ -1,12 +1,10 @@
 -- What a call of a group that takes calls has done, at each of its ends.
-use Rattle.std.proofs.Common.{◌≡◌, inr, ℕ, ◌<◌, Bool, true, false, List, refl, sym, ap, subst, ◌∙◌, Some, Result, Ok, Err}
-use Rattle.std.proofs.lemmas.Bool.{false≢true}
+use Rattle.std.proofs.Common.{◌≡◌, inl, inr, ⊎_elim, ℕ, List, refl, sym, ap, subst, ◌∙◌, Result, Ok, Err}
 use Rattle.bay.specs.State.{BayState, IsSound, KeepsAttached}
 use Rattle.bay.specs.Moments.{Runs}
 use Rattle.bay.proofs.Calls.{attached-trans}
 use Rattle.asm_base.specs.Records.{Entry}
 use Rattle.asm_base.specs.declared.refusal.Refusal.{Refusal}
-use Rattle.asm_base.specs.declared.refusal.Refusal.TheVariants as cause
 use Rattle.asm_formats.specs.Items.{Key}
 use Rattle.asm_formats.specs.Status.{Status}
 use Rattle.catalog.specs.Tables.{Catalogued}
@@ -14,8 +12,7 @@ use Rattle.catalog.proofs.AfterLaws.{one_after}
 use Rattle.directory_store.specs.Answers.{IsUnchanged}
 use Rattle.directory_store.specs.Stores.{Stored}
 use Rattle.directory_store.specs.declared.error.StoreError.{StoreError}
-use Rattle.directory_store.specs.declared.error.StoreError.TheVariants.{Full, Gone, NoMemory}
-use Rattle.page_map.specs.Tables.{new_in, room}
+use Rattle.directory_store.specs.declared.error.StoreError.TheVariants.{Gone}
 use Rattle.status_register.specs.Registered.{Registered}
 use Rattle.status_register.specs.Writes.{after_write}
 use Rattle.status_register.specs.declared.error.Dead.{Dead}
@@ -24,23 +21,13 @@ use Rattle.group_engine.specs.Commits.{CommitCause, CommitsChange, IsDismountedB
 use Rattle.group_engine.specs.Dropping.{WritesFewer}
 use Rattle.group_engine.specs.Mounts.{IsMounted, IsOwn, IsReady, IsWhole, MountedGroup}
 use Rattle.group_engine.specs.Own.{IsSameGroup, KeepsGroup, OnOwnDisks}
-use Rattle.group_engine.specs.declared.access.Access.{Access}
-use Rattle.group_engine.specs.declared.access.Access.TheVariants.{Mounted, Dismounted, Closed}
+pub use Rattle.group_engine.proofs.Causes.{not_mounted}
 use Rattle.group_engine.proofs.Causes.{dead_lost, gone_lost, store_own, written_own}
 use Rattle.group_engine.proofs.Commits.{all_done, all_whole, dropped_done, dropped_moments, fewer_whole, keeps_over_row, one_of, others_none, stored_moments}
 use Rattle.group_engine.proofs.Mounting.{still_ready}
 use Rattle.group_engine.proofs.Unchanged.{same_moments, same_mounts, same_whole}
 
 -- ---- a dismounted group takes no calls
-
-takes_calls : Access → Bool
-takes_calls Mounted = true
-takes_calls (Dismounted disk) = false
-takes_calls Closed = false
-
-pub not_mounted : (m : MountedGroup) (disk : ℕ) → m.access ≡ Dismounted disk → IsMounted m → ⊥
-unfolding takes_calls
-not_mounted m disk is mounted = false≢true (sym (ap takes_calls is) ∙ ap takes_calls mounted)
 
 -- a call that ends with the group dismounted
 pub keeps_dismounted : (was now new : MountedGroup) (s t : BayState) (slot : ℕ) (refusal : Refusal) → IsSameGroup was now → IsDismountedBy now slot refusal new → KeepsAttached s t
@@ -52,7 +39,10 @@ keeps_dismounted was now new s t slot refusal same by attached runs = record {
     shape = ap (λ (v : MountedGroup). v.catalog.shape) by.new_is ∙ same.shape;
     members = ap (λ (v : MountedGroup). v.register.members) by.new_is ∙ same.members;
     disks = ap (λ (v : MountedGroup). v.disks) by.new_is ∙ same.disks;
-    flight = ap (λ (v : MountedGroup). v.flight) by.new_is ∙ same.flight;
+    flight = ⊎_elim
+        (λ goes. inl (ap (λ (v : MountedGroup). v.flight) by.new_is ∙ goes))
+        (λ none. inr (ap (λ (v : MountedGroup). v.flight) by.new_is ∙ none))
+        same.flight;
   };
   attached = attached;
   runs = runs;
@@ -77,7 +67,7 @@ members_same old new next (Err dead) is = ap (λ (r : Registered). r.members) is
 
 -- ---- a commit
 
-module _ (was : MountedGroup) (whole : IsWhole was) (put : List Entry) (gone : List Key) (s t : BayState) (ready : IsReady was s) (new : Stored) (cat : Catalogued) where
+module _ (was : MountedGroup) (mounted : IsMounted was) (whole : IsWhole was) (put : List Entry) (gone : List Key) (s t : BayState) (ready : IsReady was s) (new : Stored) (cat : Catalogued) where
   abbrev now : MountedGroup
   now = record was { catalog = cat; store = new }
 
@@ -88,12 +78,15 @@ module _ (was : MountedGroup) (whole : IsWhole was) (put : List Entry) (gone : L
       let later : IsWhole now = all_whole was whole put gone s t new failed commits cat applies copies in
       record {
         keeps = record {
-          same = record { name = refl; id = refl; shape = applies.shape; members = refl; disks = refl; flight = refl };
+          same = record { name = refl; id = refl; shape = applies.shape; members = refl; disks = refl; flight = inl refl };
           attached = commits.attached;
           runs = store_own was whole commits.runs;
-          whole = λ mounted. later;
-          ready = λ mounted. still_ready was now s t refl commits.kept commits.attached ready;
+          whole = λ takes. later;
+          ready = λ takes. still_ready was now s t refl refl commits.kept commits.attached ready;
         };
+        flight = refl;
+        mounted = mounted;
+        applied = applies.after;
         cause = tt;
         moments = λ n g h kept to. stored_moments was put gone n s g h kept to t new (Ok failed) commits commits.after;
         done = λ n g h kept to. (
@@ -102,7 +95,7 @@ module _ (was : MountedGroup) (whole : IsWhole was) (put : List Entry) (gone : L
           all_done was put gone n s g h kept to t new (Ok failed) commits commits.after cat applies
               (one_after was.catalog.tables cat.tables to.tables put gone applies.after to.after) copies later,
         );
-        refused = λ mounted. tt;
+        refused = λ takes. tt;
       }
 
   -- a record without the copies that failed was written
@@ -124,7 +117,7 @@ module _ (was : MountedGroup) (whole : IsWhole was) (put : List Entry) (gone : L
       shape = applies.shape;
       members = members_same was.register reg next answer writes.written.register;
       disks = refl;
-      flight = refl;
+      flight = inl refl;
     }
 
     runs : Runs (IsOwn was) (OnOwnDisks was) s w
@@ -138,42 +131,52 @@ module _ (was : MountedGroup) (whole : IsWhole was) (put : List Entry) (gone : L
             same = same_group;
             attached = attached;
             runs = runs;
-            whole = λ mounted. later;
-            ready = λ mounted. still_ready was fewer s w same_group.members (keeps_over_row was new next t w answer reg writes.written commits.kept) attached ready;
+            whole = λ takes. later;
+            ready = λ takes. still_ready was fewer s w same_group.members refl (keeps_over_row was new next t w answer reg writes.written commits.kept) attached ready;
           };
+          flight = refl;
+          mounted = mounted;
+          applied = applies.after;
           cause = tt;
           moments = λ n g h kept to. dropped_moments was put gone n s g h kept to t new (Ok failed) commits commits.after failed commits.copies (one_of new.copies commits.some) w sound answer reg writes cat applies
               (one_after was.catalog.tables cat.tables to.tables put gone applies.after to.after);
           done = λ n g h kept to. dropped_done was put gone n s g h kept to t new (Ok failed) commits commits.after failed commits.copies (one_of new.copies commits.some) w sound answer reg writes cat applies
               (one_after was.catalog.tables cat.tables to.tables put gone applies.after to.after) taken ok later;
-          refused = λ mounted. tt;
+          refused = λ takes. tt;
         }
 
     -- a majority was lost at that record
     pub ends_dead : (dead : Dead) (refusal : Refusal) (after : MountedGroup) → answer ≡ Err dead → IsDismountedBy fewer dead.slot refusal after → CommitsChange was put gone (Err refusal) after s w
     ends_dead dead refusal after is by =
-        let lost : IsLostIn was by.number s w = dead_lost was whole s t w next answer dead by.number commits.runs.faults is writes.written.answered by.found in
+        let lost : IsLostIn was after.register.value by.number s w = dead_lost was whole after.register.value s t w next answer dead by.number commits.runs.faults is writes.written.answered by.found in
         record {
           keeps = keeps_dismounted was fewer after s w dead.slot refusal same_group by attached runs;
+          flight = ap (λ (v : MountedGroup). v.flight) by.new_is;
+          mounted = tt;
+          applied = tt;
           cause = subst (λ (x : Refusal). CommitCause was put after s w x) (sym by.refusal_is) (inr (ap (λ (v : MountedGroup). v.access) by.new_is, lost));
           moments = λ n g h kept to. dropped_moments was put gone n s g h kept to t new (Ok failed) commits commits.after failed commits.copies (one_of new.copies commits.some) w sound answer reg writes cat applies
               (one_after was.catalog.tables cat.tables to.tables put gone applies.after to.after);
           done = tt;
-          refused = λ mounted. absurd (out_of_calls fewer after dead.slot refusal by mounted);
+          refused = λ takes. absurd (out_of_calls fewer after dead.slot refusal by takes);
         }
 
   -- all copies failed
   pub ends_gone : (slot : ℕ) (refusal : Refusal) (after : MountedGroup) → CommitsRecords was.store new put gone (Err (Gone slot)) s t → IsAsBefore was.catalog cat → IsDismountedBy now slot refusal after
       → CommitsChange was put gone (Err refusal) after s t
   ends_gone slot refusal after commits before by =
-      let lost : IsLostIn was by.number s t = gone_lost was whole s t slot by.number commits.refused.0 commits.refused.1 by.found in
+      let lost : IsLostIn was after.register.value by.number s t = subst (λ (r : Status). IsLostIn was r by.number s t) (sym (ap (λ (v : MountedGroup). v.register.value) by.new_is))
+      (gone_lost was whole ready.register.apart s t slot by.number commits.refused.0 commits.refused.1 by.found) in
       record {
-        keeps = keeps_dismounted was now after s t slot refusal (record { name = refl; id = refl; shape = before.shape; members = refl; disks = refl; flight = refl }) by
+        keeps = keeps_dismounted was now after s t slot refusal (record { name = refl; id = refl; shape = before.shape; members = refl; disks = refl; flight = inl refl }) by
             commits.attached (store_own was whole commits.runs);
+        flight = ap (λ (v : MountedGroup). v.flight) by.new_is;
+        mounted = tt;
+        applied = tt;
         cause = subst (λ (x : Refusal). CommitCause was put after s t x) (sym by.refusal_is) (inr (ap (λ (v : MountedGroup). v.access) by.new_is, lost));
         moments = λ n g h kept to. stored_moments was put gone n s g h kept to t new (Err (Gone slot)) commits commits.after_gone;
         done = tt;
-        refused = λ mounted. absurd (out_of_calls now after slot refusal by mounted);
+        refused = λ takes. absurd (out_of_calls now after slot refusal by takes);
       }
 
   -- nothing was done
@@ -181,14 +184,17 @@ module _ (was : MountedGroup) (whole : IsWhole was) (put : List Entry) (gone : L
     pub ends_unchanged : (refusal : Refusal) → CommitCause was put now s t refusal → CommitsChange was put gone (Err refusal) now s t
     ends_unchanged refusal why = record {
       keeps = record {
-        same = record { name = refl; id = refl; shape = before.shape; members = refl; disks = refl; flight = refl };
+        same = record { name = refl; id = refl; shape = before.shape; members = refl; disks = refl; flight = inl refl };
         attached = commits.attached;
         runs = store_own was whole commits.runs;
-        whole = λ mounted. same_whole was s t cat new before unchanged whole;
-        ready = λ mounted. still_ready was now s t refl commits.kept commits.attached ready;
+        whole = λ takes. same_whole was s t cat new before unchanged whole;
+        ready = λ takes. still_ready was now s t refl refl commits.kept commits.attached ready;
       };
+      flight = refl;
+      mounted = tt;
+      applied = tt;
       cause = why;
       moments = λ n g h kept to. same_moments n was s t g kept to.mounts unchanged.calls.runs h;
       done = tt;
-      refused = λ mounted n g kept mounts. same_mounts n was s t g kept mounts unchanged.calls.runs cat new before unchanged commits.kept commits.attached;
+      refused = λ takes n g kept mounts. same_mounts n was s t g kept mounts unchanged.calls.runs cat new before unchanged commits.kept commits.attached;
     }

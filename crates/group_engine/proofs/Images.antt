@@ -19,7 +19,7 @@ use Rattle.asm_placement.specs.Among.{IsAmong}
 use Rattle.asm_images.specs.Bridge.{disk_bytes, disks_in}
 use Rattle.asm_images.specs.Directories.{directories, IsNamed}
 use Rattle.asm_images.specs.Kept.{Kept, header_in, IsHeld}
-use Rattle.asm_images.specs.Members.{Image, Member, all_members, within, disk_of}
+use Rattle.asm_images.specs.Members.{Member, all_members, within, disk_of}
 use Rattle.asm_images.specs.PutLaws.{bytes_of}
 use Rattle.asm_images.specs.Sound.{SoundBy}
 use Rattle.asm_images.specs.Stands.{Describes}

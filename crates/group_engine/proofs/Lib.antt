@@ -21,3 +21,6 @@ pub mod Ends
 pub mod StatusEnds
 pub mod NextRecords
 pub mod Forgotten
+pub mod Chunks
+pub mod Endings
+pub mod Gones

@@ -1,13 +1,12 @@
 -- A mounted group stays one over its calls.
-use Rattle.std.proofs.Common.{◌≡◌, inl, ℕ, ◌<◌, ◌^◌, true, false, not, ◌&&◌, List, [], ◌∷◌, sym, ap, subst, ◌∙◌, Option, Some, arith, IsTrue, refl}
-use Rattle.std.proofs.lemmas.Bool.{lt-ltb}
+use Rattle.std.proofs.Common.{◌≡◌, inl, ℕ, ◌<◌, ◌^◌, true, false, not, ◌&&◌, List, [], get_or, sym, ap, subst, ◌∙◌, Option, Some, None, arith, IsTrue, refl}
 use Rattle.std.specs.List.{list_all}
 use Rattle.bay.specs.Image as bay
 use Rattle.bay.specs.Image.{ChangesOnly}
 use Rattle.bay.specs.State.{BayState, KeepsAttached}
 use Rattle.bay.specs.Moments.{Runs}
 use Rattle.asm_group.specs.Group.{Group}
-use Rattle.asm_group.specs.Shape.{Shape}
+use Rattle.asm_group.specs.Shape.{Shape, is_shape}
 use Rattle.asm_formats.specs.Items.{Item}
 use Rattle.asm_formats.specs.Sets.{has_bit, elements}
 use Rattle.asm_formats.specs.Status.{Entry, Status, is_status}
@@ -32,10 +31,10 @@ use Rattle.status_register.specs.declared.member.Member.{Member}
 use Rattle.status_register.proofs.Elsewhere as register_proofs
 use Rattle.group_engine.specs.Becoming.{Leads}
 use Rattle.group_engine.specs.Dropping.{IsWithout}
+use Rattle.group_engine.specs.declared.attached.Attached.{Attached}
 use Rattle.group_engine.specs.Mounts.{MountedGroup, AreCopiesOf, IsCopyOf, IsReady, IsWhole, Represents}
 use Rattle.group_engine.proofs.Calls.{IsTried}
-use Rattle.group_engine.proofs.Records.{from_parts, record_parts}
-use Rattle.group_engine.proofs.Sets.{bit_element, element_bit, element_small, is_less, left_have_entries}
+use Rattle.group_engine.proofs.Sets.{bit_element, element_bit, element_small, is_less}
 
 -- ---- over a change of directory regions
 
@@ -91,6 +90,7 @@ module _ (m : MountedGroup) (whole : IsWhole m) (cat : Catalogued) (new : Stored
   whole_all copies = record {
     are_tables = tried.are;
     tables = tried.tables;
+    shape = subst (λ (x : Shape). IsTrue (is_shape x)) (sym shape) whole.shape;
     units = units;
     status = whole.status;
     alive = whole.alive;
@@ -98,6 +98,7 @@ module _ (m : MountedGroup) (whole : IsWhole m) (cat : Catalogued) (new : Stored
     group = whole.group;
     reached = whole.reached;
     numbers = whole.numbers;
+    births = whole.births;
     copies = record {
       each = λ c among. let is = whole.copies.each c (subst (λ (l : List DirCopy). IsAmong l c) copies among) in shaped_copy refl shape is.named is;
       all = λ d named. let c = whole.copies.all d named in (c.0, subst (λ (l : List DirCopy). IsAmong l c.0) (sym copies) c.1, c.2);
@@ -142,6 +143,7 @@ module _ (m : MountedGroup) (whole : IsWhole m) (cat : Catalogued) (new : Stored
     whole_fewer allowed reached = record {
       are_tables = tried.are;
       tables = tried.tables;
+      shape = subst (λ (x : Shape). IsTrue (is_shape x)) (sym shape) whole.shape;
       units = units;
       status = allowed;
       alive = whole.alive;
@@ -149,13 +151,14 @@ module _ (m : MountedGroup) (whole : IsWhole m) (cat : Catalogued) (new : Stored
       group = whole.group;
       reached = reached;
       numbers = whole.numbers;
+      births = whole.births;
       copies = left_copies;
       disks = whole.disks;
     }
 
 -- what takes the next call still does
-pub still_ready : (m new : MountedGroup) (s t : BayState) → new.register.members ≡ m.register.members → stores.Keeps new.store t → KeepsAttached s t → IsReady m s → IsReady new t
-still_ready m new s t same keeps attached ready =
+pub still_ready : (m new : MountedGroup) (s t : BayState) → new.register.members ≡ m.register.members → new.disks ≡ m.disks → stores.Keeps new.store t → KeepsAttached s t → IsReady m s → IsReady new t
+still_ready m new s t same disks keeps attached ready =
     let register = register_proofs.ready_elsewhere m.register attached ready.register in
     record {
       store = keeps;
@@ -163,6 +166,7 @@ still_ready m new s t same keeps attached ready =
         slots = subst (λ (l : List (Option Member)). HoldSlots t l) (sym same) register.slots;
         apart = subst (λ (l : List (Option Member)). SlotsDiffer l) (sym same) register.apart;
       };
+      sizes = λ d a is. attached.same a.slot ∙ ready.sizes d a (ap (λ (l : List (Option Attached)). get_or l d None) (sym disks) ∙ is);
     }
 
 -- the tables after represent the group after

@@ -8,7 +8,7 @@ use Rattle.allocator.specs.UnitMaps.{UnitMap, unused}
 use Rattle.asm_formats.specs.Following.{holder_of, disks_of, sets_of, sets}
 use Rattle.asm_formats.specs.Regions.{reserved_units}
 use Rattle.asm_formats.specs.Sets.{elements, most_disks}
-use Rattle.asm_formats.specs.Status.{Entry, Status, entry_of, is_status}
+use Rattle.asm_formats.specs.Status.{Entry, entry_of}
 use Rattle.asm_formats.proofs.Orders.{same_sets_follow}
 use Rattle.asm_group.specs.Shape.{Shape}
 use Rattle.asm_placement.specs.Among.{IsAmong}
@@ -18,8 +18,7 @@ use Rattle.status_register.specs.Holders.{is_of}
 use Rattle.status_register.specs.Registered.{is_birth}
 use Rattle.status_register.specs.declared.member.Member.{Member}
 use Rattle.status_register.proofs.Reaching.{same_sets_reach}
-use Rattle.group_engine.specs.Mounts.{IsWhole, MountedGroup}
-use Rattle.group_engine.specs.NextRecords.{KeepsDisks, SameDisksAreNext}
+use Rattle.group_engine.specs.NextRecords.{SameDisksAreNext}
 
 abbrev Bare : Type 0
 Bare = ℕ × ℕ × ℕ × Bool
@@ -77,6 +76,11 @@ units_of xs ys d e = same_units (entry_of xs d) (entry_of ys d) (same_entry xs y
 same_maps : (s : Shape) (xs ys : List Entry) → map bare xs ≡ map bare ys → unused_maps s xs ≡ unused_maps s ys
 same_maps s xs ys e = λ i. map (λ (d : ℕ). unused (reserved_units s) (units_of xs ys d e i)) (range_with_len 0 most_disks)
 
+-- an entry that is the same but for what may differ
+from_some : {A B : Type 0} (f : A → B) (o : Option A) (y : B) → option_map f o ≡ Some y → (x : A) × (o ≡ Some x) × (f x ≡ y)
+from_some f None y is = absurd cc
+from_some f (Some x) y is = (x, refl, same_Some (f x) y is)
+
 -- ---- the record
 
 pub same_disks_are_next : SameDisksAreNext
@@ -89,6 +93,9 @@ same_disks_are_next = λ m next whole allowed keeps.
       alive = keeps.gone ∙ whole.alive;
       follows = same_sets_follow r next all;
       reached = same_sets_reach m.register.members r next all whole.reached;
+      births = λ d x e is entry.
+          let was = from_some bare (entry_of r.entries d) (bare e) (sym (same_entry next.entries r.entries d keeps.entries) ∙ ap (option_map bare) entry) in
+          whole.births d x was.0 is was.1 ∙ ap (λ (b : Bare). b.1) was.2;
       copies = record {
         each = λ c among named. let is = whole.copies.each c among in record {
           named = named;

@@ -1,11 +1,10 @@
 -- A record with fewer directory copies.
-use Rattle.std.proofs.Common.{◌≡◌, ℕ, zero, suc, ◌+◌, ◌^◌, true, ◌&&◌, List, ◌++◌, get_or, refl, sym, ap, ◌∙◌, Option, None, arith}
+use Rattle.std.proofs.Common.{◌≡◌, ℕ, zero, suc, ◌^◌, true, ◌&&◌, List, ◌++◌, get_or, refl, ap, Option, None}
 use Rattle.std.specs.Prelude.{nat_lt, map}
 use Rattle.std.specs.List.{list_all}
-use Rattle.std.proofs.lemmas.Bool.{and_parts, lt-ltb}
+use Rattle.std.proofs.lemmas.Bool.{and_parts}
 use Rattle.asm_formats.specs.Status.{Entry, Status, is_entry, is_status, have_entries, ascends_from}
-use Rattle.status_register.specs.Holders.{holder_in, holders_below, numbered, next_turn}
-use Rattle.status_register.specs.Registered.{Registered}
+use Rattle.status_register.specs.Holders.{holder_in, holders_below}
 use Rattle.status_register.specs.declared.member.Member.{Member}
 
 pub same_below : (places : List (Option Member)) (r : Status) (fewer n : ℕ) → holders_below places (record r { directories = fewer }) n ≡ holders_below places r n

@@ -1,5 +1,5 @@
 -- A mounted group gets another status record.
-use Rattle.std.proofs.Common.{◌≡◌, ⊎_elim, ℕ, List, [], ◌∷◌, ◌++◌, true, false, get_or, refl, sym, ap, subst, ◌∙◌, Some, None, Result, Ok, arith}
+use Rattle.std.proofs.Common.{◌≡◌, ⊎_elim, ℕ, List, [], ◌∷◌, ◌++◌, true, false, get_or, refl, sym, ap, subst, ◌∙◌, Some, None, Result, Ok, arith, IsTrue}
 use Rattle.std.specs.Option.{option_map}
 use Rattle.std.proofs.lemmas.Bool.{cases_Bool, false≢true}
 use Rattle.std.specs.Prelude.{MatchResult, OnOk}
@@ -7,6 +7,7 @@ use Rattle.bay.specs.State.{BayState, IsSound}
 use Rattle.bay.specs.Moments.{Runs, NowOnly, LeavesOnly}
 use Rattle.bay.proofs.Calls.{leaves_less}
 use Rattle.asm_group.specs.Group.{Group}
+use Rattle.asm_group.specs.Shape.{Shape, is_shape}
 use Rattle.asm_formats.specs.Sets.{has_bit, elements}
 use Rattle.asm_formats.specs.Status.{Status, status_spelling}
 use Rattle.asm_images.specs.Kept.{Kept, IsHeld}
@@ -86,6 +87,7 @@ status_whole m w next is_next s t ready answer reg written taken is_ok cat table
     subst (λ (x : Registered). IsWhole (record m { catalog = cat; store = new; register = x })) (sym is) (record {
       are_tables = subst (λ (u : Tables). AreTables u) (sym tables) w.are_tables;
       tables = λ k. ap (λ (u : Tables). records_of u k) tables ∙ w.tables k ∙ ap (λ (x : PageTable). record_at x.records k) (sym left.table);
+      shape = subst (λ (x : Shape). IsTrue (is_shape x)) (sym shape) w.shape;
       units = units;
       status = written.allowed;
       alive = is_next.alive;
@@ -93,6 +95,7 @@ status_whole m w next is_next s t ready answer reg written taken is_ok cat table
       group = is_next.group ∙ w.group;
       reached = subst (λ (x : Registered). Reaches x.members x.value) is reaches;
       numbers = w.numbers;
+      births = is_next.births;
       copies = record { each = λ c among. let of = copies.each c among in shaped_copy refl shape of.named of; all = copies.all };
       disks = w.disks;
     })
@@ -151,7 +154,7 @@ module _ (n : ℕ) (m : MountedGroup) (next : Status) (s t : BayState) (sound : 
         refl,
         subst (λ (x : Registered). Mounts n (record m { catalog = cat; store = new; register = x }) t g kept_later) (sym is) (record {
           whole = subst (λ (x : Registered). IsWhole (record m { catalog = cat; store = new; register = x })) is whole;
-          ready = still_ready m now_later s t refl keeps written.attached mounts.ready;
+          ready = still_ready m now_later s t refl refl keeps written.attached mounts.ready;
           represents = record {
             name = mounts.represents.name;
             shape = mounts.represents.shape ∙ sym shape;

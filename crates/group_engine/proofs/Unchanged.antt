@@ -1,11 +1,11 @@
 -- A mounted group where nothing was done.
-use Rattle.std.proofs.Common.{◌≡◌, inl, ⊎_elim, ℕ, List, [], ◌∷◌, refl, sym, ap, subst, ◌∙◌, Some, arith}
+use Rattle.std.proofs.Common.{inl, ⊎_elim, ℕ, List, [], ◌∷◌, refl, sym, ap, subst, ◌∙◌, Some, arith, IsTrue}
 use Rattle.bay.specs.Image as bay
 use Rattle.bay.specs.Image.{Same}
 use Rattle.bay.specs.State.{BayState, KeepsAttached}
 use Rattle.bay.specs.Moments.{Runs, NowOnly, LeavesOnly}
 use Rattle.asm_group.specs.Group.{Group}
-use Rattle.asm_group.specs.Shape.{Shape}
+use Rattle.asm_group.specs.Shape.{Shape, is_shape}
 use Rattle.allocator.specs.UnitMaps.{UnitMap}
 use Rattle.asm_placement.specs.Among.{IsAmong}
 use Rattle.asm_images.specs.Bridge.{disks_in}
@@ -42,6 +42,7 @@ pub same_whole : (m : MountedGroup) (s t : BayState) (cat : Catalogued) (new : S
 same_whole m s t cat new before unchanged w = record {
   are_tables = subst (λ (u : Tables). AreTables u) (sym before.tables) w.are_tables;
   tables = λ k. ap (λ (u : Tables). records_of u k) before.tables ∙ w.tables k ∙ sym (unchanged.table.records k);
+  shape = subst (λ (x : Shape). IsTrue (is_shape x)) (sym before.shape) w.shape;
   units = subst (λ (x : Shape). HasUnits x m.register.value.entries cat.tables cat.units) (sym before.shape)
       (subst (λ (u : Tables). HasUnits m.catalog.shape m.register.value.entries u cat.units) (sym before.tables)
       (subst (λ (us : List UnitMap). HasUnits m.catalog.shape m.register.value.entries m.catalog.tables us) (sym before.units) w.units));
@@ -51,6 +52,7 @@ same_whole m s t cat new before unchanged w = record {
   group = w.group;
   reached = w.reached;
   numbers = w.numbers;
+  births = w.births;
   copies = record {
     each = λ c among. let is = w.copies.each c (subst (λ (l : List DirCopy). IsAmong l c) unchanged.copies among) in shaped_copy refl before.shape is.named is;
     all = λ d named. let c = w.copies.all d named in (c.0, subst (λ (l : List DirCopy). IsAmong l c.0) (sym unchanged.copies) c.1, c.2);
@@ -76,7 +78,7 @@ module _ (n : ℕ) (m : MountedGroup) (s t : BayState) (g : Group) (kept : Kept)
   pub same_mounts : (cat : Catalogued) (new : Stored) → IsAsBefore m.catalog cat → IsUnchanged m.store new s t → stores.Keeps new t → KeepsAttached s t → Mounts n (record m { catalog = cat; store = new }) t g kept
   same_mounts cat new before unchanged keeps attached = record {
     whole = same_whole m s t cat new before unchanged mounts.whole;
-    ready = still_ready m (record m { catalog = cat; store = new }) s t refl keeps attached mounts.ready;
+    ready = still_ready m (record m { catalog = cat; store = new }) s t refl refl keeps attached mounts.ready;
     represents = record {
       name = mounts.represents.name;
       shape = mounts.represents.shape ∙ sym before.shape;

@@ -16,7 +16,7 @@ use Rattle.asm_placement.specs.Among.{IsAmong}
 use Rattle.asm_images.specs.Kept.{Kept, IsHeld}
 use Rattle.catalog.specs.Changing.{IsAfter}
 use Rattle.catalog.specs.Tables.{Tables}
-use Rattle.change_directory.specs.declared.copy.DirCopy.{DirCopy}
+use Rattle.asm_formats.specs.Sets.{elements}
 use Rattle.asm_formats.specs.Status.{Status}
 use Rattle.page_map.specs.Tables.{new_in, room}
 use Rattle.status_register.specs.Holders.{attached_to}
@@ -62,16 +62,22 @@ pub record LosesMajority (m : MountedGroup) (next : Status) (slot : ℕ) (s t : 
   pub lost : IsLost (attached_to m.register.members next) took (sets next) disk
   pub at : slot ≡ disk.slot
 
--- The disk failed, and with it all directory copies, or a majority of a set of a record.
-pub record IsLostIn (m : MountedGroup) (d : ℕ) (s t : BayState) : Type 0 where
+-- The disk has a directory copy by the record, and each disk that has one failed.
+pub record LosesCopies (m : MountedGroup) (r : Status) (d : ℕ) (s t : BayState) : Type 0 where
+  pub named : IsAmong (elements r.directories) d
+  pub all : (k slot : ℕ) → IsAmong (elements r.directories) k → slot_at m.disks k ≡ Some slot → Rose (s.faults slot) (t.faults slot)
+
+-- The disk failed, and with it all that have a directory copy by the record that held at the end, or a majority of a set of a record
+-- that was written.
+pub record IsLostIn (m : MountedGroup) (r : Status) (d : ℕ) (s t : BayState) : Type 0 where
   pub slot : ℕ
   pub at : slot_at m.disks d ≡ Some slot
   pub rose : Rose (s.faults slot) (t.faults slot)
-  pub by : ((c : DirCopy) → IsAmong m.store.copies c → Rose (s.faults c.slot) (t.faults c.slot)) ⊎ ((next : Status) × LosesMajority m next slot s t)
+  pub by : LosesCopies m r d s t ⊎ ((next : Status) × LosesMajority m next slot s t)
 
 -- the group was dismounted by the disk before the call, or in it
 abbrev pub DismountCause : MountedGroup → MountedGroup → BayState → BayState → DiskRef → Type 0
-DismountCause old new s t (disk.Number d) = (old.access ≡ access.Dismounted d) ⊎ ((new.access ≡ access.Dismounted d) × IsLostIn old d s t)
+DismountCause old new s t (disk.Number d) = (old.access ≡ access.Dismounted d) ⊎ ((new.access ≡ access.Dismounted d) × IsLostIn old new.register.value d s t)
 DismountCause old new s t (disk.Spelt text) = ⊥
 
 -- When a commit is refused. Want of memory is free.
@@ -89,11 +95,14 @@ StatusCause old new s t _ = ⊥
 
 -- ---- what the calls do
 
--- A commit on a group that takes calls: what it keeps, why it is refused, what each image of each moment is held for, and what is
--- mounted at the end.
+-- A commit on a group that takes calls: what it keeps, what the tables are after it, why it is refused, what each image of each moment
+-- is held for, and what is mounted at the end.
 pub record CommitsChange (old : MountedGroup) (put : List Entry) (gone : List Key) (answer : Result (Unit {0}) Refusal) (new : MountedGroup)
     (s t : BayState) : Type 0 where
   pub keeps : KeepsGroup old new s t
+  pub flight : new.flight ≡ old.flight
+  pub mounted : OnOk answer (IsMounted new)
+  pub applied : OnOk answer (IsAfter old.catalog.tables put gone new.catalog.tables)
   pub cause : IfErr answer (CommitCause old put new s t)
   pub moments : (n : ℕ) (g h : Group) (kept : Kept) → LeadsTo n old put gone s g h kept
       → LeavesOnly s t (StandsIn n old.register.id (g ∷ h ∷ []) kept)

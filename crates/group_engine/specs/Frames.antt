@@ -1,10 +1,19 @@
 -- A mounted group stays mounted over the calls of others.
-use Rattle.std.specs.Prelude.{◌≡◌, ◌⊎◌, ℕ, List}
+use Rattle.std.specs.Prelude.{◌≡◌, ◌⊎◌, ℕ, List, Some}
 use Rattle.bay.specs.Image.{Image}
+use Rattle.bay.specs.State.{BayState}
 use Rattle.asm_group.specs.Group.{Group}
 use Rattle.asm_images.specs.Kept.{Kept, IsHeld}
 use Rattle.status_register.specs.Elsewhere.{IsNoMember}
 use Rattle.group_engine.specs.Mounts.{IsOwn, MountedGroup}
+
+-- what is attached stays so, with its size; more may be attached
+pub record StaysAttached (old new : BayState) : Type 0 where
+  pub stays : (slot size : ℕ) → old.attached slot ≡ Some size → new.attached slot ≡ Some size
+
+-- what is attached to the group stays so, with its size
+pub record KeepsOwn (m : MountedGroup) (old new : BayState) : Type 0 where
+  pub stays : (slot size : ℕ) → IsOwn m slot → old.attached slot ≡ Some size → new.attached slot ≡ Some size
 
 -- the disk in a slot stays
 pub record SameDisk (slot : ℕ) (old new : Image) : Type 0 where

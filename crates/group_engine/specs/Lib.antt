@@ -11,3 +11,5 @@ pub mod Statuses
 pub mod Making
 pub mod NextRecords
 pub mod Forgetting
+pub mod Pending
+pub mod Gone

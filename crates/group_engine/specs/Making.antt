@@ -1,6 +1,9 @@
 -- How a mounted group begins, and whether it takes calls.
-use Rattle.std.specs.Prelude.{ℕ, List, Option, Some, None}
+use Rattle.std.specs.Prelude.{◌≡◌, ℕ, List, Option, Some, None}
 use Rattle.asm_group.specs.Names.{Bytes}
+use Rattle.asm_base.specs.declared.refusal.DiskRef.TheVariants as disk
+use Rattle.asm_base.specs.declared.refusal.Refusal.{Refusal}
+use Rattle.asm_base.specs.declared.refusal.Refusal.TheVariants as cause
 use Rattle.catalog.specs.Tables.{Catalogued}
 use Rattle.directory_store.specs.Stores.{Stored}
 use Rattle.status_register.specs.Registered.{Registered}
@@ -32,3 +35,9 @@ abbrev pub closed : Access → Access
 closed Mounted = Closed
 closed (Dismounted disk) = Dismounted disk
 closed Closed = Closed
+
+-- why a group takes no calls
+abbrev pub IsShut : Access → Refusal → Type 0
+IsShut Mounted refusal = ⊥
+IsShut (Dismounted d) refusal = refusal ≡ cause.Dismounted (disk.Number d)
+IsShut Closed refusal = refusal ≡ cause.NoMemory

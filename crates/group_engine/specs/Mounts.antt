@@ -4,11 +4,11 @@ use Rattle.std.specs.Option.{option_map}
 use Rattle.bay.specs.State.{BayState}
 use Rattle.bay.specs.Moments.{NowOnly}
 use Rattle.asm_group.specs.Names.{Bytes}
-use Rattle.asm_group.specs.Shape.{Shape}
+use Rattle.asm_group.specs.Shape.{Shape, is_shape}
 use Rattle.asm_group.specs.Group.{Group}
 use Rattle.asm_formats.specs.Items.{Item, Key}
 use Rattle.asm_formats.specs.Sets.{elements}
-use Rattle.asm_formats.specs.Status.{Status, is_status}
+use Rattle.asm_formats.specs.Status.{Entry, Status, entry_of, is_status}
 use Rattle.asm_base.specs.Records.{record_at}
 use Rattle.asm_placement.specs.Among.{IsAmong}
 use Rattle.asm_images.specs.Describing.{DescribesGroup}
@@ -69,12 +69,17 @@ pub record AreCopiesOf (r : Status) (members : List (Option Member)) (s : Shape)
   pub each : (c : DirCopy) → IsAmong copies c → IsCopyOf r members s c
   pub all : (d : ℕ) → IsAmong (elements r.directories) d → (c : DirCopy) × IsAmong copies c × (c.number ≡ d)
 
+-- each attached disk has the birth that the record's entry of its number has
+abbrev pub HaveBirths : Status → List (Option Member) → Type 0
+HaveBirths r members = (d : ℕ) (x : Member) (e : Entry) → get_or members d None ≡ Some x → entry_of r.entries d ≡ Some e → x.birth ≡ e.birth
+
 -- The parts of a mounted group say the same.
 pub record IsWhole (m : MountedGroup) : Type 0 where
   -- the tables are those of the store's records
   pub are_tables : AreTables m.catalog.tables
   pub tables : (k : Key) → records_of m.catalog.tables k ≡ record_at m.store.table.records k
-  -- the units are those of the record's entries
+  -- the shape is one of the formats, and the units are those of the record's entries
+  pub shape : IsTrue (is_shape m.catalog.shape)
   pub units : HasUnits m.catalog.shape m.register.value.entries m.catalog.tables m.catalog.units
   -- the record is one of the formats that was written, and isn't marked gone; a majority of each of its sets is attached
   pub status : IsTrue (is_status m.register.value)
@@ -83,6 +88,7 @@ pub record IsWhole (m : MountedGroup) : Type 0 where
   pub group : m.register.value.id ≡ m.register.id
   pub reached : Reaches m.register.members m.register.value
   pub numbers : (i : ℕ) (x : Member) → get_or m.register.members i None ≡ Some x → x.number ≡ i
+  pub births : HaveBirths m.register.value m.register.members
   -- the store's copies are those that the record names
   pub copies : AreCopiesOf m.register.value m.register.members m.catalog.shape m.store.copies
   -- of each attached disk the slot
@@ -96,10 +102,19 @@ pub record Represents (m : MountedGroup) (g : Group) : Type 0 where
 
 -- ---- with the disks
 
--- What a call needs on every bay: its store takes commits, and its register may be written.
+-- each attached disk has the size that is told of it
+abbrev pub HaveSizes : List (Option Attached) → BayState → Type 0
+HaveSizes disks state = (d : ℕ) (a : Attached) → get_or disks d None ≡ Some a → state.attached a.slot ≡ Some a.size
+
+-- What a call needs on every bay: its store takes commits, its register may be written, and the attached disks have their sizes.
 pub record IsReady (m : MountedGroup) (state : BayState) : Type 0 where
   pub store : stores.Keeps m.store state
   pub register : registers.IsReady m.register state
+  pub sizes : HaveSizes m.disks state
+
+-- While the group is mounted, its parts agree and it takes the next call.
+abbrev pub Takes : MountedGroup → BayState → Type 0
+Takes m state = IsMounted m → IsWhole m × IsReady m state
 
 -- the slots that are kept are those of the attached disks
 abbrev pub AreOwn : MountedGroup → (ℕ → Bool) → Type 0

@@ -1,5 +1,5 @@
 -- Which status records a mounted group may get by the same disks.
-use Rattle.std.specs.Prelude.{◌≡◌, false, map, IsTrue}
+use Rattle.std.specs.Prelude.{◌≡◌, map, IsTrue}
 use Rattle.asm_formats.specs.Status.{Status, is_status}
 use Rattle.asm_images.specs.RecordLaws.{bare}
 use Rattle.group_engine.specs.Mounts.{IsWhole, MountedGroup}

@@ -1,5 +1,5 @@
 -- What each call of a mounted group keeps, on every bay.
-use Rattle.std.specs.Prelude.{◌≡◌}
+use Rattle.std.specs.Prelude.{◌≡◌, ◌⊎◌, None}
 use Rattle.bay.specs.Image.{Image, ChangesOnly}
 use Rattle.bay.specs.State.{BayState, KeepsAttached}
 use Rattle.bay.specs.Moments.{Runs}
@@ -16,7 +16,8 @@ pub record IsSameGroup (old new : MountedGroup) : Type 0 where
   pub shape : new.catalog.shape ≡ old.catalog.shape
   pub members : new.register.members ≡ old.register.members
   pub disks : new.disks ≡ old.disks
-  pub flight : new.flight ≡ old.flight
+  -- the move that is on its way goes on, or was given up
+  pub flight : (new.flight ≡ old.flight) ⊎ (new.flight ≡ None)
 
 -- What a call keeps: the group is the same, only disks that are attached to it change, and while it is mounted its parts agree and it
 -- takes the next call.

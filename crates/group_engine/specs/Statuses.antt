@@ -1,5 +1,5 @@
 -- What the writing of a group's status record does.
-use Rattle.std.specs.Prelude.{◌≡◌, ℕ, false, List, [], ◌∷◌, Some, IfErr, IsTrue, OnErr, OnOk, Result}
+use Rattle.std.specs.Prelude.{◌≡◌, ℕ, false, List, [], ◌∷◌, IfErr, IsTrue, OnErr, OnOk, Result}
 use Rattle.bay.specs.State.{BayState}
 use Rattle.bay.specs.Moments.{LeavesOnly}
 use Rattle.allocator.specs.UnitMaps.{UnitMap}
@@ -12,9 +12,10 @@ use Rattle.change_directory.specs.declared.copy.DirCopy.{DirCopy}
 use Rattle.asm_group.specs.Group.{Group}
 use Rattle.asm_images.specs.Kept.{Kept}
 use Rattle.catalog.specs.Placing.{HasUnits}
+use Rattle.status_register.specs.Holders.{numbered}
 use Rattle.status_register.specs.Reaching.{Reaches}
 use Rattle.group_engine.specs.Commits.{StandsIn, StatusCause}
-use Rattle.group_engine.specs.Mounts.{IsCopyOf, IsMounted, MountedGroup, Mounts}
+use Rattle.group_engine.specs.Mounts.{HaveBirths, IsCopyOf, IsMounted, MountedGroup, Mounts}
 use Rattle.group_engine.specs.Own.{KeepsGroup}
 use Rattle.group_engine.specs.Recorded.{MayGet}
 
@@ -25,13 +26,14 @@ pub record NamesCopies (m : MountedGroup) (next : Status) : Type 0 where
   pub all : (d : ℕ) → IsAmong (elements next.directories) d → (c : DirCopy) × IsAmong m.store.copies c × (c.number ≡ d)
 
 -- What a record must have so that a mounted group may get it: it is one of the group, follows the one that holds, is reached by the
--- attached disks, names copies of the store alone, and its entries have room for all homes.
+-- attached disks and has their births, names copies of the store alone, and its entries have room for all homes.
 pub record IsNextOf (m : MountedGroup) (next : Status) : Type 0 where
   pub status : IsTrue (is_status next)
   pub group : next.id ≡ m.register.value.id
   pub alive : next.gone ≡ false
   pub follows : Follows m.register.value next
   pub reached : Reaches m.register.members next
+  pub births : HaveBirths next m.register.members
   pub copies : NamesCopies m next
   pub units : (us : List UnitMap) × HasUnits m.catalog.shape next.entries m.catalog.tables us
 
@@ -39,6 +41,10 @@ pub record IsNextOf (m : MountedGroup) (next : Status) : Type 0 where
 pub record WritesStatus (old : MountedGroup) (next : Status) (answer : Result (Unit {0}) Refusal) (new : MountedGroup)
     (s t : BayState) : Type 0 where
   pub keeps : KeepsGroup old new s t
+  pub flight : new.flight ≡ old.flight
+  pub tables : new.catalog.tables ≡ old.catalog.tables
+  pub mounted : OnOk answer (IsMounted new)
+  pub recorded : OnOk answer (new.register.value ≡ numbered old.register next)
   pub cause : IfErr answer (StatusCause old new s t)
   pub moments : (n : ℕ) (g : Group) (kept : Kept) → MayGet n old next s g kept → LeavesOnly s t (StandsIn n old.register.id (g ∷ []) kept)
   pub done : OnOk answer ((n : ℕ) (g : Group) (kept : Kept) → MayGet n old next s g kept

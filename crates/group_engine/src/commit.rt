@@ -4,6 +4,7 @@ ghost use Rattle.bay.specs.Moments.{LeavesOnly};
 ghost use Rattle.asm_group.specs.Group.{Group};
 ghost use Rattle.asm_images.specs.Kept.{Kept};
 ghost use Rattle.catalog.specs.Applying.{Leaves};
+ghost use Rattle.catalog.specs.Changing.{IsAfter};
 ghost use Rattle.catalog.specs.Tables.{Tables};
 ghost use Rattle.directory_store.specs.Contents.{ArePutItems};
 ghost use Rattle.group_engine.specs.Commits.{CommitCause, CommitsChange, IsDismountedBy, LeadsTo, StandsIn};
@@ -36,6 +37,10 @@ impl Mounted {
         requires leaves { IsMounted self.old → (u : Tables) × Leaves self.old.catalog change.now.put change.now.gone u }
         // The group's parts agree, it takes the next call, and the disks of others stay.
         ensures keeps { KeepsGroup self.old self.new (B.state bay.old) (B.state bay.new) }
+        ensures flight { self.new.flight ≡ self.old.flight }
+        // Once it is done, the group takes calls still, and its tables are those after the change.
+        ensures mounted { OnOk result (IsMounted self.new) }
+        ensures applied { OnOk result (IsAfter self.old.catalog.tables change.now.put change.now.gone self.new.catalog.tables) }
         ensures cause { IfErr result (CommitCause self.old change.now.put self.new (B.state bay.old) (B.state bay.new)) }
         // Each image of each moment is held for the group before or the one after.
         ensures moments { IsMounted self.old → (n : ℕ) (g h : Group) (kept : Kept) → LeadsTo n self.old change.now.put change.now.gone (B.state bay.old) g h kept

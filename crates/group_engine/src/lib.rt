@@ -11,8 +11,10 @@ mod dropping;
 mod flight;
 mod forgetting;
 mod frames;
+mod gone;
 mod mounted;
 mod next_laws;
+mod pending;
 mod status;
 
 pub use access::Access;
@@ -20,6 +22,9 @@ pub use attached::Attached;
 pub use byte_laws::{mounted_bytes_stand, same_bytes_hold};
 pub use commit_laws::{committed_is_sound, committing_is_sound, committing_is_standing};
 pub use flight::Flight;
-pub use frames::{calls_keep, mounted_elsewhere, ready_elsewhere, spared_is_held};
+pub use frames::{
+    calls_keep, causes_join, giving_up_keeps, mounted_elsewhere, ready_elsewhere, ready_with_own,
+    spared_is_held, stays_attached,
+};
 pub use mounted::Mounted;
 pub use next_laws::same_disks_are_next;

@@ -1,14 +1,15 @@
 //! A mounted group as one value.
-ghost use Rattle.std.specs.Prelude.{◌≡◌, ◌<◌, ℕ, None, Some, get_or, length};
+ghost use Rattle.std.specs.Prelude.{◌≡◌, ◌<◌, ℕ, IfErr, None, OnOk, Some, get_or, length};
+ghost use Rattle.std.specs.Bool.{OnFalse, OnTrue};
 ghost use Rattle.std.specs.Option.{option_map};
 ghost use Rattle.group_engine.specs.declared.attached.Attached.{Attached as AttachedDisk};
-ghost use Rattle.group_engine.specs.Making.{closed, dismounted_by, made};
-ghost use Rattle.group_engine.specs.Mounts.{IsWhole, slot_at};
+ghost use Rattle.group_engine.specs.Making.{IsShut, closed, dismounted_by, made};
+ghost use Rattle.group_engine.specs.Mounts.{IsMounted, IsWhole, slot_at};
 
 use crate::access::Access;
 use crate::attached::Attached;
 use crate::flight::Flight;
-use asm_base::Name;
+use asm_base::{DiskRef, Name, Refusal};
 use catalog::Catalog;
 use directory_store::Store;
 use status_register::Register;
@@ -96,6 +97,13 @@ impl Mounted {
         }
     }
 
+    /// The attached disks by their numbers.
+    pub fn disks(&self) -> &[Option<Attached>]
+        ensures { result.now ≡ self.now.disks }
+    {
+        &self.disks
+    }
+
     /// The size of a disk's image in bytes, where it is attached.
     pub fn size(&self, disk: u8) -> Option<u64>
         requires { disk < 64 }
@@ -119,6 +127,39 @@ impl Mounted {
         ensures { self.new ≡ record self.old { flight = flight } }
     {
         self.flight = flight;
+    }
+
+    /// Whether the group takes calls, and if not why.
+    pub fn access(&self) -> Access
+        ensures { result ≡ self.now.access }
+    {
+        self.access
+    }
+
+    /// Whether the group takes calls.
+    pub fn is_mounted(&self) -> bool
+        ensures yes { OnTrue result (IsMounted self.now) }
+        ensures no { OnFalse result (IsMounted self.now → ⊥) }
+    {
+        match self.access {
+            Access::Mounted => true,
+            Access::Dismounted { .. } => false,
+            Access::Closed => false,
+        }
+    }
+
+    /// Refuses what a group refuses that takes no calls: Dismounted by its disk, or NoMemory once it is closed.
+    pub fn takes_calls(&self) -> Result<(), Refusal>
+        ensures ok { OnOk result (IsMounted self.now) }
+        ensures cause { IfErr result (IsShut self.now.access) }
+    {
+        match self.access {
+            Access::Mounted => Ok(()),
+            Access::Dismounted { disk } => Err(Refusal::Dismounted {
+                disk: DiskRef::Number(disk),
+            }),
+            Access::Closed => Err(Refusal::NoMemory),
+        }
     }
 
     /// The disk by which the group is dismounted.

@@ -3,6 +3,7 @@ ghost use Rattle.std.specs.Prelude.{◌≡◌, ◌∷◌, [], ℕ, IfErr, OnErr,
 ghost use Rattle.bay.specs.Moments.{LeavesOnly};
 ghost use Rattle.asm_group.specs.Group.{Group};
 ghost use Rattle.asm_images.specs.Kept.{Kept};
+ghost use Rattle.status_register.specs.Holders.{numbered};
 ghost use Rattle.group_engine.specs.Commits.{StandsIn, StatusCause};
 ghost use Rattle.group_engine.specs.Mounts.{IsMounted, IsReady, IsWhole, Mounts};
 ghost use Rattle.group_engine.specs.Own.{KeepsGroup};
@@ -32,6 +33,11 @@ impl Mounted {
         requires next { IsMounted self.old → IsNextOf self.old next.now }
         // The group's parts agree, it takes the next call, and the disks of others stay.
         ensures keeps { KeepsGroup self.old self.new (B.state bay.old) (B.state bay.new) }
+        ensures flight { self.new.flight ≡ self.old.flight }
+        ensures tables { self.new.catalog.tables ≡ self.old.catalog.tables }
+        // Once it is done, the group takes calls still, and the record holds under the next number.
+        ensures mounted { OnOk result (IsMounted self.new) }
+        ensures recorded { OnOk result (self.new.register.value ≡ numbered self.old.register next.now) }
         ensures cause { IfErr result (StatusCause self.old self.new (B.state bay.old) (B.state bay.new)) }
         // Each image of each moment is held for the group.
         ensures moments { IsMounted self.old → (n : ℕ) (g : Group) (kept : Kept) → MayGet n self.old next.now (B.state bay.old) g kept

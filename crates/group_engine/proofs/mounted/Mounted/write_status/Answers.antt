@@ -1,4 +1,4 @@
-use Rattle.std.proofs.Common.{◌≡◌, ◌∙◌, ℕ, Ok, Err, sym, ap, subst}
+use Rattle.std.proofs.Common.{◌∙◌, ℕ, Ok, Err, sym, ap, subst}
 use Rattle.asm_formats.specs.Status.{Status}
 use Rattle.directory_store.specs.Stores as stores
 use Rattle.group_engine.specs.Forgetting.{KeepsNamed}
@@ -8,7 +8,7 @@ use Rattle.catalog.specs.Placing.{HasUnits}
 use Rattle.asm_base.specs.declared.refusal.Refusal.TheVariants as cause
 use Rattle.status_register.specs.Holders.{HoldSlots, SlotsDiffer}
 use Rattle.group_engine.specs.Dropping.{HasWritten}
-use Rattle.group_engine.specs.Mounts.{IsReady, IsWhole, MountedGroup}
+use Rattle.group_engine.specs.Mounts.{IsMounted, IsReady, IsWhole, MountedGroup}
 use Rattle.group_engine.specs.Statuses.{IsNextOf, WritesStatus}
 use Rattle.group_engine.proofs.Records.{record_parts}
 use Rattle.group_engine.proofs.Seen.{seen}
@@ -31,7 +31,7 @@ returns-then-is_err g c =
     let next = c.args.next.now in
     let e = c.ready_disks.ensures in
     subst (λ (v : MountedGroup). WritesStatus v next (Err cause.NoMemory) (record was { catalog = c.ready_disks.new.self }) s s) c.self.view_is
-    (ends_without was (subst (λ (v : MountedGroup). IsWhole v) (sym c.self.view_is) c.requires.whole) next s (subst (λ (v : MountedGroup). IsReady v s) (sym c.self.view_is) c.requires.ready)
+    (ends_without was (subst (λ (v : MountedGroup). IsMounted v) (sym c.self.view_is) c.requires.mounted) (subst (λ (v : MountedGroup). IsWhole v) (sym c.self.view_is) c.requires.whole) next s (subst (λ (v : MountedGroup). IsReady v s) (sym c.self.view_is) c.requires.ready)
     c.ready_disks.new.self (record { tables = e.tables; units = e.units; shape = e.shape }))
 
 pub write-requires-clause-slots : goal.write-requires-clause-slots
@@ -61,7 +61,7 @@ returns-in-Ok g c =
     let d = c.ready_disks.ensures in
     let written : HasWritten was.register next c.write.result c.write.new.self s t = record { register = e.register; allowed = e.allowed; reaches = e.reaches; answered = e.answer; runs = e.runs; history = e.history; attached = e.attached } in
     subst (λ (v : MountedGroup). WritesStatus v next (Ok tt) (record was { catalog = c.apply_disks.new.self; store = c.forget_others.new.store; register = c.write.new.self }) s t) c.self.view_is
-    (ends_written was (subst (λ (v : MountedGroup). IsWhole v) (sym c.self.view_is) c.requires.whole) next s (subst (λ (v : MountedGroup). IsReady v s) (sym c.self.view_is) c.requires.ready) c.apply_disks.new.self
+    (ends_written was (subst (λ (v : MountedGroup). IsMounted v) (sym c.self.view_is) c.requires.mounted) (subst (λ (v : MountedGroup). IsWhole v) (sym c.self.view_is) c.requires.whole) next s (subst (λ (v : MountedGroup). IsReady v s) (sym c.self.view_is) c.requires.ready) c.apply_disks.new.self
     (subst (λ (v : MountedGroup). IsNextOf v next) (sym c.self.view_is) c.requires.next) t sound c.write.result c.write.new.self written (c.apply_disks.ensures.tables ∙ d.tables) (c.apply_disks.ensures.shape ∙ d.shape)
     c.in-Ok.field-0 c.in-Ok.is c.apply_disks.ensures.units c.forget_others.new.store
     (subst (λ (named : ℕ). KeepsNamed was.store c.forget_others.new.store was.disks named 64) (ap (λ (r : Status). r.directories) c.next.view_is) c.forget_others.ensures.named) c.forget_others.ensures.kept)
@@ -77,6 +77,6 @@ returns-in-Err g c =
     let d = c.ready_disks.ensures in
     let written : HasWritten was.register next c.write.result c.write.new.self s t = record { register = e.register; allowed = e.allowed; reaches = e.reaches; answered = e.answer; runs = e.runs; history = e.history; attached = e.attached } in
     subst (λ (v : MountedGroup). WritesStatus v next (Err c.dismount.result) c.dismount.new.self s t) c.self.view_is
-    (ends_lost was (subst (λ (v : MountedGroup). IsWhole v) (sym c.self.view_is) c.requires.whole) next s (subst (λ (v : MountedGroup). IsReady v s) (sym c.self.view_is) c.requires.ready) c.ready_disks.new.self
+    (ends_lost was (subst (λ (v : MountedGroup). IsMounted v) (sym c.self.view_is) c.requires.mounted) (subst (λ (v : MountedGroup). IsWhole v) (sym c.self.view_is) c.requires.whole) next s (subst (λ (v : MountedGroup). IsReady v s) (sym c.self.view_is) c.requires.ready) c.ready_disks.new.self
     (subst (λ (v : MountedGroup). IsNextOf v next) (sym c.self.view_is) c.requires.next) t sound c.write.result c.write.new.self written d.tables d.shape
     c.in-Err.dead c.dismount.result c.dismount.new.self c.in-Err.is c.dismount.ensures)

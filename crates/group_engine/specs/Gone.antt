@@ -1,0 +1,26 @@
+-- A group whose record is marked gone.
+use Rattle.std.specs.Prelude.{ℕ, true, IfErr, OnOk, Result, Ok}
+use Rattle.bay.specs.State.{BayState}
+use Rattle.asm_base.specs.declared.refusal.Refusal.{Refusal}
+use Rattle.asm_formats.specs.Status.{Status}
+use Rattle.group_engine.specs.Commits.{StatusCause}
+use Rattle.group_engine.specs.Dropping.{HasWritten}
+use Rattle.group_engine.specs.Mounts.{IsMounted, MountedGroup}
+use Rattle.group_engine.specs.Own.{KeepsGroup}
+
+-- the record marked gone
+abbrev pub gone_of : Status → Status
+gone_of r = record r { gone = true }
+
+-- The record was written marked gone: but for the disks of a set that failed, each attached disk of the record's sets shows it, and
+-- these are a majority of each.
+pub record IsGone (old new : MountedGroup) (s t : BayState) : Type 0 where
+  pub failed : ℕ
+  pub written : HasWritten old.register (gone_of old.register.value) (Ok failed) new.register s t
+
+-- The dropping of a group that takes calls.
+pub record EndsGroup (old : MountedGroup) (answer : Result (Unit {0}) Refusal) (new : MountedGroup) (s t : BayState) : Type 0 where
+  pub keeps : KeepsGroup old new s t
+  pub closed : IsMounted new → ⊥
+  pub gone : OnOk answer (IsGone old new s t)
+  pub cause : IfErr answer (StatusCause old new s t)
