@@ -1,0 +1,13 @@
+pub mod Several
+pub mod UsableCopies
+pub mod Places
+pub mod Homes
+pub mod Keeping
+pub mod Agreeing
+pub mod SpareRuns
+pub mod Behind
+pub mod Risen
+pub mod Leaving
+pub mod Marked
+pub mod Failed
+pub mod Steps

@@ -1,0 +1,57 @@
+-- What the steps of a write of a piece keep of a group.
+use Rattle.std.proofs.Common.{◌≡◌, inl, ℕ, refl, sym, subst, Result, Ok, Err}
+use Rattle.std.specs.Prelude.{OnOk}
+use Rattle.bay.specs.State.{BayState}
+use Rattle.asm_base.specs.declared.kinds.ExtentId.{ExtentId}
+use Rattle.asm_base.specs.declared.refusal.Refusal.{Refusal}
+use Rattle.asm_base.specs.declared.refusal.Refusal.TheVariants as cause
+use Rattle.group_engine.specs.Commits.{StatusCause}
+use Rattle.group_engine.specs.Making.{IsShut}
+use Rattle.group_engine.specs.Mounts.{MountedGroup, Takes}
+use Rattle.group_engine.specs.Own.{KeepsGroup}
+use Rattle.group_engine.specs.declared.access.Access.{Access}
+use Rattle.group_engine.specs.declared.access.Access.TheVariants as access
+use Rattle.group_engine.proofs.Causes.{nothing_kept}
+use Rattle.group_pieces.specs.declared.writing.WriteError.{WriteError}
+use Rattle.group_pieces.specs.declared.writing.WriteError.TheVariants as writes
+use Rattle.group_pieces.specs.Pieces.{WritePieceCause, refusal_of}
+use Rattle.group_pieces.specs.Writes.{IsWriteCause}
+
+-- the group takes the next call
+pub takes_next : (old new : MountedGroup) (s t : BayState) → KeepsGroup old new s t → Takes new t
+takes_next old new s t keeps = λ mounted. (keeps.whole mounted, keeps.ready mounted)
+
+-- no call is made
+pub keeps_itself : (m : MountedGroup) (s : BayState) → Takes m s → KeepsGroup m m s s
+keeps_itself m s takes = nothing_kept m s (λ mounted. (takes mounted).0) (λ mounted. (takes mounted).1)
+
+-- what follows from a call's success
+pub on_ok : {A E : Type 0} {P Q : Type 0} (r : Result A E) → (P → Q) → OnOk r P → OnOk r Q
+on_ok (Ok a) step is = step is
+on_ok (Err e) step is = tt
+
+pub any_ok : {A E : Type 0} {P : Type 0} (r : Result A E) → P → OnOk r P
+any_ok (Ok a) is = is
+any_ok (Err e) is = tt
+
+-- ---- causes
+
+-- Where some copies took the bytes it is refused as its steps are.
+pub piece_cause : (old new : MountedGroup) (x : ExtentId) (inner : ℕ) (s t : BayState) (e : Refusal) → StatusCause old new s t e → WritePieceCause old x inner new s t e
+piece_cause old new x inner s t (cause.Dismounted by) why = why
+piece_cause old new x inner s t cause.NoMemory why = tt
+piece_cause old new x inner s t _ why = absurd why
+
+-- a group that takes no calls answers so
+pub shut_cause : (m : MountedGroup) (x : ExtentId) (inner : ℕ) (s t : BayState) (e : Refusal) → IsShut m.access e → WritePieceCause m x inner m s t e
+shut_cause m x inner s t e = go m.access refl
+  where
+    go : (a : Access) → m.access ≡ a → IsShut a e → WritePieceCause m x inner m s t e
+    go access.Mounted at shut = absurd shut
+    go (access.Dismounted d) at shut = subst (λ (r : Refusal). WritePieceCause m x inner m s t r) (sym shut) (inl at)
+    go access.Closed at shut = subst (λ (r : Refusal). WritePieceCause m x inner m s t r) (sym shut) tt
+
+-- where no copy took the bytes
+pub fault_cause : (old new : MountedGroup) (x : ExtentId) (inner : ℕ) (s t : BayState) (e : WriteError) → IsWriteCause old x inner s t e → WritePieceCause old x inner new s t (refusal_of x e)
+fault_cause old new x inner s t writes.Lost why = (refl, why)
+fault_cause old new x inner s t (writes.Fault disk) why = why

@@ -1,0 +1,30 @@
+use Rattle.std.proofs.Common.{◌≡◌, ◌∙◌, length, sym, subst, ap}
+use Rattle.std.proofs.lemmas.List.{length-map}
+use Rattle.asm_formats.specs.Status.{Entry, Status}
+use Rattle.asm_placement.specs.Partners.{partner_set}
+use Rattle.group_engine.specs.NextRecords.{KeepsDisks}
+use Rattle.group_pieces.specs.Failing.{AreOffline}
+use Rattle.group_pieces.proofs.Failed.{failed_disks, failed_offline, partners_disks, partners_offline}
+use Rattle.group_pieces.proofs.failing.with_failed.Goals as goal
+
+pub returns-then-not-any_dropping-clause-disks : goal.returns-then-not-any_dropping-clause-disks
+returns-then-not-any_dropping-clause-disks c = failed_disks c.args.failed c.args.since c.args.repair c.args.status.now c.without_disks-next.result 64 c.without_disks-next.ensures.value
+
+pub returns-clause-disks : goal.returns-clause-disks
+returns-clause-disks c =
+    let next = c.without_disks-next.result in
+    let sets = c.deref.result.now in
+    let all = c.entries-2.result.now in
+    let many : length sets ≡ length next.entries =
+    ap length (c.deref.ensures.value ∙ c.in_ok-sets.ensures.sets) ∙ length-map all (λ (e : Entry). partner_set all e.number) ∙ ap length c.entries-2.ensures.entries in
+    subst (λ (r : Status). KeepsDisks c.args.status.now r) (sym c.with_partners.ensures.value)
+    (partners_disks c.args.status.now next sets (failed_disks c.args.failed c.args.since c.args.repair c.args.status.now next 64 c.without_disks-next.ensures.value) many)
+
+pub returns-then-not-any_dropping-clause-offline : goal.returns-then-not-any_dropping-clause-offline
+returns-then-not-any_dropping-clause-offline c = failed_offline c.args.failed c.args.since c.args.repair c.args.status.now c.without_disks-next.result c.without_disks-next.ensures.value
+
+pub returns-clause-offline : goal.returns-clause-offline
+returns-clause-offline c =
+    let next = c.without_disks-next.result in
+    subst (AreOffline c.args.failed c.args.since) (sym c.with_partners.ensures.value)
+    (partners_offline c.args.failed c.args.since c.args.repair next c.deref.result.now (failed_offline c.args.failed c.args.since c.args.repair c.args.status.now next c.without_disks-next.ensures.value))

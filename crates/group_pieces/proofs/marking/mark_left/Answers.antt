@@ -1,0 +1,49 @@
+use Rattle.std.proofs.Common.{ℕ, ap, sym, subst, ◌∙◌}
+use Rattle.catalog.proofs.AfterLaws.{one_after}
+use Rattle.catalog.specs.Plans.{IsPlan}
+use Rattle.catalog.specs.Tables.{Catalogued}
+use Rattle.catalog.specs.ExtentPlans.{MayMark, with_marks_changed}
+use Rattle.group_engine.proofs.Endings.{goes_begin, goes_without}
+use Rattle.group_pieces.proofs.Leaving.{may_mark}
+use Rattle.group_pieces.proofs.Marked.{left_marked, none_left}
+use Rattle.group_pieces.proofs.Steps.{on_ok}
+use Rattle.group_pieces.proofs.marking.mark_left.Goals as goal
+
+pub left_copies-left-requires : goal.left_copies-left-requires
+left_copies-left-requires g c = record { shape = (c.requires.takes c.requires.mounted).0.shape; short = c.requires.short }
+
+pub returns-then-left-eq0-clause-goes : goal.returns-then-left-eq0-clause-goes
+returns-then-left-eq0-clause-goes g c =
+    let takes = c.requires.takes c.requires.mounted in
+    goes_begin c.args.m.now (g.B.Bay.state c.args.bay.now) c.requires.mounted takes.0 takes.1
+
+pub returns-then-left-eq0-clause-marked : goal.returns-then-left-eq0-clause-marked
+returns-then-left-eq0-clause-marked g c =
+    let m = c.args.m.now in
+    none_left m c.args.x c.args.inner c.args.failed (sym c.left_copies-left.ensures.value ∙ c.if-left-eq0.true) m.catalog.tables
+
+pub plan_marks-requires : goal.plan_marks-requires
+plan_marks-requires g c =
+    let m = c.args.m.now in
+    record {
+      marks = subst (λ (k : Catalogued). MayMark k.tables c.args.x.file c.args.x.index c.left_copies-left.result) (sym c.catalog.ensures)
+          (subst (λ (n : ℕ). MayMark m.catalog.tables c.args.x.file c.args.x.index n) (sym c.left_copies-left.ensures.value)
+          (may_mark m c.args.x c.args.inner c.args.failed (λ none. c.if-left-eq0.false (c.left_copies-left.ensures.value ∙ none))));
+    }
+
+pub returns-clause-goes : goal.returns-clause-goes
+returns-clause-goes g c =
+    let takes = c.requires.takes c.requires.mounted in
+    goes_without c.args.m.now (g.B.Bay.state c.args.bay.now) takes.0 takes.1
+
+pub returns-in-Ok-clause-marked : goal.returns-in-Ok-clause-marked
+returns-in-Ok-clause-marked g c =
+    let m = c.args.m.now in
+    let is = c.left_copies-left.ensures.value in
+    let change = c.in-Ok.change in
+    let planned = subst (λ (k : Catalogued). IsPlan k change.put change.gone (with_marks_changed k.tables c.args.x.file c.args.x.index c.left_copies-left.result 0)) c.catalog.ensures c.in-Ok.ensures.planned in
+    on_ok c.commit_marks.result
+    (λ applied. left_marked m c.args.x c.args.inner c.args.failed c.left_copies-left.ensures.rules (λ none. c.if-left-eq0.false (is ∙ none)) c.commit_marks.new.m.catalog.tables
+    (one_after m.catalog.tables c.commit_marks.new.m.catalog.tables (with_marks_changed m.catalog.tables c.args.x.file c.args.x.index c.left_copies-left.result 0) change.put change.gone applied planned.after
+    ∙ ap (λ (n : ℕ). with_marks_changed m.catalog.tables c.args.x.file c.args.x.index n 0) is))
+    c.commit_marks.ensures.applied

@@ -1,0 +1,24 @@
+use Rattle.std.proofs.Common.{subst, sym}
+use Rattle.asm_base.specs.declared.refusal.Refusal.{Refusal}
+use Rattle.group_engine.specs.Commits.{StatusCause}
+use Rattle.group_engine.specs.Mounts.{MountedGroup}
+use Rattle.group_engine.specs.Own.{KeepsGroup}
+use Rattle.group_engine.proofs.Endings.{keeps_closed}
+use Rattle.group_pieces.proofs.piece.settle.Goals as goal
+
+pub returns-in-Ok-clause-goes : goal.returns-in-Ok-clause-goes
+returns-in-Ok-clause-goes g c = record { keeps = c.in-Ok.ensures.goes.keeps; mounted = c.in-Ok.ensures.goes.mounted; cause = tt }
+
+pub returns-in-Err-Dismounted-clause-goes : goal.returns-in-Err-Dismounted-clause-goes
+returns-in-Err-Dismounted-clause-goes g c = record {
+  keeps = c.record_faults.ensures.goes.keeps;
+  mounted = tt;
+  cause = subst (λ (e : Refusal). StatusCause c.args.m.now c.record_faults.new.m (g.B.Bay.state c.args.bay.now) (g.B.Bay.state c.record_faults.new.bay) e) c.in-Err-Dismounted.field-0-is c.in-Err-Dismounted.ensures.goes.cause;
+}
+
+pub returns-clause-goes : goal.returns-clause-goes
+returns-clause-goes g c = record {
+  keeps = subst (λ (q : MountedGroup). KeepsGroup c.args.m.now q (g.B.Bay.state c.args.bay.now) (g.B.Bay.state c.record_faults.new.bay)) (sym c.close.ensures) (keeps_closed c.record_faults.ensures.goes.keeps);
+  mounted = tt;
+  cause = tt;
+}

@@ -1,0 +1,62 @@
+use Rattle.std.proofs.Common.{length, ap, subst, sym, ◌∙◌}
+use Rattle.group_engine.specs.Mounts.{MountedGroup}
+use Rattle.asm_base.specs.declared.refusal.Refusal.{Refusal}
+use Rattle.group_pieces.specs.Marking.{AreMarked}
+use Rattle.group_pieces.specs.Pieces.{WritePieceCause}
+use Rattle.group_engine.proofs.Causes.{calls_keep, cause_on}
+use Rattle.group_pieces.proofs.Risen.{rose_later}
+use Rattle.group_pieces.proofs.Steps.{fault_cause, piece_cause, takes_next}
+use Rattle.group_pieces.proofs.UsableCopies.{short_inner}
+use Rattle.group_pieces.proofs.piece.write_mounted.Goals as goal
+
+pub follow_move-requires : goal.follow_move-requires
+follow_move-requires g c = record {
+  mounted = c.requires.mounted;
+  takes = takes_next c.args.m.now c.args.m.now (g.B.Bay.state c.args.bay.now) (g.B.Bay.state c.write_usable.new.bay) c.write_usable.ensures.keeps;
+  short = short_inner c.args.m.now.catalog.shape c.args.x.index c.args.inner (length c.args.bytes.now) (c.requires.takes c.requires.mounted).0.shape c.requires.piece;
+}
+
+pub settle-requires : goal.settle-requires
+settle-requires g c = record {
+  mounted = ap (λ (q : MountedGroup). q.access) c.follow_move.ensures.same ∙ c.requires.mounted;
+  takes = takes_next c.args.m.now c.follow_move.new.m (g.B.Bay.state c.write_usable.new.bay) (g.B.Bay.state c.follow_move.new.bay) c.follow_move.ensures.keeps;
+  short = short_inner c.args.m.now.catalog.shape c.args.x.index c.args.inner (length c.args.bytes.now) (c.requires.takes c.requires.mounted).0.shape c.requires.piece;
+}
+
+pub returns-in-Ok-settle-clause-keeps : goal.returns-in-Ok-settle-clause-keeps
+returns-in-Ok-settle-clause-keeps g c = calls_keep c.write_usable.ensures.keeps (calls_keep c.follow_move.ensures.keeps c.settle.ensures.goes.keeps)
+
+pub returns-in-Ok-settle-clause-failed : goal.returns-in-Ok-settle-clause-failed
+returns-in-Ok-settle-clause-failed g c =
+    rose_later c.args.m.now c.in-Ok.failed (g.B.Bay.state c.args.bay.now) (g.B.Bay.state c.write_usable.new.bay) (g.B.Bay.state c.settle.new.bay)
+    (calls_keep c.follow_move.ensures.keeps c.settle.ensures.goes.keeps).runs.faults c.in-Ok.ensures.failed
+
+pub returns-in-Ok-settle-clause-some : goal.returns-in-Ok-settle-clause-some
+returns-in-Ok-settle-clause-some g c = λ none. let some = c.in-Ok.ensures.some in none some.0 some.1
+
+pub returns-in-Ok-settle-clause-marked : goal.returns-in-Ok-settle-clause-marked
+returns-in-Ok-settle-clause-marked g c =
+    subst (λ (q : MountedGroup). AreMarked q c.args.x c.args.inner c.in-Ok.failed c.settle.new.m.catalog.tables) c.follow_move.ensures.same c.in-Ok-settle.ensures.marked
+
+pub returns-in-Ok-settle-clause-offline : goal.returns-in-Ok-settle-clause-offline
+returns-in-Ok-settle-clause-offline g c = c.in-Ok-settle.ensures.offline
+
+pub returns-in-Err-settle-clause-keeps : goal.returns-in-Err-settle-clause-keeps
+returns-in-Err-settle-clause-keeps g c = calls_keep c.write_usable.ensures.keeps (calls_keep c.follow_move.ensures.keeps c.settle.ensures.goes.keeps)
+
+pub returns-in-Err-settle-clause-cause : goal.returns-in-Err-settle-clause-cause
+returns-in-Err-settle-clause-cause g c =
+    let s = g.B.Bay.state c.args.bay.now in
+    let t = g.B.Bay.state c.settle.new.bay in
+    piece_cause c.args.m.now c.settle.new.m c.args.x c.args.inner s t c.in-Err-settle.refusal
+    (cause_on (calls_keep c.write_usable.ensures.keeps c.follow_move.ensures.keeps) t c.settle.new.m (ap (λ (q : MountedGroup). q.access) c.follow_move.ensures.same ∙ c.requires.mounted) c.in-Err-settle.refusal c.in-Err-settle.ensures.goes.cause)
+
+pub returns-in-Err-clause-keeps : goal.returns-in-Err-clause-keeps
+returns-in-Err-clause-keeps g c = c.write_usable.ensures.keeps
+
+pub returns-in-Err-clause-cause : goal.returns-in-Err-clause-cause
+returns-in-Err-clause-cause g c =
+    let m = c.args.m.now in
+    let s = g.B.Bay.state c.args.bay.now in
+    let t = g.B.Bay.state c.write_usable.new.bay in
+    subst (λ (r : Refusal). WritePieceCause m c.args.x c.args.inner m s t r) (sym c.refusal_of.ensures) (fault_cause m m c.args.x c.args.inner s t c.in-Err.error c.in-Err.ensures.cause)

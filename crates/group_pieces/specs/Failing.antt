@@ -1,0 +1,22 @@
+-- The status record once disks failed.
+use Rattle.std.specs.Prelude.{◌≡◌, ◌<◌, ℕ, ◌&&◌, if◌then◌else◌, nat_lt, true, map}
+use Rattle.asm_group.specs.declared.Mode.TheVariants.{Offline}
+use Rattle.asm_formats.specs.Sets.{has_bit}
+use Rattle.asm_formats.specs.Status.{Entry, Status}
+use Rattle.asm_placement.specs.Among.{IsAmong}
+
+-- the entry Offline, since that second, for so many seconds until the disk is dropped
+abbrev pub taken_off : ℕ → ℕ → Entry → Entry
+taken_off since repair e = record e { mode = Offline; since = since; repair = repair }
+
+-- the same where it is that of a disk of the set below a number, else as it was
+abbrev pub entry_failed : ℕ → ℕ → ℕ → ℕ → Entry → Entry
+entry_failed failed below since repair e = if nat_lt e.number below && has_bit failed e.number then taken_off since repair e else e
+
+-- the record with the disks of a set below a number Offline
+abbrev pub status_failed : Status → ℕ → ℕ → ℕ → ℕ → Status
+status_failed r failed below since repair = record r { entries = map (entry_failed failed below since repair) r.entries }
+
+-- the disks of the set are Offline, since that second
+abbrev pub AreOffline : ℕ → ℕ → Status → Type 0
+AreOffline failed since r = (e : Entry) → IsAmong r.entries e → e.number < 64 → has_bit failed e.number ≡ true → (e.mode ≡ Offline) × (e.since ≡ since)

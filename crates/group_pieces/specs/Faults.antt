@@ -1,0 +1,23 @@
+-- Which disks of a group failed in a call on its bytes.
+use Rattle.std.specs.Prelude.{◌≡◌, ℕ, ◌<◌, true, Some}
+use Rattle.bay.specs.State.{BayState}
+use Rattle.bay.specs.Counts.{Rose}
+use Rattle.asm_base.specs.declared.kinds.ExtentId.{ExtentId}
+use Rattle.asm_formats.specs.Sets.{has_bit}
+use Rattle.group_engine.specs.Mounts.{MountedGroup, slot_at}
+use Rattle.group_pieces.specs.Copies.{AllFailed}
+use Rattle.group_pieces.specs.Usable.{first_disk, places_at}
+
+-- disk d is attached, and its slot failed
+abbrev pub RoseOn : MountedGroup → ℕ → BayState → BayState → Type 0
+RoseOn m d s t = (slot : ℕ) × (slot_at m.disks d ≡ Some slot) × Rose (s.faults slot) (t.faults slot)
+
+-- each disk of the set is attached, and its slot failed
+abbrev pub AreRisen : MountedGroup → ℕ → BayState → BayState → Type 0
+AreRisen m failed s t = (k : ℕ) → k < 64 → has_bit failed k ≡ true → RoseOn m k s t
+
+-- the slots of all usable copies of an extent failed, and the disk is that of the first
+pub record IsFault (m : MountedGroup) (x : ExtentId) (inner : ℕ) (s t : BayState) (disk : ℕ) : Type 0 where
+  pub all : AllFailed (places_at m x inner) s t
+  pub first : first_disk (places_at m x inner) ≡ Some disk
+  pub rose : RoseOn m disk s t

@@ -1,0 +1,10 @@
+pub mod Copies
+pub mod Usable
+pub mod Faults
+pub mod Reads
+pub mod Bytes
+pub mod Spare
+pub mod Writes
+pub mod Marking
+pub mod Pieces
+pub mod Failing

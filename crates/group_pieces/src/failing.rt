@@ -1,0 +1,79 @@
+// Disks that failed in a write are taken Offline.
+ghost use Rattle.std.specs.Prelude.{◌≡◌, IfOk, OnOk, IsTrue};
+ghost use Rattle.asm_formats.specs.Status.{is_status};
+ghost use Rattle.group_engine.specs.Mounts.{IsMounted, Takes};
+ghost use Rattle.group_engine.specs.NextRecords.{KeepsDisks};
+ghost use Rattle.group_engine.specs.Pending.{GoesOn};
+ghost use Rattle.group_pieces.specs.Failing.{AreOffline, status_failed};
+
+use asm_base::{DiskSet, Mode, NoMemory, Refusal};
+use bay::Bay;
+use group_engine::Mounted;
+use partnership::partners;
+use status_table::{PstEntry, PstRecord, with_offline, with_partners};
+use std::alloc::Global;
+
+/// Takes disks Offline since a second, with the repair time of the group's attribute. Refusals: Dismounted; NoMemory.
+pub(crate) fn take_offline<B: Bay>(
+    m: &mut Mounted,
+    alloc: Global,
+    bay: &mut B,
+    failed: DiskSet,
+    since: u64,
+) -> Result<(), Refusal>
+    requires mounted { IsMounted m.old }
+    requires takes { Takes m.old (B.state bay.old) }
+    ensures goes { GoesOn m.old result m.new (B.state bay.old) (B.state bay.new) }
+    ensures tables { m.new.catalog.tables ≡ m.old.catalog.tables }
+    ensures offline { OnOk result (AreOffline failed since m.new.register.value) }
+{
+    if failed.bits() == 0 {
+        return Ok(());
+    }
+    let repair = m.catalog().settings().repair;
+    match with_failed(alloc, m.status(), failed, since, repair) {
+        Ok(next) => m.set_status(alloc, bay, &next),
+        Err(NoMemory) => Err(Refusal::NoMemory),
+    }
+}
+
+/// The record with disks Offline since a second. Where one of them was being dropped, it joins the table of partners again.
+fn with_failed(
+    alloc: Global,
+    status: &PstRecord,
+    failed: DiskSet,
+    since: u64,
+    repair: u64,
+) -> Result<PstRecord, NoMemory>
+    requires { IsTrue (is_status status.now) }
+    ensures status { IfOk result (λ next. IsTrue (is_status next)) }
+    ensures disks { IfOk result (KeepsDisks status.now) }
+    ensures offline { IfOk result (AreOffline failed since) }
+{
+    let next = without_disks(status, failed, since, repair);
+    if !any_dropping(status.entries(), failed) {
+        return Ok(next);
+    }
+    let sets = partners(alloc, next.entries())?;
+    Ok(with_partners(&next, &sets))
+}
+
+/// The record with disks Offline since a second, to be dropped after so many seconds.
+fn without_disks(status: &PstRecord, failed: DiskSet, since: u64, repair: u64) -> PstRecord
+    requires { IsTrue (is_status status.now) }
+    ensures status { IsTrue (is_status result) }
+    ensures value { result ≡ status_failed status.now failed 64 since repair }
+{
+    let mut next = status.copy();
+    for disk in 0..64u8 {
+        if failed.has(disk) {
+            next = with_offline(&next, disk, since, repair);
+        }
+    }
+    next
+}
+
+/// Whether one of the disks is being dropped.
+fn any_dropping(entries: &[PstEntry], disks: DiskSet) -> bool {
+    entries.iter().any(|entry| matches!(entry.mode, Mode::Dropping) && disks.has(entry.number))
+}
