@@ -1,0 +1,14 @@
+use Rattle.std.proofs.Common.{inl, refl, subst}
+use Rattle.alias_tree.specs.Edits.{edit_meant}
+use Rattle.catalog.specs.Tables.{Catalogued}
+use Rattle.catalog.specs.TreePlans.{IsTreeRefusal}
+use Rattle.group_files.proofs.names.edit_tree.Goals as goal
+
+pub returns-in-Err-clause-edits : goal.returns-in-Err-clause-edits
+returns-in-Err-clause-edits g c = inl (record {
+  refusal = c.in-Err.refusal;
+  answer_is = refl;
+  cause = subst (λ (k : Catalogued). IsTreeRefusal k (edit_meant c.args.edit.now) c.in-Err.refusal) c.catalog.ensures c.in-Err.ensures.refused;
+  group = refl;
+  calls = refl;
+})
