@@ -1,0 +1,8 @@
+-- Paths under texts, as a map of the program keeps them.
+use Rattle.std.specs.Prelude.{ℕ, List, map, Vec}
+use Rattle.std.specs.declared.alloc.Global.{Global}
+use Rattle.asm_group.specs.Names.{Bytes}
+use Rattle.asm_base.specs.declared.path.Path.{Path}
+
+abbrev pub keyed : List (Vec ℕ Global × Path) → List (Bytes × Path)
+keyed entries = map (λ (e : Vec ℕ Global × Path). (e.0.items, e.1)) entries

@@ -1,0 +1,81 @@
+//! What the files below a directory take: du.
+
+ghost use Rattle.std.specs.Prelude.{◌≡◌, ◌+◌, IfOk};
+ghost use Rattle.group_reports.specs.Files.{capped, if_file_below, mirrored_of, size_of, usage_of};
+
+use crate::files::next_file;
+use crate::places::path_below;
+use crate::usage::file_units;
+use asm_base::{Name, NoMemory};
+use catalog::Catalog;
+use file_directory::FileHead;
+use std::alloc::Global;
+
+/// Bytes of files, and of all copies of their extents. The greatest number of 64 bits stands for all that are greater.
+#[derive(Clone, Copy, Debug, PartialEq, Eq)]
+pub struct Taken {
+    pub used: u64,
+    pub mirrored: u64,
+}
+
+impl Taken {
+    fn none() -> Taken
+        ensures { result ≡ record { used = 0; mirrored = 0 } }
+    {
+        Taken {
+            used: 0,
+            mirrored: 0,
+        }
+    }
+
+    fn plus(self, others: Taken) -> Taken
+        ensures { result ≡ record { used = capped (self.used + others.used); mirrored = capped (self.mirrored + others.mirrored) } }
+    {
+        Taken {
+            used: self.used.saturating_add(others.used),
+            mirrored: self.mirrored.saturating_add(others.mirrored),
+        }
+    }
+}
+
+/// What the files below a directory take whose system names lie there. The group has this name. Work goes by the number of
+/// the group's files.
+#[tactic(auto, using(crate::proofs::Sums::taken_start, crate::proofs::Sums::taken_more, crate::proofs::Sums::taken_end))]
+pub fn usage_below(
+    alloc: Global,
+    group: &Name,
+    catalog: &Catalog,
+    dir: &[Name],
+) -> Result<Taken, NoMemory>
+    ensures { IfOk result (λ usage. usage ≡ usage_of catalog.now group.now dir.now catalog.now.tables.files) }
+{
+    let mut usage = Taken::none();
+    let mut least = 0;
+    while let Some((number, head)) = next_file(catalog, least) {
+        usage = usage.plus(usage_of_file(alloc, group, catalog, dir, number, head)?);
+        least = number as u64 + 1;
+    }
+    Ok(usage)
+}
+
+/// What a file takes, where its system name lies below the directory.
+fn usage_of_file(
+    alloc: Global,
+    group: &Name,
+    catalog: &Catalog,
+    dir: &[Name],
+    number: u32,
+    head: &FileHead,
+) -> Result<Taken, NoMemory>
+    ensures used { IfOk result (λ usage. usage.used ≡ if_file_below catalog.now.tables group.now dir.now size_of (number, head.now)) }
+    ensures mirrored { IfOk result (λ usage. usage.mirrored ≡ if_file_below catalog.now.tables group.now dir.now (mirrored_of catalog.now) (number, head.now)) }
+{
+    if path_below(alloc, group, catalog, dir, head.system)?.is_none() {
+        return Ok(Taken::none());
+    }
+    let shape = catalog.shape();
+    Ok(Taken {
+        used: head.size,
+        mirrored: file_units(catalog, number).saturating_mul(shape.au as u64),
+    })
+}
