@@ -6,14 +6,14 @@ use group_mount::{Found, MountError};
 use std::alloc::Global;
 use std::test::*;
 
-fn data(alloc: Global, name: &[u8]) -> Result<Name, Fail> {
+pub fn data(alloc: Global, name: &[u8]) -> Result<Name, Fail> {
     let Ok(Some(name)) = Name::read(alloc, name, 30) else {
         return Err(Fail::from("a name"));
     };
     Ok(name)
 }
 
-fn path(alloc: Global) -> Result<String, Fail> {
+pub fn path(alloc: Global) -> Result<String, Fail> {
     match String::from_str(alloc, "d0") {
         Ok(path) => Ok(path),
         Err(_) => Err(Fail::from("memory")),
@@ -21,7 +21,7 @@ fn path(alloc: Global) -> Result<String, Fail> {
 }
 
 // Creates the group DATA on the one disk.
-fn create(alloc: Global, bay: &mut MemBay) -> Result<bool, Fail> {
+pub fn create(alloc: Global, bay: &mut MemBay) -> Result<bool, Fail> {
     let paths = [path(alloc)?];
     let name = data(alloc, b"DATA")?;
     if !name.is_name() {
