@@ -1,0 +1,86 @@
+-- Files of a mounted group by their paths, and why calls on them are refused.
+use Rattle.std.specs.Prelude.{◌≡◌, ◌⊎◌, ⊤, ℕ, ◌+◌, ◌%◌, ◌<◌, Bool, true, false, ◌&&◌, ◌==◌, not, List, Option, Some, None, if◌then◌else◌}
+use Rattle.std.specs.Option.{option_and_then, option_map}
+use Rattle.bay.specs.State.{BayState}
+use Rattle.asm_group.specs.Names.{Path}
+use Rattle.asm_group.specs.Shape.{Shape}
+use Rattle.asm_base.specs.declared.refusal.DiskRef.{DiskRef}
+use Rattle.asm_base.specs.declared.refusal.DiskRef.TheVariants as disk
+use Rattle.asm_base.specs.declared.refusal.Refusal.{Refusal}
+use Rattle.asm_base.specs.declared.refusal.Refusal.TheVariants as cause
+use Rattle.asm_formats.specs.Items.{FileHead, Node}
+use Rattle.asm_placement.specs.Naming.{is_directory}
+use Rattle.alias_tree.specs.Nodes.{node_at, number_of}
+use Rattle.file_directory.specs.Files.{head_at}
+use Rattle.catalog.specs.Tables.{Tables}
+use Rattle.group_engine.specs.Commits.{DismountCause}
+use Rattle.group_engine.specs.Mounts.{MountedGroup}
+use Rattle.group_pieces.specs.Faults.{RoseOn}
+use Rattle.group_pieces.specs.Usable.{IsLost}
+
+-- ---- files by their paths
+
+-- the file that a node names
+abbrev pub file_of_node : Node → Option ℕ
+file_of_node node = if is_directory node.kind then None else Some node.file
+
+-- the number of the file at a path, by its system name or its alias
+abbrev pub named_file : Tables → Path → Option ℕ
+named_file t path = option_and_then (λ n. option_and_then file_of_node (node_at t.nodes n)) (number_of t.nodes path)
+
+-- the head of the file at a path
+abbrev pub head_named : Tables → Path → Option FileHead
+head_named t path = option_and_then (λ f. head_at t.files f) (named_file t path)
+
+-- the size of the file at a path, in bytes
+abbrev pub size_named : Tables → Path → Option ℕ
+size_named t path = option_map (λ (h : FileHead). h.size) (head_named t path)
+
+-- whole sectors
+abbrev pub are_sectors : Shape → ℕ → Bool
+are_sectors s n = not (s.sector == 0) && (n % s.sector == 0)
+
+-- ---- refusals
+
+-- the disk is named by its number, and failed
+abbrev pub FaultOn : MountedGroup → BayState → BayState → DiskRef → Type 0
+FaultOn m s t (disk.Number d) = RoseOn m d s t
+FaultOn m s t (disk.Spelt text) = ⊥
+
+-- there is no file at the path
+abbrev pub OpenCause : MountedGroup → Path → Refusal → Type 0
+OpenCause m path cause.NoName = head_named m.catalog.tables path ≡ None
+OpenCause m path _ = ⊥
+
+-- why a span of a file of this size can't be read or written: it isn't whole sectors, ends behind the file, or has an extent without a
+-- usable copy
+abbrev pub SpanCause : MountedGroup → ℕ → ℕ → ℕ → Refusal → Type 0
+SpanCause m size at len cause.NotSectors = (are_sectors m.catalog.shape at && are_sectors m.catalog.shape len) ≡ false
+SpanCause m size at len cause.OutOfFile = size < at + len
+SpanCause m size at len (cause.Lost x) = IsLost m x
+SpanCause m size at len _ = ⊥
+
+-- the same of the file at a path
+abbrev pub PathSpanCause : MountedGroup → Path → ℕ → ℕ → Refusal → Type 0
+PathSpanCause m path at len refusal = OpenCause m path refusal ⊎ ((size : ℕ) × (size_named m.catalog.tables path ≡ Some size) × SpanCause m size at len refusal)
+
+-- Why bytes aren't read: an extent has no usable copy, or the slots of all usable ones failed; or the group takes no calls. Want of
+-- memory is free.
+abbrev pub ReadCause : MountedGroup → BayState → BayState → Refusal → Type 0
+ReadCause m s t (cause.Lost x) = IsLost m x
+ReadCause m s t (cause.ReadFault by) = FaultOn m s t by
+ReadCause m s t (cause.Dismounted by) = DismountCause m m s t by
+ReadCause m s t cause.NoMemory = ⊤
+ReadCause m s t _ = ⊥
+
+-- Why bytes aren't written: the slots of all copies of an extent failed, that of this disk among them; or the group takes no calls, or
+-- was dismounted. Want of memory is free.
+abbrev pub WriteCause : MountedGroup → MountedGroup → BayState → BayState → Refusal → Type 0
+WriteCause old new s t (cause.WriteFault by) = FaultOn old s t by
+WriteCause old new s t (cause.Dismounted by) = DismountCause old new s t by
+WriteCause old new s t cause.NoMemory = ⊤
+WriteCause old new s t _ = ⊥
+
+-- why a span of the file at a path isn't written
+abbrev pub WriteFileCause : MountedGroup → Path → ℕ → ℕ → MountedGroup → BayState → BayState → Refusal → Type 0
+WriteFileCause old path at len new s t refusal = PathSpanCause old path at len refusal ⊎ WriteCause old new s t refusal
