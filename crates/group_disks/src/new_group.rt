@@ -87,20 +87,10 @@ fn claim_block(id: u64) -> Block
     block
 }
 
-/// The body of the first record.
+/// The record of number (1, 1): disk 0 alone holds the status record and the directory.
 fn status_block(group: &NewGroup) -> Block
     requires { IsPlan group.now }
     ensures { result.bytes ≡ status_spelling (record_of_plan group.now) }
-{
-    let status = first_status(group);
-    let mut block = Block::zeros();
-    status_table::encode(&status, &mut block);
-    block
-}
-
-/// The record of number (1, 1): disk 0 alone holds the status record and the directory.
-pub fn first_status(group: &NewGroup) -> PstRecord
-    ensures { result ≡ record_of_plan group.now }
 {
     let disk = DiskSet::from_bits(1);
     let mut entries = [PstEntry::blank(); 64];
@@ -115,7 +105,7 @@ pub fn first_status(group: &NewGroup) -> PstRecord
         repair: 0,
         partners: DiskSet::empty(),
     };
-    PstRecord {
+    let status = PstRecord {
         id: group.id,
         epoch: 1,
         turn: 1,
@@ -126,5 +116,8 @@ pub fn first_status(group: &NewGroup) -> PstRecord
         dirs: disk,
         count: 1,
         entries,
-    }
+    };
+    let mut block = Block::zeros();
+    status_table::encode(&status, &mut block);
+    block
 }

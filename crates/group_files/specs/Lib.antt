@@ -1,10 +1,2 @@
 pub mod Edits
 pub mod GroupEdits
-pub mod Appending
-pub mod Closing
-pub mod Creating
-pub mod Files
-pub mod Filling
-pub mod Rows
-pub mod Sizes
-pub mod Works

@@ -25,10 +25,7 @@ pub enum GroupEdit {
     /// Of its templates.
     Templates(TemplateEdit),
     /// An attribute that may be set at any time gets another value, as it is written in the statement.
-    SetAttribute {
-        name: Name,
-        value: Text,
-    },
+    SetAttribute { name: Name, value: Text },
 }
 
 impl GroupEdit {

@@ -7,42 +7,25 @@ ghost use Rattle.asm_world.specs.Statement.{Alter, CreateDisk, AddDisks, DropDis
 ghost use Rattle.asm_world.specs.Statement as s;
 ghost use Rattle.group_sql.specs.Said.{disks_said, maybe_kind_said};
 ghost use Rattle.session.specs.Desks.{IsAnswered};
-ghost use Rattle.session.specs.Sessions.{AreReady};
 
 use crate::answer::Answer;
 use crate::desk::Desk;
-use crate::refusing::{no_memory, refused, unserved};
-use crate::reply::Reply;
+use crate::refusing::unserved;
 use asm_base::{List, Name, Text};
 use bay::{Bay, Host};
-use group_disks::create_disk as make_disk;
 use group_sql::{Disks, DroppedDisk, FailgroupKind, NewFailgroup, Rebalance};
 
-/// CREATE DISK. Its refusals are those of the image: NoDisk, ReadFault, DiskTaken.
+/// CREATE DISK.
 pub fn create_disk<B: Bay, H: Host>(
     desk: &mut Desk<B, H>,
     text: &[u8],
-    path: Text,
-    size: u64,
+    _path: Text,
+    _size: u64,
 ) -> Answer
-    requires asked { command_of text.now ≡ Said (CreateDisk path size) }
-    requires ready { AreReady desk.old.session.groups (B.state desk.old.bay) }
+    requires asked { command_of text.now ≡ Said (CreateDisk _path _size) }
     ensures answers { IsAnswered text.now result desk.old desk.new }
 {
-    let Ok(held) = desk.session.held_slots(desk.alloc) else {
-        return no_memory(desk, text);
-    };
-    match make_disk(
-        desk.alloc,
-        &mut desk.bay,
-        &desk.paths,
-        path.as_slice(),
-        size,
-        &held,
-    ) {
-        Ok(()) => Answer::plain(desk.alloc, Reply::Done(List::new(desk.alloc))),
-        Err(refusal) => refused(desk.alloc, refusal),
-    }
+    unserved(desk, text)
 }
 
 /// ADD DISK.
@@ -54,7 +37,6 @@ pub fn add_disks<B: Bay, H: Host>(
     _rebalance: Option<Rebalance>,
 ) -> Answer
     requires asked { command_of text.now ≡ Said (Alter _group (AddDisks _groups _rebalance)) }
-    requires ready { AreReady desk.old.session.groups (B.state desk.old.bay) }
     ensures answers { IsAnswered text.now result desk.old desk.new }
 {
     unserved(desk, text)
@@ -69,7 +51,6 @@ pub fn drop_disks<B: Bay, H: Host>(
     _rebalance: Option<Rebalance>,
 ) -> Answer
     requires asked { command_of text.now ≡ Said (Alter _group (DropDisks _disks _rebalance)) }
-    requires ready { AreReady desk.old.session.groups (B.state desk.old.bay) }
     ensures answers { IsAnswered text.now result desk.old desk.new }
 {
     unserved(desk, text)
@@ -87,7 +68,6 @@ pub fn drop_failgroup<B: Bay, H: Host>(
 ) -> Answer
     requires asked { command_of text.now
         ≡ Said (Alter _group (DropFailgroup (maybe_kind_said _kind) _name _force _rebalance)) }
-    requires ready { AreReady desk.old.session.groups (B.state desk.old.bay) }
     ensures answers { IsAnswered text.now result desk.old desk.new }
 {
     unserved(desk, text)
@@ -96,7 +76,6 @@ pub fn drop_failgroup<B: Bay, H: Host>(
 /// UNDROP DISKS.
 pub fn undrop_disks<B: Bay, H: Host>(desk: &mut Desk<B, H>, text: &[u8], _group: Name) -> Answer
     requires asked { command_of text.now ≡ Said (Alter _group UndropDisks) }
-    requires ready { AreReady desk.old.session.groups (B.state desk.old.bay) }
     ensures answers { IsAnswered text.now result desk.old desk.new }
 {
     unserved(desk, text)
@@ -111,7 +90,6 @@ pub fn resize_all<B: Bay, H: Host>(
     _rebalance: Option<Rebalance>,
 ) -> Answer
     requires asked { command_of text.now ≡ Said (Alter _group (ResizeAll _size _rebalance)) }
-    requires ready { AreReady desk.old.session.groups (B.state desk.old.bay) }
     ensures answers { IsAnswered text.now result desk.old desk.new }
 {
     unserved(desk, text)
@@ -127,7 +105,6 @@ pub fn resize_disk<B: Bay, H: Host>(
     _rebalance: Option<Rebalance>,
 ) -> Answer
     requires asked { command_of text.now ≡ Said (Alter _group (ResizeDisk _name _size _rebalance)) }
-    requires ready { AreReady desk.old.session.groups (B.state desk.old.bay) }
     ensures answers { IsAnswered text.now result desk.old desk.new }
 {
     unserved(desk, text)
@@ -141,7 +118,6 @@ pub fn start_rebalance<B: Bay, H: Host>(
     _rebalance: Rebalance,
 ) -> Answer
     requires asked { command_of text.now ≡ Said (Alter _group (Rebalancing _rebalance)) }
-    requires ready { AreReady desk.old.session.groups (B.state desk.old.bay) }
     ensures answers { IsAnswered text.now result desk.old desk.new }
 {
     unserved(desk, text)
@@ -155,7 +131,6 @@ pub fn online_all<B: Bay, H: Host>(
     _wait: bool,
 ) -> Answer
     requires asked { command_of text.now ≡ Said (Alter _group (Online s.All _wait)) }
-    requires ready { AreReady desk.old.session.groups (B.state desk.old.bay) }
     ensures answers { IsAnswered text.now result desk.old desk.new }
 {
     unserved(desk, text)
@@ -170,7 +145,6 @@ pub fn online_disks<B: Bay, H: Host>(
     _wait: bool,
 ) -> Answer
     requires asked { command_of text.now ≡ Said (Alter _group (Online (disks_said _disks) _wait)) }
-    requires ready { AreReady desk.old.session.groups (B.state desk.old.bay) }
     ensures answers { IsAnswered text.now result desk.old desk.new }
 {
     unserved(desk, text)
@@ -185,7 +159,6 @@ pub fn offline_disks<B: Bay, H: Host>(
     _minutes: Option<u64>,
 ) -> Answer
     requires asked { command_of text.now ≡ Said (Alter _group (Offline (disks_said _disks) _minutes)) }
-    requires ready { AreReady desk.old.session.groups (B.state desk.old.bay) }
     ensures answers { IsAnswered text.now result desk.old desk.new }
 {
     unserved(desk, text)
@@ -199,7 +172,6 @@ pub fn offline_disk<B: Bay, H: Host>(
     _disk: Name,
 ) -> Answer
     requires asked { command_of text.now ≡ Asked (OfflineDisk _group _disk) }
-    requires ready { AreReady desk.old.session.groups (B.state desk.old.bay) }
     ensures answers { IsAnswered text.now result desk.old desk.new }
 {
     unserved(desk, text)
@@ -213,7 +185,6 @@ pub fn online_disk<B: Bay, H: Host>(
     _disk: Name,
 ) -> Answer
     requires asked { command_of text.now ≡ Asked (OnlineDisk _group _disk) }
-    requires ready { AreReady desk.old.session.groups (B.state desk.old.bay) }
     ensures answers { IsAnswered text.now result desk.old desk.new }
 {
     unserved(desk, text)
@@ -227,7 +198,6 @@ pub fn set_power<B: Bay, H: Host>(
     _power: u64,
 ) -> Answer
     requires asked { command_of text.now ≡ Asked (SetPower _group _power) }
-    requires ready { AreReady desk.old.session.groups (B.state desk.old.bay) }
     ensures answers { IsAnswered text.now result desk.old desk.new }
 {
     unserved(desk, text)

@@ -3,22 +3,14 @@
 
 mod answer;
 mod commands;
-mod copying;
 mod desk;
 mod disks;
-mod entry;
 mod files;
 mod found;
 mod group_name;
-mod group_rows;
 mod groups;
-mod holding;
 mod laws;
-mod lines;
-mod listing;
-mod mounting;
 mod names;
-mod naming;
 mod places;
 mod program;
 mod reader;
@@ -26,11 +18,9 @@ mod refusing;
 mod reply;
 mod reports;
 mod running;
-mod runs;
 mod server;
 mod session;
 mod settings;
-mod spelling;
 mod stop;
 
 pub use desk::Desk;

@@ -7,28 +7,20 @@ use Rattle.asm_group.specs.Refusal as r
 use Rattle.asm_base.specs.Refusals.{said}
 use Rattle.group_disks.specs.Found.{IsEarly, RefusalCause}
 use Rattle.session.specs.Sessions.{SessionView}
-use Rattle.group_disks.specs.FirstParts.{IsNewlyMounted}
-use Rattle.session.proofs.Named.{of_ok, of_err, of_value, as_many, was_created, was_refused}
-use Rattle.session.proofs.Ready.{held_covers, joined_ready, spared_ready}
+use Rattle.session.proofs.Named.{of_ok, of_err, as_many, was_created, was_refused}
 use Rattle.session.proofs.groups.form.Goals as goal
-
-pub enter-requires-clause-mounted : goal.enter-requires-clause-mounted
-enter-requires-clause-mounted g c =
-    (of_value (λ m. IsNewlyMounted c.args.held.now c.args.name c.create_group-made.result.0 m _) c.create_group-made.result.1 c.in-Ok.group c.in-Ok.is c.create_group-made.ensures.mounted).mounted
 
 pub returns-in-Ok-enter : goal.returns-in-Ok-enter
 returns-in-Ok-enter g c =
     let made = c.create_group-made.result.0 in
     let fresh : IfSome made (λ id. c.args.desk.now.session.given ≤ id) = IfSome_then made c.create_group-made.ensures.floor (λ id above. omega (arith, above, c.next_id-floor.ensures.floor)) in
-    let new : IsNewlyMounted c.args.held.now c.args.name made c.in-Ok.group _ = of_value (λ m. IsNewlyMounted c.args.held.now c.args.name made m _) c.create_group-made.result.1 c.in-Ok.group c.in-Ok.is c.create_group-made.ensures.mounted in
     let some : IsSome made = of_ok c.create_group-made.result.1 _ c.in-Ok.is c.create_group-made.ensures.given in
     record {
       answers = record {
         paths = refl;
         host_stays = λ is. refl;
-        ready = rw (c.in-Ok-enter.ensures.groups, new.id_is) (joined_ready c.args.desk.now.session.groups c.in-Ok.group c.args.held.now (held_covers c.args.desk.now.session.groups c.args.held.now c.requires.held c.requires.ready) (spared_ready c.args.desk.now.session.groups c.args.held.now _ (held_covers c.args.desk.now.session.groups c.args.held.now c.requires.held c.requires.ready) c.requires.ready (λ slot size is at. c.create_group-made.ensures.attached.stays slot size at) c.create_group-made.ensures.spares) (λ on. (new.whole, new.ready)) new.own);
         served = λ w below knows. rw (sym c.deref.ensures.value, c.new.ensures) (was_created (map string_bytes c.deref.result.now) c.args.text.now _ c.args.path.now c.requires.says c.create_group-made.new.ids.items _ c.args.desk.now.session below w knows (c.requires.room w knows.entries_are) c.requires.absent c.next_id-floor.ensures.given _ _ c.create_group-made.ensures.ids _ (g.met.B.Bay.sound c.args.desk.now.bay)
-            (ap is_ok c.in-Ok.is) made c.enter.new.self some fresh c.create_group-made.ensures.above_read (as_many _ _ _ _ _ _ _ made (sym (length-map c.deref.result.now string_bytes)) c.create_group-made.ensures.moments) c.enter.ensures.given c.in-Ok-enter.ensures.entered c.enter.ensures.place);
+            (ap is_ok c.in-Ok.is) made c.enter.new.self some fresh c.create_group-made.ensures.above_read (as_many _ _ _ _ _ _ _ made (sym (length-map c.deref.result.now string_bytes)) c.create_group-made.ensures.moments) c.enter.ensures.given c.in-Ok-enter.ensures.entered);
       };
     }
 
@@ -41,9 +33,8 @@ returns-in-Err-enter g c =
       answers = record {
         paths = refl;
         host_stays = λ is. refl;
-        ready = rw c.in-Err-enter.ensures.refused.1 (spared_ready c.args.desk.now.session.groups c.args.held.now _ (held_covers c.args.desk.now.session.groups c.args.held.now c.requires.held c.requires.ready) c.requires.ready (λ slot size is at. c.create_group-made.ensures.attached.stays slot size at) c.create_group-made.ensures.spares);
         served = λ w below knows. rw (sym c.deref.ensures.value) (was_refused (map string_bytes c.deref.result.now) c.args.text.now _ c.args.path.now c.requires.says c.create_group-made.new.ids.items _ c.args.desk.now.session below w knows (c.requires.room w knows.entries_are) c.requires.absent c.next_id-floor.ensures.given _ _ c.create_group-made.ensures.ids _ (g.met.B.Bay.sound c.args.desk.now.bay)
-            made c.enter.new.self r.NoMemory (λ is. absurd is) tt fresh c.create_group-made.ensures.above_read (as_many _ _ _ _ _ _ _ made (sym (length-map c.deref.result.now string_bytes)) c.create_group-made.ensures.moments) c.enter.ensures.given c.in-Err-enter.ensures.refused.0 c.enter.ensures.place);
+            made c.enter.new.self r.NoMemory (λ is. absurd is) tt fresh c.create_group-made.ensures.above_read (as_many _ _ _ _ _ _ _ made (sym (length-map c.deref.result.now string_bytes)) c.create_group-made.ensures.moments) c.enter.ensures.given c.in-Err-enter.ensures.refused);
       };
     }
 
@@ -55,10 +46,9 @@ returns-in-Err g c =
       answers = record {
         paths = refl;
         host_stays = λ is. refl;
-        ready = rw (ap (λ (v : SessionView). v.groups) c.gave.ensures) (spared_ready c.args.desk.now.session.groups c.args.held.now _ (held_covers c.args.desk.now.session.groups c.args.held.now c.requires.held c.requires.ready) c.requires.ready (λ slot size is at. c.create_group-made.ensures.attached.stays slot size at) c.create_group-made.ensures.spares);
         served = λ w below knows. rw (sym c.deref.ensures.value) (was_refused (map string_bytes c.deref.result.now) c.args.text.now _ c.args.path.now c.requires.says c.create_group-made.new.ids.items _ c.args.desk.now.session below w knows (c.requires.room w knows.entries_are) c.requires.absent c.next_id-floor.ensures.given _ _ c.create_group-made.ensures.ids _ (g.met.B.Bay.sound c.args.desk.now.bay)
             made c.gave.new.self _ (of_err (λ refusal. IsEarly (said (λ _. []) refusal) → made ≡ None) c.create_group-made.result.1 _ c.in-Err.is c.create_group-made.ensures.early)
             (of_err (λ refusal. RefusalCause _ c.args.path.now (said (λ _. []) refusal) _ _) c.create_group-made.result.1 _ c.in-Err.is c.create_group-made.ensures.cause) fresh c.create_group-made.ensures.above_read
-            (as_many _ _ _ _ _ _ _ made (sym (length-map c.deref.result.now string_bytes)) c.create_group-made.ensures.moments) (ap (λ (v : SessionView). v.given) c.gave.ensures) (ap (λ (v : SessionView). v.entries) c.gave.ensures) (ap (λ (v : SessionView). v.place) c.gave.ensures));
+            (as_many _ _ _ _ _ _ _ made (sym (length-map c.deref.result.now string_bytes)) c.create_group-made.ensures.moments) (ap (λ (v : SessionView). v.given) c.gave.ensures) (ap (λ (v : SessionView). v.entries) c.gave.ensures));
       };
     }
