@@ -172,6 +172,57 @@ fn read_group<B: Bay>(
     })
 }
 
+/// The catalog of what was read, where the mount isn't refused for a missing disk.
+fn complete_catalog(
+    alloc: Global,
+    id: u64,
+    headed: &[Headed],
+    read: &GroupRead,
+    option: MountOption,
+) -> Result<Catalog, MountError>
+    requires shape { IsTrue (is_shape read.now.shape) }
+    requires entries { IsTrue (list_all is_entry read.now.survey.value.entries) }
+    ensures catalog { IfOk result (IsCatalogIn read.now.store read.now.survey.value read.now.shape) }
+    ensures complete { OnOk result (option ≡ NoForce → first_missing id headed.now read.now.survey.value.entries ≡ None) }
+    ensures cause { IfErr result (CataloguedCause option id headed.now read.now) }
+{
+    let status = read.survey.value();
+    let catalog = catalog_of(alloc, &read.store, status, read.shape)?;
+    match check_missing(&catalog, id, headed, status, option) {
+        Ok(()) => Ok(catalog),
+        Err(error) => {
+            drop(catalog);
+            Err(error)
+        }
+    }
+}
+
+/// What was read, with its catalog.
+fn quorate_with(
+    id: u64,
+    slots: u32,
+    headed: Vec<Headed>,
+    read: GroupRead,
+    catalog: Catalog,
+) -> Quorate
+    ensures { result ≡ record { id = id; slots = slots; headed = headed; survey = read.survey; shape = read.shape; store = read.store; catalog = catalog } }
+{
+    let GroupRead {
+        survey,
+        shape,
+        store,
+    } = read;
+    Quorate {
+        id,
+        slots,
+        headed,
+        survey,
+        shape,
+        store,
+        catalog,
+    }
+}
+
 /// Makes the catalog of what was read. Nothing is read any more.
 fn catalogued(
     alloc: Global,
@@ -186,18 +237,10 @@ fn catalogued(
     ensures made { IfOk result (IsCatalogued option id slots headed.items read) }
     ensures cause { IfErr result (CataloguedCause option id headed.items read) }
 {
-    let status = read.survey.value();
-    let catalog = catalog_of(alloc, &read.store, status, read.shape)?;
-    check_missing(&catalog, id, headed.as_slice(), status, option)?;
-    Ok(Quorate {
-        id,
-        slots,
-        headed,
-        survey: read.survey,
-        shape: read.shape,
-        store: read.store,
-        catalog,
-    })
+    match complete_catalog(alloc, id, headed.as_slice(), &read, option) {
+        Ok(catalog) => Ok(quorate_with(id, slots, headed, read, catalog)),
+        Err(error) => Err(error),
+    }
 }
 
 /// Surveys the members of an id among these images, loads their directories and makes the catalog.

@@ -203,7 +203,10 @@ fn write_parts<B: Bay>(bay: &mut B, quorate: Quorate, anew: Anew) -> Result<Part
             register,
             disks,
         }),
-        Err(error) => Err(refusal_of_renew(&headed, error)),
+        Err(error) => {
+            drop(catalog);
+            Err(refusal_of_renew(&headed, error))
+        }
     }
 }
 
@@ -220,7 +223,12 @@ impl Quorate {
         // Nothing changes but the claim and status slots of the group's disks.
         ensures runs { Runs (IsSlotIn self.headed.items) (ChangesOnly (FrontOf (members_with self.id self.headed.items))) (B.state bay.old) (B.state bay.new) }
     {
-        let anew = make_anew(alloc, &self, now)?;
-        write_parts(bay, self, anew)
+        match make_anew(alloc, &self, now) {
+            Ok(anew) => write_parts(bay, self, anew),
+            Err(NoMemory) => {
+                drop(self);
+                Err(MountError::NoMemory)
+            }
+        }
     }
 }

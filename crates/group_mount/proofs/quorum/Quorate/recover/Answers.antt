@@ -8,5 +8,5 @@ use Rattle.group_mount.proofs.quorum.Quorate.recover.Goals as goal
 pub make_anew-requires : goal.make_anew-requires
 make_anew-requires g c = makes c.args.self (g.B.Bay.state c.args.bay.now) c.requires
 
-pub returns-in_err-anew-clause-runs : goal.returns-in_err-anew-clause-runs
-returns-in_err-anew-clause-runs g c = started (λ x. changes-same (FrontOf (members_with c.args.self.id c.args.self.headed.items)) x x (same-refl x))
+pub returns-in-Err-clause-runs : goal.returns-in-Err-clause-runs
+returns-in-Err-clause-runs g c = started (λ x. changes-same (FrontOf (members_with c.args.self.id c.args.self.headed.items)) x x (same-refl x))
