@@ -1,12 +1,14 @@
 -- A group whose record is marked gone.
-use Rattle.std.specs.Prelude.{ℕ, true, IfErr, OnOk, Result, Ok}
+use Rattle.std.specs.Prelude.{◌≡◌, ℕ, true, IfErr, OnOk, Result, Ok}
 use Rattle.bay.specs.State.{BayState}
 use Rattle.asm_base.specs.declared.refusal.Refusal.{Refusal}
+use Rattle.asm_base.specs.declared.refusal.Refusal.TheVariants as cause
 use Rattle.asm_formats.specs.Status.{Status}
-use Rattle.group_engine.specs.Commits.{StatusCause}
+use Rattle.group_engine.specs.Commits.{DismountCause}
 use Rattle.group_engine.specs.Dropping.{HasWritten}
 use Rattle.group_engine.specs.Mounts.{IsMounted, MountedGroup}
 use Rattle.group_engine.specs.Own.{KeepsGroup}
+use Rattle.group_engine.specs.declared.access.Access.TheVariants as access
 
 -- the record marked gone
 abbrev pub gone_of : Status → Status
@@ -18,9 +20,15 @@ pub record IsGone (old new : MountedGroup) (s t : BayState) : Type 0 where
   pub failed : ℕ
   pub written : HasWritten old.register (gone_of old.register.value) (Ok failed) new.register s t
 
+-- Why a group isn't dropped. It takes no memory, so that want of memory is said of a group alone that was closed before.
+abbrev pub EndCause : MountedGroup → MountedGroup → BayState → BayState → Refusal → Type 0
+EndCause old new s t (cause.Dismounted by) = DismountCause old new s t by
+EndCause old new s t cause.NoMemory = old.access ≡ access.Closed
+EndCause old new s t _ = ⊥
+
 -- The dropping of a group that takes calls.
 pub record EndsGroup (old : MountedGroup) (answer : Result (Unit {0}) Refusal) (new : MountedGroup) (s t : BayState) : Type 0 where
   pub keeps : KeepsGroup old new s t
   pub closed : IsMounted new → ⊥
   pub gone : OnOk answer (IsGone old new s t)
-  pub cause : IfErr answer (StatusCause old new s t)
+  pub cause : IfErr answer (EndCause old new s t)

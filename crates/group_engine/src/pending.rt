@@ -132,8 +132,8 @@ fn may_end(catalog: &Catalog) -> bool
 
 impl Mounted {
     /// Ends the pending operation, where there is one: the extents that its file hasn't by its size go, chunk by chunk from the
-    /// last, and then the operation. What its record says of its kind and of extents decides nothing. No commit of these takes a
-    /// block. Refusals: Dismounted, where the group is, or as a commit finds it; NoMemory. After a refusal the group takes no
+    /// last, and then the operation. What its record says of its kind and of extents decides nothing. Refusals: Dismounted, where
+    /// the group is, or as a commit finds it; NoMemory, also where a commit wants a block. After a refusal the group takes no
     /// calls: after NoMemory it is closed, and the next mount ends the operation.
     pub fn end_pending<B: Bay>(&mut self, alloc: Global, bay: &mut B) -> Result<(), Refusal>
         requires whole { IsMounted self.old → IsWhole self.old }
@@ -249,7 +249,7 @@ impl Mounted {
         }
     }
 
-    /// Commits a plan that takes no new block on a group that takes calls: want of blocks is answered as want of memory.
+    /// Commits a plan on a group that takes calls: want of blocks is answered as want of memory.
     fn commit_plan<B: Bay>(
         &mut self,
         alloc: Global,
