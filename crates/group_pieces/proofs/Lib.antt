@@ -11,3 +11,4 @@ pub mod Leaving
 pub mod Marked
 pub mod Failed
 pub mod Steps
+pub mod Written

@@ -8,3 +8,4 @@ pub mod Writes
 pub mod Marking
 pub mod Pieces
 pub mod Failing
+pub mod Written

@@ -26,6 +26,7 @@ pub(crate) fn take_offline<B: Bay>(
     ensures goes { GoesOn m.old result m.new (B.state bay.old) (B.state bay.new) }
     ensures tables { m.new.catalog.tables ≡ m.old.catalog.tables }
     ensures offline { OnOk result (AreOffline failed since m.new.register.value) }
+    ensures still { failed ≡ 0 → bay.new ≡ bay.old }
 {
     if failed.bits() == 0 {
         return Ok(());

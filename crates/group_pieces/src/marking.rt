@@ -32,6 +32,7 @@ pub(crate) fn mark_left<B: Bay>(
     requires short { inner < 2 ^ 32 }
     ensures goes { GoesOn m.old result m.new (B.state bay.old) (B.state bay.new) }
     ensures marked { OnOk result (AreMarked m.old x inner failed m.new.catalog.tables) }
+    ensures still { left_of m.old x inner failed ≡ 0 → bay.new ≡ bay.old }
 {
     let left = left_copies(m, x, inner, failed);
     if left == 0 {

@@ -1,7 +1,9 @@
 // The new copy of a move that is on its way takes what is written, as far as it was copied.
-ghost use Rattle.std.specs.Prelude.{◌≡◌, ◌≤◌, ◌<◌, ◌^◌};
+ghost use Rattle.std.specs.Prelude.{◌≡◌, ◌≤◌, ◌<◌, ◌^◌, length};
 ghost use Rattle.group_engine.specs.Mounts.{IsMounted, Takes};
 ghost use Rattle.group_engine.specs.Own.{KeepsGroup};
+ghost use Rattle.group_pieces.specs.Bytes.{WritesBytes};
+ghost use Rattle.group_pieces.specs.Written.{FlightBytes, MovedBytes};
 
 use crate::spare::write_moved;
 use asm_base::{DiskSet, ExtentId};
@@ -22,6 +24,7 @@ pub(crate) fn follow_move<B: Bay>(
     requires takes { Takes m.old (B.state bay.old) }
     requires short { inner < 2 ^ 32 }
     ensures keeps { KeepsGroup m.old m.new (B.state bay.old) (B.state bay.new) }
+    ensures writes { WritesBytes m.old (MovedBytes m.old x inner (length bytes.now)) (B.state bay.old) (B.state bay.new) }
     // Nothing else of the group changes.
     ensures same { m.new ≡ record m.old { flight = m.new.flight } }
 {
@@ -50,7 +53,8 @@ fn write_copied<B: Bay>(
     requires mounted { IsMounted m.now }
     requires takes { Takes m.now (B.state bay.old) }
     requires short { inner < 2 ^ 32 }
-    ensures { KeepsGroup m.now m.now (B.state bay.old) (B.state bay.new) }
+    ensures keeps { KeepsGroup m.now m.now (B.state bay.old) (B.state bay.new) }
+    ensures writes { WritesBytes m.now (FlightBytes m.now flight x inner (length bytes.now)) (B.state bay.old) (B.state bay.new) }
 {
     let Flight {
         x: moved,

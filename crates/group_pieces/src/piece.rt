@@ -1,13 +1,16 @@
 // A piece of an extent is written to every copy, and what failed is recorded.
 ghost use Rattle.std.specs.Prelude.{◌≡◌, ◌<◌, ◌^◌, IfErr, IfOk, OnOk, length};
+ghost use Rattle.bay.specs.Moments.{NowOnly};
 ghost use Rattle.group_engine.specs.Mounts.{IsMounted, Takes};
 ghost use Rattle.group_engine.specs.Own.{KeepsGroup};
 ghost use Rattle.group_engine.specs.Pending.{GoesOn};
+ghost use Rattle.group_pieces.specs.Copies.{HaveBut};
 ghost use Rattle.group_pieces.specs.Failing.{AreOffline};
 ghost use Rattle.group_pieces.specs.Faults.{AreRisen};
-ghost use Rattle.group_pieces.specs.Marking.{AreMarked};
+ghost use Rattle.group_pieces.specs.Marking.{AreMarked, left_of};
 ghost use Rattle.group_pieces.specs.Pieces.{WritePieceCause, refusal_of};
 ghost use Rattle.group_pieces.specs.Usable.{AreNone, FitsExtent, places_at};
+ghost use Rattle.group_pieces.specs.Written.{WritesPiece, IsPlain};
 
 use crate::failing::take_offline;
 use crate::marking::mark_left;
@@ -34,6 +37,11 @@ pub fn write_piece<B: Bay>(
 ) -> Result<DiskSet, Refusal>
     requires takes { Takes m.old (B.state bay.old) }
     requires piece { FitsExtent m.old.catalog.shape x.index inner (length bytes.now) }
+    // Each usable copy but those on disks that failed has the bytes, before anything is recorded.
+    ensures written { IfOk result (λ failed. WritesPiece B.state m.old x inner bytes.now failed m.new bay.old bay.new) }
+    // Where nothing has to be recorded each usable copy has them in the end.
+    ensures done { IfOk result (λ failed. IsPlain m.old x inner (length bytes.now) failed
+        → NowOnly (B.state bay.new) (HaveBut (places_at m.old x inner) failed bytes.now)) }
     // The group's parts agree, it takes the next call, and the disks of others stay.
     ensures keeps { KeepsGroup m.old m.new (B.state bay.old) (B.state bay.new) }
     ensures cause { IfErr result (WritePieceCause m.old x inner m.new (B.state bay.old) (B.state bay.new)) }
@@ -63,6 +71,9 @@ fn write_mounted<B: Bay>(
     requires mounted { IsMounted m.old }
     requires takes { Takes m.old (B.state bay.old) }
     requires piece { FitsExtent m.old.catalog.shape x.index inner (length bytes.now) }
+    ensures written { IfOk result (λ failed. WritesPiece B.state m.old x inner bytes.now failed m.new bay.old bay.new) }
+    ensures done { IfOk result (λ failed. IsPlain m.old x inner (length bytes.now) failed
+        → NowOnly (B.state bay.new) (HaveBut (places_at m.old x inner) failed bytes.now)) }
     ensures keeps { KeepsGroup m.old m.new (B.state bay.old) (B.state bay.new) }
     ensures cause { IfErr result (WritePieceCause m.old x inner m.new (B.state bay.old) (B.state bay.new)) }
     ensures failed { IfOk result (λ failed. AreRisen m.old failed (B.state bay.old) (B.state bay.new)) }
@@ -111,6 +122,7 @@ fn settle<B: Bay>(
     ensures goes { GoesOn m.old result m.new (B.state bay.old) (B.state bay.new) }
     ensures marked { OnOk result (AreMarked m.old x inner failed m.new.catalog.tables) }
     ensures offline { OnOk result (AreOffline failed now m.new.register.value) }
+    ensures still { failed ≡ 0 → left_of m.old x inner failed ≡ 0 → bay.new ≡ bay.old }
 {
     match record_faults(m, alloc, bay, x, inner, failed, now) {
         Ok(()) => Ok(()),
@@ -139,6 +151,7 @@ fn record_faults<B: Bay>(
     ensures goes { GoesOn m.old result m.new (B.state bay.old) (B.state bay.new) }
     ensures marked { OnOk result (AreMarked m.old x inner failed m.new.catalog.tables) }
     ensures offline { OnOk result (AreOffline failed now m.new.register.value) }
+    ensures still { failed ≡ 0 → left_of m.old x inner failed ≡ 0 → bay.new ≡ bay.old }
 {
     match mark_left(m, alloc, bay, x, inner, failed) {
         Ok(()) => take_offline(m, alloc, bay, failed, now),

@@ -7,6 +7,7 @@ ghost use Rattle.group_engine.specs.Mounts.{IsMounted, Takes};
 ghost use Rattle.group_engine.specs.Own.{KeepsGroup};
 ghost use Rattle.group_pieces.specs.Bytes.{WritesBytes};
 ghost use Rattle.group_pieces.specs.Spare.{IsRunAt, IsRunOf, OnDisk};
+ghost use Rattle.group_pieces.specs.Written.{HomeBytes, IsAtHome};
 
 use crate::copies::{Place, write_synced};
 use crate::usable::DISKS;
@@ -57,7 +58,8 @@ pub(crate) fn write_moved<B: Bay>(
     requires mounted { IsMounted m.now }
     requires takes { Takes m.now (B.state bay.old) }
     requires short { inner < 2 ^ 32 }
-    ensures { KeepsGroup m.now m.now (B.state bay.old) (B.state bay.new) }
+    ensures keeps { KeepsGroup m.now m.now (B.state bay.old) (B.state bay.new) }
+    ensures writes { WritesBytes m.now (HomeBytes m.now home inner (length bytes.now)) (B.state bay.old) (B.state bay.new) }
 {
     let Some(place) = run_at(m, home, inner, bytes.len() as u64) else {
         return Err(Fault);
@@ -68,7 +70,8 @@ pub(crate) fn write_moved<B: Bay>(
 /// Where so many bytes from an inner byte of a home on are, if its disk is attached and has them behind its directory region.
 fn run_at(m: &Mounted, home: Home, inner: u64, len: u64) -> Option<Place>
     requires { inner < 2 ^ 32 }
-    ensures { IfSome result (IsRunAt m.now len) }
+    ensures run { IfSome result (IsRunAt m.now len) }
+    ensures at { IfSome result (IsAtHome m.now home inner) }
 {
     if home.disk >= DISKS {
         return None;

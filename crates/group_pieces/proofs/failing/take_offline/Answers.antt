@@ -41,3 +41,6 @@ returns-in-Ok-clause-goes g c = record { keeps = c.set_status.ensures.keeps; mou
 
 pub returns-in-Ok-clause-offline : goal.returns-in-Ok-clause-offline
 returns-in-Ok-clause-offline g c = on_ok c.set_status.result (λ is. subst (AreOffline c.args.failed c.args.since) (sym is) c.in-Ok.ensures.offline) c.set_status.ensures.recorded
+
+pub returns-in-Ok-clause-still : goal.returns-in-Ok-clause-still
+returns-in-Ok-clause-still g c = λ none. absurd (c.if-bits-eq0.false (c.bits.ensures.bits ∙ none))

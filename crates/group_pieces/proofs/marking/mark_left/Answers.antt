@@ -47,3 +47,6 @@ returns-in-Ok-clause-marked g c =
     (one_after m.catalog.tables c.commit_marks.new.m.catalog.tables (with_marks_changed m.catalog.tables c.args.x.file c.args.x.index c.left_copies-left.result 0) change.put change.gone applied planned.after
     ∙ ap (λ (n : ℕ). with_marks_changed m.catalog.tables c.args.x.file c.args.x.index n 0) is))
     c.commit_marks.ensures.applied
+
+pub returns-in-Ok-clause-still : goal.returns-in-Ok-clause-still
+returns-in-Ok-clause-still g c = λ none. absurd (c.if-left-eq0.false (c.left_copies-left.ensures.value ∙ none))

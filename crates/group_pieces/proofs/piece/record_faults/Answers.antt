@@ -1,4 +1,4 @@
-use Rattle.std.proofs.Common.{sym, subst}
+use Rattle.std.proofs.Common.{sym, subst, ◌∙◌}
 use Rattle.catalog.specs.Tables.{Tables}
 use Rattle.group_engine.proofs.Endings.{goes_on}
 use Rattle.group_pieces.specs.Marking.{AreMarked}
@@ -17,3 +17,6 @@ returns-in-Ok-clause-goes g c = goes_on c.take_offline.result c.in-Ok.ensures.go
 pub returns-in-Ok-clause-marked : goal.returns-in-Ok-clause-marked
 returns-in-Ok-clause-marked g c =
     any_ok c.take_offline.result (subst (λ (t : Tables). AreMarked c.args.m.now c.args.x c.args.inner c.args.failed t) (sym c.take_offline.ensures.tables) c.in-Ok.ensures.marked)
+
+pub returns-in-Ok-clause-still : goal.returns-in-Ok-clause-still
+returns-in-Ok-clause-still g c = λ none left. c.take_offline.ensures.still none ∙ c.mark_left.ensures.still left

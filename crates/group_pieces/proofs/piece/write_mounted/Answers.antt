@@ -1,12 +1,13 @@
-use Rattle.std.proofs.Common.{length, ap, subst, sym, ◌∙◌}
+use Rattle.std.proofs.Common.{◌≡◌, length, ap, subst, sym, ◌∙◌}
 use Rattle.group_engine.specs.Mounts.{MountedGroup}
 use Rattle.asm_base.specs.declared.refusal.Refusal.{Refusal}
-use Rattle.group_pieces.specs.Marking.{AreMarked}
+use Rattle.group_pieces.specs.Marking.{AreMarked, left_of}
 use Rattle.group_pieces.specs.Pieces.{WritePieceCause}
 use Rattle.group_engine.proofs.Causes.{calls_keep, cause_on}
 use Rattle.group_pieces.proofs.Risen.{rose_later}
 use Rattle.group_pieces.proofs.Steps.{fault_cause, piece_cause, takes_next}
 use Rattle.group_pieces.proofs.UsableCopies.{short_inner}
+use Rattle.group_pieces.proofs.Written.{writes_piece, stays_written}
 use Rattle.group_pieces.proofs.piece.write_mounted.Goals as goal
 
 pub follow_move-requires : goal.follow_move-requires
@@ -60,3 +61,14 @@ returns-in-Err-clause-cause g c =
     let s = g.B.Bay.state c.args.bay.now in
     let t = g.B.Bay.state c.write_usable.new.bay in
     subst (λ (r : Refusal). WritePieceCause m c.args.x c.args.inner m s t r) (sym c.refusal_of.ensures) (fault_cause m m c.args.x c.args.inner s t c.in-Err.error c.in-Err.ensures.cause)
+
+pub returns-in-Ok-settle-clause-written : goal.returns-in-Ok-settle-clause-written
+returns-in-Ok-settle-clause-written g c =
+    let m = c.args.m.now in
+    writes_piece g.B.Bay.state m c.args.x c.args.inner c.args.bytes.now c.in-Ok.failed c.follow_move.new.m c.settle.new.m c.args.bay.now c.write_usable.new.bay c.follow_move.new.bay c.settle.new.bay
+    c.write_usable.ensures.writes c.in-Ok.ensures.done c.in-Ok.ensures.some c.follow_move.ensures.keeps c.follow_move.ensures.writes c.settle.ensures.goes.keeps
+    (subst (λ (q : MountedGroup). c.in-Ok.failed ≡ 0 → left_of q c.args.x c.args.inner c.in-Ok.failed ≡ 0 → c.settle.new.bay ≡ c.follow_move.new.bay) c.follow_move.ensures.same c.settle.ensures.still)
+
+pub returns-in-Ok-settle-clause-done : goal.returns-in-Ok-settle-clause-done
+returns-in-Ok-settle-clause-done g c =
+    stays_written g.B.Bay.state c.args.m.now c.args.x c.args.inner c.args.bytes.now c.in-Ok.failed c.settle.new.m c.args.bay.now c.settle.new.bay (returns-in-Ok-settle-clause-written g c)
