@@ -192,12 +192,12 @@ fn texts_are_refused_at_their_places(rt: HostRuntime) -> Result<(), Fail> {
     let rows: [(&[u8], &[u8]); 12] = [
         (b"ALTER DISKGROUP data ADD", b"error 1 Syntax 24\n"),
         (b"pwd\r\n", b"error 1 Syntax 3\n"),
-        (b"ls \n", b"error 1 Syntax 0\n"),
+        (b"du \n", b"error 1 Syntax 0\n"),
         (b"lsx", b"error 1 Syntax 2\n"),
         (b"LS", b"error 1 Syntax 0\n"),
         (b"CREx", b"error 1 Syntax 3\n"),
         (b"cp ./a ./b", b"error 1 Syntax 8\n"),
-        (b"ALTER DISKGROUP data MOUNT;", b"error 1 Syntax 0\n"),
+        (b"ALTER DISKGROUP data CHECK;", b"error 1 Syntax 0\n"),
         (
             b"ALTER DISKGROUP data ADD VOLUME v;",
             b"error 1 Syntax 25\n",
@@ -267,6 +267,50 @@ fn groups_stay_over_runs(rt: HostRuntime) -> Result<(), Fail> {
     Ok(())
 }
 
+// What a run made of a group is there for a later one, which mounts it: its script, its status and what it prints.
+#[derive(Clone, Copy)]
+struct Later {
+    script: &'static [u8],
+    status: u8,
+    output: &'static [u8],
+}
+
+#[test]
+fn later_runs_mount_the_group(rt: HostRuntime) -> Result<(), Fail> {
+    let rows = [
+        Later {
+            script: b"CREATE DISKGROUP DATA EXTERNAL REDUNDANCY DISK '/d0';\nmkdir +DATA/db\nls +DATA\nls\nALTER DISKGROUP DATA MOUNT;\n",
+            status: 1,
+            output: b"ok\nok\ndb/\nok\nDATA/\nok\nerror 4 AlreadyMounted\n",
+        },
+        Later {
+            script: b"ls +DATA\nALTER DISKGROUP data MOUNT;\nls +data\nmkdir +DATA/DB\nALTER DISKGROUP data ADD DIRECTORY '+data/db/x';\nls +data/db\n",
+            status: 1,
+            output: b"error 2 NoGroup\nok\ndb/\nok\nerror 15 NameTaken\nok\nx/\nok\n",
+        },
+        Later {
+            script: b"ALTER DISKGROUP data MOUNT FORCE;\nlsdg\nls +data/d*\nls +data/y\nALTER DISKGROUP data DISMOUNT;\nlsdg data\nmkdir +data/z\n",
+            status: 1,
+            output: b"ok\nState Type Rebal Sector Block AU Total Free Offline Name\nMOUNTED EXTERN N 512 4096 1048576 25 16 0 DATA\nok\ndb/\nok\nerror 14 NoName\nok\nerror 2 NoGroup\nerror 2 NoGroup\n",
+        },
+        Later {
+            script: b"ALTER DISKGROUP other MOUNT;\nALTER DISKGROUP data MOUNT;\nls +data/DB\n",
+            status: 1,
+            output: b"error 2 NoGroup\nok\nx/\nok\n",
+        },
+    ];
+    let alloc = rt.alloc();
+    let mut bay = bay_of(alloc, 25 * MB)?;
+    for row in rows {
+        let report = ran(alloc, "/d0", row.script, bay, &NONE)?;
+        assert_eq!(rt; report.sink.bytes(), row.output);
+        assert_eq!(rt; report.status, row.status);
+        bay = report.bay;
+        bay.restart();
+    }
+    Ok(())
+}
+
 #[test]
 fn failing_streams_end_the_run(rt: HostRuntime) -> Result<(), Fail> {
     let alloc = rt.alloc();
@@ -275,14 +319,14 @@ fn failing_streams_end_the_run(rt: HostRuntime) -> Result<(), Fail> {
         reads: &[2],
         ..NONE
     };
-    let report = ran(alloc, "/d0", b"lsdg\nls", bay, &reads)?;
+    let report = ran(alloc, "/d0", b"du\nlsattr d", bay, &reads)?;
     assert!(rt; report.status == 3 && report.replies == 1);
     assert_eq!(rt; report.sink.bytes(), b"error 1 Syntax 0\n".as_slice());
     let writes = Faults {
         writes: &[2],
         ..NONE
     };
-    let report = ran(alloc, "/d0", b"lsdg\nls\nls\n", report.bay, &writes)?;
+    let report = ran(alloc, "/d0", b"du\nlsattr d\ndu\n", report.bay, &writes)?;
     assert!(rt; report.status == 4 && report.replies == 1);
     assert_eq!(rt; report.sink.bytes(), b"error 1 Syntax 0\n".as_slice());
     Ok(())

@@ -18,7 +18,7 @@ usage: asm [--generate N] IMAGE...
        asm --version | -V
 
   IMAGE...       the images of disks, each a file or a device that is named once, at most 512.
-                 Statements name it by this path. It is made beforehand: CREATE DISK isn't served yet.
+                 Statements name it by this path. It is made beforehand, or by CREATE DISK.
   --generate N   reads no script and runs one made from the number N, over four images.
                  It isn't served yet: words with it get status 2.
   --             what follows is an image, also where it begins with a hyphen.
@@ -26,10 +26,13 @@ usage: asm [--generate N] IMAGE...
 The script is read on standard input. A statement ends with ; and any other command with its line.
 Each command is answered by ok or by an error line on standard output. These are served, more come:
 
+  CREATE DISK 'image' SIZE size;
   CREATE DISKGROUP name EXTERNAL REDUNDANCY DISK 'image';
-  ALTER DISKGROUP name DISMOUNT;
-  pwd
-  cd +
+  DROP DISKGROUP name;
+  ALTER DISKGROUP name MOUNT | DISMOUNT | CHECK;
+  ALTER DISKGROUP name ADD | RENAME | DROP DIRECTORY ..; the same of ALIAS
+  ALTER DISKGROUP name ADD | MODIFY | DROP TEMPLATE ..; SET ATTRIBUTE ..;
+  pwd  cd  ls  find  du  mkdir  mkalias  rmalias  lsdg  lsdsk  lstmpl  lsattr
 
 Any other command or form of one is answered error 1 Syntax 0, and a text that is no command error 1
 Syntax and the place where it parts from all commands. For example

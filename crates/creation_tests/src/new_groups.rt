@@ -26,7 +26,8 @@ fn create(
     };
     let paths = [d0];
     let mut ids = Vec::new(alloc);
-    Ok(create_group(alloc, bay, &paths, &name, path, 7, &mut ids))
+    let (made, answer) = create_group(alloc, bay, &paths, &name, path, 7, &mut ids, &[]);
+    Ok((made, answer.map(|_| ())))
 }
 
 // Opens the gate in a block, one of those of a disk of 64 MB, whatever stands behind it. Two calls.

@@ -1,12 +1,12 @@
 -- Why a creation is refused.
-use Rattle.std.proofs.Common.{inr, ℕ, ◌≤◌, List, Option, sym, ap, subst, ◌∙◌, arith}
+use Rattle.std.proofs.Common.{◌≡◌, inr, ℕ, ◌≤◌, List, Option, sym, ap, subst, ◌∙◌, arith}
 use Rattle.std.specs.Option.{option_map}
 use Rattle.std.proofs.lemmas.Option.{none-some}
 use Rattle.bay.specs.State.{BayState}
 use Rattle.asm_group.specs.Names.{Bytes}
 use Rattle.asm_group.specs.Refusal as r
 use Rattle.asm_formats.specs.Header.{Header}
-use Rattle.group_disks.specs.Found.{Counts, counts_of, IsSlotOf, RefusalCause}
+use Rattle.group_disks.specs.Found.{Counts, counts_of, IsEarly, IsSlotOf, RefusalCause}
 use Rattle.group_disks.specs.Probes.{IsShown, IsUnusable, IsUsable}
 use Rattle.group_disks.specs.Ready.{HasRoom, IsFormFault}
 use Rattle.group_disks.specs.declared.find.Probe.{Probe}
@@ -49,3 +49,10 @@ module _ (paths : List Bytes) (path disk : Bytes) (slot : ℕ) (is_slot : IsSlot
 pub has_room : (s t : BayState) (slot units : ℕ) (p : Probe) → IsShown slot p (counts_of s) (counts_of t) → IsUsable p units → HasRoom slot units t
 has_room s t slot units p shown usable =
     record { size = usable.size; attached = (subst (λ (q : Probe). IsShown slot q (counts_of s) (counts_of t)) usable.free shown).0; inside = usable.inside }
+
+-- want of memory is a cause at any point, and never an early one
+pub memory_cause : (paths : List Bytes) (path : Bytes) (s t : Counts) (refusal : r.Refusal) → refusal ≡ r.NoMemory → RefusalCause paths path refusal s t
+memory_cause paths path s t refusal is = subst (λ (q : r.Refusal). RefusalCause paths path q s t) (sym is) tt
+
+pub memory_is_late : (refusal : r.Refusal) → refusal ≡ r.NoMemory → IsEarly refusal → ⊥
+memory_is_late refusal is early = subst IsEarly is early

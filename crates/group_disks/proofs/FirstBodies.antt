@@ -1,6 +1,7 @@
 -- What a new disk is given is allowed, and each body is a block.
 use Rattle.std.proofs.Common.{◌≡◌, ◌^◌, true, refl}
 use Rattle.std.specs.Prelude.{nat_le, nat_lt, ◌&&◌}
+use Rattle.std.specs.List.{list_all}
 use Rattle.std.proofs.lemmas.Bool.{le-leb, lt-ltb}
 use Rattle.asm_group.specs.Names.{is_name}
 use Rattle.asm_group.specs.Shape.{is_shape}
@@ -31,6 +32,10 @@ module _ (plan : Plan) (is : IsPlan plan) where
   pub claim_ok : is_claim (claim_of_plan plan) ≡ true
   unfolding is_claim
   claim_ok = λ i. id_ok i && true
+
+  pub entries_ok : list_all is_entry (record_of_plan plan).entries ≡ true
+  unfolding is_entry
+  entries_ok = λ i. (units_ok i && true) && true
 
   pub status_ok : is_status (record_of_plan plan) ≡ true
   unfolding is_status is_entry entry_of elements has_bit

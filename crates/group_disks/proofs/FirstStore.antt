@@ -4,7 +4,7 @@ use Rattle.std.specs.Prelude.{nat_le, ◌&&◌, cond, not, is_some}
 use Rattle.std.proofs.lemmas.Bool.{and_parts, leb-true, cond_both, false≢true}
 use Rattle.std.proofs.lemmas.Option.{same_Some, none-some}
 use Rattle.bay.specs.Image.{Image, ChangesOnly}
-use Rattle.bay.specs.State.{BayState, IsSlot}
+use Rattle.bay.specs.State.{BayState, IsSlot, KeepsAttached}
 use Rattle.bay.specs.Counts.{Rose}
 use Rattle.bay.specs.Moments.{Runs, NowOnly, LeavesOnly}
 use Rattle.bay.proofs.Calls.{on_more, widened, leaves_less}
@@ -26,12 +26,15 @@ use Rattle.directory_store.specs.declared.error.StoreError.{StoreError}
 use Rattle.directory_store.specs.declared.error.StoreError.TheVariants.{Full, Gone}
 use Rattle.directory_store.specs.Answers.{IsFirstRefusal}
 use Rattle.directory_store.specs.Copies.{AllAreShut, AreApart, AreNamed, IsFailedSlot, IsNamed, IsSlotOf, RegionsOf}
-use Rattle.directory_store.specs.Stores.{AreFirst, IsEmpty, HaveNoneOrFirst, HaveOneSize, HaveRecords, Stored}
+use Rattle.directory_store.specs.Stores.{AreFirst, IsEmpty, HaveNoneOrFirst, HaveOneSize, HaveRecords, Keeps, Stored}
+use Rattle.directory_store.proofs.Storing.{keeps_elsewhere}
 use Rattle.change_directory.specs.declared.copy.DirCopy.{DirCopy}
 use Rattle.change_directory.specs.Places.{IsCopy}
 use Rattle.change_directory.specs.Formatting.{AreShut}
-use Rattle.change_directory.specs.StoreLaws.{RegionOf}
+use Rattle.change_directory.specs.StoreLaws.{RegionOf, SameRegion}
+use Rattle.mount_states.specs.Forming.{RecordsOf}
 use Rattle.group_disks.specs.Planned.{Plan, IsPlan, disk_of_plan, first_templates, first_settings, items_of_plan, first_entries}
+use Rattle.group_disks.specs.FirstParts.{IsFirstStore}
 use Rattle.group_disks.specs.Stages.{first_copy, HasFirst, HasNoneOrFirst}
 use Rattle.group_disks.proofs.FirstBodies.{disk_ok, templates_ok, settings_ok}
 
@@ -188,3 +191,20 @@ module _ (slot : ℕ) where
       now = λ x left. has_first plan is slot store.table x first
           (subst (λ (n : ℕ). HasRecords store.table n (first_copy slot) x) number (now.now x left (first_copy slot) (subst (λ (l : List DirCopy). IsAmong l (first_copy slot)) (sym copies) (inl refl))));
     }
+
+    -- what was made is the store of the plan
+    pub first_store : (store : Stored) (state : BayState) → store.copies ≡ only → AreFirst (first_entries plan) [] store.table → Keeps store state → IsFirstStore slot plan store state
+    first_store store state copies first keeps = record { records = first; copies = copies; keeps = keeps }
+
+    -- it stays over calls that leave the directory region of its disk
+    pub store_stays : {slots : ℕ → Type 0} {step : Image → Image → Type 0} {a b : BayState} (store : Stored) → ((x y : Image) → step x y → ChangesOnly (RecordsOf slot) x y)
+        → KeepsAttached a b → Runs slots step a b → IsFirstStore slot plan store a → IsFirstStore slot plan store b
+    store_stays {slots} {step} {a} {b} store inside attached run first = record {
+      records = first.records;
+      copies = first.copies;
+      keeps = keeps_elsewhere store (λ x y c among is. same x y c (subst (λ (l : List DirCopy). IsAmong l c) first.copies among) (inside x y is)) attached run first.keeps;
+    }
+      where
+        same : (x y : Image) (c : DirCopy) → IsAmong only c → ChangesOnly (RecordsOf slot) x y → SameRegion c x y
+        same x y c among change = subst (λ (d : DirCopy). SameRegion d x y) (sym (is_only c among))
+            (record { size = change.size slot; bytes = λ k low high. change.byte slot k (λ inside. absurd (omega (arith, inside.2, low))) })

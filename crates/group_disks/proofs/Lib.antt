@@ -16,3 +16,16 @@ pub mod Choosing
 pub mod Moments
 pub mod Causes
 pub mod FirstRecords
+pub mod FirstCatalog
+pub mod FirstMount
+pub mod FirstSpares
+pub mod Staying
+pub mod Disks
+pub mod Held
+pub mod MountedParts
+pub mod Spared
+pub mod Clears
+pub mod Drops
+pub mod Makes
+pub mod Births
+pub mod Takeovers

@@ -1,5 +1,5 @@
 -- A creation at every moment.
-use Rattle.std.proofs.Common.{◌≡◌, inl, inr, ℕ, ◌*◌, ◌<◌, ◌≤◌, true, List, ◌∙◌, length, All, None, Some, Result, Ok, Err, is_ok, refl, sym, subst, ap, arith}
+use Rattle.std.proofs.Common.{◌≡◌, Bool, inl, inr, ℕ, ◌*◌, ◌<◌, ◌≤◌, true, List, ◌∙◌, length, All, None, Some, Result, Ok, Err, is_ok, refl, sym, subst, ap, arith}
 use Rattle.std.specs.Prelude.{OnOk}
 use Rattle.std.proofs.lemmas.List.Elements.{All-contains}
 use Rattle.bay.specs.Image.{Image, Same}
@@ -97,7 +97,7 @@ when_ok (Ok x) p is = p
 when_ok (Err e) p is = absurd cc
 
 -- the whole creation, by a plan that is seen as another
-pub has_created : {s m t : BayState} {E : Type 0} (n slot : ℕ) (p q : Plan) (name : Bytes) (result : Result (Unit {0}) E) → p ≡ q → q.name ≡ name → slot < n → IsSound m
+pub has_created : {s m t : BayState} {A E : Type 0} (n slot : ℕ) (p q : Plan) (name : Bytes) (result : Result A E) → p ≡ q → q.name ≡ name → slot < n → IsSound m
     → Told (counts_of s) (counts_of m) (λ image. header_in image slot ≡ None) → Runs (λ k. k < n) Same s m → Runs (IsSlot slot) (Creates slot q.id (made_group q.name)) m t
     → OnOk result (Ends (Founds n q.id (made_group q.name) (kept_of_plan slot q)) m t) → HasCreated n p.id (made_group name) (is_ok result) s t
 has_created {s} {m} {t} n slot p q name result same named inside sound free first next done =
@@ -114,3 +114,7 @@ has_created {s} {m} {t} n slot p q name result same named inside sound free firs
         }) (stops first) (when_ok result done ok),
       );
     }))
+
+-- where less is said to be done
+pub created_less : {s t : BayState} (n id : ℕ) (g : Group) (a b : Bool) → (b ≡ true → a ≡ true) → HasCreated n id g a s t → HasCreated n id g b s t
+created_less {s} {t} n id g a b less has = record { slot = has.slot; moments = has.moments; done = λ ok. has.done (less ok) }

@@ -1,3 +1,9 @@
+pub mod Holding
+pub mod FirstParts
+pub mod Clearing
+pub mod Mounting
+pub mod Dropping
+pub mod Making
 pub mod Found
 pub mod Creating
 pub mod Planned

@@ -29,6 +29,12 @@ abbrev pub ids_of : Probe → List ℕ
 ids_of (probe.Read size (Some id)) = id ∷ []
 ids_of other = []
 
+-- the size that a look has shown
+abbrev pub size_shown : Probe → ℕ
+size_shown probe.Absent = 0
+size_shown (probe.Unread size) = size
+size_shown (probe.Read size id) = size
+
 -- A disk with so many units of 1 MB can be given to a new group: its header names none.
 pub record IsUsable (p : Probe) (units : ℕ) : Type 0 where
   pub size : ℕ

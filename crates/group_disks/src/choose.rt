@@ -1,10 +1,11 @@
 // Whether a disk can be given to a new group, and the new group's id and names.
-ghost use Rattle.std.specs.Prelude.{◌≡◌, ◌≤◌, ◌<◌, ◌++◌, [], All, IfOk, IfErr, IsTrue, take, codes};
+ghost use Rattle.std.specs.Prelude.{◌≡◌, ◌==◌, ◌≤◌, ◌<◌, ◌++◌, [], All, IfOk, IfErr, IsTrue, take, codes};
+ghost use Rattle.std.specs.List.{list_any};
 ghost use Rattle.bay.specs.Counts.{last_count};
 ghost use Rattle.asm_group.specs.Names.{is_name};
 ghost use Rattle.asm_base.specs.Refusals.{said};
 ghost use Rattle.asm_group.specs.Refusal.{NoDisk, DiskTaken, TooSmall, WriteFault};
-ghost use Rattle.group_disks.specs.Probes.{IsUsable, IsUnusable, Says};
+ghost use Rattle.group_disks.specs.Probes.{IsUsable, IsUnusable, Says, size_shown};
 
 use crate::find::Probe;
 use asm_base::{DiskRef, Name, NoMemory, Refusal, Text};
@@ -37,6 +38,24 @@ pub fn usable_units(alloc: Global, path: &[u8], disk: &Name, probe: Probe) -> Re
             }
         }
     }
+}
+
+/// The size in bytes that a look has shown, and 0 of an image that wasn't attached.
+pub fn shown_size(probe: Probe) -> u64
+    ensures { result ≡ size_shown probe }
+{
+    match probe {
+        Probe::Absent => 0,
+        Probe::Unread { size } => size,
+        Probe::Read { size, .. } => size,
+    }
+}
+
+/// Whether a slot is one of these.
+pub fn is_held(held: &[u32], slot: u32) -> bool
+    ensures { result ≡ list_any (λ s. s == slot) held.now }
+{
+    held.iter().any(|other| *other == slot)
 }
 
 /// The id of a new group: at least the floor, and above each of these as long as ids don't run out.
@@ -93,7 +112,7 @@ pub fn no_disk(alloc: Global, path: &[u8]) -> Refusal
 }
 
 /// The header of the image at the path names a group.
-fn disk_taken(alloc: Global, path: &[u8]) -> Refusal
+pub fn disk_taken(alloc: Global, path: &[u8]) -> Refusal
     ensures { Says (DiskTaken path.now) result }
 {
     match Text::from_slice(alloc, path) {

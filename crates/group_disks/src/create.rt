@@ -9,24 +9,34 @@ ghost use Rattle.bay.specs.Counts.{last_count};
 ghost use Rattle.asm_base.specs.Refusals.{said};
 ghost use Rattle.asm_group.specs.Refusal.{NoMemory};
 ghost use Rattle.asm_formats.specs.Regions.{most_units};
-ghost use Rattle.group_disks.specs.Found.{counts_of, Told, AreIdsRead, AreAllRead, IsAboveAll, RefusalCause, IsEarly};
+ghost use Rattle.group_disks.specs.Found.{counts_of, Told, AreIdsRead, AreAllRead, IsAboveAll, IsSlotOf, RefusalCause, IsEarly};
 ghost use Rattle.asm_images.specs.Kept.{header_in};
 ghost use Rattle.group_disks.specs.Creating.{Creates, Founds, HasCreated, made_group};
+ghost use Rattle.group_disks.specs.FirstParts.{IsFirstStore, IsNewlyMounted};
+ghost use Rattle.group_disks.specs.Holding.{SparesHeld};
+ghost use Rattle.group_engine.specs.Frames.{StaysAttached};
 ghost use Rattle.group_disks.specs.Planned.{IsPlan, kept_of_plan};
 ghost use Rattle.group_disks.specs.Ready.{AreBodies, HasRoom, IsFormFault};
 
-use crate::choose::{first_disk_name, next_id, no_disk, usable_units, write_fault};
+use crate::choose::{
+    first_disk_name, is_held, next_id, no_disk, shown_size, usable_units, write_fault,
+};
 use crate::find::{look_at_all, slot_of};
 use crate::give::give_parts;
+use crate::mount_new::mount_new;
 use crate::new_group::{Bodies, NewGroup, first_bodies};
 use asm_base::{Name, Refusal};
 use bay::{Bay, BayError};
+use directory_store::Store;
+use group_engine::{Attached, Mounted};
 use std::alloc::Global;
 
 /// Creates an EXTERNAL group on the image at a path, which is one of the program's images. The ids in the headers that were
-/// read are put into `ids`. The first part of the answer is the group's id where the creation came to write: at least `floor`,
-/// and above each of these ids. Refusals in their order: NoDisk, DiskTaken, TooSmall, WriteFault; NoMemory at any point, also
-/// once the disk has its new header.
+/// read are put into `ids`. Images in the slots `held` are attached to groups: they are DiskTaken by their headers, and where
+/// such a header isn't there any more, which no call leaves so, NoMemory is answered. The first part of the answer is the
+/// group's id where the creation came to write: at least `floor`, and above each of these ids. The second is the new group,
+/// mounted. Refusals in their order: NoDisk, DiskTaken, TooSmall, WriteFault; NoMemory at any point, also once the disk has
+/// its new header.
 pub fn create_group<B: Bay>(
     alloc: Global,
     bay: &mut B,
@@ -35,7 +45,8 @@ pub fn create_group<B: Bay>(
     path: &[u8],
     floor: u64,
     ids: &mut Vec<u64>,
-) -> (Option<u64>, Result<(), Refusal>)
+    held: &[u32],
+) -> (Option<u64>, Result<Mounted, Refusal>)
     requires few { length paths.now ≤ 512 }
     requires name { IsTrue (is_name name.now) }
     requires none { ids.old.items ≡ [] }
@@ -49,26 +60,42 @@ pub fn create_group<B: Bay>(
     ensures moments { MatchOption result.0
         (Runs (λ slot. slot < length paths.now) Same (B.state bay.old) (B.state bay.new))
         (λ id. HasCreated (length paths.now) id (made_group name.now) (is_ok result.1) (B.state bay.old) (B.state bay.new)) }
+    // The new group takes calls, on a disk that no other group holds.
+    ensures mounted { IfOk result.1 (λ m. IsNewlyMounted held.now name.now result.0 m (B.state bay.new)) }
+    // Of other groups nothing changes: what was attached stays so, and the disks in these slots do.
+    ensures attached { StaysAttached (B.state bay.old) (B.state bay.new) }
+    ensures spares { SparesHeld held.now (length paths.now) (B.state bay.old) (B.state bay.new) }
 {
     match prepare(alloc, bay, paths, name, path, floor, ids) {
         Ok(
             Ready {
                 slot,
+                size,
                 group,
                 bodies,
             },
         ) => {
-            let written = form(alloc, bay, slot, paths.len(), &group, &bodies);
-            (Some(group.id), written)
+            if is_held(held, slot) {
+                return (None, Err(Refusal::NoMemory));
+            }
+            let id = group.id;
+            match form(alloc, bay, slot, paths.len(), &group, &bodies) {
+                Ok(store) => {
+                    let disk = Attached { slot, size };
+                    (Some(id), mount_new(alloc, bay, disk, group, store))
+                },
+                Err(refusal) => (Some(id), Err(refusal)),
+            }
         }
         Err(refusal) => (None, Err(refusal)),
     }
 }
 
-/// A new group, the slot of its disk, and what the disk is given.
+/// A new group, the slot of its disk with its size in bytes, and what the disk is given.
 #[derive(Drop)]
 struct Ready {
     slot: u32,
+    size: u64,
     group: NewGroup,
     bodies: Bodies,
 }
@@ -98,6 +125,9 @@ fn prepare<B: Bay>(
     ensures plan { IfOk result (λ ready. IsPlan ready.group) }
     ensures bodies { IfOk result (λ ready. AreBodies ready.bodies ready.group) }
     ensures room { IfOk result (λ ready. HasRoom ready.slot ready.group.units (B.state bay.new)) }
+    ensures size { IfOk result (λ ready. (B.state bay.new).attached ready.slot ≡ Some ready.size) }
+    ensures at { IfOk result (λ ready. IsSlotOf (map string_bytes paths.now) path.now ready.slot) }
+    ensures attached { StaysAttached (B.state bay.old) (B.state bay.new) }
     ensures free { IfOk result (λ ready. Told (counts_of (B.state bay.old)) (counts_of (B.state bay.new)) (λ image. header_in image ready.slot ≡ None)) }
 {
     let Some(slot) = slot_of(paths, path) else {
@@ -110,7 +140,13 @@ fn prepare<B: Bay>(
         return Err(Refusal::NoMemory);
     };
     match usable_units(alloc, path, &disk, probe) {
-        Ok(units) => make_ready(alloc, slot, name, disk, units, next_id(floor, ids)),
+        Ok(units) => {
+            let place = Attached {
+                slot,
+                size: shown_size(probe),
+            };
+            make_ready(alloc, place, name, disk, units, next_id(floor, ids))
+        }
         Err(refusal) => Err(refusal),
     }
 }
@@ -118,7 +154,7 @@ fn prepare<B: Bay>(
 /// The bodies of the new group's disk, beside what they are made of.
 fn make_ready(
     alloc: Global,
-    slot: u32,
+    place: Attached,
     name: &Name,
     disk: Name,
     units: u32,
@@ -128,7 +164,8 @@ fn make_ready(
     requires disk { IsTrue (is_name disk) }
     requires least { 25 ≤ units }
     requires most { units ≤ most_units }
-    ensures slot { IfOk result (λ ready. ready.slot ≡ slot) }
+    ensures slot { IfOk result (λ ready. ready.slot ≡ place.slot) }
+    ensures size { IfOk result (λ ready. ready.size ≡ place.size) }
     ensures id { IfOk result (λ ready. ready.group.id ≡ id) }
     ensures name { IfOk result (λ ready. ready.group.name ≡ name.now) }
     ensures units { IfOk result (λ ready. ready.group.units ≡ units) }
@@ -149,7 +186,8 @@ fn make_ready(
         return Err(Refusal::NoMemory);
     };
     Ok(Ready {
-        slot,
+        slot: place.slot,
+        size: place.size,
         group,
         bodies,
     })
@@ -163,7 +201,7 @@ fn form<B: Bay>(
     slots: usize,
     group: &NewGroup,
     bodies: &Bodies,
-) -> Result<(), Refusal>
+) -> Result<Store, Refusal>
     requires plan { IsPlan group.now }
     requires bodies { AreBodies bodies.now group.now }
     requires room { HasRoom slot group.now.units (B.state bay.old) }
@@ -171,10 +209,11 @@ fn form<B: Bay>(
     ensures attached { KeepsAttached (B.state bay.old) (B.state bay.new) }
     ensures runs { Runs (IsSlot slot) (Creates slot group.now.id (made_group group.now.name)) (B.state bay.old) (B.state bay.new) }
     ensures done { OnOk result (Ends (Founds slots group.now.id (made_group group.now.name) (kept_of_plan slot group.now)) (B.state bay.old) (B.state bay.new)) }
+    ensures store { IfOk result (λ store. IsFirstStore slot group.now store (B.state bay.new)) }
     ensures cause { IfErr result (λ refusal. IsFormFault slot group.now.disk (said (λ _. []) refusal) (counts_of (B.state bay.old)) (counts_of (B.state bay.new))) }
 {
     match give_parts(alloc, bay, slot, group, bodies) {
-        Ok(()) => Ok(()),
+        Ok(store) => Ok(store),
         Err(BayError::Fault) => Err(write_fault(alloc, &group.disk)),
         Err(BayError::NoMemory) => Err(Refusal::NoMemory),
     }

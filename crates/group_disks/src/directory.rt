@@ -1,5 +1,5 @@
 // The directory copy of a new group.
-ghost use Rattle.std.specs.Prelude.{OnOk, IsErrOf};
+ghost use Rattle.std.specs.Prelude.{IfOk, OnOk, IsErrOf};
 ghost use Rattle.bay.specs.Image.{ChangesOnly};
 ghost use Rattle.bay.specs.State.{IsSlot, KeepsAttached};
 ghost use Rattle.bay.specs.Counts.{Rose};
@@ -9,6 +9,7 @@ ghost use Rattle.change_directory.specs.Places.{IsCopy};
 ghost use Rattle.change_directory.specs.Formatting.{AreShut};
 ghost use Rattle.change_directory.specs.StoreLaws.{RegionOf};
 ghost use Rattle.group_disks.specs.Planned.{IsPlan};
+ghost use Rattle.group_disks.specs.FirstParts.{IsFirstStore};
 ghost use Rattle.group_disks.specs.Stages.{first_copy, HasFirst, HasNoneOrFirst};
 
 use crate::first_change::first_change;
@@ -25,7 +26,7 @@ pub fn give_directory<B: Bay>(
     bay: &mut B,
     slot: u32,
     group: &NewGroup,
-) -> Result<(), BayError>
+) -> Result<Store, BayError>
     requires plan { IsPlan group.now }
     requires copy { IsCopy (B.state bay.old) (first_copy slot) }
     requires shut { NowOnly (B.state bay.old) (AreShut (first_copy slot)) }
@@ -33,6 +34,8 @@ pub fn give_directory<B: Bay>(
     ensures runs { Runs (IsSlot slot) (ChangesOnly (RegionOf (first_copy slot))) (B.state bay.old) (B.state bay.new) }
     ensures moments { LeavesOnly (B.state bay.old) (B.state bay.new) (HasNoneOrFirst slot group.now) }
     ensures done { OnOk result (NowOnly (B.state bay.new) (HasFirst slot group.now)) }
+    // The store has the new group's records on this copy, and takes commits.
+    ensures store { IfOk result (λ store. IsFirstStore slot group.now store (B.state bay.new)) }
     ensures cause { IsErrOf result BayError.Fault → Rose ((B.state bay.old).faults slot) ((B.state bay.new).faults slot) }
 {
     let Ok(first) = first_change(alloc, group) else {
@@ -45,9 +48,9 @@ pub fn give_directory<B: Bay>(
         sector: 512,
     }];
     match Store::create(alloc, bay, &copies, &first) {
-        Ok(_store) => {
+        Ok(store) => {
             kept_have_records(bay);
-            Ok(())
+            Ok(store)
         }
         Err(StoreError::Gone { .. }) => Err(BayError::Fault),
         // There is room for three records.

@@ -11,6 +11,7 @@ ghost use Rattle.asm_formats.specs.Header.{decoded_header};
 ghost use Rattle.asm_images.specs.Kept.{header_in};
 ghost use Rattle.group_disks.specs.Found.{counts_of, Told, AreIdsRead, AreAllRead, IsSlotOf};
 ghost use Rattle.group_disks.specs.Probes.{IsShown, ids_of};
+ghost use Rattle.group_engine.specs.Frames.{StaysAttached};
 
 use asm_base::{Block, NoMemory};
 use bay::{Bay, BayError, Fault};
@@ -67,6 +68,7 @@ pub fn look_at_all<B: Bay>(
     ensures ids { AreIdsRead ids.new.items (counts_of (B.state bay.old)) (counts_of (B.state bay.new)) }
     ensures all { IfOk result (λ _. AreAllRead (length paths.now) ids.new.items (counts_of (B.state bay.old)) (counts_of (B.state bay.new))) }
     ensures shown { IfOk result (λ probe. IsShown wanted probe (counts_of (B.state bay.old)) (counts_of (B.state bay.new))) }
+    ensures stays { StaysAttached (B.state bay.old) (B.state bay.new) }
 {
     let mut found = Probe::Absent;
     for (slot, path) in paths.iter().enumerate() {
@@ -87,6 +89,7 @@ fn look_and_note<B: Bay>(
     ids: &mut Vec<u64>,
 ) -> Result<Probe, NoMemory>
     ensures others { AttachesOnly slot (B.state bay.old) (B.state bay.new) }
+    ensures stays { StaysAttached (B.state bay.old) (B.state bay.new) }
     ensures calls { (B.state bay.new).calls ≤ (B.state bay.old).calls + 3 }
     ensures runs { Runs (IsSlot slot) Same (B.state bay.old) (B.state bay.new) }
     ensures shown { IfOk result (λ probe. IsShown slot probe (counts_of (B.state bay.old)) (counts_of (B.state bay.new))) }
@@ -103,6 +106,7 @@ fn look_and_note<B: Bay>(
 /// Attaches an image, and reads its header.
 fn look<B: Bay>(alloc: Global, bay: &mut B, slot: u32, path: &str) -> Result<Probe, NoMemory>
     ensures others { AttachesOnly slot (B.state bay.old) (B.state bay.new) }
+    ensures stays { StaysAttached (B.state bay.old) (B.state bay.new) }
     ensures calls { (B.state bay.new).calls ≤ (B.state bay.old).calls + 3 }
     ensures runs { Runs (IsSlot slot) Same (B.state bay.old) (B.state bay.new) }
     ensures shown { IfOk result (λ probe. IsShown slot probe (counts_of (B.state bay.old)) (counts_of (B.state bay.new))) }

@@ -1,11 +1,12 @@
 // The disk of a new group gets its parts: header, directory copy, claim, status record.
-ghost use Rattle.std.specs.Prelude.{OnOk, IsErrOf};
+ghost use Rattle.std.specs.Prelude.{IfOk, OnOk, IsErrOf};
 ghost use Rattle.bay.specs.Image.{ChangesOnly};
 ghost use Rattle.bay.specs.State.{IsSlot, KeepsAttached};
 ghost use Rattle.bay.specs.Counts.{Rose};
 ghost use Rattle.bay.specs.Moments.{Runs, Ends, NowOnly, LeavesOnly};
 ghost use Rattle.bay.specs.declared.fault.BayError.TheVariants.{Fault};
 ghost use Rattle.mount_states.specs.Forming.{MetaOf};
+ghost use Rattle.group_disks.specs.FirstParts.{IsFirstStore};
 ghost use Rattle.group_disks.specs.Planned.{IsPlan};
 ghost use Rattle.group_disks.specs.Ready.{AreBodies, HasRoom};
 ghost use Rattle.group_disks.specs.Stages.{IsForming, HasAll, MayForm, HasFormed, IsHeaded};
@@ -13,6 +14,7 @@ ghost use Rattle.group_disks.specs.Stages.{IsForming, HasAll, MayForm, HasFormed
 use crate::directory::give_directory;
 use crate::new_group::{Bodies, NewGroup};
 use bay::{Bay, BayError, Fault};
+use directory_store::Store;
 use mount_states::{give_header, give_record};
 use std::alloc::Global;
 
@@ -23,13 +25,14 @@ pub fn give_parts<B: Bay>(
     slot: u32,
     group: &NewGroup,
     bodies: &Bodies,
-) -> Result<(), BayError>
+) -> Result<Store, BayError>
     requires plan { IsPlan group.now }
     requires bodies { AreBodies bodies.now group.now }
     requires room { HasRoom slot group.now.units (B.state bay.old) }
     ensures attached { KeepsAttached (B.state bay.old) (B.state bay.new) }
     ensures runs { Runs (IsSlot slot) (MayForm slot group.now) (B.state bay.old) (B.state bay.new) }
     ensures done { OnOk result (Ends (HasFormed slot group.now) (B.state bay.old) (B.state bay.new)) }
+    ensures store { IfOk result (λ store. IsFirstStore slot group.now store (B.state bay.new)) }
     ensures cause { IsErrOf result BayError.Fault → Rose ((B.state bay.old).faults slot) ((B.state bay.new).faults slot) }
 {
     match give_header(bay, slot, 1024, &bodies.header.bytes) {
@@ -45,7 +48,7 @@ fn give_rest<B: Bay>(
     slot: u32,
     group: &NewGroup,
     bodies: &Bodies,
-) -> Result<(), BayError>
+) -> Result<Store, BayError>
     requires plan { IsPlan group.now }
     requires bodies { AreBodies bodies.now group.now }
     requires room { HasRoom slot group.now.units (B.state bay.old) }
@@ -54,11 +57,12 @@ fn give_rest<B: Bay>(
     ensures runs { Runs (IsSlot slot) (ChangesOnly (MetaOf slot 1024)) (B.state bay.old) (B.state bay.new) }
     ensures moments { LeavesOnly (B.state bay.old) (B.state bay.new) (IsForming slot group.now) }
     ensures done { OnOk result (NowOnly (B.state bay.new) (HasAll slot group.now)) }
+    ensures store { IfOk result (λ store. IsFirstStore slot group.now store (B.state bay.new)) }
     ensures cause { IsErrOf result BayError.Fault → Rose ((B.state bay.old).faults slot) ((B.state bay.new).faults slot) }
 {
-    give_directory(alloc, bay, slot, group)?;
+    let store = give_directory(alloc, bay, slot, group)?;
     match give_record(bay, slot, 1024, &bodies.claim.bytes, &bodies.status.bytes) {
-        Ok(()) => Ok(()),
+        Ok(()) => Ok(store),
         Err(Fault) => Err(BayError::Fault),
     }
 }

@@ -1,14 +1,22 @@
-//! The disks of a group: how a group comes to be on them.
+//! The disks of a group: how a group comes to be on them, how it is mounted and goes, and how an image is made.
 #![tactic(auto)]
 
 mod choose;
+mod clearing;
 mod create;
 mod directory;
+mod dropping;
 mod find;
 mod first_change;
 mod give;
 mod laws;
+mod making;
+mod mount;
+mod mount_new;
 mod new_group;
 
 pub use create::create_group;
+pub use dropping::drop_group;
 pub use laws::{formed_is_held, forming_creates};
+pub use making::create_disk;
+pub use mount::mount_group;

@@ -87,10 +87,20 @@ fn claim_block(id: u64) -> Block
     block
 }
 
-/// The record of number (1, 1): disk 0 alone holds the status record and the directory.
+/// The body of the first record.
 fn status_block(group: &NewGroup) -> Block
     requires { IsPlan group.now }
     ensures { result.bytes ≡ status_spelling (record_of_plan group.now) }
+{
+    let status = first_status(group);
+    let mut block = Block::zeros();
+    status_table::encode(&status, &mut block);
+    block
+}
+
+/// The record of number (1, 1): disk 0 alone holds the status record and the directory.
+pub fn first_status(group: &NewGroup) -> PstRecord
+    ensures { result ≡ record_of_plan group.now }
 {
     let disk = DiskSet::from_bits(1);
     let mut entries = [PstEntry::blank(); 64];
@@ -105,7 +115,7 @@ fn status_block(group: &NewGroup) -> Block
         repair: 0,
         partners: DiskSet::empty(),
     };
-    let status = PstRecord {
+    PstRecord {
         id: group.id,
         epoch: 1,
         turn: 1,
@@ -116,8 +126,5 @@ fn status_block(group: &NewGroup) -> Block
         dirs: disk,
         count: 1,
         entries,
-    };
-    let mut block = Block::zeros();
-    status_table::encode(&status, &mut block);
-    block
+    }
 }

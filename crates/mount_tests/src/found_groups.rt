@@ -29,8 +29,8 @@ pub fn create(alloc: Global, bay: &mut MemBay) -> Result<bool, Fail> {
     }
     let mut ids = Vec::new(alloc);
     Ok(matches!(
-        create_group(alloc, bay, &paths, &name, b"d0", 7, &mut ids),
-        (Some(7), Ok(()))
+        create_group(alloc, bay, &paths, &name, b"d0", 7, &mut ids, &[]),
+        (Some(7), Ok(_))
     ))
 }
 

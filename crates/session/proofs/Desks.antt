@@ -1,5 +1,5 @@
 -- Commands on the desk.
-use Rattle.std.proofs.Common.{◌≡◌, ◌≤◌, false, true, refl, sym, ◌∙◌, ap, subst}
+use Rattle.std.proofs.Common.{◌≡◌, ◌≤◌, false, true, refl, sym, ◌∙◌, ap, subst, arith}
 use Rattle.std.proofs.lemmas.Bool.{false≢true}
 use Rattle.bay.specs.declared.disk.Bay as Bay
 use Rattle.bay.specs.declared.host.Host as Host
@@ -11,7 +11,9 @@ use Rattle.session.specs.Desks.{paths_on, copies, IsAnswered}
 use Rattle.session.specs.Effects.{Past}
 use Rattle.session.specs.Families.{is_proved}
 use Rattle.session.specs.Meaning.{meaning}
-use Rattle.session.specs.Sessions.{SessionView, Knows}
+use Rattle.session.specs.Naming.{CarriesOn}
+use Rattle.session.specs.Sessions.{AreReady, SessionView, Knows}
+use Rattle.session.proofs.Languages.{unproved_meaning}
 
 -- a command was answered from a desk that is the same to all that counts
 pub from-same : {B H : Type 0} {bay : Bay.Ghosts B} {host : Host.Ghosts H} (text : Bytes) (answer : Answer) (old mid new : Desk B H bay host) → paths_on mid ≡ paths_on old → mid.host ≡ old.host → mid.session ≡ old.session
@@ -19,6 +21,7 @@ pub from-same : {B H : Type 0} {bay : Bay.Ghosts B} {host : Host.Ghosts H} (text
 from-same text answer old mid new paths stays session disks a = record {
   paths = a.paths ∙ paths;
   host_stays = λ is. a.host_stays is ∙ stays;
+  ready = a.ready;
   served = λ w below knows.
       let known : Knows mid.session w below = let P : SessionView → Type 0 = λ s. Knows s w below in subst P (sym session) knows in
       let d = a.served w below known in
@@ -26,16 +29,28 @@ from-same text answer old mid new paths stays session disks a = record {
 }
 
 -- a command that is served, and of which nothing is proved but that its calls say nothing new of moments that have ended
-pub answered-only : {B H : Type 0} {bay : Bay.Ghosts B} {host : Host.Ghosts H} (text : Bytes) (answer : Answer) (old new : Desk B H bay host) → is_proved (meaning text) ≡ false → paths_on new ≡ paths_on old
-    → (copies (command_of text) ≡ false → new.host ≡ old.host)
+pub answered-only : {B H : Type 0} {bay : Bay.Ghosts B} {host : Host.Ghosts H} (text : Bytes) (answer : Answer) (old new : Desk B H bay host) → is_proved (command_of text) ≡ false → paths_on new ≡ paths_on old
+    → (copies (command_of text) ≡ false → new.host ≡ old.host) → AreReady new.session.groups (bay.state new.bay)
     → (bay.state old.bay).calls ≤ (bay.state new.bay).calls → Past (bay.state old.bay) (bay.state new.bay) → IsAnswered text answer old new
-answered-only text answer old new none paths stays calls past = record {
+answered-only text answer old new none paths stays ready calls past = record {
   paths = paths;
   host_stays = stays;
+  ready = ready;
   served = λ w below knows. (
-    record w { session = new.session.entries },
+    record w { session = new.session.entries; place = new.session.place },
     below,
-    record { entries_are = refl; at_top = knows.at_top; still = knows.still },
-    record { calls = calls; past = past; effect = λ proved. absurd (false≢true (sym none ∙ proved)) },
+    record { entries_are = refl; place_is = refl; still = knows.still },
+    record { calls = calls; past = past; effect = λ proved. absurd (false≢true (sym (unproved_meaning text none) ∙ proved)) },
   );
 }
+
+-- the same where no call was made on the disks
+pub answered-still : {B H : Type 0} {bay : Bay.Ghosts B} {host : Host.Ghosts H} (text : Bytes) (answer : Answer) (old new : Desk B H bay host) → is_proved (command_of text) ≡ false → paths_on new ≡ paths_on old
+    → new.host ≡ old.host → new.bay ≡ old.bay → AreReady new.session.groups (bay.state old.bay) → IsAnswered text answer old new
+answered-still {bay = bay} text answer old new none paths stays same ready =
+    answered-only text answer old new none paths (λ is. stays) (rw same ready) (rw same (omega arith)) (λ m image before left. rw (← same) left)
+
+-- a command after which all groups of the session stay and take the next call
+pub answered-carried : {B H : Type 0} {bay : Bay.Ghosts B} {host : Host.Ghosts H} (text : Bytes) (answer : Answer) (old new : Desk B H bay host) → is_proved (command_of text) ≡ false → paths_on new ≡ paths_on old
+    → (copies (command_of text) ≡ false → new.host ≡ old.host) → CarriesOn old.session new.session (bay.state old.bay) (bay.state new.bay) → IsAnswered text answer old new
+answered-carried text answer old new none paths stays carries = answered-only text answer old new none paths stays carries.ready carries.calls carries.past

@@ -9,7 +9,8 @@ use Rattle.indexmap.proofs.CallerLemmas.{insert_entry-new}
 use Rattle.indexmap.specs.IndexMap.{IndexMap, insert_entry, shift_remove_entry}
 use Rattle.bay.specs.Counts.{last_count}
 use Rattle.asm_group.specs.Names.{Bytes, folded, is_same_name}
-use Rattle.asm_world.specs.World.{SessionEntry, entry_among, mounted_entry, without_entry}
+use Rattle.asm_world.specs.World.{SessionEntry, entry_among, without_entry}
+use Rattle.session.specs.declared.entry.Entry.{Entry}
 use Rattle.session.specs.declared.group_name.GroupName.{GroupName}
 use Rattle.session.specs.Entries.{entry_view}
 use Rattle.session.specs.Sessions.{AreGiven}
@@ -30,15 +31,15 @@ none-leaves (e ∷ es) name none = none-by e es name (is_same_name e.name name) 
 abbrev pub sought : Bytes → GroupName → Bool
 sought name k = is_same_name name k.name
 
-flip : (a b : Bytes) (t : Bool) → is_same_name a b ≡ t → is_same_name b a ≡ t
+pub flip : (a b : Bytes) (t : Bool) → is_same_name a b ≡ t → is_same_name b a ≡ t
 flip a b t is = nat_list_eq_equiv.symm (folded b) (folded a) ∙ is
 
-found-by : (name : Bytes) (e : GroupName × ℕ) (es : List (GroupName × ℕ)) (t : Bool) → sought name e.0 ≡ t → is_some (lookup (sought name) es) ≡ is_some (entry_among (map entry_view es) name)
+found-by : (name : Bytes) (e : GroupName × Entry) (es : List (GroupName × Entry)) (t : Bool) → sought name e.0 ≡ t → is_some (lookup (sought name) es) ≡ is_some (entry_among (map entry_view es) name)
     → is_some (lookup (sought name) (e ∷ es)) ≡ is_some (entry_among (map entry_view (e ∷ es)) name)
 found-by name e es true is rest = rw (is, flip name e.0.name true is) refl
 found-by name e es false is rest = rw (is, flip name e.0.name false is) rest
 
-pub found_by_name : (name : Bytes) (es : List (GroupName × ℕ)) → is_some (lookup (sought name) es) ≡ is_some (entry_among (map entry_view es) name)
+pub found_by_name : (name : Bytes) (es : List (GroupName × Entry)) → is_some (lookup (sought name) es) ≡ is_some (entry_among (map entry_view es) name)
 found_by_name name [] = refl
 found_by_name name (e ∷ es) = found-by name e es (sought name e.0) refl (found_by_name name es)
 
@@ -47,21 +48,21 @@ no-value None none = refl
 no-value (Some x) none = absurd cc
 
 -- where no group has the name, the map has no value for it
-pub absent_by_name : (name : Bytes) (es : List (GroupName × ℕ)) → is_some (entry_among (map entry_view es) name) ≡ false → lookup (sought name) es ≡ None
+pub absent_by_name : (name : Bytes) (es : List (GroupName × Entry)) → is_some (entry_among (map entry_view es) name) ≡ false → lookup (sought name) es ≡ None
 absent_by_name name es none = no-value (lookup (sought name) es) (found_by_name name es ∙ none)
 
-without-by : (name : Bytes) (e : GroupName × ℕ) (es : List (GroupName × ℕ)) (t : Bool) → sought name e.0 ≡ t
+without-by : (name : Bytes) (e : GroupName × Entry) (es : List (GroupName × Entry)) (t : Bool) → sought name e.0 ≡ t
     → without_entry (map entry_view (shift_remove_entry (sought name) es)) name ≡ without_entry (map entry_view es) name
     → without_entry (map entry_view (shift_remove_entry (sought name) (e ∷ es))) name ≡ without_entry (map entry_view (e ∷ es)) name
 without-by name e es true is rest = rw (is, flip name e.0.name true is) refl
 without-by name e es false is rest = rw (is, flip name e.0.name false is) (ap (λ others. entry_view e ∷ others) rest)
 
-without-first : (name : Bytes) (es : List (GroupName × ℕ)) → without_entry (map entry_view (shift_remove_entry (sought name) es)) name ≡ without_entry (map entry_view es) name
+without-first : (name : Bytes) (es : List (GroupName × Entry)) → without_entry (map entry_view (shift_remove_entry (sought name) es)) name ≡ without_entry (map entry_view es) name
 without-first name [] = refl
 without-first name (e ∷ es) = without-by name e es (sought name e.0) refl (without-first name es)
 
 -- what is left once a name is gone
-pub left_without : (name : Bytes) (es fs : List (GroupName × ℕ)) → fs ≡ shift_remove_entry (sought name) es → lookup (sought name) fs ≡ None → map entry_view fs ≡ without_entry (map entry_view es) name
+pub left_without : (name : Bytes) (es fs : List (GroupName × Entry)) → fs ≡ shift_remove_entry (sought name) es → lookup (sought name) fs ≡ None → map entry_view fs ≡ without_entry (map entry_view es) name
 left_without name es fs is gone =
     sym (none-leaves (map entry_view fs) name (sym (found_by_name name fs) ∙ ap is_some gone)) ∙ ap (λ gs. without_entry (map entry_view gs) name) is ∙ without-first name es
 
@@ -71,13 +72,13 @@ abbrev pub same_key : GroupName → GroupName → Bool
 same_key a b = is_same_name a.name b.name
 
 -- a group whose name isn't there comes last
-pub added : {S : Type 0} (m : IndexMap GroupName ℕ S) (key : GroupName) (id : ℕ) (fs : List (GroupName × ℕ)) → fs ≡ insert_entry same_key m.entries key id
-    → is_some (entry_among (map entry_view m.entries) key.name) ≡ false → map entry_view fs ≡ map entry_view m.entries ++ mounted_entry key.name id ∷ []
-added m key id fs is none = ap (map entry_view) (is ∙ insert_entry-new same_key m key id (absent_by_name key.name m.entries none)) ∙ map-append entry_view m.entries ((key, id) ∷ [])
+pub added : {S : Type 0} (m : IndexMap GroupName Entry S) (key : GroupName) (entry : Entry) (fs : List (GroupName × Entry)) → fs ≡ insert_entry same_key m.entries key entry
+    → is_some (entry_among (map entry_view m.entries) key.name) ≡ false → map entry_view fs ≡ map entry_view m.entries ++ entry_view (key, entry) ∷ []
+added m key entry fs is none = ap (map entry_view) (is ∙ insert_entry-new same_key m key entry (absent_by_name key.name m.entries none)) ∙ map-append entry_view m.entries ((key, entry) ∷ [])
 
 -- ---- ids of groups that are left
 
-all-cons : (P : SessionEntry → Type 0) (e : SessionEntry) (es : List SessionEntry) → P e → All P es → All P (e ∷ es)
+pub all-cons : (P : SessionEntry → Type 0) (e : SessionEntry) (es : List SessionEntry) → P e → All P es → All P (e ∷ es)
 all-cons P e es p q zero d below = p
 all-cons P e es p q (suc k) d below = q k d (omega (arith, below))
 

@@ -99,6 +99,28 @@ told paths text lines given old w step has line_of worked = served paths unread 
   keeps = λ known stands apart. same_keeps (length paths) known given given (λ s. ⊥) old old w (omega arith) (started same-refl) stands text;
 })
 
+-- nothing changes but the place
+pub moved : (paths : List Bytes) (text : Bytes) (lines : List Bytes) (given : ℕ) (old : BayState) {below : ℕ → GroupBelow} (w : World) (place : List Bytes)
+    → Step (below_with below unread) w (meaning text) (Done lines) (record w { place = place }) → HasCause (below_with below unread) w (meaning text) (Done lines) → HasLines (below_with below unread) w (meaning text) (Done lines)
+    → ReplyWork paths (work_of (meaning text) w below) (Done lines) (counts_of old) (counts_of old) → IsServed paths unread text (Done lines) given given old old below w (record w { place = place })
+moved paths text lines given old w place step has line_of worked = served paths unread text (Done lines) given given old old w (record w { place = place }) (record {
+  step = step;
+  no_memory = λ is. absurd cc;
+  cause = has;
+  lines = line_of;
+  ids_read = none_read (counts_of old) (counts_of old);
+  made = tt;
+  counted = tt;
+  worked = worked;
+  calls = omega arith;
+  past = λ m image before left. left;
+  keeps = λ known stands apart. record {
+    held = λ m image id from before left. absurd (omega (arith, from, before));
+    there = λ m image id from before left was is. absurd (omega (arith, from, before));
+    now = record { allows = stands.allows; mounted = stands.mounted; settled = stands.settled; origin = stands.origin };
+  };
+})
+
 pub or_parts : (a b : Bool) → (a || b) ≡ true → (a ≡ true) ⊎ (b ≡ true)
 or_parts true b is = inl refl
 or_parts false b is = inr is

@@ -10,7 +10,7 @@ use Rattle.asm_world.specs.World.{World}
 use Rattle.session.specs.declared.answer.Answer.{Answer}
 use Rattle.session.specs.declared.desk.Desk.{Desk}
 use Rattle.session.specs.Effects.{IsServed}
-use Rattle.session.specs.Sessions.{Knows}
+use Rattle.session.specs.Sessions.{AreReady, Knows}
 use Rattle.session.specs.Views.{reply_view, found_view}
 use Rattle.asm_world.specs.Below.{GroupBelow}
 
@@ -27,6 +27,8 @@ pub record IsAnswered {B H : Type 0} {bay : Bay.Ghosts B} {host : Host.Ghosts H}
   pub paths : paths_on new ≡ paths_on old
   -- the host is as it was
   pub host_stays : copies (command_of text) ≡ false → new.host ≡ old.host
+  -- its groups take the next call
+  pub ready : AreReady new.session.groups (bay.state new.bay)
   -- whatever world the session knew, it knows one now
   pub served : (w : World) (below : ℕ → GroupBelow) → Knows old.session w below → (w' : World) × (below' : ℕ → GroupBelow) × Knows new.session w' below'
       × IsServed (paths_on old) (found_view answer.found) text (reply_view answer.reply) old.session.given new.session.given (bay.state old.bay) (bay.state new.bay) below w w'

@@ -1,6 +1,6 @@
 -- Commands by families. A family has a module of code and a file of definitions, which say of its commands which are served, which
 -- are proved, and what is counted of them. A command joins by its cases there, and no other definition changes.
-use Rattle.std.specs.Prelude.{⊤, ℕ, Bool, true, false, List, Option, Some, None}
+use Rattle.std.specs.Prelude.{⊤, ℕ, Bool, true, false, List, Option, Some, None, if◌then◌else◌}
 use Rattle.asm_group.specs.Names.{Bytes}
 use Rattle.asm_group.specs.Refusal as r
 use Rattle.asm_world.specs.Command as c
@@ -137,9 +137,9 @@ refused_in NoCommand paths c cause s t = ⊤
 abbrev pub is_served : Command → Bool
 is_served c = served_in (family_of c) c
 
--- whether it is proved what it does to the world and to the disks
+-- Whether it is proved what it does to the world and to the disks. Of what isn't served it is: it is refused.
 abbrev pub is_proved : Command → Bool
-is_proved c = proved_in (family_of c) c
+is_proved c = if is_served c then proved_in (family_of c) c else true
 
 -- an id that a command gave is that of a group that it made
 abbrev pub IsMade : Command → Option ℕ → World → Type 0

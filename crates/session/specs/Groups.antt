@@ -1,5 +1,5 @@
 -- How groups come and go. Served are CREATE DISKGROUP, so far with EXTERNAL REDUNDANCY on one disk, of which its path alone is said,
--- and DISMOUNT.
+-- DROP DISKGROUP, MOUNT, DISMOUNT and CHECK. Of the creation and of DISMOUNT it is proved what they do.
 use Rattle.std.specs.Prelude.{◌≡◌, ⊤, ℕ, Bool, true, false, ◌||◌, is_some, List, [], ◌∷◌, Option, Some, None, if◌then◌else◌}
 use Rattle.std.specs.Option.{option_map}
 use Rattle.std.specs.FinMap as maps
@@ -8,7 +8,7 @@ use Rattle.asm_group.specs.declared.GroupKind.TheVariants.{External, Normal, Hig
 use Rattle.asm_group.specs.Names.{Bytes}
 use Rattle.asm_group.specs.Refusal as r
 use Rattle.asm_world.specs.Command.{Command, Said, Asked, Unreadable}
-use Rattle.asm_world.specs.Statement.{Statement, CreateDisk, CreateGroup, DropGroup, Alter, Attribute, NewDisk, NewFailgroup, Dismount}
+use Rattle.asm_world.specs.Statement.{Statement, CreateDisk, CreateGroup, DropGroup, Alter, Attribute, NewDisk, NewFailgroup, Check, Mount, Dismount}
 use Rattle.asm_world.specs.World.{World}
 use Rattle.group_disks.specs.Creating.{made_group}
 use Rattle.group_disks.specs.Found.{Counts, RefusalCause}
@@ -60,11 +60,17 @@ creation_asked (Unreadable at) = None
 
 -- which of them run
 abbrev pub is_served : Command → Bool
+is_served (Said (DropGroup name contents)) = true
+is_served (Said (Alter name (Mount force))) = true
 is_served (Said (Alter name (Dismount force))) = true
+is_served (Said (Alter name Check)) = true
 is_served c = is_some (creation_asked c)
 
 -- of which it is proved what they do
 abbrev pub is_proved : Command → Bool
+is_proved (Said (DropGroup name contents)) = false
+is_proved (Said (Alter name (Mount force))) = false
+is_proved (Said (Alter name Check)) = false
 is_proved c = is_served c
 
 -- ---- what is counted of them

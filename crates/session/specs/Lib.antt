@@ -3,6 +3,7 @@ pub mod Groups
 pub mod Places
 pub mod Disks
 pub mod Files
+pub mod NameEdits
 pub mod Names
 pub mod Settings
 pub mod Reports
@@ -17,6 +18,12 @@ pub mod Counts
 pub mod Claims
 pub mod Acts
 pub mod Sessions
+pub mod Mounting
+pub mod Naming
+pub mod Lines
+pub mod GroupRows
+pub mod Listing
+pub mod Going
 pub mod Stops
 pub mod Serves
 pub mod Quiet

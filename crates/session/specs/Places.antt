@@ -1,4 +1,4 @@
--- Where the session stands: pwd, and cd to `+`. So its place is `+`.
+-- Where the session stands: pwd and cd. Of pwd, and of cd to `+`, it is proved what they do.
 use Rattle.std.specs.Prelude.{⊤, ℕ, Bool, true, false, List, [], ◌∷◌}
 use Rattle.std.specs.Str.{bytes_eq}
 use Rattle.asm_group.specs.Names.{Bytes}
@@ -13,13 +13,14 @@ is_top path = bytes_eq path (43 ∷ [])
 
 -- which of them run
 abbrev pub is_served : Command → Bool
-is_served (Asked (Cd path)) = is_top path
+is_served (Asked (Cd path)) = true
 is_served (Asked Pwd) = true
 is_served other = false
 
 -- of which it is proved what they do
 abbrev pub is_proved : Command → Bool
-is_proved c = is_served c
+is_proved (Asked (Cd path)) = is_top path
+is_proved other = is_served other
 
 -- none makes a group
 abbrev pub IsMade : Command → ℕ → World → Type 0

@@ -6,6 +6,7 @@ ghost use Rattle.asmcmd.specs.Verbs.{said as verb_said};
 ghost use Rattle.asm_world.specs.Statement.{Alter};
 ghost use Rattle.group_sql.specs.Said.{statement_said, clause_said};
 ghost use Rattle.session.specs.Desks.{IsAnswered};
+ghost use Rattle.session.specs.Sessions.{AreReady};
 
 use crate::answer::Answer;
 use crate::desk::Desk;
@@ -19,6 +20,7 @@ use group_sql::{Clause, Statement};
 
 /// Runs a command on the desk.
 pub fn run_text<B: Bay, H: Host>(desk: &mut Desk<B, H>, text: &[u8]) -> Answer
+    requires ready { AreReady desk.old.session.groups (B.state desk.old.bay) }
     ensures answers { IsAnswered text.now result desk.old desk.new }
 {
     match read_request(desk.alloc, text) {
@@ -35,6 +37,7 @@ fn run_statement<B: Bay, H: Host>(
     statement: Statement,
 ) -> Answer
     requires asked { command_of text.now ≡ Said (statement_said statement) }
+    requires ready { AreReady desk.old.session.groups (B.state desk.old.bay) }
     ensures answers { IsAnswered text.now result desk.old desk.new }
 {
     match statement {
@@ -57,6 +60,7 @@ fn run_clause<B: Bay, H: Host>(
     clause: Clause,
 ) -> Answer
     requires asked { command_of text.now ≡ Said (Alter group (clause_said clause)) }
+    requires ready { AreReady desk.old.session.groups (B.state desk.old.bay) }
     ensures answers { IsAnswered text.now result desk.old desk.new }
 {
     match clause {
@@ -112,6 +116,7 @@ fn run_clause<B: Bay, H: Host>(
 
 fn run_verb<B: Bay, H: Host>(desk: &mut Desk<B, H>, text: &[u8], verb: Verb) -> Answer
     requires asked { command_of text.now ≡ Asked (verb_said verb) }
+    requires ready { AreReady desk.old.session.groups (B.state desk.old.bay) }
     ensures answers { IsAnswered text.now result desk.old desk.new }
 {
     match verb {

@@ -7,25 +7,42 @@ ghost use Rattle.asm_world.specs.Statement.{Alter, CreateDisk, AddDisks, DropDis
 ghost use Rattle.asm_world.specs.Statement as s;
 ghost use Rattle.group_sql.specs.Said.{disks_said, maybe_kind_said};
 ghost use Rattle.session.specs.Desks.{IsAnswered};
+ghost use Rattle.session.specs.Sessions.{AreReady};
 
 use crate::answer::Answer;
 use crate::desk::Desk;
-use crate::refusing::unserved;
+use crate::refusing::{no_memory, refused, unserved};
+use crate::reply::Reply;
 use asm_base::{List, Name, Text};
 use bay::{Bay, Host};
+use group_disks::create_disk as make_disk;
 use group_sql::{Disks, DroppedDisk, FailgroupKind, NewFailgroup, Rebalance};
 
-/// CREATE DISK.
+/// CREATE DISK. Its refusals are those of the image: NoDisk, ReadFault, DiskTaken.
 pub fn create_disk<B: Bay, H: Host>(
     desk: &mut Desk<B, H>,
     text: &[u8],
-    _path: Text,
-    _size: u64,
+    path: Text,
+    size: u64,
 ) -> Answer
-    requires asked { command_of text.now ≡ Said (CreateDisk _path _size) }
+    requires asked { command_of text.now ≡ Said (CreateDisk path size) }
+    requires ready { AreReady desk.old.session.groups (B.state desk.old.bay) }
     ensures answers { IsAnswered text.now result desk.old desk.new }
 {
-    unserved(desk, text)
+    let Ok(held) = desk.session.held_slots(desk.alloc) else {
+        return no_memory(desk, text);
+    };
+    match make_disk(
+        desk.alloc,
+        &mut desk.bay,
+        &desk.paths,
+        path.as_slice(),
+        size,
+        &held,
+    ) {
+        Ok(()) => Answer::plain(desk.alloc, Reply::Done(List::new(desk.alloc))),
+        Err(refusal) => refused(desk.alloc, refusal),
+    }
 }
 
 /// ADD DISK.
@@ -37,6 +54,7 @@ pub fn add_disks<B: Bay, H: Host>(
     _rebalance: Option<Rebalance>,
 ) -> Answer
     requires asked { command_of text.now ≡ Said (Alter _group (AddDisks _groups _rebalance)) }
+    requires ready { AreReady desk.old.session.groups (B.state desk.old.bay) }
     ensures answers { IsAnswered text.now result desk.old desk.new }
 {
     unserved(desk, text)
@@ -51,6 +69,7 @@ pub fn drop_disks<B: Bay, H: Host>(
     _rebalance: Option<Rebalance>,
 ) -> Answer
     requires asked { command_of text.now ≡ Said (Alter _group (DropDisks _disks _rebalance)) }
+    requires ready { AreReady desk.old.session.groups (B.state desk.old.bay) }
     ensures answers { IsAnswered text.now result desk.old desk.new }
 {
     unserved(desk, text)
@@ -68,6 +87,7 @@ pub fn drop_failgroup<B: Bay, H: Host>(
 ) -> Answer
     requires asked { command_of text.now
         ≡ Said (Alter _group (DropFailgroup (maybe_kind_said _kind) _name _force _rebalance)) }
+    requires ready { AreReady desk.old.session.groups (B.state desk.old.bay) }
     ensures answers { IsAnswered text.now result desk.old desk.new }
 {
     unserved(desk, text)
@@ -76,6 +96,7 @@ pub fn drop_failgroup<B: Bay, H: Host>(
 /// UNDROP DISKS.
 pub fn undrop_disks<B: Bay, H: Host>(desk: &mut Desk<B, H>, text: &[u8], _group: Name) -> Answer
     requires asked { command_of text.now ≡ Said (Alter _group UndropDisks) }
+    requires ready { AreReady desk.old.session.groups (B.state desk.old.bay) }
     ensures answers { IsAnswered text.now result desk.old desk.new }
 {
     unserved(desk, text)
@@ -90,6 +111,7 @@ pub fn resize_all<B: Bay, H: Host>(
     _rebalance: Option<Rebalance>,
 ) -> Answer
     requires asked { command_of text.now ≡ Said (Alter _group (ResizeAll _size _rebalance)) }
+    requires ready { AreReady desk.old.session.groups (B.state desk.old.bay) }
     ensures answers { IsAnswered text.now result desk.old desk.new }
 {
     unserved(desk, text)
@@ -105,6 +127,7 @@ pub fn resize_disk<B: Bay, H: Host>(
     _rebalance: Option<Rebalance>,
 ) -> Answer
     requires asked { command_of text.now ≡ Said (Alter _group (ResizeDisk _name _size _rebalance)) }
+    requires ready { AreReady desk.old.session.groups (B.state desk.old.bay) }
     ensures answers { IsAnswered text.now result desk.old desk.new }
 {
     unserved(desk, text)
@@ -118,6 +141,7 @@ pub fn start_rebalance<B: Bay, H: Host>(
     _rebalance: Rebalance,
 ) -> Answer
     requires asked { command_of text.now ≡ Said (Alter _group (Rebalancing _rebalance)) }
+    requires ready { AreReady desk.old.session.groups (B.state desk.old.bay) }
     ensures answers { IsAnswered text.now result desk.old desk.new }
 {
     unserved(desk, text)
@@ -131,6 +155,7 @@ pub fn online_all<B: Bay, H: Host>(
     _wait: bool,
 ) -> Answer
     requires asked { command_of text.now ≡ Said (Alter _group (Online s.All _wait)) }
+    requires ready { AreReady desk.old.session.groups (B.state desk.old.bay) }
     ensures answers { IsAnswered text.now result desk.old desk.new }
 {
     unserved(desk, text)
@@ -145,6 +170,7 @@ pub fn online_disks<B: Bay, H: Host>(
     _wait: bool,
 ) -> Answer
     requires asked { command_of text.now ≡ Said (Alter _group (Online (disks_said _disks) _wait)) }
+    requires ready { AreReady desk.old.session.groups (B.state desk.old.bay) }
     ensures answers { IsAnswered text.now result desk.old desk.new }
 {
     unserved(desk, text)
@@ -159,6 +185,7 @@ pub fn offline_disks<B: Bay, H: Host>(
     _minutes: Option<u64>,
 ) -> Answer
     requires asked { command_of text.now ≡ Said (Alter _group (Offline (disks_said _disks) _minutes)) }
+    requires ready { AreReady desk.old.session.groups (B.state desk.old.bay) }
     ensures answers { IsAnswered text.now result desk.old desk.new }
 {
     unserved(desk, text)
@@ -172,6 +199,7 @@ pub fn offline_disk<B: Bay, H: Host>(
     _disk: Name,
 ) -> Answer
     requires asked { command_of text.now ≡ Asked (OfflineDisk _group _disk) }
+    requires ready { AreReady desk.old.session.groups (B.state desk.old.bay) }
     ensures answers { IsAnswered text.now result desk.old desk.new }
 {
     unserved(desk, text)
@@ -185,6 +213,7 @@ pub fn online_disk<B: Bay, H: Host>(
     _disk: Name,
 ) -> Answer
     requires asked { command_of text.now ≡ Asked (OnlineDisk _group _disk) }
+    requires ready { AreReady desk.old.session.groups (B.state desk.old.bay) }
     ensures answers { IsAnswered text.now result desk.old desk.new }
 {
     unserved(desk, text)
@@ -198,6 +227,7 @@ pub fn set_power<B: Bay, H: Host>(
     _power: u64,
 ) -> Answer
     requires asked { command_of text.now ≡ Asked (SetPower _group _power) }
+    requires ready { AreReady desk.old.session.groups (B.state desk.old.bay) }
     ensures answers { IsAnswered text.now result desk.old desk.new }
 {
     unserved(desk, text)

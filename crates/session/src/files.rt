@@ -5,6 +5,7 @@ ghost use Rattle.asm_world.specs.Command.{Said, Asked, DbCreate, DbWrite, DbFill
 ghost use Rattle.asm_world.specs.Language.{command_of};
 ghost use Rattle.asm_world.specs.Statement.{Alter, DropFile};
 ghost use Rattle.session.specs.Desks.{IsAnswered};
+ghost use Rattle.session.specs.Sessions.{AreReady};
 
 use crate::answer::Answer;
 use crate::desk::Desk;
@@ -21,6 +22,7 @@ pub fn create_file<B: Bay, H: Host>(
     _template: Option<Name>,
 ) -> Answer
     requires asked { command_of text.now ≡ Asked (DbCreate _path _size _template) }
+    requires ready { AreReady desk.old.session.groups (B.state desk.old.bay) }
     ensures answers { IsAnswered text.now result desk.old desk.new }
 {
     unserved(desk, text)
@@ -35,6 +37,7 @@ pub fn write_file<B: Bay, H: Host>(
     _bytes: Text,
 ) -> Answer
     requires asked { command_of text.now ≡ Asked (DbWrite _path _at _bytes) }
+    requires ready { AreReady desk.old.session.groups (B.state desk.old.bay) }
     ensures answers { IsAnswered text.now result desk.old desk.new }
 {
     unserved(desk, text)
@@ -50,6 +53,7 @@ pub fn fill_file<B: Bay, H: Host>(
     _byte: u8,
 ) -> Answer
     requires asked { command_of text.now ≡ Asked (DbFill _path _at _size _byte) }
+    requires ready { AreReady desk.old.session.groups (B.state desk.old.bay) }
     ensures answers { IsAnswered text.now result desk.old desk.new }
 {
     unserved(desk, text)
@@ -64,6 +68,7 @@ pub fn read_file<B: Bay, H: Host>(
     _size: u64,
 ) -> Answer
     requires asked { command_of text.now ≡ Asked (DbRead _path _at _size) }
+    requires ready { AreReady desk.old.session.groups (B.state desk.old.bay) }
     ensures answers { IsAnswered text.now result desk.old desk.new }
 {
     unserved(desk, text)
@@ -77,6 +82,7 @@ pub fn resize_file<B: Bay, H: Host>(
     _size: u64,
 ) -> Answer
     requires asked { command_of text.now ≡ Asked (DbResize _path _size) }
+    requires ready { AreReady desk.old.session.groups (B.state desk.old.bay) }
     ensures answers { IsAnswered text.now result desk.old desk.new }
 {
     unserved(desk, text)
@@ -90,6 +96,7 @@ pub fn copy_file<B: Bay, H: Host>(
     _target: Text,
 ) -> Answer
     requires asked { command_of text.now ≡ Asked (Copy _source _target) }
+    requires ready { AreReady desk.old.session.groups (B.state desk.old.bay) }
     ensures answers { IsAnswered text.now result desk.old desk.new }
 {
     unserved(desk, text)
@@ -103,6 +110,7 @@ pub fn drop_file<B: Bay, H: Host>(
     _path: Text,
 ) -> Answer
     requires asked { command_of text.now ≡ Said (Alter _group (DropFile _path)) }
+    requires ready { AreReady desk.old.session.groups (B.state desk.old.bay) }
     ensures answers { IsAnswered text.now result desk.old desk.new }
 {
     unserved(desk, text)

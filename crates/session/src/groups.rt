@@ -8,16 +8,18 @@ ghost use Rattle.asm_world.specs.Command.{Said};
 ghost use Rattle.asm_world.specs.Language.{command_of};
 ghost use Rattle.asm_world.specs.Statement.{CreateGroup, DropGroup, Alter, Mount, Dismount, Check};
 ghost use Rattle.session.specs.Desks.{IsAnswered};
+ghost use Rattle.session.specs.Sessions.{AreReady, held_by};
 ghost use Rattle.session.specs.Groups.{only, plain_path, path_in_group, external_path, creation_of};
 ghost use Rattle.session.specs.Meaning.{meaning};
 
 use crate::answer::Answer;
 use crate::desk::Desk;
 use crate::found::FoundIds;
-use crate::refusing::{no_memory, unserved};
+use crate::mounting::{mount_named, option_of};
+use crate::refusing::{no_memory, refuse, refused, too_many_groups, unserved};
 use crate::reply::Reply;
-use crate::session::MAX_GROUPS;
-use asm_base::{GroupKind, Limited, List, Name, NoMemory, Refusal, Text};
+use crate::reports::tell;
+use asm_base::{GroupKind, List, Name, NoMemory, Refusal, Text};
 use bay::{Bay, Host};
 use group_disks::create_group;
 use group_sql::{Attribute, NewDisk, NewFailgroup};
@@ -94,6 +96,7 @@ pub fn create<B: Bay, H: Host>(
     attributes: List<Attribute>,
 ) -> Answer
     requires asked { command_of text.now ≡ Said (CreateGroup name kind groups attributes) }
+    requires ready { AreReady desk.old.session.groups (B.state desk.old.bay) }
     ensures answers { IsAnswered text.now result desk.old desk.new }
 {
     match external_path(kind, groups, attributes) {
@@ -111,31 +114,39 @@ fn create_external<B: Bay, H: Host>(
 ) -> Answer
     requires says { meaning text.now ≡ Said (creation_of name path.now) }
     requires named { is_name name ≡ true }
+    requires ready { AreReady desk.old.session.groups (B.state desk.old.bay) }
     ensures answers { IsAnswered text.now result desk.old desk.new }
 {
     if desk.session.is_full() {
-        let refusal = Refusal::TooMany {
-            kind: Limited::Groups,
-            limit: MAX_GROUPS as u64,
-        };
-        return Answer::plain(desk.alloc, Reply::Refused(refusal));
+        return refused(desk.alloc, too_many_groups());
     }
     if desk.session.has(&name) {
-        return Answer::plain(desk.alloc, Reply::Refused(Refusal::GroupExists));
+        return refused(desk.alloc, Refusal::GroupExists);
     }
     if desk.session.make_room().is_err() {
         return no_memory(desk, text);
     }
-    form(desk, text, path, name)
+    match desk.session.held_slots(desk.alloc) {
+        Ok(held) => form(desk, text, path, name, &held),
+        Err(NoMemory) => no_memory(desk, text),
+    }
 }
 
-/// The creation of a group whose name isn't in the session, for whose entry there is room.
-fn form<B: Bay, H: Host>(desk: &mut Desk<B, H>, text: &[u8], path: &[u8], name: Name) -> Answer
+/// The creation of a group whose name isn't in the session, for whose entry there is room, on none of the images that are held.
+fn form<B: Bay, H: Host>(
+    desk: &mut Desk<B, H>,
+    text: &[u8],
+    path: &[u8],
+    name: Name,
+    held: &[u32],
+) -> Answer
     requires says { meaning text.now ≡ Said (creation_of name path.now) }
     requires named { is_name name ≡ true }
     requires absent { is_some (entry_among desk.old.session.entries name) ≡ false }
     requires room { (w : World) → w.session ≡ desk.old.session.entries
         → nat_le 8 (mounted_count w) ≡ false }
+    requires held { held.now ≡ held_by desk.old.session.groups }
+    requires ready { AreReady desk.old.session.groups (B.state desk.old.bay) }
     ensures answers { IsAnswered text.now result desk.old desk.new }
 {
     let mut ids = Vec::new(desk.alloc);
@@ -148,10 +159,11 @@ fn form<B: Bay, H: Host>(desk: &mut Desk<B, H>, text: &[u8], path: &[u8], name: 
         path,
         floor,
         &mut ids,
+        held,
     );
     let found = FoundIds { ids, made };
     match answer {
-        Ok(()) => match desk.session.enter(name, made) {
+        Ok(group) => match desk.session.enter(name, made, group) {
             Ok(()) => Answer {
                 reply: Reply::Done(List::new(desk.alloc)),
                 found,
@@ -179,44 +191,68 @@ pub fn dismount<B: Bay, H: Host>(
     _force: bool,
 ) -> Answer
     requires asked { command_of text.now ≡ Said (Alter name (Dismount _force)) }
+    requires ready { AreReady desk.old.session.groups (B.state desk.old.bay) }
     ensures answers { IsAnswered text.now result desk.old desk.new }
 {
     if !desk.session.leave(&name) {
-        return Answer::plain(desk.alloc, Reply::Refused(Refusal::NoGroup));
+        return refused(desk.alloc, Refusal::NoGroup);
     }
     Answer::plain(desk.alloc, Reply::Done(List::new(desk.alloc)))
 }
 
-/// DROP DISKGROUP.
+/// DROP DISKGROUP. Its refusals in order: NoGroup, Dismounted, GroupNotEmpty where a file is there and `contents` isn't said.
 pub fn drop_group<B: Bay, H: Host>(
     desk: &mut Desk<B, H>,
     text: &[u8],
-    _name: Name,
-    _contents: bool,
+    name: Name,
+    contents: bool,
 ) -> Answer
-    requires asked { command_of text.now ≡ Said (DropGroup _name _contents) }
+    requires asked { command_of text.now ≡ Said (DropGroup name contents) }
+    requires ready { AreReady desk.old.session.groups (B.state desk.old.bay) }
     ensures answers { IsAnswered text.now result desk.old desk.new }
 {
-    unserved(desk, text)
+    match desk
+        .session
+        .drop_group(desk.alloc, &mut desk.bay, &name, contents)
+    {
+        Ok(()) => {
+            desk.session.leave(&name);
+            Answer::plain(desk.alloc, Reply::Done(List::new(desk.alloc)))
+        }
+        Err(refusal) => refused(desk.alloc, refusal),
+    }
 }
 
-/// MOUNT.
+/// MOUNT. Its refusals in order: AlreadyMounted, TooMany, and then those of the disks. A group that was dismounted is tried
+/// afresh, and stays so where it is refused.
 pub fn mount<B: Bay, H: Host>(
     desk: &mut Desk<B, H>,
     text: &[u8],
-    _group: Name,
-    _force: bool,
+    group: Name,
+    force: bool,
 ) -> Answer
-    requires asked { command_of text.now ≡ Said (Alter _group (Mount _force)) }
+    requires asked { command_of text.now ≡ Said (Alter group (Mount force)) }
+    requires ready { AreReady desk.old.session.groups (B.state desk.old.bay) }
     ensures answers { IsAnswered text.now result desk.old desk.new }
 {
-    unserved(desk, text)
+    if desk.session.has_mounted(&group) {
+        return refuse(desk, text, Refusal::AlreadyMounted);
+    }
+    if desk.session.is_full() {
+        return refuse(desk, text, too_many_groups());
+    }
+    match mount_named(desk, &group, option_of(force)) {
+        Ok(()) => Answer::plain(desk.alloc, Reply::Done(List::new(desk.alloc))),
+        Err(refusal) => refused(desk.alloc, refusal),
+    }
 }
 
-/// CHECK.
-pub fn check<B: Bay, H: Host>(desk: &mut Desk<B, H>, text: &[u8], _group: Name) -> Answer
-    requires asked { command_of text.now ≡ Said (Alter _group Check) }
+/// CHECK. Its refusals in order: NoGroup, Dismounted.
+pub fn check<B: Bay, H: Host>(desk: &mut Desk<B, H>, text: &[u8], group: Name) -> Answer
+    requires asked { command_of text.now ≡ Said (Alter group Check) }
+    requires ready { AreReady desk.old.session.groups (B.state desk.old.bay) }
     ensures answers { IsAnswered text.now result desk.old desk.new }
 {
-    unserved(desk, text)
+    let told = desk.session.checked_told(desk.alloc, &group);
+    tell(desk, text, told)
 }

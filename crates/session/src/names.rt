@@ -1,130 +1,403 @@
-// Directories and aliases.
-// What isn't served yet is a function of one line, to which its command is given with its operands.
-ghost use Rattle.std.specs.Prelude.{◌≡◌};
+// Directories and aliases: edits of a group's names, each of one commit. `rm` isn't served yet.
+ghost use Rattle.std.specs.Prelude.{◌≡◌, [], false, IfErr, IfOk, OnOk};
+ghost use Rattle.std.specs.Option.{option_map};
+ghost use Rattle.alias_tree.specs.Edits.{edit_meant};
 ghost use Rattle.asm_world.specs.Command.{Said, Asked, MakeDir, Remove, MakeAlias, RemoveAlias};
 ghost use Rattle.asm_world.specs.Language.{command_of};
+ghost use Rattle.asm_world.specs.Paths.{clause_path};
 ghost use Rattle.asm_world.specs.Statement.{Alter, AddDirectory, DropDirectory, RenameDirectory, AddAlias, DropAlias, RenameAlias};
+ghost use Rattle.asm_world.specs.Step.{on_path, on_paths};
 ghost use Rattle.session.specs.Desks.{IsAnswered};
+ghost use Rattle.session.specs.Families.{is_proved};
+ghost use Rattle.session.specs.NameEdits.{edit_at, edit_between};
+ghost use Rattle.session.specs.Sessions.{AreReady};
+ghost use Rattle.session.specs.Views.{found_view, nothing_found};
+ghost use Rattle.session.specs.declared.reply.Reply.TheVariants.{Done, Refused};
 
 use crate::answer::Answer;
 use crate::desk::Desk;
-use crate::refusing::unserved;
-use asm_base::{Name, Text};
+use crate::refusing::{no_memory, refuse, unserved};
+use crate::reply::Reply;
+use alias_tree::TreeEdit;
+use asm_base::{List, Name, NoMemory, Path, Refusal, Text};
 use bay::{Bay, Host};
+use group_files::GroupEdit;
+use std::alloc::Global;
+use verb_paths::{clause_path, target};
+
+/// An edit of the names at one path.
+#[derive(Clone, Copy)]
+enum AtPath {
+    MakeDir,
+    DropDir,
+    DropAlias,
+}
+
+/// An edit of the names with two paths: the old one and the new one, or the alias and that of its file.
+#[derive(Clone, Copy)]
+enum BetweenPaths {
+    RenameDir,
+    AddAlias,
+    RenameAlias,
+}
+
+fn edit_at(kind: AtPath, path: Path) -> TreeEdit
+    ensures { edit_meant result ≡ edit_at kind path.parts }
+{
+    match kind {
+        AtPath::MakeDir => TreeEdit::MakeDir { path },
+        AtPath::DropDir => TreeEdit::DropDir { path },
+        AtPath::DropAlias => TreeEdit::DropAlias { path },
+    }
+}
+
+fn edit_between(kind: BetweenPaths, first: Path, second: Path) -> TreeEdit
+    ensures { edit_meant result ≡ edit_between kind first.parts second.parts }
+{
+    match kind {
+        BetweenPaths::RenameDir => TreeEdit::RenameDir {
+            old: first,
+            new: second,
+        },
+        BetweenPaths::AddAlias => TreeEdit::AddAlias {
+            alias: first,
+            path: second,
+        },
+        BetweenPaths::RenameAlias => TreeEdit::RenameAlias {
+            old: first,
+            new: second,
+        },
+    }
+}
+
+/// The path of a clause in the group that the statement names. None where it isn't a path of that group.
+fn path_in(alloc: Global, group: &Name, path: &[u8]) -> Result<Option<Path>, NoMemory>
+    ensures { IfOk result (λ led. option_map (λ p. p.parts) led ≡ clause_path group.now path.now) }
+{
+    match clause_path(alloc, group, path)? {
+        Some(parts) => {
+            let group = group.copy()?;
+            Ok(Some(Path { group, parts }))
+        }
+        None => Ok(None),
+    }
+}
+
+/// The edit that a clause with one path asks for. None where that isn't a path of the group.
+fn clause_at(
+    alloc: Global,
+    group: &Name,
+    path: &[u8],
+    kind: AtPath,
+) -> Result<Option<TreeEdit>, NoMemory>
+    ensures { IfOk result (λ edit. option_map edit_meant edit ≡ on_path (clause_path group.now path.now) (edit_at kind)) }
+{
+    match path_in(alloc, group, path)? {
+        Some(path) => Ok(Some(edit_at(kind, path))),
+        None => Ok(None),
+    }
+}
+
+/// The edit that a clause with two paths asks for. None where one of them isn't a path of the group.
+fn clause_between(
+    alloc: Global,
+    group: &Name,
+    first: &[u8],
+    second: &[u8],
+    kind: BetweenPaths,
+) -> Result<Option<TreeEdit>, NoMemory>
+    ensures { IfOk result (λ edit. option_map edit_meant edit ≡ on_paths (clause_path group.now first.now) (clause_path group.now second.now) (edit_between kind)) }
+{
+    let Some(first) = path_in(alloc, group, first)? else {
+        return Ok(None);
+    };
+    match path_in(alloc, group, second)? {
+        Some(second) => Ok(Some(edit_between(kind, first, second))),
+        None => Ok(None),
+    }
+}
+
+/// Edits a group. Its refusals in order: NoGroup, Dismounted, those of the edit, and Dismounted by its commit.
+pub(crate) fn edit_named<B: Bay, H: Host>(
+    desk: &mut Desk<B, H>,
+    text: &[u8],
+    group: &Name,
+    edit: &GroupEdit,
+) -> Answer
+    requires unproved { is_proved (command_of text.now) ≡ false }
+    requires ready { AreReady desk.old.session.groups (B.state desk.old.bay) }
+    ensures answers { IsAnswered text.now result desk.old desk.new }
+{
+    if let Err(refusal) = desk.session.mounted(desk.alloc, group) {
+        return refuse(desk, text, refusal);
+    }
+    let done = desk.session.edit(desk.alloc, &mut desk.bay, group, edit);
+    answer_of(desk.alloc, done)
+}
+
+/// `ok` without lines, or a refusal.
+fn answer_of(alloc: Global, done: Result<(), Refusal>) -> Answer
+    ensures done { OnOk done (result.reply ≡ Done []) }
+    ensures refused { IfErr done (λ refusal. result.reply ≡ Refused refusal) }
+    ensures found { found_view result.found ≡ nothing_found }
+{
+    match done {
+        Ok(()) => Answer::plain(alloc, Reply::Done(List::new(alloc))),
+        Err(refusal) => Answer::plain(alloc, Reply::Refused(refusal)),
+    }
+}
+
+/// A refusal behind NoGroup and Dismounted of a group.
+pub(crate) fn refused_in<B: Bay, H: Host>(
+    desk: &mut Desk<B, H>,
+    text: &[u8],
+    group: &Name,
+    refusal: Refusal,
+) -> Answer
+    requires unproved { is_proved (command_of text.now) ≡ false }
+    requires ready { AreReady desk.old.session.groups (B.state desk.old.bay) }
+    ensures answers { IsAnswered text.now result desk.old desk.new }
+{
+    match desk.session.mounted(desk.alloc, group) {
+        Ok(_) => refuse(desk, text, refusal),
+        Err(earlier) => refuse(desk, text, earlier),
+    }
+}
+
+/// The edit of a clause. Its refusals in order: NoGroup, Dismounted, NoName where a path isn't one of the group, and then those
+/// of the edit.
+fn edit_clause<B: Bay, H: Host>(
+    desk: &mut Desk<B, H>,
+    text: &[u8],
+    group: &Name,
+    edit: Result<Option<TreeEdit>, NoMemory>,
+) -> Answer
+    requires unproved { is_proved (command_of text.now) ≡ false }
+    requires ready { AreReady desk.old.session.groups (B.state desk.old.bay) }
+    ensures answers { IsAnswered text.now result desk.old desk.new }
+{
+    match edit {
+        Ok(Some(edit)) => edit_named(desk, text, group, &GroupEdit::Tree(edit)),
+        Ok(None) => refused_in(desk, text, group, Refusal::NoName),
+        Err(NoMemory) => no_memory(desk, text),
+    }
+}
+
+/// The edit of a verb at a path. Its refusals in order: NoGroup, also where the path comes to `+`, Dismounted, and then those
+/// of the edit.
+fn edit_verb<B: Bay, H: Host>(
+    desk: &mut Desk<B, H>,
+    text: &[u8],
+    path: &[u8],
+    kind: AtPath,
+) -> Answer
+    requires unproved { is_proved (command_of text.now) ≡ false }
+    requires ready { AreReady desk.old.session.groups (B.state desk.old.bay) }
+    ensures answers { IsAnswered text.now result desk.old desk.new }
+{
+    match target(desk.alloc, desk.session.place(), path) {
+        Ok(Some(path)) => edit_path(desk, text, path, kind),
+        Ok(None) => refuse(desk, text, Refusal::NoGroup),
+        Err(NoMemory) => no_memory(desk, text),
+    }
+}
+
+/// The edit at a path of the group that it names.
+fn edit_path<B: Bay, H: Host>(
+    desk: &mut Desk<B, H>,
+    text: &[u8],
+    path: Path,
+    kind: AtPath,
+) -> Answer
+    requires unproved { is_proved (command_of text.now) ≡ false }
+    requires ready { AreReady desk.old.session.groups (B.state desk.old.bay) }
+    ensures answers { IsAnswered text.now result desk.old desk.new }
+{
+    match path.group.copy() {
+        Ok(group) => edit_named(desk, text, &group, &GroupEdit::Tree(edit_at(kind, path))),
+        Err(NoMemory) => no_memory(desk, text),
+    }
+}
 
 /// ADD DIRECTORY.
 pub fn add_directory<B: Bay, H: Host>(
     desk: &mut Desk<B, H>,
     text: &[u8],
-    _group: Name,
-    _path: Text,
+    group: Name,
+    path: Text,
 ) -> Answer
-    requires asked { command_of text.now ≡ Said (Alter _group (AddDirectory _path)) }
+    requires asked { command_of text.now ≡ Said (Alter group (AddDirectory path)) }
+    requires ready { AreReady desk.old.session.groups (B.state desk.old.bay) }
     ensures answers { IsAnswered text.now result desk.old desk.new }
 {
-    unserved(desk, text)
+    let edit = clause_at(desk.alloc, &group, path.as_slice(), AtPath::MakeDir);
+    edit_clause(desk, text, &group, edit)
 }
 
 /// DROP DIRECTORY.
 pub fn drop_directory<B: Bay, H: Host>(
     desk: &mut Desk<B, H>,
     text: &[u8],
-    _group: Name,
-    _path: Text,
+    group: Name,
+    path: Text,
 ) -> Answer
-    requires asked { command_of text.now ≡ Said (Alter _group (DropDirectory _path)) }
+    requires asked { command_of text.now ≡ Said (Alter group (DropDirectory path)) }
+    requires ready { AreReady desk.old.session.groups (B.state desk.old.bay) }
     ensures answers { IsAnswered text.now result desk.old desk.new }
 {
-    unserved(desk, text)
+    let edit = clause_at(desk.alloc, &group, path.as_slice(), AtPath::DropDir);
+    edit_clause(desk, text, &group, edit)
 }
 
 /// RENAME DIRECTORY.
 pub fn rename_directory<B: Bay, H: Host>(
     desk: &mut Desk<B, H>,
     text: &[u8],
-    _group: Name,
-    _old: Text,
-    _new: Text,
+    group: Name,
+    old: Text,
+    new: Text,
 ) -> Answer
-    requires asked { command_of text.now ≡ Said (Alter _group (RenameDirectory _old _new)) }
+    requires asked { command_of text.now ≡ Said (Alter group (RenameDirectory old new)) }
+    requires ready { AreReady desk.old.session.groups (B.state desk.old.bay) }
     ensures answers { IsAnswered text.now result desk.old desk.new }
 {
-    unserved(desk, text)
+    let edit = clause_between(
+        desk.alloc,
+        &group,
+        old.as_slice(),
+        new.as_slice(),
+        BetweenPaths::RenameDir,
+    );
+    edit_clause(desk, text, &group, edit)
 }
 
 /// ADD ALIAS.
 pub fn add_alias<B: Bay, H: Host>(
     desk: &mut Desk<B, H>,
     text: &[u8],
-    _group: Name,
-    _alias: Text,
-    _path: Text,
+    group: Name,
+    alias: Text,
+    path: Text,
 ) -> Answer
-    requires asked { command_of text.now ≡ Said (Alter _group (AddAlias _alias _path)) }
+    requires asked { command_of text.now ≡ Said (Alter group (AddAlias alias path)) }
+    requires ready { AreReady desk.old.session.groups (B.state desk.old.bay) }
     ensures answers { IsAnswered text.now result desk.old desk.new }
 {
-    unserved(desk, text)
+    let edit = clause_between(
+        desk.alloc,
+        &group,
+        alias.as_slice(),
+        path.as_slice(),
+        BetweenPaths::AddAlias,
+    );
+    edit_clause(desk, text, &group, edit)
 }
 
 /// DROP ALIAS.
 pub fn drop_alias<B: Bay, H: Host>(
     desk: &mut Desk<B, H>,
     text: &[u8],
-    _group: Name,
-    _path: Text,
+    group: Name,
+    path: Text,
 ) -> Answer
-    requires asked { command_of text.now ≡ Said (Alter _group (DropAlias _path)) }
+    requires asked { command_of text.now ≡ Said (Alter group (DropAlias path)) }
+    requires ready { AreReady desk.old.session.groups (B.state desk.old.bay) }
     ensures answers { IsAnswered text.now result desk.old desk.new }
 {
-    unserved(desk, text)
+    let edit = clause_at(desk.alloc, &group, path.as_slice(), AtPath::DropAlias);
+    edit_clause(desk, text, &group, edit)
 }
 
 /// RENAME ALIAS.
 pub fn rename_alias<B: Bay, H: Host>(
     desk: &mut Desk<B, H>,
     text: &[u8],
-    _group: Name,
-    _old: Text,
-    _new: Text,
+    group: Name,
+    old: Text,
+    new: Text,
 ) -> Answer
-    requires asked { command_of text.now ≡ Said (Alter _group (RenameAlias _old _new)) }
+    requires asked { command_of text.now ≡ Said (Alter group (RenameAlias old new)) }
+    requires ready { AreReady desk.old.session.groups (B.state desk.old.bay) }
     ensures answers { IsAnswered text.now result desk.old desk.new }
 {
-    unserved(desk, text)
+    let edit = clause_between(
+        desk.alloc,
+        &group,
+        old.as_slice(),
+        new.as_slice(),
+        BetweenPaths::RenameAlias,
+    );
+    edit_clause(desk, text, &group, edit)
 }
 
 /// mkdir.
-pub fn make_directory<B: Bay, H: Host>(desk: &mut Desk<B, H>, text: &[u8], _path: Text) -> Answer
-    requires asked { command_of text.now ≡ Asked (MakeDir _path) }
+pub fn make_directory<B: Bay, H: Host>(desk: &mut Desk<B, H>, text: &[u8], path: Text) -> Answer
+    requires asked { command_of text.now ≡ Asked (MakeDir path) }
+    requires ready { AreReady desk.old.session.groups (B.state desk.old.bay) }
     ensures answers { IsAnswered text.now result desk.old desk.new }
 {
-    unserved(desk, text)
+    edit_verb(desk, text, path.as_slice(), AtPath::MakeDir)
+}
+
+/// rmalias.
+pub fn remove_alias<B: Bay, H: Host>(desk: &mut Desk<B, H>, text: &[u8], path: Text) -> Answer
+    requires asked { command_of text.now ≡ Asked (RemoveAlias path) }
+    requires ready { AreReady desk.old.session.groups (B.state desk.old.bay) }
+    ensures answers { IsAnswered text.now result desk.old desk.new }
+{
+    edit_verb(desk, text, path.as_slice(), AtPath::DropAlias)
+}
+
+/// mkalias: as ADD ALIAS in the group that the alias names.
+pub fn make_alias<B: Bay, H: Host>(
+    desk: &mut Desk<B, H>,
+    text: &[u8],
+    path: Text,
+    alias: Text,
+) -> Answer
+    requires asked { command_of text.now ≡ Asked (MakeAlias path alias) }
+    requires ready { AreReady desk.old.session.groups (B.state desk.old.bay) }
+    ensures answers { IsAnswered text.now result desk.old desk.new }
+{
+    match target(desk.alloc, desk.session.place(), alias.as_slice()) {
+        Ok(Some(alias)) => alias_path(desk, text, alias, path.as_slice()),
+        Ok(None) => refuse(desk, text, Refusal::NoGroup),
+        Err(NoMemory) => no_memory(desk, text),
+    }
+}
+
+/// A new alias of the file at a path. Its refusals in order: NoGroup and Dismounted of the alias's group, NoGroup where the
+/// path of the file comes to `+`, NoName where it is one of another group, and then those of the edit.
+fn alias_path<B: Bay, H: Host>(
+    desk: &mut Desk<B, H>,
+    text: &[u8],
+    alias: Path,
+    path: &[u8],
+) -> Answer
+    requires unproved { is_proved (command_of text.now) ≡ false }
+    requires ready { AreReady desk.old.session.groups (B.state desk.old.bay) }
+    ensures answers { IsAnswered text.now result desk.old desk.new }
+{
+    let Ok(group) = alias.group.copy() else {
+        return no_memory(desk, text);
+    };
+    let Ok(led) = target(desk.alloc, desk.session.place(), path) else {
+        return no_memory(desk, text);
+    };
+    let Some(path) = led else {
+        return refused_in(desk, text, &group, Refusal::NoGroup);
+    };
+    if !path.group.is_same(&group) {
+        return refused_in(desk, text, &group, Refusal::NoName);
+    }
+    let edit = TreeEdit::AddAlias { alias, path };
+    edit_named(desk, text, &group, &GroupEdit::Tree(edit))
 }
 
 /// rm.
 pub fn remove<B: Bay, H: Host>(desk: &mut Desk<B, H>, text: &[u8], _path: Text) -> Answer
     requires asked { command_of text.now ≡ Asked (Remove _path) }
-    ensures answers { IsAnswered text.now result desk.old desk.new }
-{
-    unserved(desk, text)
-}
-
-/// mkalias.
-pub fn make_alias<B: Bay, H: Host>(
-    desk: &mut Desk<B, H>,
-    text: &[u8],
-    _path: Text,
-    _alias: Text,
-) -> Answer
-    requires asked { command_of text.now ≡ Asked (MakeAlias _path _alias) }
-    ensures answers { IsAnswered text.now result desk.old desk.new }
-{
-    unserved(desk, text)
-}
-
-/// rmalias.
-pub fn remove_alias<B: Bay, H: Host>(desk: &mut Desk<B, H>, text: &[u8], _path: Text) -> Answer
-    requires asked { command_of text.now ≡ Asked (RemoveAlias _path) }
+    requires ready { AreReady desk.old.session.groups (B.state desk.old.bay) }
     ensures answers { IsAnswered text.now result desk.old desk.new }
 {
     unserved(desk, text)

@@ -1,27 +1,39 @@
 // Where the session stands: cd and pwd.
-// What isn't served yet is a function of one line, to which its command is given with its operands.
-ghost use Rattle.std.specs.Prelude.{◌≡◌, IfOk, [], ◌∷◌};
+ghost use Rattle.std.specs.Prelude.{◌≡◌, ◌⊎◌, ◌++◌, ◌∷◌, [], false, true, flat_map, IfErr, IfOk, OnOk};
+ghost use Rattle.std.specs.Option.{option_map};
+ghost use Rattle.alias_tree.specs.Nodes.{node_at};
+ghost use Rattle.asm_base.specs.declared.refusal.Refusal.TheVariants.{NoMemory as WantOfMemory};
 ghost use Rattle.asm_world.specs.Command.{Asked, Cd, Pwd};
 ghost use Rattle.asm_world.specs.Language.{command_of};
+ghost use Rattle.asm_world.specs.Paths.{parts_of, path_text};
 ghost use Rattle.session.specs.Desks.{IsAnswered};
+ghost use Rattle.session.specs.Families.{is_proved};
+ghost use Rattle.session.specs.Going.{IsDirectoryOf, IsGoingCause, IsGoingCauseBy, IsLed, IsLedBy, IsNoDirectory, IsPlaceOf};
 ghost use Rattle.session.specs.Places.{is_top};
+ghost use Rattle.session.specs.Sessions.{AreReady};
 
 use crate::answer::Answer;
 use crate::desk::Desk;
-use crate::refusing::{no_memory, unserved};
+use crate::refusing::{no_memory, refuse};
 use crate::reply::Reply;
-use asm_base::{List, NoMemory, Text};
+use crate::session::Session;
+use asm_base::{List, Name, NoMemory, NodeKind, Path, Refusal, Text};
 use bay::{Bay, Host};
+use catalog::Catalog;
+use group_engine::Mounted;
 use std::alloc::Global;
+use verb_paths::resolve;
 
-/// cd. It is served to `+` alone, where the session stands as long as it goes nowhere else.
+/// cd. Its refusals in order: NoGroup, Dismounted, NoName, NotDirectory. The place is spelt as the group's names are.
 pub fn cd<B: Bay, H: Host>(desk: &mut Desk<B, H>, text: &[u8], path: Text) -> Answer
     requires asked { command_of text.now ≡ Asked (Cd path) }
+    requires ready { AreReady desk.old.session.groups (B.state desk.old.bay) }
     ensures answers { IsAnswered text.now result desk.old desk.new }
 {
     if !is_top(path.as_slice()) {
-        return unserved(desk, text);
+        return go_below(desk, text, path.as_slice());
     }
+    desk.session.go(List::new(desk.alloc));
     Answer::plain(desk.alloc, Reply::Done(List::new(desk.alloc)))
 }
 
@@ -31,23 +43,162 @@ fn is_top(path: &[u8]) -> bool
     path == b"+".as_slice()
 }
 
+/// cd to another place than `+`.
+fn go_below<B: Bay, H: Host>(desk: &mut Desk<B, H>, text: &[u8], path: &[u8]) -> Answer
+    requires unproved { is_proved (command_of text.now) ≡ false }
+    requires ready { AreReady desk.old.session.groups (B.state desk.old.bay) }
+    ensures answers { IsAnswered text.now result desk.old desk.new }
+{
+    match desk.session.led(desk.alloc, path) {
+        Ok(place) => {
+            desk.session.go(place);
+            Answer::plain(desk.alloc, Reply::Done(List::new(desk.alloc)))
+        }
+        Err(refusal) => refuse(desk, text, refusal),
+    }
+}
+
+/// Whether a node is the root or a directory.
+fn is_directory(catalog: &Catalog, node: u32) -> bool
+    ensures { result ≡ true → node_at catalog.now.tables.nodes node ≡ None → node ≡ 0 }
+{
+    match catalog.node(node) {
+        Some(node) => matches!(node.kind, NodeKind::Directory),
+        None => node == 0,
+    }
+}
+
+/// Puts names behind a place.
+fn put_names(place: &mut List<Name>, names: &[Name]) -> Result<(), NoMemory>
+    ensures { OnOk result (place.new ≡ place.old ++ names.now) }
+{
+    for name in names {
+        place.push(name.copy()?)?;
+    }
+    Ok(())
+}
+
+/// The place of a node: the group's name, and the parts that lead to it as they are spelt there. The root has none.
+fn place_of(alloc: Global, m: &Mounted, node: u32) -> Result<List<Name>, NoMemory>
+    requires { node_at m.now.catalog.tables.nodes node ≡ None → node ≡ 0 }
+    ensures { IfOk result (IsPlaceOf m.now node) }
+{
+    let spelt = m.catalog().path_of(alloc, m.name(), node)?;
+    let mut place = List::new(alloc);
+    place.push(m.name().copy()?)?;
+    if let Some(path) = spelt {
+        put_names(&mut place, path.parts.as_slice())?;
+    }
+    Ok(place)
+}
+
+/// The place of a directory in a group.
+fn directory_at(alloc: Global, m: &Mounted, path: &Path) -> Result<List<Name>, Refusal>
+    ensures place { IfOk result (IsDirectoryOf m.now path.now.parts) }
+    ensures cause { IfErr result (λ refusal. IsNoDirectory refusal ⊎ (refusal ≡ WantOfMemory)) }
+{
+    let Some(node) = m.catalog().find(path) else {
+        return Err(Refusal::NoName);
+    };
+    if !is_directory(m.catalog(), node) {
+        return Err(Refusal::NotDirectory);
+    }
+    match place_of(alloc, m, node) {
+        Ok(place) => Ok(place),
+        Err(NoMemory) => Err(Refusal::NoMemory),
+    }
+}
+
+/// A group's name and the parts behind it. None at `+`.
+fn in_group(parts: List<Name>) -> Option<Path>
+    ensures { option_map (λ p. (p.group, p.parts)) result ≡ parts_of (Some parts) }
+{
+    let mut parts = parts.into_vec();
+    if parts.is_empty() {
+        return None;
+    }
+    let group = parts.remove(0);
+    Some(Path {
+        group,
+        parts: List::from_vec(parts),
+    })
+}
+
+impl Session {
+    /// The place to which a path leads.
+    fn led(&self, alloc: Global, path: &[u8]) -> Result<List<Name>, Refusal>
+        ensures led { IfOk result (IsLed self.now path.now) }
+        ensures cause { IfErr result (IsGoingCause self.now path.now) }
+    {
+        match resolve(alloc, self.place(), path) {
+            Ok(Some(parts)) => self.led_by(alloc, parts),
+            Ok(None) => Err(Refusal::NoName),
+            Err(NoMemory) => Err(Refusal::NoMemory),
+        }
+    }
+
+    /// The same of the parts from the top.
+    fn led_by(&self, alloc: Global, parts: List<Name>) -> Result<List<Name>, Refusal>
+        ensures led { IfOk result (IsLedBy self.now (Some parts)) }
+        ensures cause { IfErr result (λ refusal. (refusal ≡ WantOfMemory) ⊎ IsGoingCauseBy self.now (Some parts) refusal) }
+    {
+        let Some(path) = in_group(parts) else {
+            return Ok(List::new(alloc));
+        };
+        match self.mounted(alloc, &path.group) {
+            Ok(m) => directory_at(alloc, m, &path),
+            Err(refusal) => Err(refusal),
+        }
+    }
+}
+
 /// pwd: the line of the session's place.
 pub fn pwd<B: Bay, H: Host>(desk: &mut Desk<B, H>, text: &[u8]) -> Answer
     requires asked { command_of text.now ≡ Asked Pwd }
+    requires ready { AreReady desk.old.session.groups (B.state desk.old.bay) }
     ensures answers { IsAnswered text.now result desk.old desk.new }
 {
-    match top_line(desk.alloc) {
+    match place_lines(desk.alloc, desk.session.place()) {
         Ok(lines) => Answer::plain(desk.alloc, Reply::Done(lines)),
         Err(NoMemory) => no_memory(desk, text),
     }
 }
 
-/// The line of the place `+`.
-fn top_line(alloc: Global) -> Result<List<Text>, NoMemory>
-    ensures { IfOk result (λ lines. lines ≡ (43 ∷ []) ∷ []) }
+/// The line of a place.
+fn place_lines(alloc: Global, place: &[Name]) -> Result<List<Text>, NoMemory>
+    ensures { IfOk result (λ lines. lines ≡ path_text place.now ∷ []) }
 {
     let mut lines = List::new(alloc);
-    let line = Text::from_slice(alloc, b"+")?;
-    lines.push(line)?;
+    lines.push(place_text(alloc, place)?)?;
     Ok(lines)
+}
+
+/// The text of a place.
+fn place_text(alloc: Global, place: &[Name]) -> Result<Text, NoMemory>
+    ensures { IfOk result (λ text. text ≡ path_text place.now) }
+{
+    let mut text = Vec::new(alloc);
+    put_bytes(&mut text, b"+")?;
+    if let Some((group, parts)) = place.split_first() {
+        put_bytes(&mut text, group.as_bytes())?;
+        put_parts(&mut text, parts)?;
+    }
+    Ok(List::from_vec(text))
+}
+
+/// Puts the parts of a path behind a text, each after a slash.
+fn put_parts(text: &mut Vec<u8>, parts: &[Name]) -> Result<(), NoMemory>
+    ensures { OnOk result (text.new.items ≡ text.old.items ++ flat_map (λ part. 47 ∷ part) parts.now) }
+{
+    for part in parts {
+        put_bytes(text, b"/")?;
+        put_bytes(text, part.as_bytes())?;
+    }
+    Ok(())
+}
+
+fn put_bytes(text: &mut Vec<u8>, bytes: &[u8]) -> Result<(), NoMemory>
+    ensures { OnOk result (text.new.items ≡ text.old.items ++ bytes.now) }
+{
+    text.extend_from_slice(bytes).map_err(|_| NoMemory)
 }

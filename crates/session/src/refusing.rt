@@ -1,19 +1,27 @@
 // Commands that are refused before anything is done.
-ghost use Rattle.std.specs.Prelude.{◌≡◌, false};
+ghost use Rattle.std.specs.Prelude.{◌≡◌, [], false};
+ghost use Rattle.asm_base.specs.Refusals.{said};
+ghost use Rattle.asm_group.specs.Refusal as r;
+ghost use Rattle.session.specs.Views.{found_view, nothing_found};
+ghost use Rattle.session.specs.declared.reply.Reply.TheVariants.{Refused};
 ghost use Rattle.asm_world.specs.Command.{Unreadable};
 ghost use Rattle.asm_world.specs.Language.{command_of};
 ghost use Rattle.session.specs.Desks.{IsAnswered};
-ghost use Rattle.session.specs.Families.{is_served};
+ghost use Rattle.session.specs.Sessions.{AreReady};
+ghost use Rattle.session.specs.Families.{is_proved, is_served};
 
 use crate::answer::Answer;
 use crate::desk::Desk;
 use crate::reply::Reply;
-use asm_base::Refusal;
+use crate::session::MAX_GROUPS;
+use asm_base::{Limited, Refusal};
 use bay::{Bay, Host};
+use std::alloc::Global;
 
 /// What isn't served yet is refused at its first byte.
 pub fn unserved<B: Bay, H: Host>(desk: &mut Desk<B, H>, text: &[u8]) -> Answer
     requires unserved { is_served (command_of text.now) ≡ false }
+    requires ready { AreReady desk.old.session.groups (B.state desk.old.bay) }
     ensures answers { IsAnswered text.now result desk.old desk.new }
 {
     Answer::plain(desk.alloc, Reply::Refused(Refusal::Syntax { at: 0 }))
@@ -22,6 +30,7 @@ pub fn unserved<B: Bay, H: Host>(desk: &mut Desk<B, H>, text: &[u8]) -> Answer
 /// What is no command is refused where its longest front that begins one ends.
 pub fn unreadable<B: Bay, H: Host>(desk: &mut Desk<B, H>, text: &[u8], at: u64) -> Answer
     requires asked { command_of text.now ≡ Unreadable at }
+    requires ready { AreReady desk.old.session.groups (B.state desk.old.bay) }
     ensures answers { IsAnswered text.now result desk.old desk.new }
 {
     Answer::plain(desk.alloc, Reply::Refused(Refusal::Syntax { at }))
@@ -29,7 +38,35 @@ pub fn unreadable<B: Bay, H: Host>(desk: &mut Desk<B, H>, text: &[u8], at: u64) 
 
 /// Want of memory, before anything was done.
 pub fn no_memory<B: Bay, H: Host>(desk: &mut Desk<B, H>, text: &[u8]) -> Answer
+    requires ready { AreReady desk.old.session.groups (B.state desk.old.bay) }
     ensures answers { IsAnswered text.now result desk.old desk.new }
 {
     Answer::plain(desk.alloc, Reply::Refused(Refusal::NoMemory))
+}
+
+/// A refusal of a command of which it isn't proved what it does. Nothing was done.
+pub fn refuse<B: Bay, H: Host>(desk: &mut Desk<B, H>, text: &[u8], refusal: Refusal) -> Answer
+    requires unproved { is_proved (command_of text.now) ≡ false }
+    requires ready { AreReady desk.old.session.groups (B.state desk.old.bay) }
+    ensures answers { IsAnswered text.now result desk.old desk.new }
+{
+    refused(desk.alloc, refusal)
+}
+
+/// A refusal, with nothing found of ids.
+pub fn refused(alloc: Global, refusal: Refusal) -> Answer
+    ensures reply { result.reply ≡ Refused refusal }
+    ensures found { found_view result.found ≡ nothing_found }
+{
+    Answer::plain(alloc, Reply::Refused(refusal))
+}
+
+/// As many groups are mounted as there may be.
+pub fn too_many_groups() -> Refusal
+    ensures { said (λ _. []) result ≡ r.TooMany r.Groups 8 }
+{
+    Refusal::TooMany {
+        kind: Limited::Groups,
+        limit: MAX_GROUPS as u64,
+    }
 }

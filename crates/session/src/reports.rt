@@ -1,82 +1,191 @@
-// Reports: lists of names, groups, disks, templates and attributes, and what files take.
-// What isn't served yet is a function of one line, to which its command is given with its operands.
-ghost use Rattle.std.specs.Prelude.{◌≡◌};
+// Reports: lists of names, groups, disks, templates and attributes, and what files take. None asks a device or changes anything.
+ghost use Rattle.std.specs.Prelude.{◌≡◌, false};
 ghost use Rattle.asm_world.specs.Command.{Asked, Ls, Find, Usage, ListGroups, ListDisks, ListTemplates, ListAttributes};
 ghost use Rattle.asm_world.specs.Language.{command_of};
 ghost use Rattle.session.specs.Desks.{IsAnswered};
+ghost use Rattle.session.specs.Families.{is_proved};
+ghost use Rattle.session.specs.Sessions.{AreReady};
 
 use crate::answer::Answer;
 use crate::desk::Desk;
-use crate::refusing::unserved;
-use asm_base::{Name, Text};
+use crate::lines::lines_of;
+use crate::refusing::{no_memory, refuse};
+use crate::reply::Reply;
+use asm_base::{Name, NoMemory, Refusal, Text};
+use asmcmd::{ls_text, lsdg_text};
 use bay::{Bay, Host};
+use verb_paths::{resolve_pattern, target};
 
-/// ls.
+/// The lines of a report's text and `ok`, or the refusal of a report.
+pub(crate) fn tell<B: Bay, H: Host>(
+    desk: &mut Desk<B, H>,
+    text: &[u8],
+    told: Result<Vec<u8>, Refusal>,
+) -> Answer
+    requires unproved { is_proved (command_of text.now) ≡ false }
+    requires ready { AreReady desk.old.session.groups (B.state desk.old.bay) }
+    ensures answers { IsAnswered text.now result desk.old desk.new }
+{
+    match told {
+        Ok(lines) => report(desk, text, &lines),
+        Err(refusal) => refuse(desk, text, refusal),
+    }
+}
+
+/// The same of a report that isn't refused otherwise than for want of memory.
+fn tell_lines<B: Bay, H: Host>(
+    desk: &mut Desk<B, H>,
+    text: &[u8],
+    lines: Result<Vec<u8>, NoMemory>,
+) -> Answer
+    requires unproved { is_proved (command_of text.now) ≡ false }
+    requires ready { AreReady desk.old.session.groups (B.state desk.old.bay) }
+    ensures answers { IsAnswered text.now result desk.old desk.new }
+{
+    match lines {
+        Ok(lines) => report(desk, text, &lines),
+        Err(NoMemory) => no_memory(desk, text),
+    }
+}
+
+/// The lines of a report's text, and `ok`.
+fn report<B: Bay, H: Host>(desk: &mut Desk<B, H>, text: &[u8], lines: &[u8]) -> Answer
+    requires unproved { is_proved (command_of text.now) ≡ false }
+    requires ready { AreReady desk.old.session.groups (B.state desk.old.bay) }
+    ensures answers { IsAnswered text.now result desk.old desk.new }
+{
+    match lines_of(desk.alloc, lines) {
+        Ok(lines) => Answer::plain(desk.alloc, Reply::Done(lines)),
+        Err(NoMemory) => no_memory(desk, text),
+    }
+}
+
+/// ls. Its refusals in order: NoGroup, Dismounted, NoName, and NotDirectory of what a pattern is looked for in.
 pub fn ls<B: Bay, H: Host>(
     desk: &mut Desk<B, H>,
     text: &[u8],
-    _long: bool,
-    _path: Option<Text>,
+    long: bool,
+    path: Option<Text>,
 ) -> Answer
-    requires asked { command_of text.now ≡ Asked (Ls _long _path) }
+    requires asked { command_of text.now ≡ Asked (Ls long path) }
+    requires ready { AreReady desk.old.session.groups (B.state desk.old.bay) }
     ensures answers { IsAnswered text.now result desk.old desk.new }
 {
-    unserved(desk, text)
+    let place = desk.session.place();
+    let led = match &path {
+        Some(path) => resolve_pattern(desk.alloc, place, Some(path.as_slice())),
+        None => resolve_pattern(desk.alloc, place, None),
+    };
+    let Ok(led) = led else {
+        return no_memory(desk, text);
+    };
+    let Some(parts) = led else {
+        return refuse(desk, text, Refusal::NoGroup);
+    };
+    match desk.session.rows_at(desk.alloc, parts.as_slice()) {
+        Ok(rows) => {
+            let lines = ls_text(desk.alloc, &rows, long);
+            tell_lines(desk, text, lines)
+        }
+        Err(refusal) => refuse(desk, text, refusal),
+    }
 }
 
-/// find.
+/// find. Its refusals in order: NoGroup, Dismounted, NoName, NotDirectory.
 pub fn find<B: Bay, H: Host>(
     desk: &mut Desk<B, H>,
     text: &[u8],
-    _path: Text,
-    _pattern: Text,
+    path: Text,
+    pattern: Text,
 ) -> Answer
-    requires asked { command_of text.now ≡ Asked (Find _path _pattern) }
+    requires asked { command_of text.now ≡ Asked (Find path pattern) }
+    requires ready { AreReady desk.old.session.groups (B.state desk.old.bay) }
     ensures answers { IsAnswered text.now result desk.old desk.new }
 {
-    unserved(desk, text)
+    let Ok(led) = target(desk.alloc, desk.session.place(), path.as_slice()) else {
+        return no_memory(desk, text);
+    };
+    let Some(path) = led else {
+        return refuse(desk, text, Refusal::NoGroup);
+    };
+    let told = desk
+        .session
+        .found_told(desk.alloc, &path, pattern.as_slice());
+    tell(desk, text, told)
 }
 
-/// du.
-pub fn usage<B: Bay, H: Host>(desk: &mut Desk<B, H>, text: &[u8], _path: Option<Text>) -> Answer
-    requires asked { command_of text.now ≡ Asked (Usage _path) }
+/// du, where no path is said of the session's place. Its refusals in order: NoGroup, Dismounted, NoName, NotDirectory.
+pub fn usage<B: Bay, H: Host>(desk: &mut Desk<B, H>, text: &[u8], path: Option<Text>) -> Answer
+    requires asked { command_of text.now ≡ Asked (Usage path) }
+    requires ready { AreReady desk.old.session.groups (B.state desk.old.bay) }
     ensures answers { IsAnswered text.now result desk.old desk.new }
 {
-    unserved(desk, text)
+    let place = desk.session.place();
+    // A path without bytes leads to the place.
+    let led = match &path {
+        Some(path) => target(desk.alloc, place, path.as_slice()),
+        None => target(desk.alloc, place, b""),
+    };
+    let Ok(led) = led else {
+        return no_memory(desk, text);
+    };
+    let Some(path) = led else {
+        return refuse(desk, text, Refusal::NoGroup);
+    };
+    let told = desk.session.usage_told(desk.alloc, &path);
+    tell(desk, text, told)
 }
 
-/// lsdg.
+/// lsdg: the group of a name, or all of the session in the order of mounting. NoGroup: no group has the name.
 pub fn list_groups<B: Bay, H: Host>(
     desk: &mut Desk<B, H>,
     text: &[u8],
-    _group: Option<Name>,
+    group: Option<Name>,
 ) -> Answer
-    requires asked { command_of text.now ≡ Asked (ListGroups _group) }
+    requires asked { command_of text.now ≡ Asked (ListGroups group) }
+    requires ready { AreReady desk.old.session.groups (B.state desk.old.bay) }
     ensures answers { IsAnswered text.now result desk.old desk.new }
 {
-    unserved(desk, text)
+    if let Some(name) = &group
+        && !desk.session.has(name)
+    {
+        return refuse(desk, text, Refusal::NoGroup);
+    }
+    match desk.session.group_rows(desk.alloc, &group) {
+        Ok(rows) => {
+            let lines = lsdg_text(desk.alloc, &rows);
+            tell_lines(desk, text, lines)
+        }
+        Err(NoMemory) => no_memory(desk, text),
+    }
 }
 
-/// lsdsk.
-pub fn list_disks<B: Bay, H: Host>(desk: &mut Desk<B, H>, text: &[u8], _group: Name) -> Answer
-    requires asked { command_of text.now ≡ Asked (ListDisks _group) }
+/// lsdsk. Its refusals in order: NoGroup, Dismounted.
+pub fn list_disks<B: Bay, H: Host>(desk: &mut Desk<B, H>, text: &[u8], group: Name) -> Answer
+    requires asked { command_of text.now ≡ Asked (ListDisks group) }
+    requires ready { AreReady desk.old.session.groups (B.state desk.old.bay) }
     ensures answers { IsAnswered text.now result desk.old desk.new }
 {
-    unserved(desk, text)
+    let told = desk.session.disks_told(desk.alloc, &group);
+    tell(desk, text, told)
 }
 
-/// lstmpl.
-pub fn list_templates<B: Bay, H: Host>(desk: &mut Desk<B, H>, text: &[u8], _group: Name) -> Answer
-    requires asked { command_of text.now ≡ Asked (ListTemplates _group) }
+/// lstmpl. Its refusals in order: NoGroup, Dismounted.
+pub fn list_templates<B: Bay, H: Host>(desk: &mut Desk<B, H>, text: &[u8], group: Name) -> Answer
+    requires asked { command_of text.now ≡ Asked (ListTemplates group) }
+    requires ready { AreReady desk.old.session.groups (B.state desk.old.bay) }
     ensures answers { IsAnswered text.now result desk.old desk.new }
 {
-    unserved(desk, text)
+    let told = desk.session.templates_told(desk.alloc, &group);
+    tell(desk, text, told)
 }
 
-/// lsattr.
-pub fn list_attributes<B: Bay, H: Host>(desk: &mut Desk<B, H>, text: &[u8], _group: Name) -> Answer
-    requires asked { command_of text.now ≡ Asked (ListAttributes _group) }
+/// lsattr. Its refusals in order: NoGroup, Dismounted.
+pub fn list_attributes<B: Bay, H: Host>(desk: &mut Desk<B, H>, text: &[u8], group: Name) -> Answer
+    requires asked { command_of text.now ≡ Asked (ListAttributes group) }
+    requires ready { AreReady desk.old.session.groups (B.state desk.old.bay) }
     ensures answers { IsAnswered text.now result desk.old desk.new }
 {
-    unserved(desk, text)
+    let told = desk.session.attributes_told(desk.alloc, &group);
+    tell(desk, text, told)
 }

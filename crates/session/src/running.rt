@@ -3,6 +3,7 @@ ghost use Rattle.std.specs.Prelude.{◌≡◌, ℕ, ◌<◌, ◌≤◌, false, [
 ghost use Rattle.std.specs.String.{string_bytes};
 ghost use Rattle.asm_world.specs.Language.{command_of};
 ghost use Rattle.session.specs.Desks.{copies, paths_on};
+ghost use Rattle.session.specs.Sessions.{AreReady};
 ghost use Rattle.session.specs.Programs.{EachWorld, AnswersOne, RunsOne};
 ghost use Rattle.session.specs.Stops.{StopsByOutput};
 
@@ -27,6 +28,8 @@ impl<B: Bay, H: Host, K: Sink, C: Clock> Program<B, H, K, C> {
     ) -> Program<B, H, K, C>
         requires few { length paths.items ≤ 512 }
         ensures session { (result.desk.session.entries ≡ []) × (result.desk.session.given ≡ 0) }
+        ensures place { result.desk.session.place ≡ [] }
+        ensures ready { AreReady result.desk.session.groups (B.state result.desk.bay) }
         ensures marks { result.marks.items ≡ [] }
         ensures refused { result.refused ≡ false }
         ensures bay { result.desk.bay ≡ bay }
@@ -53,6 +56,8 @@ impl<B: Bay, H: Host, K: Sink, C: Clock> Program<B, H, K, C> {
     /// Runs a command and prints its reply. There is room for its mark.
     fn answer(&mut self, text: &[u8]) -> Result<(), Stop>
         requires room { vec_len self.old.marks < vec_capacity self.old.marks }
+        requires ready { AreReady self.old.desk.session.groups (B.state self.old.desk.bay) }
+        ensures ready { AreReady self.new.desk.session.groups (B.state self.new.desk.bay) }
         ensures paths { paths_on self.new.desk ≡ paths_on self.old.desk }
         ensures host { copies (command_of text.now) ≡ false → self.new.desk.host ≡ self.old.desk.host }
         ensures answers { EachWorld self.old (AnswersOne result text.now self.old self.new) }
@@ -77,6 +82,8 @@ impl<B: Bay, H: Host, K: Sink, C: Clock> Program<B, H, K, C> {
     /// Runs one command whole: the clock is read, the command runs, and its reply is printed. Nothing
     /// expires and no slice is due as long as no command works on the disks of a mounted group.
     pub fn run_command(&mut self, text: &[u8]) -> Result<(), Stop>
+        requires ready { AreReady self.old.desk.session.groups (B.state self.old.desk.bay) }
+        ensures ready { AreReady self.new.desk.session.groups (B.state self.new.desk.bay) }
         ensures paths { paths_on self.new.desk ≡ paths_on self.old.desk }
         ensures host { copies (command_of text.now) ≡ false → self.new.desk.host ≡ self.old.desk.host }
         ensures runs { EachWorld self.old (RunsOne result text.now self.old self.new) }

@@ -6,6 +6,7 @@ ghost use Rattle.bay.specs.Counts.{Rose};
 ghost use Rattle.script.specs.Script.{cut};
 ghost use Rattle.script.specs.Scanning.{place_of, Stands};
 ghost use Rattle.session.specs.Desks.{paths_on};
+ghost use Rattle.session.specs.Sessions.{AreReady};
 ghost use Rattle.session.specs.Programs.{EachWorld, AnswersEnded, AnswersLast, ServesAll};
 ghost use Rattle.session.specs.Stops.{StopsByOutput};
 ghost use Rattle.session.specs.Serves.{IsPiece, StopsByInput};
@@ -49,6 +50,8 @@ fn remove_front(bytes: &mut Vec<u8>, count: usize)
 impl<B: Bay, H: Host, K: Sink, C: Clock> Program<B, H, K, C> {
     /// Reads a script to its end and answers its commands.
     pub fn serve<S: Source>(&mut self, source: &mut S) -> Result<(), Stop>
+        requires ready { AreReady self.old.desk.session.groups (B.state self.old.desk.bay) }
+        ensures ready { AreReady self.new.desk.session.groups (B.state self.new.desk.bay) }
         ensures serves { EachWorld self.old (ServesAll result
             (S.left source.old) (S.left source.new) self.old self.new) }
         ensures input { StopsByInput result (S.faults source.old) (S.faults source.new) }
@@ -73,6 +76,8 @@ impl<B: Bay, H: Host, K: Sink, C: Clock> Program<B, H, K, C> {
     /// Answers the commands whose ends are among the pending bytes, and drops these and what is skipped behind them.
     fn answer_ended(&mut self, cutter: &mut Cutter, pending: &mut Vec<u8>) -> Result<(), Stop>
         requires stands { Stands pending.old.items cutter.old }
+        requires ready { AreReady self.old.desk.session.groups (B.state self.old.desk.bay) }
+        ensures ready { AreReady self.new.desk.session.groups (B.state self.new.desk.bay) }
         ensures paths { paths_on self.new.desk ≡ paths_on self.old.desk }
         ensures answers { EachWorld self.old (AnswersEnded result
             (place_of cutter.old.from) (place_of cutter.new.from) pending.old.items pending.new.items self.old self.new) }
@@ -96,6 +101,8 @@ impl<B: Bay, H: Host, K: Sink, C: Clock> Program<B, H, K, C> {
     /// Answers the commands that the end of the script ends.
     fn answer_last(&mut self, cutter: Cutter, pending: &[u8]) -> Result<(), Stop>
         requires stands { Stands pending.now cutter }
+        requires ready { AreReady self.old.desk.session.groups (B.state self.old.desk.bay) }
+        ensures ready { AreReady self.new.desk.session.groups (B.state self.new.desk.bay) }
         ensures paths { paths_on self.new.desk ≡ paths_on self.old.desk }
         ensures answers { EachWorld self.old (AnswersLast result
             (place_of cutter.from) pending.now self.old self.new) }

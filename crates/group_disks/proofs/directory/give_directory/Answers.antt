@@ -5,7 +5,7 @@ use Rattle.change_directory.specs.StoreLaws.{RegionOf}
 use Rattle.directory_store.specs.Contents.{ArePutItems}
 use Rattle.group_disks.specs.Stages.{first_copy}
 use Rattle.group_disks.proofs.FirstCopy.{shaped, sized_now, none_now}
-use Rattle.group_disks.proofs.FirstStore.{put_items, only_named, only_apart, only_size, only_shut, only_run, gone_cause, never_full, first_moments, first_now}
+use Rattle.group_disks.proofs.FirstStore.{put_items, only_named, only_apart, only_size, only_shut, only_run, gone_cause, never_full, first_moments, first_now, first_store}
 use Rattle.group_disks.proofs.directory.give_directory.Goals as goal
 
 pub returns-in_default-clause-runs : goal.returns-in_default-clause-runs
@@ -52,8 +52,8 @@ returns-clause-moments g c =
 pub returns-in-Ok-create-clause-done : goal.returns-in-Ok-create-clause-done
 returns-in-Ok-create-clause-done g c =
     let ens = c.in-Ok-create.ensures in
-    first_now c.args.slot c.args.group.now c.requires.plan c.in-Ok-create._store ens.copies ens.number (rw c.in-Ok.ensures.put at (rw c.in-Ok.ensures.gone at ens.records))
-    (c.kept_have_records.ensures c.in-Ok-create._store ens.kept)
+    first_now c.args.slot c.args.group.now c.requires.plan c.in-Ok-create.store ens.copies ens.number (rw c.in-Ok.ensures.put at (rw c.in-Ok.ensures.gone at ens.records))
+    (c.kept_have_records.ensures c.in-Ok-create.store ens.kept)
 
 pub returns-in-Err-Gone-clause-cause : goal.returns-in-Err-Gone-clause-cause
 returns-in-Err-Gone-clause-cause g c = λ fault.
@@ -62,3 +62,8 @@ returns-in-Err-Gone-clause-cause g c = λ fault.
 pub unreachable-requires : goal.unreachable-requires
 unreachable-requires g c =
     never_full c.args.slot c.args.group.now (g.B.Bay.state c.args.bay.now) (g.B.Bay.state c.create.new.bay) _ c.in-Err-Full.field-0 _ _ c.in-Err-Full.field-0-is c.in-Ok.ensures.put c.in-Err-Full.ensures.refused
+
+pub returns-in-Ok-create-clause-store : goal.returns-in-Ok-create-clause-store
+returns-in-Ok-create-clause-store g c =
+    let ens = c.in-Ok-create.ensures in
+    first_store c.args.slot c.args.group.now c.requires.plan c.in-Ok-create.store (g.B.Bay.state c.create.new.bay) ens.copies (rw c.in-Ok.ensures.put at (rw c.in-Ok.ensures.gone at ens.records)) ens.kept

@@ -6,6 +6,7 @@ use Rattle.group_disks.specs.Found.{counts_of, AreIdsRead, AreAllRead}
 use Rattle.group_disks.specs.Probes.{IsShown}
 use Rattle.group_disks.specs.declared.find.Probe.{Probe}
 use Rattle.group_disks.proofs.Looking.{ids_later, one_more_id, one_more_read, shown_before, shown_later}
+use Rattle.group_disks.proofs.Staying.{stays_trans}
 use Rattle.group_disks.proofs.find.look_at_all.Goals.{then-slot-wanted, else-slot-wanted}
 use Rattle.group_disks.proofs.find.look_at_all.Goals as goal
 
@@ -41,4 +42,8 @@ loop-slot-preserved g c =
         | then-slot-wanted w ↦ subst (λ (p : Probe). IsShown c.args.wanted p (counts_of s) (counts_of t)) (sym w.found-is) (subst (λ (k : ℕ). IsShown k probe (counts_of s) (counts_of t)) w.if-slot-wanted.true (shown_before s m t first n probe next shown))
         | else-slot-wanted w ↦ subst (λ (p : Probe). IsShown c.args.wanted p (counts_of s) (counts_of t)) (sym w.found-is) (shown_later s m t next c.args.wanted c.loop-slot.found (c.look_and_note.ensures.others.others c.args.wanted (λ e. w.if-slot-wanted.false (sym e))) (c.loop-slot.invariant.shown (later w.if-slot-wanted.false below)))
       ];
+      stays = stays_trans c.loop-slot.invariant.stays c.look_and_note.ensures.stays;
     }
+
+pub returns-in_err-probe-clause-stays : goal.returns-in_err-probe-clause-stays
+returns-in_err-probe-clause-stays g c = stays_trans c.loop-slot.invariant.stays c.look_and_note.ensures.stays

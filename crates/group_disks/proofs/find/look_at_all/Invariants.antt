@@ -3,6 +3,7 @@ use Rattle.bay.specs.Image.{Same}
 use Rattle.bay.specs.Moments.{Runs}
 use Rattle.group_disks.specs.Found.{counts_of, AreIdsRead, AreAllRead}
 use Rattle.group_disks.specs.Probes.{IsShown}
+use Rattle.group_engine.specs.Frames.{StaysAttached}
 use Rattle.group_disks.proofs.find.look_at_all.Given as goal
 
 abbrev pub invariant-loop-slot : goal.invariant-loop-slot
@@ -12,4 +13,5 @@ invariant-loop-slot g l = record {
   ids : AreIdsRead l.ids.items (counts_of (g.B.Bay.state l.fn.bay)) (counts_of (g.B.Bay.state l.bay));
   all : AreAllRead l.slot l.ids.items (counts_of (g.B.Bay.state l.fn.bay)) (counts_of (g.B.Bay.state l.bay));
   shown : l.wanted < l.slot → IsShown l.wanted l.found (counts_of (g.B.Bay.state l.fn.bay)) (counts_of (g.B.Bay.state l.bay));
+  stays : StaysAttached (g.B.Bay.state l.fn.bay) (g.B.Bay.state l.bay);
 }

@@ -5,12 +5,17 @@ use Rattle.session.proofs.Named.{too_many, exists_already}
 use Rattle.session.proofs.groups.create_external.Goals as goal
 
 pub returns-then-is_full : goal.returns-then-is_full
-unfolding said
 returns-then-is_full g c = record {
   answers = record {
     paths = refl;
     host_stays = λ is. refl;
-    served = λ w below knows. (w, below, knows, rw (c.plain.ensures.reply, c.plain.ensures.found) (too_many _ c.args.text.now _ _ c.requires.says _ _ w (sym (c.is_full.ensures w knows.entries_are) ∙ c.if-is_full.true)));
+    ready = c.requires.ready;
+    served = λ w below knows. (
+      w,
+      below,
+      knows,
+      rw (c.refused.ensures.reply, c.refused.ensures.found, c.too_many_groups.ensures) (too_many _ c.args.text.now _ _ c.requires.says _ _ w (sym (c.is_full.ensures w knows.entries_are) ∙ c.if-is_full.true)),
+    );
   };
 }
 
@@ -20,11 +25,12 @@ returns-then-has g c = record {
   answers = record {
     paths = refl;
     host_stays = λ is. refl;
+    ready = c.requires.ready;
     served = λ w below knows. (
       w,
       below,
       knows,
-      rw (c.plain-then-has.ensures.reply, c.plain-then-has.ensures.found)
+      rw (c.refused-then-has.ensures.reply, c.refused-then-has.ensures.found)
           (exists_already _ c.args.text.now _ _ c.requires.says _ _ w (sym (c.is_full.ensures w knows.entries_are) ∙ c.if-is_full.false) (rw knows.entries_are (sym c.has.ensures ∙ c.if-has.true))),
     );
   };
@@ -33,5 +39,8 @@ returns-then-has g c = record {
 pub returns-then-is_err : goal.returns-then-is_err
 returns-then-is_err g c = record { answers = from-same c.args.text.now _ c.args.desk.now _ _ refl refl c.make_room.ensures refl c.no_memory.ensures.answers }
 
-pub returns : goal.returns
-returns g c = record { answers = from-same c.args.text.now _ c.args.desk.now _ _ refl refl c.make_room.ensures refl c.form.ensures.answers }
+pub returns-in-Ok : goal.returns-in-Ok
+returns-in-Ok g c = record { answers = from-same c.args.text.now _ c.args.desk.now _ _ refl refl c.make_room.ensures refl c.form.ensures.answers }
+
+pub returns-in-Err : goal.returns-in-Err
+returns-in-Err g c = record { answers = from-same c.args.text.now _ c.args.desk.now _ _ refl refl c.make_room.ensures refl c.no_memory-in-Err.ensures.answers }

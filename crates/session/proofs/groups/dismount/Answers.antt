@@ -8,6 +8,7 @@ use Rattle.session.specs.Sessions.{Knows}
 use Rattle.session.proofs.Languages.{served_meaning}
 use Rattle.session.proofs.Entries.{none-leaves}
 use Rattle.session.proofs.Leaving.{absent, left}
+use Rattle.session.proofs.Ready.{left_ready}
 use Rattle.session.proofs.groups.dismount.Goals as goal
 
 pub returns-then-not-leave : goal.returns-then-not-leave
@@ -18,12 +19,13 @@ returns-then-not-leave g c =
       answers = record {
         paths = refl;
         host_stays = λ is. refl;
+        ready = rw c.leave.ensures.groups (left_ready c.args.desk.now.session.entries c.args.desk.now.session.groups c.args.name c.requires.ready);
         served = λ w below knows.
             let none : is_some (entry_in w c.args.name) ≡ false = rw knows.entries_are (sym c.leave.ensures.found ∙ c.if-not-leave.true) in (
               w,
               below,
-              record { entries_are = sym (none-leaves w.session c.args.name none) ∙ rw (knows.entries_are, c.leave.ensures.left) refl; at_top = knows.at_top; still = knows.still },
-              rw (c.plain.ensures.reply, c.plain.ensures.found, c.leave.ensures.given) (absent _ c.args.text.now c.args.name _ says _ _ w none),
+              record { entries_are = sym (none-leaves w.session c.args.name none) ∙ rw (knows.entries_are, c.leave.ensures.left) refl; place_is = knows.place_is ∙ sym c.leave.ensures.place; still = knows.still },
+              rw (c.refused.ensures.reply, c.refused.ensures.found, c.leave.ensures.given) (absent _ c.args.text.now c.args.name _ says _ _ w none),
             );
       };
     }
@@ -35,12 +37,13 @@ returns g c =
       answers = record {
         paths = refl;
         host_stays = λ is. refl;
+        ready = rw c.leave.ensures.groups (left_ready c.args.desk.now.session.entries c.args.desk.now.session.groups c.args.name c.requires.ready);
         served = λ w below knows.
             let some : is_some (entry_in w c.args.name) ≡ true = rw knows.entries_are (sym c.leave.ensures.found ∙ c.if-not-leave.false) in (
               record w { session = without_entry w.session c.args.name },
               below,
-              record { entries_are = rw (knows.entries_are, c.leave.ensures.left) refl; at_top = knows.at_top; still = knows.still },
-              rw (c.plain-2.ensures.reply, c.plain-2.ensures.found, c.new.ensures, c.leave.ensures.given) (left _ c.args.text.now c.args.name _ says _ _ w some),
+              record { entries_are = rw (knows.entries_are, c.leave.ensures.left) refl; place_is = knows.place_is ∙ sym c.leave.ensures.place; still = knows.still },
+              rw (c.plain.ensures.reply, c.plain.ensures.found, c.new.ensures, c.leave.ensures.given) (left _ c.args.text.now c.args.name _ says _ _ w some),
             );
       };
     }

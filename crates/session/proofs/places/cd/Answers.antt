@@ -2,16 +2,14 @@ use Rattle.std.proofs.Common.{◌≡◌, ◌∙◌, refl, sym, ap, [], ◌∷◌
 use Rattle.std.specs.Cmp.Lexicographic.{bytes_decides}
 use Rattle.asm_group.specs.Names.{Bytes}
 use Rattle.asm_world.specs.Command.{Asked, Cd}
-use Rattle.asm_world.specs.World.{World}
 use Rattle.session.specs.Meaning.{meaning}
 use Rattle.session.specs.Places.{is_top}
 use Rattle.session.proofs.Languages.{served_meaning}
-use Rattle.session.proofs.Outcomes.{told}
+use Rattle.session.proofs.Outcomes.{moved}
 use Rattle.session.proofs.places.cd.Goals as goal
 
--- a world that is at the top stays there
-stays_there : (w : World) → w.place ≡ [] → w ≡ record w { place = [] }
-stays_there w at_top = ap (λ (place : _). record w { place = place }) at_top
+pub go_below-requires-clause-unproved : goal.go_below-requires-clause-unproved
+go_below-requires-clause-unproved g c = rw (c.requires.asked, sym c.as_slice.ensures) (sym c.is_top.ensures ∙ c.if-not-is_top.true)
 
 pub returns : goal.returns
 returns g c =
@@ -22,11 +20,12 @@ returns g c =
       answers = record {
         paths = refl;
         host_stays = λ is. refl;
+        ready = rw c.go.ensures c.requires.ready;
         served = λ w below knows. (
-          w,
+          record w { place = [] },
           below,
-          knows,
-          rw (c.plain.ensures.reply, c.plain.ensures.found, c.new.ensures) (told _ c.args.text.now _ _ _ w (rw says (stays_there w knows.at_top, refl)) (rw says refl) (rw says tt) (rw says tt)),
+          rw (c.go.ensures, c.new.ensures) (record { entries_are = knows.entries_are; place_is = refl; still = knows.still }),
+          rw (c.plain.ensures.reply, c.plain.ensures.found, c.new-2.ensures, c.go.ensures) (moved _ c.args.text.now [] _ _ w [] (rw says (refl, refl)) (rw says refl) (rw says tt) (rw says tt)),
         );
       };
     }

@@ -1,5 +1,5 @@
 use Rattle.std.proofs.Common.{◌≡◌, refl}
-use Rattle.asm_world.specs.Command.{Command, Asked, Pwd}
+use Rattle.asm_world.specs.Command.{Asked, Pwd}
 use Rattle.session.specs.Meaning.{meaning}
 use Rattle.session.proofs.Languages.{served_meaning}
 use Rattle.session.proofs.Outcomes.{told}
@@ -12,11 +12,12 @@ returns-in-Ok g c =
       answers = record {
         paths = refl;
         host_stays = λ is. refl;
+        ready = c.requires.ready;
         served = λ w below knows. (
           w,
           below,
           knows,
-          rw (c.plain.ensures.reply, c.plain.ensures.found, c.in-Ok.ensures) (told _ c.args.text.now _ _ _ w (rw (says, knows.at_top) (refl, refl)) (rw says refl) (rw says tt) (rw says tt)),
+          rw (c.plain.ensures.reply, c.plain.ensures.found, c.in-Ok.ensures, c.place.ensures) (told _ c.args.text.now _ _ _ w (rw (says, knows.place_is) (refl, refl)) (rw says refl) (rw says tt) (rw says tt)),
         );
       };
     }

@@ -11,6 +11,7 @@ returns g c = record {
   answers = record {
     paths = refl;
     host_stays = λ is. refl;
+    ready = c.requires.ready;
     served = λ w below knows. (w, below, knows, rw (c.plain.ensures.reply, c.plain.ensures.found) (unreadable _ c.args.text.now c.args.at _ _ w (served_meaning c.args.text.now (Unreadable c.args.at) c.requires.asked refl)));
   };
 }

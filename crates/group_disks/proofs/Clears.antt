@@ -1,0 +1,75 @@
+-- What a mount ends of what a stop left undone, and by which faults it can't.
+use Rattle.std.proofs.Common.{◌≡◌, ◌⊎◌, ⊎_elim, ℕ, ◌≤◌, List, sym, ap, subst, ◌∙◌, Option, Some, arith}
+use Rattle.std.proofs.lemmas.Option.{same_Some}
+use Rattle.bay.specs.Counts.{Rose}
+use Rattle.bay.specs.State.{BayState}
+use Rattle.asm_base.specs.Records.{Entry}
+use Rattle.asm_formats.specs.Items.{DiskInfo, Key}
+use Rattle.asm_base.specs.declared.refusal.DiskRef.{DiskRef}
+use Rattle.asm_base.specs.declared.refusal.DiskRef.TheVariants as disk
+use Rattle.asm_base.specs.declared.refusal.Refusal.{Refusal}
+use Rattle.asm_base.specs.declared.refusal.Refusal.TheVariants as refusal
+use Rattle.catalog.specs.Applying.{Leaves}
+use Rattle.catalog.specs.Plans.{IsDiskRefusal, IsPlan}
+use Rattle.catalog.specs.Tables.{Catalogued, Tables}
+use Rattle.group_engine.specs.Commits.{CommitCause, DismountCause, StatusCause}
+use Rattle.group_engine.specs.Mounts.{IsMounted, MountedGroup, slot_at}
+use Rattle.group_engine.specs.Own.{KeepsGroup}
+use Rattle.group_engine.specs.declared.access.Access.{Access}
+use Rattle.group_engine.specs.declared.access.Access.TheVariants as access
+use Rattle.group_engine.specs.declared.attached.Attached.{Attached}
+use Rattle.group_disks.specs.Clearing.{HasFailed, IsClearCause, IsLostCause, IsRefusalOf}
+use Rattle.group_mount.specs.declared.error.MountError.{MountError}
+use Rattle.group_mount.specs.declared.error.MountError.TheVariants as error
+
+-- a group that takes calls isn't dismounted
+not_dismounted : (a : Access) (d : ℕ) → a ≡ access.Mounted → a ≡ access.Dismounted d → ⊥
+not_dismounted a d mounted dismounted = absurd cc
+
+dismount_clear : (old new : MountedGroup) (s t : BayState) (by : DiskRef) → IsMounted old → DismountCause old new s t by → IsClearCause old s t (refusal.Dismounted by)
+dismount_clear old new s t (disk.Number d) mounted cause = ⊎_elim
+    (λ before. absurd (not_dismounted old.access d mounted before))
+    (λ now. (now.1.slot, now.1.at, now.1.rose)) cause
+dismount_clear old new s t (disk.Spelt text) mounted cause = absurd cause
+
+pub status_clear : (old new : MountedGroup) (s t : BayState) (given : Refusal) → IsMounted old → StatusCause old new s t given → IsClearCause old s t given
+status_clear old new s t (refusal.Dismounted by) mounted cause = dismount_clear old new s t by mounted cause
+status_clear old new s t refusal.NoMemory mounted cause = tt
+status_clear old new s t other mounted cause = absurd cause
+
+pub commit_clear : (old : MountedGroup) (put : List Entry) (new : MountedGroup) (s t : BayState) (given : Refusal) → IsMounted old → CommitCause old put new s t given → IsClearCause old s t given
+commit_clear old put new s t (refusal.DirectoryFull need free) mounted cause = tt
+commit_clear old put new s t (refusal.Dismounted by) mounted cause = dismount_clear old new s t by mounted cause
+commit_clear old put new s t refusal.NoMemory mounted cause = tt
+commit_clear old put new s t other mounted cause = absurd cause
+
+-- a plan is refused for want of memory or of a block
+pub plan_clear : (m : MountedGroup) (s t : BayState) (c : Catalogued) (d : ℕ) (info : Option DiskInfo) (given : Refusal) → IsDiskRefusal c d info given → IsClearCause m s t given
+plan_clear m s t c d info given why = ⊎_elim (λ e. subst (IsClearCause m s t) (sym e) tt) (λ full. subst (IsClearCause m s t) (sym full.0) tt) why
+
+-- a plan of the catalog may be committed
+pub plan_leaves : (m : MountedGroup) (c : Catalogued) (put : List Entry) (gone : List Key) (u : Tables) → c ≡ m.catalog → IsPlan c put gone u → Leaves m.catalog put gone u
+plan_leaves m c put gone u same plan = subst (λ (k : Catalogued). Leaves k put gone u) same (record { after = plan.after; rules = plan.rules; units = plan.units })
+
+-- a later fault of the same group, and an earlier start
+failed_on : (a b : MountedGroup) (d : ℕ) (s m t : BayState) → KeepsGroup a b s m → HasFailed b d m t → HasFailed a d s t
+failed_on a b d s m t keeps failed = (
+  failed.0,
+  sym (ap (λ (l : List (Option Attached)). slot_at l d) keeps.same.disks) ∙ failed.1,
+  omega (arith, failed.2, keeps.runs.faults failed.0),
+)
+
+pub clear_on : (a b : MountedGroup) (s m t : BayState) (given : Refusal) → KeepsGroup a b s m → IsClearCause b m t given → IsClearCause a s t given
+clear_on a b s m t (refusal.Dismounted (disk.Number d)) keeps cause = failed_on a b d s m t keeps cause
+clear_on a b s m t (refusal.Dismounted (disk.Spelt text)) keeps cause = absurd cause
+clear_on a b s m t other keeps cause = tt
+
+-- the refusal of a mount has its cause
+pub lost_by : (old new : MountedGroup) (s m t : BayState) (given : Refusal) (e : MountError) → KeepsGroup old new m t → ((slot : ℕ) → s.faults slot ≤ m.faults slot)
+    → IsClearCause old m t given → IsRefusalOf new given e → IsLostCause s t e
+lost_by old new s m t given (error.Dead slot name) keeps later cause of =
+    let failed : HasFailed old of.0 m t = subst (IsClearCause old m t) of.1 cause in
+    let at : failed.0 ≡ slot = same_Some failed.0 slot (sym failed.1 ∙ (sym (ap (λ (l : List (Option Attached)). slot_at l of.0) keeps.same.disks) ∙ of.2)) in
+    subst (λ (k : ℕ). Rose (s.faults k) (t.faults k)) at (omega (arith, failed.2, later failed.0))
+lost_by old new s m t given error.NoMemory keeps later cause of = tt
+lost_by old new s m t given other keeps later cause of = absurd of

@@ -1,0 +1,50 @@
+-- How a group goes.
+use Rattle.std.specs.Prelude.{◌≡◌, ◌⊎◌, ◌<◌, ℕ, Bool, false, Some, None, IsTrue}
+use Rattle.bay.specs.Counts.{Rose}
+use Rattle.bay.specs.Image.{Image, ChangesOnly}
+use Rattle.bay.specs.Moments.{NowOnly}
+use Rattle.bay.specs.State.{BayState}
+use Rattle.asm_base.specs.declared.refusal.Refusal.{Refusal}
+use Rattle.asm_base.specs.declared.refusal.Refusal.TheVariants as refusal
+use Rattle.asm_images.specs.Kept.{header_in}
+use Rattle.disk_images.specs.Headers.{HasHeaderSlot}
+use Rattle.file_directory.specs.Files.{is_file}
+use Rattle.group_engine.specs.Commits.{DismountCause}
+use Rattle.group_engine.specs.Mounts.{IsOwn, MountedGroup, slot_at}
+use Rattle.group_engine.specs.declared.access.Access.TheVariants as access
+
+-- ---- whether it may go
+
+-- the group has a file
+abbrev pub HasFile : MountedGroup → Type 0
+HasFile m = (f : ℕ) × IsTrue (is_file m.catalog.tables.files f)
+
+abbrev pub HasNoFile : MountedGroup → Type 0
+HasNoFile m = (f : ℕ) → is_file m.catalog.tables.files f ≡ false
+
+-- Why a group doesn't go: it has files, and its contents aren't to go with it; it is dismounted; or it was closed before.
+abbrev pub DropCause : MountedGroup → Bool → MountedGroup → BayState → BayState → Refusal → Type 0
+DropCause old contents new s t refusal.GroupNotEmpty = (contents ≡ false) × HasFile old
+DropCause old contents new s t (refusal.Dismounted by) = DismountCause old new s t by
+DropCause old contents new s t refusal.NoMemory = old.access ≡ access.Closed
+DropCause old contents new s t other = ⊥
+
+-- ---- its headers
+
+-- Each attached disk is one of the group's own and has a header's slot, and no two are in one slot.
+pub record HaveHeaders (m : MountedGroup) (state : BayState) : Type 0 where
+  pub own : (d slot : ℕ) → slot_at m.disks d ≡ Some slot → IsOwn m slot
+  pub slots : (d slot : ℕ) → slot_at m.disks d ≡ Some slot → HasHeaderSlot state slot m.catalog.shape.sector
+  pub apart : (d e slot : ℕ) → slot_at m.disks d ≡ Some slot → slot_at m.disks e ≡ Some slot → d ≡ e
+
+-- no disk changes but that of this number
+abbrev pub OnDisk : MountedGroup → ℕ → Image → Image → Type 0
+OnDisk m d = ChangesOnly (λ slot k. slot_at m.disks d ≡ Some slot)
+
+-- the disk has no header any more, or its slot failed
+abbrev pub IsOut : ℕ → BayState → BayState → Type 0
+IsOut slot s t = Rose (s.faults slot) (t.faults slot) ⊎ NowOnly t (λ image. header_in image slot ≡ None)
+
+-- the attached disks with numbers below n have none
+abbrev pub AreOut : MountedGroup → ℕ → BayState → BayState → Type 0
+AreOut m n s t = (d slot : ℕ) → d < n → slot_at m.disks d ≡ Some slot → IsOut slot s t

@@ -1,0 +1,96 @@
+-- What a mount gives, and why it is refused.
+use Rattle.std.specs.Prelude.{◌≡◌, ◌<◌, ℕ, Bool, true, false, List, [], ◌∷◌, set, replicate, Option, Some, None}
+use Rattle.bay.specs.State.{BayState}
+use Rattle.asm_group.specs.Names.{Bytes, is_same_name}
+use Rattle.asm_placement.specs.Among.{IsAmong}
+use Rattle.group_engine.specs.Making.{made}
+use Rattle.group_engine.specs.Mounts.{IsMounted, IsOwn, IsReady, IsWhole, MountedGroup}
+use Rattle.group_engine.specs.declared.attached.Attached.{Attached}
+use Rattle.group_disks.specs.Clearing.{IsLostCause}
+use Rattle.group_disks.specs.Holding.{IsHeldSlot}
+use Rattle.group_mount.specs.Founds.{FindCause, FoundDisks, IsFound, not_held}
+use Rattle.group_mount.specs.Quorum.{IsQuorate, QuorumCause}
+use Rattle.group_mount.specs.Recovering.{RecoverCause, is_named, name_in}
+use Rattle.group_mount.specs.declared.error.MountError.{MountError}
+use Rattle.group_mount.specs.declared.error.MountError.TheVariants as error
+use Rattle.group_mount.specs.declared.quorum.MountOption.{MountOption}
+use Rattle.group_mount.specs.declared.quorum.Quorate.{Quorate}
+use Rattle.group_mount.specs.declared.recovering.Parts.{Parts}
+use Rattle.status_register.specs.declared.member.Member.{Member}
+
+-- ---- the group of the parts that a mount gives
+
+-- a disk's slot and size
+abbrev pub attached_of : Member × ℕ → Attached
+attached_of d = record { slot = d.0.slot; size = d.1 }
+
+-- the disks in the places of their numbers
+abbrev pub put_disks : List (Option Attached) → List (Member × ℕ) → List (Option Attached)
+put_disks places [] = places
+put_disks places (d ∷ ds) = put_disks (set places d.0.number (Some (attached_of d))) ds
+
+abbrev pub by_number : List (Member × ℕ) → List (Option Attached)
+by_number ds = put_disks (replicate 64 None) ds
+
+-- each has the number of a disk
+abbrev pub AreSmall : List (Member × ℕ) → Type 0
+AreSmall ds = (d : Member × ℕ) → IsAmong ds d → d.0.number < 64
+
+abbrev pub mounted_of : Parts → MountedGroup
+mounted_of parts = made parts.name parts.catalog parts.store parts.register (by_number parts.disks.items)
+
+-- ---- what is mounted
+
+-- A group of the name takes calls, and no slot that others hold is one of its disks'.
+pub record IsMountedBy (name : Bytes) (held : List ℕ) (m : MountedGroup) (state : BayState) : Type 0 where
+  pub mounted : IsMounted m
+  pub named : is_same_name m.name name ≡ true
+  pub own : (slot : ℕ) → IsOwn m slot → IsHeldSlot held slot → ⊥
+  pub whole : IsWhole m
+  pub ready : IsReady m state
+
+-- ---- causes
+
+-- the disks that were found, without those in slots that others hold
+abbrev pub free_disks : List ℕ → FoundDisks → FoundDisks
+free_disks held found = record found { headed = not_held held found.headed }
+
+-- the first of the disks of the id has the name
+abbrev pub has_name : FoundDisks → Bytes → Bool
+has_name found name = is_named (name_in found.id found.headed) name
+
+-- Of the id that was found, each disk of the name is one of others.
+pub record AreOthers (name : Bytes) (n : ℕ) (held : List ℕ) (s t : BayState) : Type 0 where
+  pub found : FoundDisks
+  pub is : IsFound name n found s t
+  pub none : has_name (free_disks held found) name ≡ false
+
+-- The group was found and isn't quorate: between the search and this the bay was in this state.
+pub record IsNotQuorate {B : Type 0} (state : B → BayState) (name : Bytes) (n : ℕ) (held : List ℕ) (option : MountOption) (s t : BayState) (e : MountError) : Type 0 where
+  pub found : FoundDisks
+  pub between : B
+  pub is : IsFound name n found s (state between)
+  pub cause : QuorumCause option (free_disks held found) e (state between) t
+
+-- The group was found, and is quorate in this state.
+pub record WasQuorate {B : Type 0} (state : B → BayState) (name : Bytes) (n : ℕ) (held : List ℕ) (option : MountOption) (s : BayState) : Type 0 where
+  pub found : FoundDisks
+  pub between : B
+  pub is : IsFound name n found s (state between)
+  pub quorum : Quorate
+  pub later : B
+  pub quorate : IsQuorate option (free_disks held found) quorum (state later)
+
+-- Its record wasn't written anew.
+pub record IsNotRenewed {B : Type 0} (state : B → BayState) (name : Bytes) (n : ℕ) (held : List ℕ) (option : MountOption) (s t : BayState) (e : MountError) : Type 0 where
+  pub was : WasQuorate state name n held option s
+  pub cause : RecoverCause was.quorum e (state was.later) t
+
+-- Why a group isn't mounted, where calls lead from s to t.
+pub data IsMountCause {B : Type 0} (state : B → BayState) (name : Bytes) (n : ℕ) (held : List ℕ) (option : MountOption) (s t : BayState) (e : MountError) : Type 0 where
+  not_found : FindCause name n e s t → IsMountCause state name n held option s t e
+  of_others : e ≡ error.NoGroup → AreOthers name n held s t → IsMountCause state name n held option s t e
+  not_quorate : IsNotQuorate state name n held option s t e → IsMountCause state name n held option s t e
+  not_renewed : IsNotRenewed state name n held option s t e → IsMountCause state name n held option s t e
+  -- its record stands, and what a stop left undone can't be ended
+  not_cleared : WasQuorate state name n held option s → IsLostCause s t e → IsMountCause state name n held option s t e

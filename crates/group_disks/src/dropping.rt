@@ -1,0 +1,75 @@
+//! A group is dropped: its record is marked gone, and its disks lose their headers.
+ghost use Rattle.std.specs.Prelude.{◌≡◌, ◌⊎◌, ◌<◌, ℕ, Some, false, true, IfErr, IsTrue, OnOk};
+ghost use Rattle.bay.specs.Moments.{Runs};
+ghost use Rattle.bay.specs.State.{KeepsAttached};
+ghost use Rattle.group_disks.specs.Dropping.{AreOut, DropCause, HasFile, HasNoFile, HaveHeaders, IsOut, OnDisk};
+ghost use Rattle.group_engine.specs.Mounts.{IsMounted, IsOwn, Takes, slot_at};
+ghost use Rattle.group_engine.specs.Own.{KeepsGroup, OnOwnDisks};
+
+use asm_base::Refusal;
+use bay::Bay;
+use disk_images::close_header;
+use group_engine::Mounted;
+
+/// Whether the group has a file.
+fn has_file(m: &Mounted) -> bool
+    ensures some { result ≡ true → HasFile m.now }
+    ensures none { result ≡ false → HasNoFile m.now }
+{
+    match m.catalog().file_from(0) {
+        Some(_) => true,
+        None => false,
+    }
+}
+
+/// Closes the header of the disk of a number, where it is attached. Where its slot fails the header may stay: the group is
+/// gone all the same.
+fn close_at<B: Bay>(m: &Mounted, bay: &mut B, number: u8)
+    requires small { number < 64 }
+    requires headers { HaveHeaders m.now (B.state bay.old) }
+    ensures attached { KeepsAttached (B.state bay.old) (B.state bay.new) }
+    ensures runs { Runs (λ slot. slot_at m.now.disks number ≡ Some slot) (OnDisk m.now number) (B.state bay.old) (B.state bay.new) }
+    ensures out { (slot : ℕ) → slot_at m.now.disks number ≡ Some slot → IsOut slot (B.state bay.old) (B.state bay.new) }
+{
+    match m.slot(number) {
+        Some(slot) => {
+            let _ = close_header(bay, slot, m.catalog().shape());
+        }
+        None => {}
+    }
+}
+
+/// Closes the headers of all attached disks, past faults.
+fn close_all<B: Bay>(m: &Mounted, bay: &mut B)
+    requires headers { HaveHeaders m.now (B.state bay.old) }
+    ensures attached { KeepsAttached (B.state bay.old) (B.state bay.new) }
+    ensures runs { Runs (IsOwn m.now) (OnOwnDisks m.now) (B.state bay.old) (B.state bay.new) }
+    ensures out { AreOut m.now 64 (B.state bay.old) (B.state bay.new) }
+{
+    for number in 0..64u8 {
+        close_at(m, bay, number);
+    }
+}
+
+/// Drops a group: writes its record marked gone, and then closes the headers of its attached disks, past faults. From then on
+/// the group takes no calls. Refusals in their order: Dismounted, GroupNotEmpty where it has a file and the contents aren't to
+/// go with it, and Dismounted where too few disks took the record. NoMemory comes of a group that is closed.
+pub fn drop_group<B: Bay>(m: &mut Mounted, bay: &mut B, contents: bool) -> Result<(), Refusal>
+    requires takes { Takes m.old (B.state bay.old) }
+    // Only disks of the group change.
+    ensures keeps { KeepsGroup m.old m.new (B.state bay.old) (B.state bay.new) }
+    ensures cause { IfErr result (DropCause m.old contents m.new (B.state bay.old) (B.state bay.new)) }
+    ensures empty { OnOk result (IsTrue contents ⊎ HasNoFile m.old) }
+    // The record is marked gone, and the group takes no calls.
+    ensures marked { OnOk result (m.new.register.value.gone ≡ true) }
+    ensures gone { OnOk result (IsMounted m.new → ⊥) }
+    ensures out { OnOk result (AreOut m.old 64 (B.state bay.old) (B.state bay.new)) }
+{
+    m.takes_calls()?;
+    if !contents && has_file(m) {
+        return Err(Refusal::GroupNotEmpty);
+    }
+    m.end_group(bay)?;
+    close_all(m, bay);
+    Ok(())
+}

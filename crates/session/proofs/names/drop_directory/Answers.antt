@@ -1,0 +1,5 @@
+use Rattle.std.proofs.Common.{refl}
+use Rattle.session.proofs.names.drop_directory.Goals as goal
+
+pub edit_clause-requires-clause-unproved : goal.edit_clause-requires-clause-unproved
+edit_clause-requires-clause-unproved g c = rw c.requires.asked refl

@@ -1,0 +1,20 @@
+use Rattle.std.proofs.Common.{refl, sym}
+use Rattle.asm_base.specs.Refusals.{said}
+use Rattle.asm_base.specs.declared.refusal.Refusal.TheVariants.{NoGroup}
+use Rattle.session.proofs.Grouped.{group_found}
+use Rattle.session.proofs.Outs.{absent_out, shut_out}
+use Rattle.session.proofs.session.Session.mounted.Goals as goal
+
+pub returns-in_default-clause-cause : goal.returns-in_default-clause-cause
+unfolding said
+returns-in_default-clause-cause c = rw (← c.self.view_is) (absent_out c.args.name.now c.self.inside.groups.entries NoGroup (sym c.in_default.ensures.value) refl)
+
+pub returns-in-Ok-clause-found : goal.returns-in-Ok-clause-found
+returns-in-Ok-clause-found c = rw (← c.self.view_is) (record {
+  named = group_found c.args.name.now c.self.inside.groups.entries c.in-Some.entry.now (sym c.in-Some.ensures.value);
+  mounted = c.in-Ok.ensures.ok;
+})
+
+pub returns-in-Err-clause-cause : goal.returns-in-Err-clause-cause
+returns-in-Err-clause-cause c = rw (← c.self.view_is)
+    (shut_out c.args.name.now c.self.inside.groups.entries c.in-Some.entry.now c.in-Err.refusal _ (sym c.in-Some.ensures.value) c.in-Err.ensures.cause c.spelt.ensures)

@@ -1,0 +1,7 @@
+use Rattle.std.proofs.Common.{inr, refl}
+use Rattle.asm_base.specs.Refusals.{said}
+use Rattle.session.proofs.spelling.spelt.Goals as goal
+
+pub returns-in-Err : goal.returns-in-Err
+unfolding said
+returns-in-Err c = inr refl

@@ -1,0 +1,50 @@
+-- What the reports on one mounted group tell, and the rows of lsdg.
+use Rattle.std.specs.Prelude.{◌≡◌, Bool, true, List, [], ◌∷◌, map, Option, Some, None, if◌then◌else◌}
+use Rattle.std.specs.List.{filter_map}
+use Rattle.asm_group.specs.Names.{Bytes, is_same_name}
+use Rattle.asm_world.specs.Reports.{check_line}
+use Rattle.asm_world.specs.Text.{ended}
+use Rattle.asm_world.specs.World.{SessionEntry}
+use Rattle.asmcmd.specs.Texts as texts
+use Rattle.asmcmd.specs.declared.rows.GroupRow.{GroupRow}
+use Rattle.group_engine.specs.Mounts.{MountedGroup}
+use Rattle.group_reports.specs.Disks.{disk_rows}
+use Rattle.group_reports.specs.Extents.{all_extents, checked_of}
+use Rattle.session.specs.Naming.{IsGroupOf}
+use Rattle.session.specs.Sessions.{SessionView}
+
+-- ---- lsdg
+
+abbrev pub is_asked : Option Bytes → Bytes → Bool
+is_asked None name = true
+is_asked (Some asked) name = is_same_name name asked
+
+-- the names of the groups that are asked for
+abbrev pub names_asked : Option Bytes → List SessionEntry → List Bytes
+names_asked group entries = filter_map (λ (e : SessionEntry). if is_asked group e.name then Some e.name else None) entries
+
+-- the rows have the names of the groups that are asked for, in the order of mounting
+abbrev pub AreRowsOf : SessionView → Option Bytes → List GroupRow → Type 0
+AreRowsOf session group rows = map (λ (r : GroupRow). r.name) rows ≡ names_asked group session.entries
+
+-- ---- the texts of the reports on one group
+
+abbrev pub disks_told : MountedGroup → Bytes
+disks_told m = ended (texts.disk_lines (map texts.disk_row (disk_rows m.catalog m.register.value.entries)))
+
+abbrev pub templates_told : MountedGroup → Bytes
+templates_told m = ended (texts.template_lines (map texts.template_row m.catalog.tables.templates.templates))
+
+abbrev pub attributes_told : MountedGroup → Bytes
+attributes_told m = ended (texts.attribute_lines (texts.attribute_rows m.catalog.shape m.catalog.tables.templates.settings.attributes))
+
+abbrev pub checked_told : MountedGroup → Bytes
+checked_told m =
+    let checked = checked_of m.register.value.entries (all_extents m.catalog) in
+    ended (check_line checked.extents checked.not_full ∷ [])
+
+-- The text is what is told of the mounted group of a name.
+pub record Tells (session : SessionView) (name : Bytes) (told : MountedGroup → Bytes) (text : Bytes) : Type 0 where
+  pub group : MountedGroup
+  pub is_group : IsGroupOf session name group
+  pub is : text ≡ told group

@@ -1,0 +1,73 @@
+-- Groups of the session by their names, and what is done to one of them.
+use Rattle.std.specs.Prelude.{◌≡◌, ◌⊎◌, ℕ, ◌≤◌, List, [], ◌∷◌, map, Option, Some, None, IfErr, OnOk, Result, if◌then◌else◌}
+use Rattle.asm_group.specs.Names.{Bytes, is_same_name}
+use Rattle.asm_group.specs.Refusal as r
+use Rattle.asm_base.specs.Refusals.{said}
+use Rattle.asm_base.specs.declared.refusal.Refusal.{Refusal}
+use Rattle.asm_world.specs.World.{SessionEntry, SessionState, Mounted, DismountedBy, entry_among}
+use Rattle.bay.specs.State.{BayState}
+use Rattle.group_engine.specs.Mounts.{IsMounted, MountedGroup}
+use Rattle.group_engine.specs.Own.{KeepsGroup}
+use Rattle.session.specs.Effects.{Past}
+use Rattle.session.specs.Sessions.{AreReady, SessionView}
+
+abbrev pub in_state : SessionState → r.Refusal → Type 0
+in_state Mounted refusal = ⊥
+in_state (DismountedBy disk) refusal = refusal ≡ r.Dismounted disk
+
+abbrev pub of_entry : Option SessionEntry → r.Refusal → Type 0
+of_entry None refusal = refusal ≡ r.NoGroup
+of_entry (Some entry) refusal = in_state entry.state refusal
+
+-- The name isn't in the session, or its group is dismounted by this disk. Want of memory is free.
+abbrev pub IsOutCause : List SessionEntry → Bytes → Refusal → Type 0
+IsOutCause entries name refusal = of_entry (entry_among entries name) (said (λ _. []) refusal) ⊎ (said (λ _. []) refusal ≡ r.NoMemory)
+
+-- the group of a name
+abbrev pub group_among : List SessionEntry → List MountedGroup → Bytes → Option MountedGroup
+group_among (entry ∷ entries) (m ∷ groups) name = if is_same_name entry.name name then Some m else group_among entries groups name
+group_among entries groups name = None
+
+-- the groups with another in the place of that of a name
+abbrev pub with_group : List SessionEntry → List MountedGroup → Bytes → MountedGroup → List MountedGroup
+with_group (entry ∷ entries) (m ∷ groups) name new = if is_same_name entry.name name then new ∷ groups else m ∷ with_group entries groups name new
+with_group entries groups name new = groups
+
+-- The group is the mounted one of the name.
+pub record IsGroupOf (session : SessionView) (name : Bytes) (m : MountedGroup) : Type 0 where
+  pub named : group_among session.entries session.groups name ≡ Some m
+  pub mounted : IsMounted m
+
+-- the name and the id of a group of the session
+abbrev pub key_of : SessionEntry → Bytes × ℕ
+key_of entry = (entry.name, entry.id)
+
+-- the mounted group of the name changed as in a call on it
+pub record ChangesGroup (name : Bytes) (old new : SessionView) (s t : BayState) : Type 0 where
+  pub before : MountedGroup
+  pub after : MountedGroup
+  pub is : IsGroupOf old name before
+  pub keeps : KeepsGroup before after s t
+  pub groups : new.groups ≡ with_group old.entries old.groups name after
+
+-- a mounted group has the name
+abbrev pub IsFound : SessionView → Bytes → Type 0
+IsFound session name = (m : MountedGroup) × IsGroupOf session name m
+
+-- All groups stay at their places, under their names and ids, and take the next call.
+pub record CarriesOn (old new : SessionView) (s t : BayState) : Type 0 where
+  pub keys : map key_of new.entries ≡ map key_of old.entries
+  pub place : new.place ≡ old.place
+  pub given : new.given ≡ old.given
+  pub time : new.time ≡ old.time
+  pub ready : AreReady new.groups t
+  pub calls : s.calls ≤ t.calls
+  pub past : Past s t
+
+-- At most the mounted group of a name is worked on.
+pub record WorksOn (name : Bytes) (result : Result (Unit {0}) Refusal) (old new : SessionView) (s t : BayState) : Type 0 where
+  -- ok comes of a mounted group alone, and of any other name the refusal that it has
+  pub found : OnOk result (IsFound old name)
+  pub out : IfErr result (λ refusal. IsFound old name ⊎ IsOutCause old.entries name refusal)
+  pub groups : (new.groups ≡ old.groups) ⊎ ChangesGroup name old new s t
+  pub carries : CarriesOn old new s t

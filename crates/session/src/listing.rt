@@ -1,0 +1,162 @@
+// What ls, find and du tell of the names in a group, and of ls at `+` the mounted groups.
+ghost use Rattle.std.specs.Prelude.{◌≡◌, ◌≤◌, IfErr, IfOk, length, map};
+ghost use Rattle.asm_base.specs.Names.{name_of};
+ghost use Rattle.asm_base.specs.declared.refusal.Refusal.TheVariants as cause;
+ghost use Rattle.asm_world.specs.Reports.{Directory};
+ghost use Rattle.asmcmd.specs.Texts.{listed_row};
+ghost use Rattle.session.specs.GroupRows.{Tells};
+ghost use Rattle.session.specs.Listing.{IsCauseIn, IsListCause, IsPathCause, found_told, usage_told};
+
+use crate::session::Session;
+use asm_base::{Name, NoMemory, Path, Refusal, Text};
+use asmcmd::{LsRow, du_text, find_text};
+use group_engine::Mounted;
+use group_reports::{directory_at, directory_row, paths_found, rows_listed, usage_below};
+use std::alloc::Global;
+use std::cmp::Ordering;
+use verb_paths::{has_star, is_match};
+
+/// A text as the name of a group, or None where it can't be one.
+fn read_name(alloc: Global, text: &[u8]) -> Result<Option<Name>, Refusal>
+    ensures name { IfOk result (λ read. read ≡ name_of 80 text.now) }
+    ensures cause { IfErr result (λ refusal. refusal ≡ cause.NoMemory) }
+{
+    match Name::read(alloc, text, 80) {
+        Ok(name) => Ok(name),
+        Err(NoMemory) => Err(Refusal::NoMemory),
+    }
+}
+
+/// The text of find on a directory.
+fn found_text(alloc: Global, m: &Mounted, dir: &[Name], pattern: &[u8]) -> Result<Vec<u8>, NoMemory>
+    ensures { IfOk result (λ text. text.items ≡ found_told dir.now pattern.now m.now) }
+{
+    let paths = paths_found(alloc, m.name(), m.catalog(), dir, pattern)?;
+    find_text(alloc, &paths)
+}
+
+/// The text of du on a directory.
+fn usage_text(alloc: Global, m: &Mounted, dir: &[Name]) -> Result<Vec<u8>, NoMemory>
+    ensures { IfOk result (λ text. text.items ≡ usage_told dir.now m.now) }
+{
+    let usage = usage_below(alloc, m.name(), m.catalog(), dir)?;
+    du_text(alloc, usage.used, usage.mirrored)
+}
+
+/// How many of some names come before a name in folded order.
+fn names_before(name: &Name, names: &[Name]) -> usize
+    ensures { result ≤ length names.now }
+{
+    let mut before = 0;
+    for other in names {
+        if matches!(other.folded_cmp(name), Ordering::Less) {
+            before += 1;
+        }
+    }
+    before
+}
+
+/// Puts a name among others, which are in folded order.
+fn put_in_order(names: &mut Vec<Name>, name: Name) -> Result<(), NoMemory> {
+    let at = names_before(&name, names);
+    names.insert(at, name).map_err(|_| NoMemory)
+}
+
+/// The rows of directories of these names.
+fn directory_rows(alloc: Global, names: &[Name]) -> Result<Vec<LsRow>, NoMemory>
+    ensures { IfOk result (λ rows. rows.items ≡ map (λ name. listed_row (Directory name)) names.now) }
+{
+    let mut rows = Vec::new(alloc);
+    for name in names {
+        let row = directory_row(alloc, name)?;
+        rows.push(row).map_err(|_| NoMemory)?;
+    }
+    Ok(rows)
+}
+
+impl Session {
+    /// The names of the mounted groups that match a pattern, in folded order.
+    fn names_matching(&self, alloc: Global, pattern: &[u8]) -> Result<Vec<Name>, NoMemory> {
+        let mut names = Vec::new(alloc);
+        for (key, entry) in self.groups.iter() {
+            if entry.is_mounted() && is_match(pattern, key.name.as_bytes()) {
+                put_in_order(&mut names, key.name.copy()?)?;
+            }
+        }
+        Ok(names)
+    }
+
+    /// The rows of these groups.
+    fn rows_matching(&self, alloc: Global, pattern: &[u8]) -> Result<Vec<LsRow>, NoMemory> {
+        let names = self.names_matching(alloc, pattern)?;
+        directory_rows(alloc, &names)
+    }
+
+    fn rows_of_groups(&self, alloc: Global, pattern: &[u8]) -> Result<Vec<LsRow>, Refusal>
+        ensures { IfErr result (λ refusal. refusal ≡ cause.NoMemory) }
+    {
+        match self.rows_matching(alloc, pattern) {
+            Ok(rows) => Ok(rows),
+            Err(NoMemory) => Err(Refusal::NoMemory),
+        }
+    }
+
+    /// The rows of ls at a path from the top, of which the first part is a group's name: at the top the mounted groups.
+    pub fn rows_at(&self, alloc: Global, parts: &[Text]) -> Result<Vec<LsRow>, Refusal>
+        ensures cause { IfErr result (IsListCause self.now parts.now) }
+    {
+        let Some((name, rest)) = parts.split_first() else {
+            return self.rows_of_groups(alloc, b"*");
+        };
+        if rest.is_empty() && has_star(name.as_slice()) {
+            self.rows_of_groups(alloc, name.as_slice())
+        } else {
+            self.rows_in_group(alloc, name.as_slice(), rest)
+        }
+    }
+
+    /// The rows in the mounted group of a name.
+    #[tactic(auto, using(crate::proofs::Telling::in_group, crate::proofs::Telling::out_in, crate::proofs::Telling::no_memory_in, crate::proofs::Telling::no_name))]
+    fn rows_in_group(
+        &self,
+        alloc: Global,
+        name: &[u8],
+        parts: &[Text],
+    ) -> Result<Vec<LsRow>, Refusal>
+        ensures cause { IfErr result (IsCauseIn self.now name.now parts.now) }
+    {
+        let Some(name) = read_name(alloc, name)? else {
+            return Err(Refusal::NoGroup);
+        };
+        let m = self.mounted(alloc, &name)?;
+        rows_listed(alloc, m.name(), m.catalog(), parts)
+    }
+
+    /// What find tells of the directory at a path. Its refusals in order: NoGroup, Dismounted, NoName, NotDirectory.
+    #[tactic(auto, using(crate::proofs::Telling::at_path, crate::proofs::Telling::out_at, crate::proofs::Telling::no_memory_at))]
+    pub fn found_told(&self, alloc: Global, path: &Path, pattern: &[u8]) -> Result<Vec<u8>, Refusal>
+        ensures told { IfOk result (λ text. Tells self.now path.now.group (found_told path.now.parts pattern.now) text.items) }
+        ensures cause { IfErr result (IsPathCause self.now path.now.group path.now.parts) }
+    {
+        let m = self.mounted(alloc, &path.group)?;
+        directory_at(m.catalog(), path)?;
+        match found_text(alloc, m, path.parts.as_slice(), pattern) {
+            Ok(text) => Ok(text),
+            Err(NoMemory) => Err(Refusal::NoMemory),
+        }
+    }
+
+    /// What du tells of the directory at a path. Its refusals in order: NoGroup, Dismounted, NoName, NotDirectory.
+    #[tactic(auto, using(crate::proofs::Telling::at_path, crate::proofs::Telling::out_at, crate::proofs::Telling::no_memory_at))]
+    pub fn usage_told(&self, alloc: Global, path: &Path) -> Result<Vec<u8>, Refusal>
+        ensures told { IfOk result (λ text. Tells self.now path.now.group (usage_told path.now.parts) text.items) }
+        ensures cause { IfErr result (IsPathCause self.now path.now.group path.now.parts) }
+    {
+        let m = self.mounted(alloc, &path.group)?;
+        directory_at(m.catalog(), path)?;
+        match usage_text(alloc, m, path.parts.as_slice()) {
+            Ok(text) => Ok(text),
+            Err(NoMemory) => Err(Refusal::NoMemory),
+        }
+    }
+}
