@@ -1,4 +1,5 @@
-// What no clause says: that a group that was made is mounted again, that it goes, and that an image is made anew.
+// What no clause says: that a group that was made is mounted again, that it goes, and that an image is made anew. A group is
+// dropped by a call in one place, since what goes in place is proved in place.
 use asm_base::{Name, Refusal};
 use bay_mem::MemBay;
 use group_disks::{create_disk, create_group, drop_group, mount_group};
@@ -28,85 +29,100 @@ fn paths(alloc: Global) -> Result<[String; 1], Fail> {
     Ok([d0])
 }
 
-// Creates the group DATA on the image.
-fn create(alloc: Global, bay: &mut MemBay) -> Result<Mounted, Fail> {
+// Creates the group DATA on the image, drops it where it is to go, and tells whether that was done.
+fn create(alloc: Global, bay: &mut MemBay, goes: bool) -> Result<bool, Fail> {
     let name = name(alloc, b"DATA")?;
     if !name.is_name() {
         return Err(Fail::from("a name"));
     }
     let paths = paths(alloc)?;
     let mut ids = Vec::new(alloc);
-    let (_, answer) = create_group(alloc, bay, &paths, &name, b"d0", 7, &mut ids, &[]);
-    answer.map_err(|_| Fail::from("a creation"))
+    let (_, made) = create_group(alloc, bay, &paths, &name, b"d0", 7, &mut ids, &[]);
+    match made {
+        Ok(mut group) => {
+            let done = !goes || drop_group(&mut group, bay, false).is_ok();
+            drop(group);
+            Ok(done)
+        }
+        Err(refusal) => {
+            drop(refusal);
+            Ok(false)
+        }
+    }
 }
 
-// Mounts the group of a name, where none is mounted.
-fn mount(
-    alloc: Global,
-    bay: &mut MemBay,
-    bytes: &[u8],
-) -> Result<Result<Mounted, MountError>, Fail> {
+// What a mount of a name, where none is mounted, comes to: whether the group has the name DATA, or whether there is none.
+#[derive(Clone, Copy, Debug, PartialEq, Eq)]
+enum Mounting {
+    Data,
+    NoGroup,
+    Other,
+}
+
+fn outcome_of(mounted: Result<Mounted, MountError>) -> Mounting {
+    match mounted {
+        Ok(group) => {
+            let is_data = group.name().as_bytes() == b"DATA".as_slice();
+            drop(group);
+            if is_data {
+                Mounting::Data
+            } else {
+                Mounting::Other
+            }
+        }
+        Err(MountError::NoGroup) => Mounting::NoGroup,
+        Err(error) => {
+            drop(error);
+            Mounting::Other
+        }
+    }
+}
+
+fn mount(alloc: Global, bay: &mut MemBay, bytes: &[u8]) -> Result<Mounting, Fail> {
     let name = name(alloc, bytes)?;
     let paths = paths(alloc)?;
-    Ok(mount_group(alloc, bay, &paths, &name, MountOption::NoForce, 1, &[]))
+    let option = MountOption::NoForce;
+    Ok(outcome_of(mount_group(alloc, bay, &paths, &name, option, 1, &[])))
 }
 
-// Makes the image anew, where groups hold these slots.
-fn make(alloc: Global, bay: &mut MemBay, held: &[u32]) -> Result<Result<(), Refusal>, Fail> {
+// Makes the image anew, where groups hold these slots, and tells whether that was done, and whether the disk is taken.
+fn make(alloc: Global, bay: &mut MemBay, held: &[u32]) -> Result<(bool, bool), Fail> {
     let paths = paths(alloc)?;
-    Ok(create_disk(alloc, bay, &paths, b"d0", LEAST, held))
+    let made = create_disk(alloc, bay, &paths, b"d0", LEAST, held);
+    let is_taken = matches!(made, Err(Refusal::DiskTaken { .. }));
+    Ok((made.is_ok(), is_taken))
 }
+
+const DONE: (bool, bool) = (true, false);
+
+const TAKEN: (bool, bool) = (false, true);
 
 #[test]
 fn new_group_is_mounted_again(rt: HostRuntime) -> Result<(), Fail> {
     let mut bay = MemBay::new(rt.alloc(), &[Some(LEAST)]).map_err(|_| "memory")?;
-    let _ = create(rt.alloc(), &mut bay)?;
-    let Ok(group) = mount(rt.alloc(), &mut bay, b"data")? else {
-        return Err(Fail::from("a mount"));
-    };
-    assert!(rt; group.name().as_bytes() == b"DATA".as_slice());
-    assert!(rt;
-        matches!(
-            mount(rt.alloc(), &mut bay, b"FRA")?,
-            Err(MountError::NoGroup)
-        )
-    );
+    assert!(rt; create(rt.alloc(), &mut bay, false)?);
+    assert!(rt; mount(rt.alloc(), &mut bay, b"data")? == Mounting::Data);
+    assert!(rt; mount(rt.alloc(), &mut bay, b"FRA")? == Mounting::NoGroup);
     Ok(())
 }
 
 #[test]
 fn dropped_group_leaves_its_disk(rt: HostRuntime) -> Result<(), Fail> {
     let mut bay = MemBay::new(rt.alloc(), &[Some(LEAST)]).map_err(|_| "memory")?;
-    let mut group = create(rt.alloc(), &mut bay)?;
-    assert!(rt; drop_group(&mut group, &mut bay, false).is_ok());
-    assert!(rt;
-        matches!(
-            mount(rt.alloc(), &mut bay, b"DATA")?,
-            Err(MountError::NoGroup)
-        )
-    );
-    let _ = create(rt.alloc(), &mut bay)?;
+    assert!(rt; create(rt.alloc(), &mut bay, true)?);
+    assert!(rt; mount(rt.alloc(), &mut bay, b"DATA")? == Mounting::NoGroup);
+    assert!(rt; create(rt.alloc(), &mut bay, false)?);
     Ok(())
 }
 
 #[test]
 fn image_is_made_anew(rt: HostRuntime) -> Result<(), Fail> {
     let mut bay = MemBay::new(rt.alloc(), &[None]).map_err(|_| "memory")?;
-    assert!(rt; make(rt.alloc(), &mut bay, &[])?.is_ok());
-    let mut group = create(rt.alloc(), &mut bay)?;
-    assert!(rt;
-        matches!(
-            make(rt.alloc(), &mut bay, &[])?,
-            Err(Refusal::DiskTaken { .. })
-        )
-    );
-    assert!(rt; drop_group(&mut group, &mut bay, false).is_ok());
-    assert!(rt;
-        matches!(
-            make(rt.alloc(), &mut bay, &[0])?,
-            Err(Refusal::DiskTaken { .. })
-        )
-    );
-    assert!(rt; make(rt.alloc(), &mut bay, &[])?.is_ok());
+    assert!(rt; make(rt.alloc(), &mut bay, &[])? == DONE);
+    assert!(rt; create(rt.alloc(), &mut bay, true)?);
+    assert!(rt; make(rt.alloc(), &mut bay, &[0])? == TAKEN);
+    assert!(rt; make(rt.alloc(), &mut bay, &[])? == DONE);
+    assert!(rt; create(rt.alloc(), &mut bay, false)?);
+    assert!(rt; make(rt.alloc(), &mut bay, &[])? == TAKEN);
     Ok(())
 }
