@@ -28,10 +28,10 @@ pub fn create(alloc: Global, bay: &mut MemBay) -> Result<bool, Fail> {
         return Err(Fail::from("a name"));
     }
     let mut ids = Vec::new(alloc);
-    Ok(matches!(
-        create_group(alloc, bay, &paths, &name, b"d0", 7, &mut ids, &[]),
-        (Some(7), Ok(_))
-    ))
+    let (id, made) = create_group(alloc, bay, &paths, &name, b"d0", 7, &mut ids, &[]);
+    let is_made = made.is_ok();
+    drop(made);
+    Ok(is_made && id == Some(7))
 }
 
 #[test]

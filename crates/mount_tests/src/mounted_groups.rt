@@ -14,8 +14,15 @@ fn mounted_id(alloc: Global, bay: &mut MemBay, now: u64) -> Result<Option<u64>, 
         .quorate(alloc, bay, MountOption::NoForce)
         .map_err(|_| "quorate")?;
     match quorate.recover(alloc, bay, now) {
-        Ok(parts) => Ok(Some(parts.id)),
-        Err(_) => Ok(None),
+        Ok(parts) => {
+            let id = parts.id;
+            drop(parts);
+            Ok(Some(id))
+        }
+        Err(error) => {
+            drop(error);
+            Ok(None)
+        }
     }
 }
 
