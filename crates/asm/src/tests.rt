@@ -153,7 +153,7 @@ fn scripts_are_answered(rt: HostRuntime) -> Result<(), Fail> {
             megabytes: 25,
             script: b"cd +\npwd\ncd +DATA\n",
             status: 1,
-            output: b"ok\n+\nok\nerror 1 Syntax 0\n",
+            output: b"ok\n+\nok\nerror 2 NoGroup\n",
             replies: 3,
         },
         Row {
@@ -192,12 +192,12 @@ fn texts_are_refused_at_their_places(rt: HostRuntime) -> Result<(), Fail> {
     let rows: [(&[u8], &[u8]); 12] = [
         (b"ALTER DISKGROUP data ADD", b"error 1 Syntax 24\n"),
         (b"pwd\r\n", b"error 1 Syntax 3\n"),
-        (b"du \n", b"error 1 Syntax 0\n"),
+        (b"rm +d/a\n", b"error 1 Syntax 0\n"),
         (b"lsx", b"error 1 Syntax 2\n"),
         (b"LS", b"error 1 Syntax 0\n"),
         (b"CREx", b"error 1 Syntax 3\n"),
         (b"cp ./a ./b", b"error 1 Syntax 8\n"),
-        (b"ALTER DISKGROUP data CHECK;", b"error 1 Syntax 0\n"),
+        (b"ALTER DISKGROUP data UNDROP DISKS;", b"error 1 Syntax 0\n"),
         (
             b"ALTER DISKGROUP data ADD VOLUME v;",
             b"error 1 Syntax 25\n",
@@ -321,14 +321,14 @@ fn failing_streams_end_the_run(rt: HostRuntime) -> Result<(), Fail> {
     };
     let report = ran(alloc, "/d0", b"du\nlsattr d", bay, &reads)?;
     assert!(rt; report.status == 3 && report.replies == 1);
-    assert_eq!(rt; report.sink.bytes(), b"error 1 Syntax 0\n".as_slice());
+    assert_eq!(rt; report.sink.bytes(), b"error 2 NoGroup\n".as_slice());
     let writes = Faults {
         writes: &[2],
         ..NONE
     };
     let report = ran(alloc, "/d0", b"du\nlsattr d\ndu\n", report.bay, &writes)?;
     assert!(rt; report.status == 4 && report.replies == 1);
-    assert_eq!(rt; report.sink.bytes(), b"error 1 Syntax 0\n".as_slice());
+    assert_eq!(rt; report.sink.bytes(), b"error 2 NoGroup\n".as_slice());
     Ok(())
 }
 
