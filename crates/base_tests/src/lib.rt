@@ -13,6 +13,8 @@ mod layouts;
 #[cfg(test)]
 mod pages;
 #[cfg(test)]
+mod play;
+#[cfg(test)]
 mod refusals;
 #[cfg(test)]
 mod rows;
