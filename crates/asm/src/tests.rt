@@ -189,9 +189,10 @@ fn scripts_are_answered(rt: HostRuntime) -> Result<(), Fail> {
 #[test]
 fn texts_are_refused_at_their_places(rt: HostRuntime) -> Result<(), Fail> {
     let alloc = rt.alloc();
-    let rows: [(&[u8], &[u8]); 11] = [
+    let rows: [(&[u8], &[u8]); 12] = [
         (b"ALTER DISKGROUP data ADD", b"error 1 Syntax 24\n"),
         (b"pwd\r\n", b"error 1 Syntax 3\n"),
+        (b"rm +d/a\n", b"error 1 Syntax 0\n"),
         (b"lsx", b"error 1 Syntax 2\n"),
         (b"LS", b"error 1 Syntax 0\n"),
         (b"CREx", b"error 1 Syntax 3\n"),

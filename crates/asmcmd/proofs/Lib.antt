@@ -5,4 +5,3 @@ pub mod Lines
 pub mod Endings
 pub mod Shown
 pub mod EqualBytes
-pub mod PutRuns

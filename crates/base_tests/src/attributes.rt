@@ -1,8 +1,8 @@
 // Values of attributes: what a creation makes of them, and what SET ATTRIBUTE may change.
-use crate::play::{Wrong, table};
 use asm_base::GroupKind;
 use attribute_values::{Creation, is_version, repair_seconds, with_attribute};
 use std::alloc::Global;
+use std::test::*;
 use template_directory::Settings;
 
 /// An attribute's name and its value.
@@ -38,24 +38,13 @@ fn told(creation: &Creation) -> Told {
     )
 }
 
-/// Whether this is told of a creation of external redundancy.
-fn tells(creation: Creation, wanted: Told) -> bool {
-    let is_told = creation.shape.kind == GroupKind::External && told(&creation) == wanted;
-    drop(creation);
-    is_told
-}
-
 fn is_told(alloc: Global, all: &[Given], wanted: Option<Told>) -> bool {
-    match created(alloc, all) {
-        Some(Some(creation)) => match wanted {
-            Some(wanted) => tells(creation, wanted),
-            None => {
-                drop(creation);
-                false
-            }
-        },
-        Some(None) => wanted.is_none(),
-        None => false,
+    match (created(alloc, all), wanted) {
+        (Some(Some(creation)), Some(wanted)) => {
+            creation.shape.kind == GroupKind::External && told(&creation) == wanted
+        }
+        (Some(None), None) => true,
+        _ => false,
     }
 }
 
@@ -85,7 +74,11 @@ const GIVEN: [Row; 3] = [
     ),
 ];
 
-/// The last value of an attribute holds, and whether a unit has eight sectors goes by the last values alone.
+#[test]
+fn attributes_of_a_creation(rt: HostRuntime) {
+    assert_eq!(rt; other_row(rt.alloc(), &GIVEN), None);
+}
+
 const IN_TURN: [Row; 4] = [
     (
         &[
@@ -121,6 +114,12 @@ const IN_TURN: [Row; 4] = [
     ),
 ];
 
+/// The last value of an attribute holds, and whether a unit has eight sectors goes by the last values alone.
+#[test]
+fn last_value_holds(rt: HostRuntime) {
+    assert_eq!(rt; other_row(rt.alloc(), &IN_TURN), None);
+}
+
 /// An attribute, and whether a creation may give it.
 const ALLOWED: [(Given, bool); 9] = [
     ((b"sector_size", b"1024"), false),
@@ -135,32 +134,25 @@ const ALLOWED: [(Given, bool); 9] = [
 ];
 
 fn is_allowed(alloc: Global, given: Given) -> Option<bool> {
-    match created(alloc, &[given]) {
-        Some(creation) => {
-            let is_allowed = creation.is_some();
-            drop(creation);
-            Some(is_allowed)
-        }
-        None => None,
-    }
+    Some(created(alloc, &[given])?.is_some())
 }
 
-/// The place of an attribute that isn't so.
-fn other_allowed(alloc: Global) -> Option<usize> {
-    ALLOWED.iter().position(|(given, wanted)| is_allowed(alloc, *given) != Some(*wanted))
+#[test]
+fn refused_values(rt: HostRuntime) {
+    for (given, wanted) in ALLOWED {
+        assert_eq!(rt; is_allowed(rt.alloc(), given), Some(wanted));
+    }
 }
 
 /// The usual settings with an attribute that may be set at any time. The inner None where it is refused.
 fn set(alloc: Global, given: Given) -> Option<Option<Settings>> {
     let (name, value) = given;
     let usual = Settings::usual(alloc);
-    let set = if usual.is_allowed() {
+    if usual.is_allowed() {
         with_attribute(alloc, &usual, name, value).ok()
     } else {
         None
-    };
-    drop(usual);
-    set
+    }
 }
 
 /// The repair time in seconds, and the lengths of the texts of compatible.asm, compatible.rdbms and compatible.advm.
@@ -177,11 +169,7 @@ fn told_set(settings: &Settings) -> Set {
 
 fn is_set(alloc: Global, given: Given, wanted: Option<Set>) -> bool {
     match set(alloc, given) {
-        Some(Some(settings)) => {
-            let told = told_set(&settings);
-            drop(settings);
-            wanted == Some(told)
-        }
+        Some(Some(settings)) => wanted == Some(told_set(&settings)),
         Some(None) => wanted.is_none(),
         None => false,
     }
@@ -193,10 +181,11 @@ const SET: [(Given, Option<Set>); 3] = [
     ((b"au_size", b"4M"), None),
 ];
 
-/// The place of an attribute that isn't set so.
-fn other_set(alloc: Global) -> Option<usize> {
-    SET.iter()
-        .position(|(given, wanted)| !is_set(alloc, *given, *wanted))
+#[test]
+fn attributes_at_any_time(rt: HostRuntime) {
+    for (given, wanted) in SET {
+        assert!(rt; is_set(rt.alloc(), given, wanted));
+    }
 }
 
 /// Repair times, and their seconds.
@@ -208,10 +197,15 @@ const TIMES: [(&[u8], Option<u64>); 5] = [
     (b"1.25h", None),
 ];
 
-fn other_time() -> Option<usize> {
-    TIMES
-        .iter()
-        .position(|(time, wanted)| repair_seconds(time) != *wanted)
+fn seconds(time: &[u8]) -> Option<u64> {
+    repair_seconds(time)
+}
+
+#[test]
+fn repair_times(rt: HostRuntime) {
+    for (time, wanted) in TIMES {
+        assert_eq!(rt; seconds(time), wanted);
+    }
 }
 
 const VERSIONS: [(&[u8], bool); 4] = [
@@ -221,17 +215,13 @@ const VERSIONS: [(&[u8], bool); 4] = [
     (b"11.2.", false),
 ];
 
-fn other_version() -> Option<usize> {
-    VERSIONS
-        .iter()
-        .position(|(text, wanted)| is_version(text) != *wanted)
+fn may_be_version(text: &[u8]) -> bool {
+    is_version(text)
 }
 
-pub fn play_rows(alloc: Global) -> Result<(), Wrong> {
-    table("attributes of a creation", other_row(alloc, &GIVEN))?;
-    table("last value holds", other_row(alloc, &IN_TURN))?;
-    table("refused values", other_allowed(alloc))?;
-    table("attributes at any time", other_set(alloc))?;
-    table("repair times", other_time())?;
-    table("versions", other_version())
+#[test]
+fn versions(rt: HostRuntime) {
+    for (text, wanted) in VERSIONS {
+        assert_eq!(rt; may_be_version(text), wanted);
+    }
 }

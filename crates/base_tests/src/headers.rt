@@ -1,30 +1,23 @@
 // Headers of disks in blocks.
 use crate::blocks::has_at;
-use crate::play::{Wrong, row};
 use asm_base::{Block, GroupKind, Name};
 use disk_header::{Header, decode, encode, is_header};
 use std::alloc::Global;
+use std::test::*;
 
 fn name(alloc: Global, bytes: &[u8]) -> Option<Name> {
     Name::read(alloc, bytes, 30).ok().flatten()
 }
 
-/// Both values, where both are there.
-fn both<A: Drop, B: Drop>(first: Option<A>, second: Option<B>) -> Option<(A, B)> {
-    Some((first?, second?))
-}
-
 fn header(alloc: Global) -> Option<Header> {
-    let names = both(name(alloc, b"DATA_0003"), name(alloc, b"fg1"));
-    let (group, (disk, failgroup)) = both(name(alloc, b"DATA"), names)?;
     Some(Header {
-        group,
+        group: name(alloc, b"DATA")?,
         id: 0x0102030405060708,
         number: 3,
         birth: 4,
         kind: GroupKind::Normal,
-        disk,
-        failgroup,
+        disk: name(alloc, b"DATA_0003")?,
+        failgroup: name(alloc, b"fg1")?,
         quorum: false,
         au_size: 1_048_576,
         sector: 512,
@@ -33,38 +26,25 @@ fn header(alloc: Global) -> Option<Header> {
     })
 }
 
-/// The block of a header of the format.
-fn block_of(header: &Header) -> Option<Block> {
-    if !is_header(header) {
+/// The block of the header.
+fn block(alloc: Global) -> Option<Block> {
+    let header = header(alloc)?;
+    if !is_header(&header) {
         return None;
     }
     let mut block = Block::zeros();
-    encode(header, &mut block);
+    encode(&header, &mut block);
     Some(block)
-}
-
-/// The block of the header.
-fn block(alloc: Global) -> Option<Block> {
-    match header(alloc) {
-        Some(header) => {
-            let block = block_of(&header);
-            drop(header);
-            block
-        }
-        None => None,
-    }
 }
 
 /// Whether a block is that of a header of this group, and its identity and record blocks.
 fn told(alloc: Global, block: &Block, group: &[u8]) -> Option<Option<(bool, u64, u32)>> {
-    match decode(alloc, block) {
-        Ok(Some(read)) => {
-            let told = (read.group.as_bytes() == group, read.id, read.dir_blocks);
-            drop(read);
-            Some(Some(told))
+    match decode(alloc, block).ok()? {
+        Some(read) => {
+            let is_of = read.group.as_bytes() == group;
+            Some(Some((is_of, read.id, read.dir_blocks)))
         }
-        Ok(None) => Some(None),
-        Err(_) => None,
+        None => Some(None),
     }
 }
 
@@ -75,19 +55,13 @@ fn has_places(block: &Block) -> bool {
 }
 
 /// A header is read as it was written, and its first fields stand at their places.
-pub fn play_rows(alloc: Global) -> Result<(), Wrong> {
-    let Some(mut block) = block(alloc) else {
-        return Err(("a header", 0));
-    };
-    row("first fields of a header", has_places(&block))?;
+#[test]
+fn written_and_read(rt: HostRuntime) -> Result<(), Fail> {
+    let mut block = block(rt.alloc()).ok_or("a header")?;
+    assert!(rt; has_places(&block));
     let read = Some((true, 0x0102030405060708, 1_024));
-    row(
-        "a header that is read",
-        told(alloc, &block, b"DATA") == Some(read),
-    )?;
+    assert_eq!(rt; told(rt.alloc(), &block, b"DATA"), Some(read));
     block.bytes[4] = 1;
-    row(
-        "another version",
-        told(alloc, &block, b"DATA") == Some(None),
-    )
+    assert_eq!(rt; told(rt.alloc(), &block, b"DATA"), Some(None));
+    Ok(())
 }

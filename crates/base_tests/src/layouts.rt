@@ -1,8 +1,8 @@
 // Where the bytes of a file lie in its extents.
 ghost use Rattle.striping.specs.Pieces.{IsLayout};
 
-use crate::play::{Wrong, row, table};
 use asm_base::{Span, Stripe};
+use std::test::*;
 use striping::{Layout, extent_of, extents_for, next_piece, units_of};
 
 /// A group with units of 1 MB and 20,000 extents of each size, and one with units of 4 KB and 8.
@@ -36,16 +36,16 @@ fn units(step: u32, index: u64) -> u32 {
 /// Extents of a size of 20,000, and their units.
 const UNITS: [(u64, u32); 4] = [(19_999, 1), (20_000, 4), (39_999, 4), (40_000, 16)];
 
-fn other_units() -> Option<usize> {
-    UNITS
-        .iter()
-        .position(|(index, wanted)| units(20_000, *index) != *wanted)
+#[test]
+fn extents_grow(rt: HostRuntime) {
+    for (index, wanted) in UNITS {
+        assert_eq!(rt; units(20_000, index), wanted);
+    }
 }
 
 /// A byte of a file, and the extent and the byte of it where it lies.
 type Place = (Group, Stripe, u64, (u64, u64));
 
-/// Extents of a coarse file follow one another, and the chunks of a fine one go round.
 const PLACES: [Place; 8] = [
     (Group::Usual, Stripe::Coarse, 20_975_714_304, (20_001, 0)),
     (Group::Usual, Stripe::Coarse, 104_857_600_000, (40_000, 0)),
@@ -62,8 +62,12 @@ fn place(group: Group, stripe: Stripe, byte: u64) -> (u64, u64) {
     extent_of(layout(group, stripe), byte)
 }
 
-fn other_place() -> Option<usize> {
-    PLACES.iter().position(|(group, stripe, byte, wanted)| place(*group, *stripe, *byte) != *wanted)
+/// Extents of a coarse file follow one another, and the chunks of a fine one go round.
+#[test]
+fn bytes_have_places(rt: HostRuntime) {
+    for (group, stripe, byte, wanted) in PLACES {
+        assert_eq!(rt; place(group, stripe, byte), wanted);
+    }
 }
 
 /// The size of a file, and how many extents it has.
@@ -82,9 +86,11 @@ fn extents(group: Group, stripe: Stripe, size: u64) -> u64 {
     extents_for(layout(group, stripe), size)
 }
 
-fn other_extents() -> Option<usize> {
-    EXTENTS.iter().position(|(group, stripe, size, wanted)| extents(*group, *stripe, *size)
-        != *wanted)
+#[test]
+fn sizes_have_extents(rt: HostRuntime) {
+    for (group, stripe, size, wanted) in EXTENTS {
+        assert_eq!(rt; extents(group, stripe, size), wanted);
+    }
 }
 
 /// The first piece of bytes 131,000 to 131,199.
@@ -96,16 +102,8 @@ fn piece(stripe: Stripe) -> Option<(u64, u64, u64)> {
     next_piece(layout(Group::Usual, stripe), span)
 }
 
-pub fn play_rows() -> Result<(), Wrong> {
-    table("extents grow", other_units())?;
-    table("bytes have places", other_place())?;
-    table("sizes have extents", other_extents())?;
-    row(
-        "pieces of fine stripes",
-        piece(Stripe::Fine) == Some((0, 131_000, 72)),
-    )?;
-    row(
-        "pieces of coarse stripes",
-        piece(Stripe::Coarse) == Some((0, 131_000, 200)),
-    )
+#[test]
+fn pieces(rt: HostRuntime) {
+    assert_eq!(rt; piece(Stripe::Fine), Some((0, 131_000, 72)));
+    assert_eq!(rt; piece(Stripe::Coarse), Some((0, 131_000, 200)));
 }

@@ -13,8 +13,6 @@ mod layouts;
 #[cfg(test)]
 mod pages;
 #[cfg(test)]
-mod play;
-#[cfg(test)]
 mod refusals;
 #[cfg(test)]
 mod rows;

@@ -1,8 +1,8 @@
 // Blocks that are pages and blocks that aren't, by the table of the format.
 use crate::blocks::put_at;
-use crate::play::{Wrong, row, table};
 use asm_base::Block;
 use directory_page::is_page;
+use std::test::*;
 
 /// Bytes of a value, and where they begin.
 type Field = (usize, &'static [u8]);
@@ -226,6 +226,27 @@ fn other_row(rows: &[(Record, bool)]) -> Option<usize> {
     None
 }
 
+#[test]
+fn operations(rt: HostRuntime) {
+    assert_eq!(rt; other_row(&OPERATIONS), None);
+}
+
+#[test]
+fn files(rt: HostRuntime) {
+    assert_eq!(rt; other_row(&FILES), None);
+}
+
+#[test]
+fn disks_and_templates(rt: HostRuntime) {
+    assert_eq!(rt; other_row(&DISKS), None);
+    assert_eq!(rt; other_row(&TEMPLATES), None);
+}
+
+#[test]
+fn nodes_and_settings(rt: HostRuntime) {
+    assert_eq!(rt; other_row(&NODES), None);
+}
+
 /// Whether a block with another byte is a page.
 fn is_page_with(block: &Block, at: usize, byte: u8) -> bool {
     let mut bytes = block.bytes;
@@ -233,29 +254,21 @@ fn is_page_with(block: &Block, at: usize, byte: u8) -> bool {
     is_page(&Block { bytes })
 }
 
+/// Zeros are a page, and zeros but for one byte aren't.
+#[test]
+fn zeros_and_other_bytes(rt: HostRuntime) {
+    let zeros = Block::zeros();
+    assert!(rt; is_page_with(&zeros, 4095, 0));
+    assert!(rt; !is_page_with(&zeros, 4095, 1));
+}
+
 /// Bytes that a record's block doesn't have: behind the value, in the frame, and in the tag.
 const OTHER: [(usize, u8); 3] = [(4000, 1), (16, 1), (3, b'H')];
 
-/// The place of a byte with which the record of a rebalance is still a page.
-fn other_byte() -> Option<usize> {
+#[test]
+fn bytes_behind_the_value(rt: HostRuntime) {
     let rebalance = block((4, 0, 0, 2, ZEROS, &[(1, b"\x04")]));
-    for (place, (at, byte)) in OTHER.iter().enumerate() {
-        if is_page_with(&rebalance, *at, *byte) {
-            return Some(place);
-        }
+    for (at, byte) in OTHER {
+        assert!(rt; !is_page_with(&rebalance, at, byte));
     }
-    None
-}
-
-pub fn play_rows() -> Result<(), Wrong> {
-    table("pages of operations", other_row(&OPERATIONS))?;
-    table("pages of files", other_row(&FILES))?;
-    table("pages of disks", other_row(&DISKS))?;
-    table("pages of templates", other_row(&TEMPLATES))?;
-    table("pages of nodes and settings", other_row(&NODES))?;
-    // Zeros are a page, and zeros but for one byte aren't.
-    let zeros = Block::zeros();
-    row("zeros", is_page_with(&zeros, 4095, 0))?;
-    row("zeros but for one byte", !is_page_with(&zeros, 4095, 1))?;
-    table("bytes behind the value", other_byte())
 }

@@ -1,18 +1,12 @@
 // The lines of refusals, of each form of their arguments.
-use crate::play::{Wrong, row, table};
 use asm_base::{DiskRef, ExtentId, Limited, List, Mode, Refusal, no_memory_line};
 use std::alloc::Global;
+use std::test::*;
 
 /// Whether a refusal has this line, where a disk's number stands for DATA_0000.
-fn has_line(alloc: Global, refusal: Refusal, line: &[u8]) -> bool {
-    let text = refusal.line(alloc, b"DATA_0000");
-    drop(refusal);
-    match text {
-        Ok(text) => {
-            let is_same = text.as_slice() == line;
-            drop(text);
-            is_same
-        }
+fn has_line(alloc: Global, refusal: &Refusal, line: &[u8]) -> bool {
+    match refusal.line(alloc, b"DATA_0000") {
+        Ok(text) => text.as_slice() == line,
         Err(_) => false,
     }
 }
@@ -39,24 +33,21 @@ fn refusal_of(alloc: Global, cause: Spelt, text: &[u8]) -> Option<Refusal> {
 
 fn has_spelt_line(alloc: Global, cause: Spelt, text: &[u8], line: &[u8]) -> bool {
     match refusal_of(alloc, cause, text) {
-        Some(refusal) => has_line(alloc, refusal, line),
+        Some(refusal) => has_line(alloc, &refusal, line),
         None => false,
     }
 }
 
 /// A cause without arguments, one with a number, and one with a disk.
-fn play_short(alloc: Global) -> Result<(), Wrong> {
-    let exists = has_line(alloc, Refusal::GroupExists, b"error 3 GroupExists");
-    row("a cause without arguments", exists)?;
-    let syntax = has_line(alloc, Refusal::Syntax { at: 24 }, b"error 1 Syntax 24");
-    row("a cause with a number", syntax)?;
-    let disk = DiskRef::Number(0);
-    let fault = has_line(
-        alloc,
-        Refusal::WriteFault { disk },
-        b"error 31 WriteFault DATA_0000",
-    );
-    row("a cause with a disk", fault)
+fn have_short_lines(alloc: Global) -> [bool; 3] {
+    let fault = Refusal::WriteFault {
+        disk: DiskRef::Number(0),
+    };
+    [
+        has_line(alloc, &Refusal::GroupExists, b"error 3 GroupExists"),
+        has_line(alloc, &Refusal::Syntax { at: 24 }, b"error 1 Syntax 24"),
+        has_line(alloc, &fault, b"error 31 WriteFault DATA_0000"),
+    ]
 }
 
 const EXTENT: ExtentId = ExtentId {
@@ -64,30 +55,24 @@ const EXTENT: ExtentId = ExtentId {
     index: 16,
 };
 
-/// Causes with two numbers, with an extent, with a disk and its mode, and with a text and a limit.
-fn play_long(alloc: Global) -> Result<(), Wrong> {
+/// Causes with two numbers, with a disk and its mode, and with a text and a limit.
+fn have_long_lines(alloc: Global) -> [bool; 4] {
     let majority = Refusal::NoMajority { seen: 0, need: 1 };
-    let is_right = has_line(alloc, majority, b"error 9 NoMajority 0 1");
-    row("a cause with two numbers", is_right)?;
     let space = Refusal::NoSpace { extent: EXTENT };
-    row(
-        "a cause with an extent",
-        has_line(alloc, space, b"error 25 NoSpace 256 16"),
-    )?;
     let state = Refusal::DiskState {
         disk: DiskRef::Number(1),
         mode: Mode::Online,
     };
-    let is_right = has_line(alloc, state, b"error 34 DiskState DATA_0000 Online");
-    row("a cause with a disk and its mode", is_right)?;
     let many = Refusal::TooMany {
         kind: Limited::Groups,
         limit: 8,
     };
-    row(
-        "a cause with a limit",
-        has_line(alloc, many, b"error 36 TooMany groups 8"),
-    )
+    [
+        has_line(alloc, &majority, b"error 9 NoMajority 0 1"),
+        has_line(alloc, &space, b"error 25 NoSpace 256 16"),
+        has_line(alloc, &state, b"error 34 DiskState DATA_0000 Online"),
+        has_line(alloc, &many, b"error 36 TooMany groups 8"),
+    ]
 }
 
 const SPELT: [(Spelt, &[u8], &[u8]); 3] = [
@@ -104,14 +89,16 @@ const SPELT: [(Spelt, &[u8], &[u8]); 3] = [
     ),
 ];
 
-fn other_spelt(alloc: Global) -> Option<usize> {
-    SPELT.iter().position(|(cause, text, line)| !has_spelt_line(alloc, *cause, text, line))
+#[test]
+fn causes_without_a_text(rt: HostRuntime) {
+    assert_eq!(rt; have_short_lines(rt.alloc()), [true; 3]);
+    assert_eq!(rt; have_long_lines(rt.alloc()), [true; 4]);
+    assert_eq!(rt; no_memory_line(), b"error 39 NoMemory".as_slice());
 }
 
-pub fn play_rows(alloc: Global) -> Result<(), Wrong> {
-    play_short(alloc)?;
-    play_long(alloc)?;
-    let line = b"error 39 NoMemory".as_slice();
-    row("the line of want of memory", no_memory_line() == line)?;
-    table("causes with a text", other_spelt(alloc))
+#[test]
+fn causes_with_a_text(rt: HostRuntime) {
+    for (cause, text, line) in SPELT {
+        assert!(rt; has_spelt_line(rt.alloc(), cause, text, line));
+    }
 }

@@ -3,12 +3,12 @@ ghost use Rattle.std.specs.Prelude.{◌≡◌, IsTrue};
 ghost use Rattle.asm_formats.specs.Status.{ascends_from};
 ghost use Rattle.asm_placement.specs.DiskSets.{numbers};
 
-use crate::play::{Wrong, row};
 use allocator::Units;
 use asm_base::{DiskSet, Home, Homes, Mode};
 use partnership::choose_row;
 use status_table::PstEntry;
 use std::alloc::Global;
+use std::test::*;
 
 /// An Online disk that is a failure group of its own.
 fn single(number: u8, partners: u64) -> PstEntry
@@ -39,12 +39,13 @@ fn unused(alloc: Global, units: u8) -> Option<Units> {
     Units::new(alloc, 9, units as u32).ok()
 }
 
-/// Disks of so many units.
-fn put_unused(alloc: Global, disks: &mut Vec<Units>, units: [u8; 4]) -> Option<()> {
-    for count in units {
-        disks.push(unused(alloc, count)?).ok()?;
-    }
-    Some(())
+fn four_unused(alloc: Global, units: [u8; 4]) -> Option<[Units; 4]> {
+    Some([
+        unused(alloc, units[0])?,
+        unused(alloc, units[1])?,
+        unused(alloc, units[2])?,
+        unused(alloc, units[3])?,
+    ])
 }
 
 /// What stands in a row before homes are chosen.
@@ -87,51 +88,38 @@ fn used(units: &[Units]) -> Option<[u32; 4]> {
     }
 }
 
-/// What is told of the row on these disks.
-fn told_of(units: &mut [Units]) -> Option<Told> {
-    let (count, [first, second, third]) = row_on(units);
-    let row = [places(&first), places(&second), places(&third)];
-    Some((count, row, used(units)?))
-}
-
-/// The same on disks of so many units.
+/// What is told of the row on disks of so many units.
 fn told(alloc: Global, units: [u8; 4]) -> Option<Told> {
-    let mut disks = Vec::new(alloc);
-    let told = match put_unused(alloc, &mut disks, units) {
-        Some(()) => told_of(&mut disks),
-        None => None,
-    };
-    drop(disks);
-    told
+    let mut units = four_unused(alloc, units)?;
+    let (count, [first, second, third]) = row_on(&mut units);
+    let row = [places(&first), places(&second), places(&third)];
+    Some((count, row, used(&units)?))
 }
 
 /// The disks have 8, 4, 6 and 9 user units. Extent 7 goes to disks 0 and 1, and then extent 8 to the others, which are empty.
 /// By their fills the disks come as 0, 1, 3 and 2 after that; disk 1 has three units left, so extent 9 goes to disks 0 and 3.
-const IN_TURN: Told = (
-    3,
-    [
+#[test]
+fn homes_in_turn(rt: HostRuntime) -> Result<(), Fail> {
+    let told = told(rt.alloc(), [17, 13, 15, 18]).ok_or("memory")?;
+    let row = [
         [Some((0, 9)), Some((1, 9)), None],
         [Some((2, 9)), Some((3, 9)), None],
         [Some((0, 10)), Some((3, 13)), None],
-    ],
-    [5, 1, 4, 8],
-);
+    ];
+    assert_eq!(rt; told, (3, row, [5, 1, 4, 8]));
+    Ok(())
+}
 
 /// Disk 3 has 5 user units, of which the second extent leaves one. So disk 0 alone has room for the last extent, and no
 /// partner of it: the row ends before that, and its place stays.
-const NO_SPACE: Told = (
-    2,
-    [
+#[test]
+fn no_space_for_the_last(rt: HostRuntime) -> Result<(), Fail> {
+    let told = told(rt.alloc(), [17, 13, 15, 14]).ok_or("memory")?;
+    let row = [
         [Some((0, 9)), Some((1, 9)), None],
         [Some((2, 9)), Some((3, 9)), None],
         [Some((63, 1)), None, None],
-    ],
-    [1, 1, 4, 4],
-);
-
-pub fn play_rows(alloc: Global) -> Result<(), Wrong> {
-    let homes = told(alloc, [17, 13, 15, 18]);
-    row("homes in turn", homes == Some(IN_TURN))?;
-    let homes = told(alloc, [17, 13, 15, 14]);
-    row("no space for the last", homes == Some(NO_SPACE))
+    ];
+    assert_eq!(rt; told, (2, row, [1, 1, 4, 4]));
+    Ok(())
 }

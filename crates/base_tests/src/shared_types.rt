@@ -1,12 +1,12 @@
 // Names, paths, lists and records.
 use crate::blocks::{has_at, with_last};
-use crate::play::{Wrong, row, table};
 use asm_base::{
     Block, Key, List, Name, Path, Reader, Records, Value, Writer, decode_record, encode_record,
     put_text, take_name, take_text,
 };
 use std::alloc::Global;
 use std::cmp::Ordering;
+use std::test::*;
 
 /// A part of a path. The inner None where the bytes aren't one.
 fn name(alloc: Global, bytes: &[u8]) -> Option<Option<Name>> {
@@ -15,14 +15,9 @@ fn name(alloc: Global, bytes: &[u8]) -> Option<Option<Name>> {
 
 /// Whether a part of a path, if the bytes are one, may be the name of a group, a disk or a template.
 fn may_be_name(alloc: Global, bytes: &[u8]) -> Option<Option<bool>> {
-    match name(alloc, bytes) {
-        Some(Some(name)) => {
-            let is_name = name.is_name();
-            drop(name);
-            Some(Some(is_name))
-        }
-        Some(None) => Some(None),
-        None => None,
+    match name(alloc, bytes)? {
+        Some(name) => Some(Some(name.is_name())),
+        None => Some(None),
     }
 }
 
@@ -32,48 +27,35 @@ const NAMES: [(&[u8], Option<bool>); 3] = [
     (b".", None),
 ];
 
-fn other_name(alloc: Global) -> Option<usize> {
-    NAMES.iter().position(|(bytes, wanted)| may_be_name(alloc, bytes) != Some(*wanted))
-}
-
-/// How one name stands to another, and whether it is the same, without regard to case.
-fn order_of(first: Name, second: Name) -> (Ordering, bool) {
-    let order = (first.folded_cmp(&second), first.is_same(&second));
-    drop(first);
-    drop(second);
-    order
-}
-
-/// The same of Data_1 and another name.
-fn order(alloc: Global, other: &[u8]) -> Option<(Ordering, bool)> {
-    match name(alloc, b"Data_1") {
-        Some(Some(data)) => match name(alloc, other) {
-            Some(Some(other)) => Some(order_of(data, other)),
-            _ => {
-                drop(data);
-                None
-            }
-        },
-        _ => None,
+#[test]
+fn names(rt: HostRuntime) {
+    for (bytes, wanted) in NAMES {
+        assert_eq!(rt; may_be_name(rt.alloc(), bytes), Some(wanted));
     }
 }
 
-fn has_bytes(name: Name, bytes: &[u8]) -> bool {
-    let is_same = name.as_bytes() == bytes;
-    drop(name);
-    is_same
+/// How Data_1 stands to a name, and whether it is the same, without regard to case.
+fn order(alloc: Global, other: &[u8]) -> Option<(Ordering, bool)> {
+    let data = name(alloc, b"Data_1")??;
+    let other = name(alloc, other)??;
+    Some((data.folded_cmp(&other), data.is_same(&other)))
+}
+
+#[test]
+fn order_of_names(rt: HostRuntime) {
+    assert_eq!(rt; order(rt.alloc(), b"DATA_1"), Some((Ordering::Equal, true)));
+    assert_eq!(rt; order(rt.alloc(), b"datb_1"), Some((Ordering::Less, false)));
 }
 
 /// Whether a copy of a name is spelt as the name is.
 fn is_copied(alloc: Global, bytes: &[u8]) -> Option<bool> {
-    match name(alloc, bytes) {
-        Some(Some(name)) => {
-            let copy = name.copy();
-            drop(name);
-            Some(has_bytes(copy.ok()?, bytes))
-        }
-        _ => None,
-    }
+    let copy = name(alloc, bytes)??.copy().ok()?;
+    Some(copy.as_bytes() == bytes)
+}
+
+#[test]
+fn copy_of_a_name(rt: HostRuntime) {
+    assert_eq!(rt; is_copied(rt.alloc(), b"Data_1"), Some(true));
 }
 
 /// A block with the fields of a name and of a text.
@@ -95,37 +77,21 @@ fn taken(alloc: Global, name: &[u8], text: &[u8]) -> Option<(bool, u32)> {
         bytes: &block.bytes,
         at: 0,
     };
-    let is_name = has_bytes(take_name(alloc, &mut from, 30).ok()??, name);
-    let is_text = is_text(take_text(alloc, &mut from, 30).ok()??, text);
+    let is_name = take_name(alloc, &mut from, 30).ok()??.as_bytes() == name;
+    let is_text = take_text(alloc, &mut from, 30).ok()??.as_slice() == text;
     Some((is_name && is_text, from.at))
 }
 
-fn is_text(list: List<u8>, bytes: &[u8]) -> bool {
-    let is_same = list.as_slice() == bytes;
-    drop(list);
-    is_same
+#[test]
+fn fields_of_names(rt: HostRuntime) {
+    assert_eq!(rt; taken(rt.alloc(), b"fg1", b"11.2"), Some((true, 62)));
 }
 
 /// The list of two bytes, to which a third is pushed, and then copied.
 fn list(alloc: Global) -> Option<List<u8>> {
-    match List::from_slice(alloc, b"ab") {
-        Ok(mut list) => {
-            let is_pushed = list.push(b'c').is_ok();
-            let copy = list.copy().ok();
-            drop(list);
-            copied(is_pushed, copy)
-        }
-        Err(_) => None,
-    }
-}
-
-/// A copy, where the push was done.
-fn copied(is_pushed: bool, copy: Option<List<u8>>) -> Option<List<u8>> {
-    if is_pushed {
-        return copy;
-    }
-    drop(copy);
-    None
+    let mut list = List::from_slice(alloc, b"ab").ok()?;
+    list.push(b'c').ok()?;
+    list.copy().ok()
 }
 
 const NODE: Key = Key {
@@ -138,54 +104,35 @@ fn value(alloc: Global) -> Option<Value> {
     Value::from_slice(alloc, b"abc").ok()
 }
 
-fn copy_of_value(alloc: Global) -> Option<Value> {
-    match value(alloc) {
-        Some(value) => {
-            let copy = value.copy().ok();
-            drop(value);
-            copy
-        }
-        None => None,
-    }
-}
-
 /// Whether the record of a key is there once a copy of a value is put.
 fn is_put(alloc: Global) -> Option<bool> {
-    let copy = copy_of_value(alloc)?;
     let mut records = Records::new(alloc);
-    let is_inserted = records.insert(NODE, copy).is_ok();
-    let is_there = records.get(NODE).is_some();
-    drop(records);
-    Some(is_inserted && is_there)
+    records.insert(NODE, value(alloc)?.copy().ok()?).ok()?;
+    Some(records.get(NODE).is_some())
 }
 
 fn is_list(alloc: Global, bytes: &[u8]) -> Option<bool> {
-    Some(is_text(list(alloc)?, bytes))
+    Some(list(alloc)?.as_slice() == bytes)
+}
+
+#[test]
+fn lists_and_records(rt: HostRuntime) {
+    assert_eq!(rt; is_list(rt.alloc(), b"abc"), Some(true));
+    assert_eq!(rt; is_put(rt.alloc()), Some(true));
 }
 
 /// The block of a record, written over other bytes.
 fn record(alloc: Global) -> Option<Block> {
-    match value(alloc) {
-        Some(value) => {
-            let mut block = Block { bytes: [9; 4096] };
-            encode_record(&NODE, &value, &mut block);
-            drop(value);
-            Some(block)
-        }
-        None => None,
-    }
+    let mut block = Block { bytes: [9; 4096] };
+    encode_record(&NODE, &value(alloc)?, &mut block);
+    Some(block)
 }
 
 /// Whether the block is that of the record of a key and these bytes. The inner None where it is no record's.
 fn is_of(alloc: Global, block: &Block, bytes: &[u8]) -> Option<Option<bool>> {
-    match decode_record(alloc, block) {
-        Ok(Some((key, value))) => {
-            let is_same = key == NODE && value.as_bytes() == bytes;
-            drop(value);
-            Some(Some(is_same))
-        }
-        Ok(None) => Some(None),
-        Err(_) => None,
+    match decode_record(alloc, block).ok()? {
+        Some((key, value)) => Some(Some(key == NODE && value.as_bytes() == bytes)),
+        None => Some(None),
     }
 }
 
@@ -197,39 +144,31 @@ fn has_places(block: &Block) -> bool {
     ) && has_at(block, 32, b"abc")
 }
 
-/// How many parts a path has, and whether its group is DATA and the last part this.
-fn parts_of(path: &Path, last: &[u8]) -> (usize, bool) {
+/// The places of a record's fields in its block, which is read again.
+#[test]
+fn record_block(rt: HostRuntime) -> Result<(), Fail> {
+    let block = record(rt.alloc()).ok_or("memory")?;
+    assert!(rt; has_places(&block));
+    assert_eq!(rt; is_of(rt.alloc(), &block, b"abc"), Some(Some(true)));
+    assert_eq!(rt;
+        is_of(rt.alloc(), &with_last(&block, 1), b"abc"),
+        Some(None)
+    );
+    Ok(())
+}
+
+/// How many parts a path has, and whether its group is DATA and the last part this. The inner None where the bytes aren't a path.
+fn parts(alloc: Global, bytes: &[u8], last: &[u8]) -> Option<Option<(usize, bool)>> {
+    let Some(path) = Path::read(alloc, bytes).ok()? else {
+        return Some(None);
+    };
+    let path = path.copy().ok()?;
     let is_group = path.group.as_bytes() == b"DATA".as_slice();
     let is_last = match path.parts.as_slice().last() {
         Some(part) => part.as_bytes() == last,
         None => last.is_empty(),
     };
-    (path.parts.len(), is_group && is_last)
-}
-
-/// The same of a copy.
-fn parts_of_copy(path: &Path, last: &[u8]) -> Option<(usize, bool)> {
-    match path.copy() {
-        Ok(copy) => {
-            let parts = parts_of(&copy, last);
-            drop(copy);
-            Some(parts)
-        }
-        Err(_) => None,
-    }
-}
-
-/// The same of a copy of the path of these bytes. The inner None where they aren't a path.
-fn parts(alloc: Global, bytes: &[u8], last: &[u8]) -> Option<Option<(usize, bool)>> {
-    match Path::read(alloc, bytes) {
-        Ok(Some(path)) => {
-            let parts = parts_of_copy(&path, last);
-            drop(path);
-            Some(Some(parts?))
-        }
-        Ok(None) => Some(None),
-        Err(_) => None,
-    }
+    Some(Some((path.parts.len(), is_group && is_last)))
 }
 
 const PATHS: [(&[u8], &[u8], Option<(usize, bool)>); 8] = [
@@ -243,44 +182,9 @@ const PATHS: [(&[u8], &[u8], Option<(usize, bool)>); 8] = [
     (b"+DATA/a/.", b".", None),
 ];
 
-fn other_path(alloc: Global) -> Option<usize> {
-    PATHS.iter().position(|(bytes, last, wanted)| parts(alloc, bytes, last) != Some(*wanted))
-}
-
-/// The places of a record's fields in its block, which is read again.
-fn play_record(alloc: Global) -> Result<(), Wrong> {
-    let Some(block) = record(alloc) else {
-        return Err(("memory", 0));
-    };
-    row("places of a record's fields", has_places(&block))?;
-    row(
-        "a record that is read",
-        is_of(alloc, &block, b"abc") == Some(Some(true)),
-    )?;
-    let other = with_last(&block, 1);
-    row(
-        "a record with a last byte",
-        is_of(alloc, &other, b"abc") == Some(None),
-    )
-}
-
-pub fn play_rows(alloc: Global) -> Result<(), Wrong> {
-    table("names", other_name(alloc))?;
-    row(
-        "one name",
-        order(alloc, b"DATA_1") == Some((Ordering::Equal, true)),
-    )?;
-    row(
-        "order of names",
-        order(alloc, b"datb_1") == Some((Ordering::Less, false)),
-    )?;
-    row("copy of a name", is_copied(alloc, b"Data_1") == Some(true))?;
-    row(
-        "fields of names",
-        taken(alloc, b"fg1", b"11.2") == Some((true, 62)),
-    )?;
-    row("lists", is_list(alloc, b"abc") == Some(true))?;
-    row("records", is_put(alloc) == Some(true))?;
-    play_record(alloc)?;
-    table("paths", other_path(alloc))
+#[test]
+fn paths(rt: HostRuntime) {
+    for (bytes, last, wanted) in PATHS {
+        assert_eq!(rt; parts(rt.alloc(), bytes, last), Some(wanted));
+    }
 }

@@ -1,12 +1,12 @@
 // Status records and claims in blocks, and what changes of a record.
 use crate::blocks::{has_at, with_last};
-use crate::play::{Wrong, row};
 use asm_base::{Block, DiskSet, Mode};
 use status_table::{
     Claim, PstEntry, PstRecord, decode, decode_claim, encode, encode_claim, is_status,
     least_free_failgroup, majority, next_majority, with_births, with_entry, with_gone,
     with_offline, with_repair, with_units, without_entry,
 };
+use std::test::*;
 
 /// The entry of an Online disk in a failure group.
 fn entry(number: u8, failgroup: u8) -> PstEntry {
@@ -69,6 +69,16 @@ fn majorities(block: &Block) -> Option<(u8, u8, u8)> {
     Some((read.count, majority(&read), next_majority(&read)))
 }
 
+/// The places of the fields in a block of version 2.
+#[test]
+fn bytes_of_a_record(rt: HostRuntime) -> Result<(), Fail> {
+    let block = block().ok_or("a record")?;
+    assert!(rt; has_places(&block));
+    assert_eq!(rt; majorities(&block), Some((1, 1, 0)));
+    assert_eq!(rt; majorities(&with_last(&block, 1)), None);
+    Ok(())
+}
+
 /// A block without the set of next holders, as version 1 has it, with a version.
 fn without_next(block: &Block, version: u8) -> Block {
     let mut bytes = [0; 4096];
@@ -76,6 +86,15 @@ fn without_next(block: &Block, version: u8) -> Block {
     bytes[47..4088].copy_from_slice(&block.bytes[55..]);
     bytes[5] = version;
     Block { bytes }
+}
+
+/// A record of version 1, without next holders, is read too.
+#[test]
+fn version_1(rt: HostRuntime) -> Result<(), Fail> {
+    let block = block().ok_or("a record")?;
+    assert_eq!(rt; majorities(&without_next(&block, 2)), None);
+    assert_eq!(rt; majorities(&without_next(&block, 1)), Some((1, 1, 0)));
+    Ok(())
 }
 
 fn claim_block() -> Block {
@@ -90,6 +109,13 @@ fn epoch_of(block: &Block) -> Option<u64> {
 
 /// The tag, the id, the epoch, and zeros.
 const CLAIM: &[u8] = b"ASMC\0\0\0\0\0\0\0\x07\0\0\0\0\0\0\0\x02\0";
+
+#[test]
+fn bytes_of_a_claim(rt: HostRuntime) {
+    let block = claim_block();
+    assert!(rt; has_at(&block, 0, CLAIM));
+    assert_eq!(rt; epoch_of(&block), Some(2));
+}
 
 /// The record with a disk more, in the least free failure group.
 fn joined(status: &PstRecord, number: u8) -> Option<PstRecord> {
@@ -132,11 +158,28 @@ fn joined_told() -> Option<(Places, bool, bool)> {
     Some((places(&status), is_status(&status), is_status(&twice)))
 }
 
+/// A disk that joins gets the least free failure group, and stands in the place of its number.
+#[test]
+fn disks_join(rt: HostRuntime) -> Result<(), Fail> {
+    let told = joined_told().ok_or("room")?;
+    let places = [Some((0, 0)), Some((1, 2)), Some((3, 1)), None];
+    assert_eq!(rt; told, (places, true, false));
+    Ok(())
+}
+
 /// The disks without disk 3, the failure group that is free then, and whether the record is one of the format.
 fn left_told() -> Option<(Places, u8, bool)> {
     let status = without_entry(&three_disks()?, 3);
     let free = least_free_failgroup(&status);
     Some((places(&status), free, is_status(&status)))
+}
+
+#[test]
+fn a_disk_leaves(rt: HostRuntime) -> Result<(), Fail> {
+    let told = left_told().ok_or("room")?;
+    let places = [Some((0, 0)), Some((1, 2)), None, None];
+    assert_eq!(rt; told, (places, 1, true));
+    Ok(())
 }
 
 /// The disks without one that has no entry, and whether the record without a holder of status records is one of the format.
@@ -145,6 +188,14 @@ fn kept_told() -> Option<(Places, bool)> {
     let others = without_entry(&status, 9);
     let without_holder = without_entry(&status, 0);
     Some((places(&others), is_status(&without_holder)))
+}
+
+#[test]
+fn strangers_and_holders(rt: HostRuntime) -> Result<(), Fail> {
+    let told = kept_told().ok_or("room")?;
+    let places = [Some((0, 0)), Some((1, 2)), Some((3, 1)), None];
+    assert_eq!(rt; told, (places, false));
+    Ok(())
 }
 
 /// A disk's mode, its units, the second since which it is offline, and after how many it is dropped.
@@ -164,9 +215,25 @@ fn changed_told() -> Option<[Option<State>; 3]> {
     Some([state(&status, 0), state(&status, 1), state(&status, 2)])
 }
 
+#[test]
+fn one_entry_changes(rt: HostRuntime) -> Result<(), Fail> {
+    let told = changed_told().ok_or("room")?;
+    let repair = Some((Mode::Online, 64, 0, 7));
+    let offline = Some((Mode::Offline, 64, 100, 60));
+    let smaller = Some((Mode::Online, 32, 0, 0));
+    assert_eq!(rt; told, [repair, offline, smaller]);
+    Ok(())
+}
+
 /// Whether a disk may have so many units in a record of the format.
 fn may_have(units: u32) -> bool {
     is_status(&with_units(&one_disk(), 0, units))
+}
+
+#[test]
+fn most_units(rt: HostRuntime) {
+    assert!(rt; may_have(16_777_216));
+    assert!(rt; !may_have(16_777_217));
 }
 
 /// Whether a record is marked gone, its greatest birth, and whether it is one of the format.
@@ -175,52 +242,7 @@ fn gone_told() -> (bool, u64, bool) {
     (status.gone, status.births, is_status(&status))
 }
 
-fn play_blocks() -> Result<(), Wrong> {
-    let Some(block) = block() else {
-        return Err(("a record", 0));
-    };
-    // The places of the fields in a block of version 2.
-    row("places of a record", has_places(&block))?;
-    row(
-        "majorities of a record",
-        majorities(&block) == Some((1, 1, 0)),
-    )?;
-    row(
-        "a record with a last byte",
-        majorities(&with_last(&block, 1)).is_none(),
-    )?;
-    // A record of version 1, without next holders, is read too.
-    row(
-        "version 2 without next holders",
-        majorities(&without_next(&block, 2)).is_none(),
-    )?;
-    row(
-        "version 1",
-        majorities(&without_next(&block, 1)) == Some((1, 1, 0)),
-    )?;
-    let claim = claim_block();
-    row("bytes of a claim", has_at(&claim, 0, CLAIM))?;
-    row("epoch of a claim", epoch_of(&claim) == Some(2))
-}
-
-const THREE: Places = [Some((0, 0)), Some((1, 2)), Some((3, 1)), None];
-
-const TWO: Places = [Some((0, 0)), Some((1, 2)), None, None];
-
-const CHANGED: [Option<State>; 3] = [
-    Some((Mode::Online, 64, 0, 7)),
-    Some((Mode::Offline, 64, 100, 60)),
-    Some((Mode::Online, 32, 0, 0)),
-];
-
-pub fn play_rows() -> Result<(), Wrong> {
-    play_blocks()?;
-    // A disk that joins gets the least free failure group, and stands in the place of its number.
-    row("disks join", joined_told() == Some((THREE, true, false)))?;
-    row("a disk leaves", left_told() == Some((TWO, 1, true)))?;
-    row("strangers and holders", kept_told() == Some((THREE, false)))?;
-    row("one entry changes", changed_told() == Some(CHANGED))?;
-    row("most units", may_have(16_777_216))?;
-    row("a unit more", !may_have(16_777_217))?;
-    row("a group is gone", gone_told() == (true, 9, true))
+#[test]
+fn a_group_is_gone(rt: HostRuntime) {
+    assert_eq!(rt; gone_told(), (true, 9, true));
 }

@@ -27,11 +27,7 @@ fn make(alloc: Global, catalog: &mut Catalog, change: &Change) -> Answer
 /// Makes the change of a plan. What comes of it.
 fn made(alloc: Global, group: &mut Catalog, plan: Plan<'_>) -> Answer {
     match planned(alloc, group, plan) {
-        Ok(change) => {
-            let answer = make(alloc, group, &change);
-            drop(change);
-            answer
-        }
+        Ok(change) => make(alloc, group, &change),
         Err(answer) => answer,
     }
 }
@@ -63,18 +59,12 @@ pub fn wrong_in(alloc: Global, group: &mut Catalog, steps: &[Step<'_>]) -> Optio
 
 /// The catalog of the usual records after edits, with so many directories more in the root.
 fn group_with(alloc: Global, edits: &[Edit<'_>], directories: u8) -> Result<Catalog, Fail> {
-    match edited(alloc, edits, directories) {
-        Ok(records) => {
-            let group = catalog(alloc, &records);
-            drop(records);
-            group
-        }
-        Err(fail) => Err(fail),
-    }
+    let records = edited(alloc, edits, directories)?;
+    catalog(alloc, &records)
 }
 
 /// Fails by the name of a row where a step of it isn't right, and tells its place.
-pub fn judged(name: &'static str, wrong: Option<usize>) -> Result<(), Fail> {
+fn judged(name: &'static str, wrong: Option<usize>) -> Result<(), Fail> {
     match wrong {
         Some(place) => Err(Fail::from((name, place))),
         None => Ok(()),
@@ -88,9 +78,7 @@ fn judged_in(
     mut group: Catalog,
     steps: &[Step<'_>],
 ) -> Result<(), Fail> {
-    let wrong = wrong_in(alloc, &mut group, steps);
-    drop(group);
-    judged(name, wrong)
+    judged(name, wrong_in(alloc, &mut group, steps))
 }
 
 /// Plays a row: steps in the group of the usual records after edits, with so many directories more in the root. Fails by its

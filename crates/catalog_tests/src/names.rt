@@ -54,7 +54,6 @@ pub fn name(alloc: Global, group: &Catalog, at: &[u8]) -> Result<Change, Answer>
         return Err(Answer::Another);
     };
     if !is_begun(group) {
-        drop(path);
         return Err(Answer::Another);
     }
     let new = NewFile {
@@ -62,11 +61,9 @@ pub fn name(alloc: Global, group: &Catalog, at: &[u8]) -> Result<Change, Answer>
         size: 0,
         by: FileBy::System,
     };
-    let planned = group.plan_name(alloc, &new, 2, Stripe::Fine);
-    drop(new);
-    match planned {
+    match group.plan_name(alloc, &new, 2, Stripe::Fine) {
         Ok(change) => Ok(change),
-        Err(refusal) => Err(answer_of(refusal)),
+        Err(refusal) => Err(answer_of(&refusal)),
     }
 }
 
@@ -86,10 +83,8 @@ pub fn is_checked(
         size,
         by: FileBy::System,
     };
-    let checked = group.check_name(alloc, &new);
-    drop(new);
-    match checked {
+    match group.check_name(alloc, &new) {
         Ok(nodes) => wanted == Ok(nodes),
-        Err(refusal) => wanted == Err(answer_of(refusal)),
+        Err(refusal) => wanted == Err(answer_of(&refusal)),
     }
 }

@@ -1,10 +1,7 @@
-//! Tests of a group on one disk in memory: how it is created, found, mounted and dropped, how many calls that takes, and what is
-//! refused. Each case is a row of steps, which one function plays.
+//! Tests of the creation of a group on a disk in memory, and of how it is mounted and goes: calls, and refusals.
 #![tactic(auto)]
 
 #[cfg(test)]
-mod playing;
+mod mounted_groups;
 #[cfg(test)]
-mod rows;
-#[cfg(test)]
-mod steps;
+mod new_groups;

@@ -2,8 +2,6 @@
 #![tactic(auto)]
 
 #[cfg(test)]
-mod play;
-#[cfg(test)]
 mod readings;
 #[cfg(test)]
 mod refused_statements;

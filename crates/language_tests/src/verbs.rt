@@ -1,6 +1,6 @@
 // Lines of asmcmd that are read or refused, and short reports.
 use asm_base::{List, Text};
-use asmcmd::{LsRow, ReadError, Runs, check_text, du_text, ls_text, read_line};
+use asmcmd::{LsRow, ReadError, check_text, du_text, ls_text, read_line, read_text};
 use std::alloc::Global;
 use std::test::*;
 
@@ -206,12 +206,8 @@ fn checked(alloc: Global, extents: u64, not_full: u64) -> Option<Vec<u8>> {
     check_text(alloc, extents, not_full).ok()
 }
 
-/// The lines of bytes that come in two pieces.
-fn lines_read(alloc: Global, at: u32, first: &[u8; 4], second: &[u8; 3]) -> Option<List<Text>> {
-    let mut runs = Runs::new(alloc, at as u64);
-    runs.put(first).ok()?;
-    runs.put(second).ok()?;
-    runs.into_lines().ok()
+fn bytes_read(alloc: Global, at: u64, bytes: &[u8]) -> Option<Vec<u8>> {
+    read_text(alloc, at, bytes).ok()
 }
 
 #[test]
@@ -228,15 +224,13 @@ fn short_reports(rt: HostRuntime) -> Result<(), Fail> {
         return Err(Fail::from("memory"));
     };
     assert_eq!(rt; checked.as_slice(), b"check 1 0\n".as_slice());
-    let Some(lines) = lines_read(alloc, 510, b"aaa\x00", b"\x00\xab\xab") else {
+    let Some(read) = bytes_read(alloc, 510, b"aaa\x00\xab\xab") else {
         return Err(Fail::from("memory"));
     };
-    let [first, second, third] = lines.as_slice() else {
-        return Err(Fail::from("lines"));
-    };
-    assert_eq!(rt; first.as_slice(), b"510 3 61".as_slice());
-    assert_eq!(rt; second.as_slice(), b"513 2 00".as_slice());
-    assert_eq!(rt; third.as_slice(), b"515 2 ab".as_slice());
+    assert_eq!(rt;
+        read.as_slice(),
+        b"510 3 61\n513 1 00\n514 2 ab\n".as_slice()
+    );
     Ok(())
 }
 

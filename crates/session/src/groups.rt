@@ -1,14 +1,13 @@
 // How groups come and go: CREATE and DROP DISKGROUP, MOUNT, DISMOUNT and CHECK.
-ghost use Rattle.std.specs.Prelude.{◌≡◌, ◌≤◌, true, false, None, Some, is_some, nat_le};
-ghost use Rattle.std.specs.Option.{option_copied};
+// What isn't served yet is a function of one line, to which its command is given with its operands.
+ghost use Rattle.std.specs.Prelude.{◌≡◌, true, false, is_some, nat_le};
 ghost use Rattle.asm_group.specs.Names.{is_name};
 ghost use Rattle.asm_world.specs.Causes.{mounted_count};
 ghost use Rattle.asm_world.specs.World.{World, entry_among};
 ghost use Rattle.asm_world.specs.Command.{Said};
 ghost use Rattle.asm_world.specs.Language.{command_of};
 ghost use Rattle.asm_world.specs.Statement.{CreateGroup, DropGroup, Alter, Mount, Dismount, Check};
-ghost use Rattle.session.specs.Desks.{IsAnswered, copies};
-ghost use Rattle.session.specs.Families.{is_proved};
+ghost use Rattle.session.specs.Desks.{IsAnswered};
 ghost use Rattle.session.specs.Sessions.{AreReady, held_by};
 ghost use Rattle.session.specs.Groups.{only, plain_path, path_in_group, external_path, creation_of};
 ghost use Rattle.session.specs.Meaning.{meaning};
@@ -16,55 +15,66 @@ ghost use Rattle.session.specs.Meaning.{meaning};
 use crate::answer::Answer;
 use crate::desk::Desk;
 use crate::found::FoundIds;
-use crate::group_rows::Report;
 use crate::mounting::{mount_named, option_of};
-use crate::refusing::{no_memory, refuse, refused, too_many_groups};
+use crate::refusing::{no_memory, refuse, refused, too_many_groups, unserved};
 use crate::reply::Reply;
-use crate::reports::tell_of;
-use crate::works::DropAll;
+use crate::reports::tell;
 use asm_base::{GroupKind, List, Name, NoMemory, Refusal, Text};
 use bay::{Bay, Host};
 use group_disks::create_group;
 use group_sql::{Attribute, NewDisk, NewFailgroup};
-use new_groups::{GroupAsked, Known};
 
 /// The item of a list of one.
-fn only<T>(items: &[T]) -> Option<&T>
-    ensures { option_copied result ≡ only items.now }
+#[tactic(auto, using(crate::proofs::Creations::only_none, crate::proofs::Creations::only_one, crate::proofs::Creations::only_more))]
+fn only<T: Drop>(list: List<T>) -> Option<T>
+    ensures { result ≡ only list }
 {
-    match items {
-        [item] => Some(item),
-        _ => None,
+    let mut items = list.into_vec();
+    let item = items.pop()?;
+    if !items.is_empty() {
+        return None;
     }
+    Some(item)
 }
 
 /// The path of a disk of which nothing else is said.
-fn plain_path(disk: &NewDisk) -> Option<&Text>
-    ensures { option_copied result ≡ plain_path (Some disk.now) }
+fn plain_path(disk: NewDisk) -> Option<Text>
+    ensures { result ≡ plain_path (Some disk) }
 {
-    if disk.name.is_some() || disk.size.is_some() || disk.force {
+    let NewDisk {
+        path,
+        name,
+        size,
+        force,
+    } = disk;
+    if name.is_some() || size.is_some() || force {
         return None;
     }
-    Some(&disk.path)
+    Some(path)
 }
 
 /// The same of the only disk of a failure group without a name.
-fn path_in_group(group: &NewFailgroup) -> Option<&Text>
-    ensures { option_copied result ≡ path_in_group (Some group.now) }
+fn path_in_group(group: NewFailgroup) -> Option<Text>
+    ensures { result ≡ path_in_group (Some group) }
 {
-    if group.quorum || group.name.is_some() {
+    let NewFailgroup {
+        quorum,
+        name,
+        disks,
+    } = group;
+    if quorum || name.is_some() {
         return None;
     }
-    plain_path(only(group.disks.as_slice())?)
+    plain_path(only(disks)?)
 }
 
 /// The path of the one disk of an EXTERNAL group without attributes, of which nothing else is said.
-fn external_path<'a>(
+fn external_path(
     kind: Option<GroupKind>,
-    groups: &'a [NewFailgroup],
-    attributes: &[Attribute],
-) -> Option<&'a Text>
-    ensures { option_copied result ≡ external_path kind groups.now attributes.now }
+    groups: List<NewFailgroup>,
+    attributes: List<Attribute>,
+) -> Option<Text>
+    ensures { result ≡ external_path kind groups attributes }
 {
     let Some(GroupKind::External) = kind else {
         return None;
@@ -75,7 +85,8 @@ fn external_path<'a>(
     path_in_group(only(groups)?)
 }
 
-/// CREATE DISKGROUP. Of a creation of an EXTERNAL group on one disk, of which its path alone is said, it is proved what it does.
+/// CREATE DISKGROUP. Any other form than EXTERNAL on one disk, of which its path alone is said, isn't
+/// served yet.
 pub fn create<B: Bay, H: Host>(
     desk: &mut Desk<B, H>,
     text: &[u8],
@@ -88,92 +99,9 @@ pub fn create<B: Bay, H: Host>(
     requires ready { AreReady desk.old.session.groups (B.state desk.old.bay) }
     ensures answers { IsAnswered text.now result desk.old desk.new }
 {
-    match external_path(kind, groups.as_slice(), attributes.as_slice()) {
+    match external_path(kind, groups, attributes) {
         Some(path) => create_external(desk, text, path.as_slice(), name),
-        None => create_any(desk, text, name, kind, groups, attributes),
-    }
-}
-
-/// The creation of any other form. Its refusals in order: TooMany, GroupExists, and then those of the statement and the disks.
-fn create_any<B: Bay, H: Host>(
-    desk: &mut Desk<B, H>,
-    text: &[u8],
-    name: Name,
-    kind: Option<GroupKind>,
-    groups: List<NewFailgroup>,
-    attributes: List<Attribute>,
-) -> Answer
-    requires asked { command_of text.now ≡ Said (CreateGroup name kind groups attributes) }
-    requires other { external_path kind groups attributes ≡ None }
-    requires ready { AreReady desk.old.session.groups (B.state desk.old.bay) }
-    ensures answers { IsAnswered text.now result desk.old desk.new }
-{
-    if desk.session.is_full() {
-        return refused(desk.alloc, too_many_groups());
-    }
-    if desk.session.has(&name) {
-        return refused(desk.alloc, Refusal::GroupExists);
-    }
-    if desk.session.make_room().is_err() {
-        return refused(desk.alloc, Refusal::NoMemory);
-    }
-    let asked = GroupAsked {
-        name,
-        kind: kind.unwrap_or(GroupKind::Normal),
-        groups,
-        attributes,
-    };
-    match desk.session.known(desk.alloc) {
-        Ok(known) => form_any(desk, text, asked, &known),
-        Err(NoMemory) => refused(desk.alloc, Refusal::NoMemory),
-    }
-}
-
-/// The refusal of a creation, with what it found.
-fn refused_with(refusal: Refusal, found: FoundIds) -> Answer {
-    Answer {
-        reply: Reply::Refused(refusal),
-        found,
-    }
-}
-
-/// The creation of a group whose name isn't in the session, for whose entry there is room.
-fn form_any<B: Bay, H: Host>(
-    desk: &mut Desk<B, H>,
-    text: &[u8],
-    asked: GroupAsked,
-    known: &Known,
-) -> Answer
-    requires none { is_proved (command_of text.now) ≡ false }
-    requires still { copies (command_of text.now) ≡ false }
-    requires absent { is_some (entry_among desk.old.session.entries asked.name) ≡ false }
-    requires floor { desk.old.session.given ≤ known.now.floor }
-    requires held { known.now.held.items ≡ held_by desk.old.session.groups }
-    requires ready { AreReady desk.old.session.groups (B.state desk.old.bay) }
-    ensures answers { IsAnswered text.now result desk.old desk.new }
-{
-    let mut ids = Vec::new(desk.alloc);
-    let (made, answer) = new_groups::create_group(
-        desk.alloc,
-        &mut desk.bay,
-        &desk.paths,
-        &asked,
-        known,
-        &mut ids,
-    );
-    let found = FoundIds { ids, made };
-    match answer {
-        Ok(group) => match desk.session.enter(asked.name, made, group) {
-            Ok(()) => Answer {
-                reply: Reply::Done(List::new(desk.alloc)),
-                found,
-            },
-            Err(NoMemory) => refused_with(Refusal::NoMemory, found),
-        },
-        Err(refusal) => {
-            desk.session.gave(made);
-            refused_with(refusal, found)
-        }
+        None => unserved(desk, text),
     }
 }
 
@@ -283,8 +211,10 @@ pub fn drop_group<B: Bay, H: Host>(
     requires ready { AreReady desk.old.session.groups (B.state desk.old.bay) }
     ensures answers { IsAnswered text.now result desk.old desk.new }
 {
-    let work = DropAll { contents };
-    match desk.session.work(desk.alloc, &mut desk.bay, &name, work) {
+    match desk
+        .session
+        .drop_group(desk.alloc, &mut desk.bay, &name, contents)
+    {
         Ok(()) => {
             desk.session.leave(&name);
             Answer::plain(desk.alloc, Reply::Done(List::new(desk.alloc)))
@@ -323,5 +253,6 @@ pub fn check<B: Bay, H: Host>(desk: &mut Desk<B, H>, text: &[u8], group: Name) -
     requires ready { AreReady desk.old.session.groups (B.state desk.old.bay) }
     ensures answers { IsAnswered text.now result desk.old desk.new }
 {
-    tell_of(desk, text, &group, Report::Check)
+    let told = desk.session.checked_told(desk.alloc, &group);
+    tell(desk, text, told)
 }

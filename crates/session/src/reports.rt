@@ -8,9 +8,8 @@ ghost use Rattle.session.specs.Sessions.{AreReady};
 
 use crate::answer::Answer;
 use crate::desk::Desk;
-use crate::group_rows::Report;
 use crate::lines::lines_of;
-use crate::refusing::{no_memory, or_refusal, refuse};
+use crate::refusing::{no_memory, refuse};
 use crate::reply::Reply;
 use asm_base::{Name, NoMemory, Refusal, Text};
 use asmcmd::{ls_text, lsdg_text};
@@ -18,7 +17,7 @@ use bay::{Bay, Host};
 use verb_paths::{resolve_pattern, target};
 
 /// The lines of a report's text and `ok`, or the refusal of a report.
-fn tell<B: Bay, H: Host>(
+pub(crate) fn tell<B: Bay, H: Host>(
     desk: &mut Desk<B, H>,
     text: &[u8],
     told: Result<Vec<u8>, Refusal>,
@@ -33,6 +32,22 @@ fn tell<B: Bay, H: Host>(
     }
 }
 
+/// The same of a report that isn't refused otherwise than for want of memory.
+fn tell_lines<B: Bay, H: Host>(
+    desk: &mut Desk<B, H>,
+    text: &[u8],
+    lines: Result<Vec<u8>, NoMemory>,
+) -> Answer
+    requires unproved { is_proved (command_of text.now) ≡ false }
+    requires ready { AreReady desk.old.session.groups (B.state desk.old.bay) }
+    ensures answers { IsAnswered text.now result desk.old desk.new }
+{
+    match lines {
+        Ok(lines) => report(desk, text, &lines),
+        Err(NoMemory) => no_memory(desk, text),
+    }
+}
+
 /// The lines of a report's text, and `ok`.
 fn report<B: Bay, H: Host>(desk: &mut Desk<B, H>, text: &[u8], lines: &[u8]) -> Answer
     requires unproved { is_proved (command_of text.now) ≡ false }
@@ -43,21 +58,6 @@ fn report<B: Bay, H: Host>(desk: &mut Desk<B, H>, text: &[u8], lines: &[u8]) -> 
         Ok(lines) => Answer::plain(desk.alloc, Reply::Done(lines)),
         Err(NoMemory) => no_memory(desk, text),
     }
-}
-
-/// A report on the mounted group of a name. Its refusals in order: NoGroup, Dismounted.
-pub(crate) fn tell_of<B: Bay, H: Host>(
-    desk: &mut Desk<B, H>,
-    text: &[u8],
-    group: &Name,
-    report: Report<'_>,
-) -> Answer
-    requires unproved { is_proved (command_of text.now) ≡ false }
-    requires ready { AreReady desk.old.session.groups (B.state desk.old.bay) }
-    ensures answers { IsAnswered text.now result desk.old desk.new }
-{
-    let told = desk.session.told(desk.alloc, group, report);
-    tell(desk, text, told)
 }
 
 /// ls. Its refusals in order: NoGroup, Dismounted, NoName, and NotDirectory of what a pattern is looked for in.
@@ -85,7 +85,7 @@ pub fn ls<B: Bay, H: Host>(
     match desk.session.rows_at(desk.alloc, parts.as_slice()) {
         Ok(rows) => {
             let lines = ls_text(desk.alloc, &rows, long);
-            tell(desk, text, or_refusal(lines))
+            tell_lines(desk, text, lines)
         }
         Err(refusal) => refuse(desk, text, refusal),
     }
@@ -108,11 +108,9 @@ pub fn find<B: Bay, H: Host>(
     let Some(path) = led else {
         return refuse(desk, text, Refusal::NoGroup);
     };
-    let report = Report::Found {
-        dir: path.parts.as_slice(),
-        pattern: pattern.as_slice(),
-    };
-    let told = desk.session.told_below(desk.alloc, &path, report);
+    let told = desk
+        .session
+        .found_told(desk.alloc, &path, pattern.as_slice());
     tell(desk, text, told)
 }
 
@@ -134,10 +132,7 @@ pub fn usage<B: Bay, H: Host>(desk: &mut Desk<B, H>, text: &[u8], path: Option<T
     let Some(path) = led else {
         return refuse(desk, text, Refusal::NoGroup);
     };
-    let dir = path.parts.as_slice();
-    let told = desk
-        .session
-        .told_below(desk.alloc, &path, Report::Usage { dir });
+    let told = desk.session.usage_told(desk.alloc, &path);
     tell(desk, text, told)
 }
 
@@ -159,7 +154,7 @@ pub fn list_groups<B: Bay, H: Host>(
     match desk.session.group_rows(desk.alloc, &group) {
         Ok(rows) => {
             let lines = lsdg_text(desk.alloc, &rows);
-            tell(desk, text, or_refusal(lines))
+            tell_lines(desk, text, lines)
         }
         Err(NoMemory) => no_memory(desk, text),
     }
@@ -171,7 +166,8 @@ pub fn list_disks<B: Bay, H: Host>(desk: &mut Desk<B, H>, text: &[u8], group: Na
     requires ready { AreReady desk.old.session.groups (B.state desk.old.bay) }
     ensures answers { IsAnswered text.now result desk.old desk.new }
 {
-    tell_of(desk, text, &group, Report::Disks)
+    let told = desk.session.disks_told(desk.alloc, &group);
+    tell(desk, text, told)
 }
 
 /// lstmpl. Its refusals in order: NoGroup, Dismounted.
@@ -180,7 +176,8 @@ pub fn list_templates<B: Bay, H: Host>(desk: &mut Desk<B, H>, text: &[u8], group
     requires ready { AreReady desk.old.session.groups (B.state desk.old.bay) }
     ensures answers { IsAnswered text.now result desk.old desk.new }
 {
-    tell_of(desk, text, &group, Report::Templates)
+    let told = desk.session.templates_told(desk.alloc, &group);
+    tell(desk, text, told)
 }
 
 /// lsattr. Its refusals in order: NoGroup, Dismounted.
@@ -189,5 +186,6 @@ pub fn list_attributes<B: Bay, H: Host>(desk: &mut Desk<B, H>, text: &[u8], grou
     requires ready { AreReady desk.old.session.groups (B.state desk.old.bay) }
     ensures answers { IsAnswered text.now result desk.old desk.new }
 {
-    tell_of(desk, text, &group, Report::Attributes)
+    let told = desk.session.attributes_told(desk.alloc, &group);
+    tell(desk, text, told)
 }

@@ -17,8 +17,6 @@ mod new_names;
 #[cfg(test)]
 mod operations;
 #[cfg(test)]
-mod play;
-#[cfg(test)]
 mod stale_marks;
 #[cfg(test)]
 mod template_edits;

@@ -1,6 +1,0 @@
-pub mod Refusing
-pub mod Planning
-pub mod Tests
-pub mod Drafts
-pub mod Forming
-pub mod Preparing
