@@ -1,0 +1,7 @@
+pub mod Appends
+pub mod Chains
+pub mod Choices
+pub mod Commits
+pub mod Extents
+pub mod Layouts
+pub mod Within

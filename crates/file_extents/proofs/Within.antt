@@ -1,0 +1,152 @@
+-- The chunks of a file, up to the first of another file.
+use Rattle.std.proofs.Common.{◌≡◌, ℕ, ◌<◌, ◌≤◌, Bool, true, false, List, [], ◌∷◌, Ordering, None, refl, sym, ap, subst, ◌∙◌, arith}
+use Rattle.std.specs.Prelude.{◌==◌, ◌||◌, not}
+use Rattle.std.specs.List.{AllByRecursion, list_all}
+use Rattle.std.specs.Ordering.{nat_cmp, is_le, is_lt, ordering_then}
+use Rattle.std.specs.declared.cmp.Ordering.TheVariants.{Less, Equal, Greater}
+use Rattle.std.proofs.lemmas.Bool.{ne_eqb}
+use Rattle.std.proofs.lemmas.Cmp.{ranked}
+use Rattle.std.proofs.Math.Arith.{lt_of_le-ne}
+use Rattle.asm_formats.specs.Items.{Homes}
+use Rattle.asm_base.specs.Records.{Ascend}
+use Rattle.extent_map.specs.Extents.{Chunked, chunk_cmp, chunks_from, is_before}
+use Rattle.catalog.specs.NamePlans.{is_within_file}
+use Rattle.catalog.specs.Rules.{are_within, first_wrong}
+
+-- ---- the order of chunks
+
+-- the chunks are of files from this one on
+abbrev pub AreFrom : ℕ → List Chunked → Type 0
+AreFrom f xs = AllByRecursion (λ (x : Chunked). f ≤ x.0.0) xs
+
+-- no chunk is of a file below that of an earlier one
+abbrev pub Rise : List Chunked → Type 0
+Rise [] = Unit {0}
+Rise (x ∷ xs) = AreFrom x.0.0 xs × Rise xs
+
+raised : (f g : ℕ) (xs : List Chunked) → f ≤ g → AreFrom g xs → AreFrom f xs
+raised f g [] le from = tt
+raised f g (x ∷ xs) le from = (omega (arith, le, from.0), raised f g xs le from.1)
+
+lt_is : (f g : ℕ) (o : Ordering) → is_lt (ordering_then (nat_cmp f g) o) ≡ true → f ≤ g
+lt_is f g o e = by (nat_cmp f g) refl e
+  where
+    by : (p : Ordering) → nat_cmp f g ≡ p → is_lt (ordering_then p o) ≡ true → f ≤ g
+    by Less is e = let less : f < g = ranked f g Less (sym is) in omega arith
+    by Equal is e = let same : f ≡ g = ranked f g Equal (sym is) in omega arith
+    by Greater is e = absurd cc
+
+rises : (xs : List Chunked) → Ascend is_before xs → Rise xs
+rises [] up = tt
+rises (x ∷ []) up = (tt, tt)
+rises (x ∷ y ∷ ys) up =
+    let later = rises (y ∷ ys) up.1 in
+    let le = lt_is x.0.0 y.0.0 (nat_cmp x.0.1 y.0.1) up.0 in
+    ((le, raised x.0.0 y.0.0 ys le later.0), later)
+
+le_is : (f g : ℕ) (o : Ordering) → is_le (ordering_then (nat_cmp f g) o) ≡ true → f ≤ g
+le_is f g o e = by (nat_cmp f g) refl e
+  where
+    by : (p : Ordering) → nat_cmp f g ≡ p → is_le (ordering_then p o) ≡ true → f ≤ g
+    by Less is e = let less : f < g = ranked f g Less (sym is) in omega arith
+    by Equal is e = let same : f ≡ g = ranked f g Equal (sym is) in omega arith
+    by Greater is e = absurd cc
+
+not_le : (f g n : ℕ) → is_le (ordering_then (nat_cmp f g) (nat_cmp 0 n)) ≡ false → g ≡ f → ⊥
+not_le f g n e same = by (nat_cmp f g) (nat_cmp 0 n) refl refl e
+  where
+    by : (p q : Ordering) → nat_cmp f g ≡ p → nat_cmp 0 n ≡ q → is_le (ordering_then p q) ≡ false → ⊥
+    by Less q is iq e = absurd cc
+    by Equal Less is iq e = absurd cc
+    by Equal Equal is iq e = absurd cc
+    by Equal Greater is iq e = absurd (let more : n < 0 = ranked 0 n Greater (sym iq) in omega arith)
+    by Greater q is iq e = absurd (let more : g < f = ranked f g Greater (sym is) in omega arith)
+
+-- ---- chunks that pass
+
+other : (f copies : ℕ) (x : Chunked) → (x.0.0 ≡ f → ⊥) → is_within_file f copies x ≡ true
+other f copies x not_of = ap (λ (b : Bool). not b || list_all (are_within copies) x.1) (ne_eqb x.0.0 f not_of)
+
+own : (f copies : ℕ) (x : Chunked) → list_all (are_within copies) x.1 ≡ true → is_within_file f copies x ≡ true
+own f copies x all = by (not (x.0.0 == f)) all
+  where
+    by : (b : Bool) → list_all (are_within copies) x.1 ≡ true → (b || list_all (are_within copies) x.1) ≡ true
+    by true all = refl
+    by false all = all
+
+passes : (f copies : ℕ) (x : Chunked) (xs : List Chunked) → is_within_file f copies x ≡ true
+    → first_wrong (is_within_file f copies) (x ∷ xs) ≡ first_wrong (is_within_file f copies) xs
+passes f copies x xs ok = rw ok refl
+
+none_above : (f copies n : ℕ) (xs : List Chunked) → f < n → AreFrom n xs → first_wrong (is_within_file f copies) xs ≡ None
+none_above f copies n [] less from = refl
+none_above f copies n (x ∷ xs) less from =
+    passes f copies x xs (other f copies x (λ same. omega (arith, less, from.0, same))) ∙ none_above f copies n xs less from.1
+
+-- ---- the chunks that are left
+
+-- Those that are left of the chunks from the file's first on: what they say all of them say.
+pub record AreTheRest (f copies : ℕ) (all left : List Chunked) : Type 0 where
+  pub same : first_wrong (is_within_file f copies) left ≡ first_wrong (is_within_file f copies) all
+  pub from : AreFrom f left
+  pub rise : Rise left
+
+abbrev keeps : ℕ → Chunked → Bool
+keeps f x = is_le (chunk_cmp (f, 0) x.0)
+
+abbrev starts : ℕ → List Chunked → List Chunked
+starts f xs = chunks_from xs (f, 0)
+
+kept_from : (f : ℕ) (xs : List Chunked) (n : ℕ) → AreFrom n xs → AreFrom n (starts f xs)
+kept_from f [] n from = tt
+kept_from f (x ∷ xs) n from = by (keeps f x) refl (kept_from f xs n from.1)
+  where
+    by : (b : Bool) → keeps f x ≡ b → AreFrom n (starts f xs) → AreFrom n (starts f (x ∷ xs))
+    by true is later = let kept : starts f (x ∷ xs) ≡ x ∷ starts f xs = rw is refl in subst (AreFrom n) (sym kept) (from.0, later)
+    by false is later = let dropped : starts f (x ∷ xs) ≡ starts f xs = rw is refl in subst (AreFrom n) (sym dropped) later
+
+both : (f copies : ℕ) (x : Chunked) (xs ys : List Chunked) → first_wrong (is_within_file f copies) xs ≡ first_wrong (is_within_file f copies) ys
+    → first_wrong (is_within_file f copies) (x ∷ xs) ≡ first_wrong (is_within_file f copies) (x ∷ ys)
+both f copies x xs ys same = by (is_within_file f copies x) refl
+  where
+    by : (b : Bool) → is_within_file f copies x ≡ b → first_wrong (is_within_file f copies) (x ∷ xs) ≡ first_wrong (is_within_file f copies) (x ∷ ys)
+    by true is = rw is same
+    by false is = rw is refl
+
+starts_right : (f copies : ℕ) (xs : List Chunked) → Rise xs → AreTheRest f copies xs (starts f xs)
+starts_right f copies [] rise = record { same = refl; from = tt; rise = tt }
+starts_right f copies (x ∷ xs) rise = by (keeps f x) refl (starts_right f copies xs rise.1)
+  where
+    by : (b : Bool) → keeps f x ≡ b → AreTheRest f copies xs (starts f xs) → AreTheRest f copies (x ∷ xs) (starts f (x ∷ xs))
+    by true is later =
+        let first : f ≤ x.0.0 = le_is f x.0.0 (nat_cmp 0 x.0.1) is in
+        let kept : starts f (x ∷ xs) ≡ x ∷ starts f xs = rw is refl in
+        subst (AreTheRest f copies (x ∷ xs)) (sym kept)
+        (record { same = both f copies x (starts f xs) xs later.same; from = (first, later.from); rise = (kept_from f xs x.0.0 rise.0, later.rise) })
+    by false is later =
+        let passed : first_wrong (is_within_file f copies) (x ∷ xs) ≡ first_wrong (is_within_file f copies) xs =
+        passes f copies x xs (other f copies x (not_le f x.0.0 x.0.1 is)) in
+        let dropped : starts f (x ∷ xs) ≡ starts f xs = rw is refl in
+        subst (AreTheRest f copies (x ∷ xs)) (sym dropped) (record { same = later.same ∙ sym passed; from = later.from; rise = later.rise })
+
+pub at_start : (f copies : ℕ) (all left : List Chunked) → Ascend is_before all → left ≡ chunks_from all (f, 0) → AreTheRest f copies all left
+at_start f copies all left up is = subst (AreTheRest f copies all) (sym is) (starts_right f copies all (rises all up))
+
+pub one_more : (f copies : ℕ) (all left next : List Chunked) (x : Chunked) (homes : List Homes) → homes ≡ x.1 → left ≡ x ∷ next → list_all (are_within copies) homes ≡ true
+    → AreTheRest f copies all left → AreTheRest f copies all next
+one_more f copies all left next x homes here split ok rest =
+    let s : AreTheRest f copies all (x ∷ next) = subst (AreTheRest f copies all) split rest in
+    let right : list_all (are_within copies) x.1 ≡ true = ap (list_all (are_within copies)) (sym here) ∙ ok in
+    record { same = sym (passes f copies x next (own f copies x right)) ∙ s.same; from = s.from.1; rise = s.rise.1 }
+
+pub stopped : (f copies : ℕ) (all left next : List Chunked) (x : Chunked) → left ≡ x ∷ next → (x.0.0 ≡ f → ⊥) → AreTheRest f copies all left
+    → first_wrong (is_within_file f copies) all ≡ None
+stopped f copies all left next x split not_of rest =
+    let s : AreTheRest f copies all (x ∷ next) = subst (AreTheRest f copies all) split rest in
+    let above : f < x.0.0 = lt_of_le-ne s.from.0 (λ same. not_of (sym same)) in
+    sym s.same ∙ none_above f copies x.0.0 (x ∷ next) above (omega arith, s.rise.0)
+
+pub ended : (f copies : ℕ) (all left : List Chunked) → left ≡ [] → AreTheRest f copies all left → first_wrong (is_within_file f copies) all ≡ None
+ended f copies all left none rest =
+    let s : AreTheRest f copies all [] = subst (AreTheRest f copies all) none rest in
+    sym s.same

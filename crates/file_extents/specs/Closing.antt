@@ -1,0 +1,19 @@
+-- How a call ends behind a commit.
+use Rattle.std.specs.Prelude.{◌≡◌, Result, Ok, Err}
+use Rattle.asm_base.specs.declared.refusal.Refusal.{Refusal}
+use Rattle.asm_base.specs.declared.refusal.Refusal.TheVariants as cause
+use Rattle.group_engine.specs.Making.{closed}
+use Rattle.group_engine.specs.Mounts.{MountedGroup}
+
+-- the group takes no more calls
+abbrev pub shut : MountedGroup → MountedGroup
+shut m = record m { access = closed m.access }
+
+-- the group that a step with this answer leaves: after want of memory it takes no more calls
+abbrev pub or_shut : Result (Unit {0}) Refusal → MountedGroup → MountedGroup
+or_shut (Err cause.NoMemory) m = shut m
+or_shut _ m = m
+
+-- the answer stays, and after want of memory the group takes no more calls
+abbrev pub IsOrShut : Result (Unit {0}) Refusal → MountedGroup → Result (Unit {0}) Refusal → MountedGroup → Type 0
+IsOrShut answer old result new = (result ≡ answer) × (new ≡ or_shut answer old)

@@ -1,0 +1,79 @@
+// Commits of changes that plans gave, and what is done where a call ends behind one.
+ghost use Rattle.std.specs.Bool.{OnTrue};
+ghost use Rattle.std.specs.Prelude.{◌≡◌, ◌⊎◌, None};
+ghost use Rattle.catalog.specs.Plans.{IsPlan};
+ghost use Rattle.catalog.specs.Tables.{Tables};
+ghost use Rattle.group_engine.specs.Commits.{StatusCause};
+ghost use Rattle.group_engine.specs.Making.{closed};
+ghost use Rattle.group_engine.specs.Mounts.{Takes};
+ghost use Rattle.group_engine.specs.Own.{KeepsGroup};
+ghost use Rattle.group_engine.specs.Pending.{GoesOn};
+ghost use Rattle.asm_base.specs.declared.refusal.Refusal.TheVariants as cause;
+ghost use Rattle.file_extents.specs.Closing.{IsOrShut};
+ghost use Rattle.file_extents.specs.Committing.{Commits};
+
+use asm_base::{Change, Refusal};
+use bay::Bay;
+use group_engine::Mounted;
+use std::alloc::Global;
+
+/// Commits a change that a plan gave. Refusals: Dismounted, NoMemory. The plan has counted the blocks, so that DirectoryFull
+/// doesn't come.
+pub fn commit_plan<B: Bay>(
+    m: &mut Mounted,
+    alloc: Global,
+    bay: &mut B,
+    change: &Change,
+) -> Result<(), Refusal>
+    requires takes { Takes m.old (B.state bay.old) }
+    requires plan { (u : Tables) × IsPlan m.old.catalog change.now.put change.now.gone u }
+    // The group's parts agree, it takes the next call, and the disks of others stay.
+    ensures goes { GoesOn m.old result m.new (B.state bay.old) (B.state bay.new) }
+    ensures commits { Commits m.old change.now.put change.now.gone result m.new (B.state bay.old) (B.state bay.new) }
+{
+    match m.commit(alloc, bay, change) {
+        Ok(()) => Ok(()),
+        Err(Refusal::Dismounted { disk }) => Err(Refusal::Dismounted { disk }),
+        Err(_) => Err(Refusal::NoMemory),
+    }
+}
+
+/// Memory was wanted behind a commit: the group takes no more calls.
+pub(crate) fn shut(m: &mut Mounted) -> Refusal
+    ensures group { m.new ≡ record m.old { access = closed m.old.access } }
+    ensures refusal { result ≡ cause.NoMemory }
+{
+    m.close();
+    Refusal::NoMemory
+}
+
+/// The answer of a step behind a commit. After want of memory the group takes no more calls.
+pub fn or_shut(m: &mut Mounted, answer: Result<(), Refusal>) -> Result<(), Refusal>
+    ensures { IsOrShut answer m.old result m.new }
+{
+    match answer {
+        Ok(()) => Ok(()),
+        Err(Refusal::NoMemory) => Err(shut(m)),
+        Err(refusal) => Err(refusal),
+    }
+}
+
+/// Ends the pending operation, for this refusal. Gives that, or the one by which the operation couldn't be ended: after want of memory
+/// the group takes no more calls.
+pub fn give_back<B: Bay>(m: &mut Mounted, alloc: Global, bay: &mut B, refusal: Refusal) -> Refusal
+    requires takes { Takes m.old (B.state bay.old) }
+    ensures keeps { KeepsGroup m.old m.new (B.state bay.old) (B.state bay.new) }
+    ensures cause { (result ≡ refusal) ⊎ StatusCause m.old m.new (B.state bay.old) (B.state bay.new) result }
+{
+    match m.end_pending(alloc, bay) {
+        Ok(()) => refusal,
+        Err(refusal) => refusal,
+    }
+}
+
+/// Whether no operation is pending. Between two calls one is pending only after want of memory.
+pub fn is_at_rest(m: &Mounted) -> bool
+    ensures { OnTrue result (m.now.catalog.tables.operations.pending ≡ None) }
+{
+    m.catalog().pending().is_none()
+}

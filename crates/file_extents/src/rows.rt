@@ -1,0 +1,123 @@
+// The homes of new extents are chosen.
+ghost use Rattle.std.specs.Prelude.{◌≡◌, ◌+◌, ◌<◌, ◌≤◌, ◌^◌, IfErr, length};
+ghost use Rattle.group_engine.specs.Mounts.{IsWhole};
+ghost use Rattle.file_extents.specs.Rows.{IsChoice, SpaceCause};
+
+use crate::placing::copy_units;
+use allocator::Units;
+use asm_base::{ExtentId, Homes, Refusal};
+use group_engine::Mounted;
+use partnership::choose_row;
+use std::alloc::Global;
+
+/// Extents of a chunk.
+pub const CHUNK: u64 = 256;
+
+/// The most extents that a file may have.
+pub(crate) const MOST_EXTENTS: u64 = 2_147_483_648;
+
+/// No homes.
+pub(crate) const ABSENT: Homes = Homes {
+    first: None,
+    second: None,
+    third: None,
+};
+
+/// Extents of a file that are to be made: those from one on, so many, each with so many copies.
+#[derive(Clone, Copy)]
+pub struct NewExtents {
+    pub file: u32,
+    pub copies: u8,
+    pub first: u64,
+    pub count: u64,
+}
+
+/// Chooses homes for as many extents from one on as the row has places, by these maps, which have their units used then. NoSpace: the
+/// first of them for which there is no choice once those before it have theirs.
+#[tactic(auto, using(crate::proofs::Extents::entries_ascend, crate::proofs::Choices::all_chosen, crate::proofs::Choices::not_all))]
+fn choose_in(
+    m: &Mounted,
+    units: &mut [Units],
+    new: NewExtents,
+    first: u64,
+    row: &mut [Homes],
+) -> Result<(), Refusal>
+    requires whole { IsWhole m.now }
+    requires few { first + length row.old < 2 ^ 32 }
+    ensures places { length row.new ≡ length row.old }
+    ensures chosen { IsChoice m.now new first units.old row.new result units.new }
+{
+    let step = m.catalog().shape().step;
+    let chosen = choose_row(m.status().entries(), units, new.copies, step, first, row);
+    if chosen < row.len() {
+        let extent = ExtentId {
+            file: new.file,
+            index: (first + chosen as u64) as u32,
+        };
+        return Err(Refusal::NoSpace { extent });
+    }
+    Ok(())
+}
+
+/// Chooses homes for as many extents from one on as the row has places, by the units of the group as they are.
+pub(crate) fn choose_part(
+    m: &Mounted,
+    alloc: Global,
+    new: NewExtents,
+    first: u64,
+    row: &mut [Homes],
+) -> Result<(), Refusal>
+    requires whole { IsWhole m.now }
+    requires few { first + length row.old < 2 ^ 32 }
+    ensures places { length row.new ≡ length row.old }
+{
+    match copy_units(alloc, m.catalog().units()) {
+        Ok(mut units) => choose_in(m, &mut units, new, first, row),
+        Err(_) => Err(Refusal::NoMemory),
+    }
+}
+
+/// Whether there are homes for all the extents. NoSpace: the first for which there is no choice once those before it have theirs. The
+/// row is used up.
+pub(crate) fn check_space(
+    m: &Mounted,
+    alloc: Global,
+    new: NewExtents,
+    row: &mut [Homes],
+) -> Result<(), Refusal>
+    requires whole { IsWhole m.now }
+    requires few { new.first + new.count < 2 ^ 32 }
+    ensures places { length row.new ≡ length row.old }
+    ensures cause { IfErr result (SpaceCause m.now new) }
+{
+    match copy_units(alloc, m.catalog().units()) {
+        Ok(mut units) => check_in(m, &mut units, new, row),
+        Err(_) => Err(Refusal::NoMemory),
+    }
+}
+
+/// The same by these maps, which are those of the group.
+#[tactic(auto, using(crate::proofs::Choices::none_yet, crate::proofs::Choices::more_homes, crate::proofs::Choices::no_space))]
+fn check_in(
+    m: &Mounted,
+    units: &mut [Units],
+    new: NewExtents,
+    row: &mut [Homes],
+) -> Result<(), Refusal>
+    requires whole { IsWhole m.now }
+    requires few { new.first + new.count < 2 ^ 32 }
+    requires units { units.old ≡ m.now.catalog.units }
+    ensures places { length row.new ≡ length row.old }
+    ensures cause { IfErr result (SpaceCause m.now new) }
+{
+    let mut done = 0;
+    while done < new.count {
+        let n = (new.count - done).min(row.len() as u64) as usize;
+        if n == 0 {
+            return Err(Refusal::NoMemory);
+        }
+        choose_in(m, units, new, new.first + done, &mut row[..n])?;
+        done += n as u64;
+    }
+    Ok(())
+}

@@ -1,0 +1,168 @@
+// Bytes of extents that aren't committed yet.
+ghost use Rattle.std.specs.Bool.{OnTrue};
+ghost use Rattle.std.specs.Prelude.{◌≡◌, ◌≤◌, IfSome};
+ghost use Rattle.asm_formats.specs.Regions.{reserved_units};
+ghost use Rattle.group_engine.specs.Mounts.{IsMounted, Takes};
+ghost use Rattle.group_engine.specs.Own.{KeepsGroup};
+ghost use Rattle.group_pieces.specs.Spare.{IsRunOf};
+ghost use Rattle.file_extents.specs.Filling.{FailsMore, HasFailed};
+
+use crate::layout::Piece;
+use asm_base::{DiskSet, Home, Homes, Shape};
+use bay::{Bay, Fault};
+use group_engine::Mounted;
+use group_pieces::write_spare;
+use striping::units_of;
+
+/// Bytes of a block of metadata.
+const BLOCK: u64 = 4096;
+
+/// Units of a disk that hold no bytes of files. None where a unit has no bytes.
+#[tactic(auto, unfolding(asm_formats::specs::Regions::reserved_units))]
+fn reserved_units(shape: &Shape) -> Option<u64>
+    ensures { IfSome result (λ units. units ≡ reserved_units shape.now) }
+{
+    let blocks = 14 + 2 * shape.dir_blocks as u64;
+    let au = shape.au as u64;
+    if au == 0 {
+        return None;
+    }
+    Some((blocks * BLOCK + (au - 1)) / au)
+}
+
+/// Whether so many bytes from an inner byte of a copy at a home on lie on units of an attached disk.
+fn is_run(m: &Mounted, home: Home, units: u32, inner: u64, len: usize) -> bool
+    requires { units ≤ 16 }
+    ensures { OnTrue result (IsRunOf m.now home units inner len) }
+{
+    if home.disk >= 64 {
+        return false;
+    }
+    let Some(_slot) = m.slot(home.disk) else {
+        return false;
+    };
+    let Some(size) = m.size(home.disk) else {
+        return false;
+    };
+    let shape = m.catalog().shape();
+    let Some(reserved) = reserved_units(&shape) else {
+        return false;
+    };
+    let au = shape.au as u64;
+    let Some(end) = (home.unit as u64 + units as u64).checked_mul(au) else {
+        return false;
+    };
+    let bytes = units as u64 * au;
+    if reserved > home.unit as u64 || end > size || inner > u32::MAX as u64 {
+        return false;
+    }
+    if inner > bytes || len as u64 > bytes - inner {
+        return false;
+    }
+    if inner % 512 != 0 || len % 512 != 0 {
+        return false;
+    }
+    true
+}
+
+/// What became of the copies of an extent that is filled.
+#[derive(Clone, Copy)]
+pub(crate) struct Filled {
+    /// Bit k is set where copy k didn't take its bytes.
+    pub(crate) marks: u8,
+    /// The disks that failed.
+    pub(crate) failed: DiskSet,
+}
+
+/// What became of a write to one copy.
+enum Took {
+    /// It has the bytes.
+    All,
+    /// Its disk failed.
+    Failed,
+    /// Its home isn't on units of an attached disk.
+    Nowhere,
+}
+
+/// Writes a piece to a copy.
+fn write_copy<B: Bay>(m: &Mounted, bay: &mut B, home: Home, piece: Piece, bytes: &[u8]) -> Took
+    requires mounted { IsMounted m.now }
+    requires takes { Takes m.now (B.state bay.old) }
+    ensures keeps { KeepsGroup m.now m.now (B.state bay.old) (B.state bay.new) }
+    ensures failed { HasFailed m.now home.disk result (B.state bay.old) (B.state bay.new) }
+{
+    let units = units_of(m.catalog().shape().step, piece.x.index as u64);
+    if !is_run(m, home, units, piece.inner, bytes.len()) {
+        return Took::Nowhere;
+    }
+    match write_spare(m, bay, home, piece.inner, bytes) {
+        Ok(()) => Took::All,
+        Err(Fault) => Took::Failed,
+    }
+}
+
+/// Writes a piece to a copy that is there and has taken all before. The copy's bit among the marks is this one.
+fn fill_copy<B: Bay>(
+    m: &Mounted,
+    bay: &mut B,
+    home: Option<Home>,
+    bit: u8,
+    piece: Piece,
+    bytes: &[u8],
+    filled: Filled,
+) -> Filled
+    requires mounted { IsMounted m.now }
+    requires takes { Takes m.now (B.state bay.old) }
+    ensures keeps { KeepsGroup m.now m.now (B.state bay.old) (B.state bay.new) }
+    ensures failed { FailsMore m.now filled.failed result.failed (B.state bay.old) (B.state bay.new) }
+{
+    let Some(home) = home else {
+        return filled;
+    };
+    if filled.marks & bit != 0 {
+        return filled;
+    }
+    match write_copy(m, bay, home, piece, bytes) {
+        Took::All => filled,
+        Took::Failed => Filled {
+            marks: filled.marks | bit,
+            failed: filled.failed.with(home.disk),
+        },
+        Took::Nowhere => Filled {
+            marks: filled.marks | bit,
+            failed: filled.failed,
+        },
+    }
+}
+
+/// Writes a piece to the copies of its extent that have taken all before.
+pub(crate) fn fill_copies<B: Bay>(
+    m: &Mounted,
+    bay: &mut B,
+    homes: &Homes,
+    piece: Piece,
+    bytes: &[u8],
+    filled: Filled,
+) -> Filled
+    requires mounted { IsMounted m.now }
+    requires takes { Takes m.now (B.state bay.old) }
+    ensures keeps { KeepsGroup m.now m.now (B.state bay.old) (B.state bay.new) }
+    ensures failed { FailsMore m.now filled.failed result.failed (B.state bay.old) (B.state bay.new) }
+{
+    let homes = *homes;
+    let filled = fill_copy(m, bay, homes.first, 1, piece, bytes, filled);
+    let filled = fill_copy(m, bay, homes.second, 2, piece, bytes, filled);
+    fill_copy(m, bay, homes.third, 4, piece, bytes, filled)
+}
+
+/// Whether each copy that is there has its mark.
+pub(crate) fn are_all_marked(homes: &Homes, marks: u8) -> bool {
+    let homes = *homes;
+    is_marked(homes.first, 1, marks)
+        && is_marked(homes.second, 2, marks)
+        && is_marked(homes.third, 4, marks)
+}
+
+fn is_marked(home: Option<Home>, bit: u8, marks: u8) -> bool {
+    home.is_none() || marks & bit != 0
+}
