@@ -1,5 +1,0 @@
-pub mod Chains
-pub mod Failed
-pub mod Lost
-pub mod Opened
-pub mod Steps
