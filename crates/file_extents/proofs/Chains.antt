@@ -1,30 +1,27 @@
 -- Calls on the files of a group one after the other: what they keep, and why they are refused.
-use Rattle.std.proofs.Common.{◌≡◌, ◌⊎◌, ⊎_elim, inl, inr, ℕ, ◌<◌, ◌≤◌, true, Option, Some, None, Result, Ok, Err, refl, sym, ap, subst, ◌∙◌, arith}
-use Rattle.std.specs.Prelude.{◌==◌, ◌||◌, IfErr, OnOk}
+use Rattle.std.proofs.Common.{◌≡◌, ◌⊎◌, ⊎_elim, inl, inr, ℕ, ◌<◌, true, None, Result, Ok, Err, refl, sym, ap, subst, ◌∙◌, arith}
+use Rattle.std.specs.Prelude.{◌==◌, ◌||◌, IfErr}
 use Rattle.std.specs.Int.{bit_at}
 use Rattle.std.proofs.lemmas.Bool.{eqb-true, ne_eqb, or_cases, true≢false}
 use Rattle.std.proofs.lemmas.Nat.Bits.{bit_at-zero}
 use Rattle.bay.specs.State.{BayState}
-use Rattle.bay.specs.Counts.{Rose}
 use Rattle.asm_base.specs.declared.refusal.DiskRef.{DiskRef}
 use Rattle.asm_base.specs.declared.refusal.DiskRef.TheVariants.{Number, Spelt}
 use Rattle.asm_base.specs.declared.refusal.Refusal.{Refusal}
 use Rattle.asm_base.specs.declared.refusal.Refusal.TheVariants as cause
 use Rattle.asm_formats.specs.Sets.{has_bit}
-use Rattle.group_engine.specs.Commits.{DismountCause, StatusCause}
+use Rattle.group_engine.specs.Commits.{StatusCause}
 use Rattle.group_engine.specs.Making.{IsShut}
 use Rattle.group_engine.specs.Mounts.{IsMounted, MountedGroup, Takes, slot_at}
 use Rattle.group_engine.specs.Own.{KeepsGroup}
 use Rattle.group_engine.specs.Pending.{GoesOn}
 use Rattle.group_engine.specs.declared.access.Access.{Access}
 use Rattle.group_engine.specs.declared.access.Access.TheVariants as access
-use Rattle.group_engine.specs.declared.attached.Attached.{Attached}
-use Rattle.group_engine.proofs.Causes.{calls_keep, cause_on, dismount_on, gives_up, nothing_kept}
-use Rattle.group_engine.proofs.Endings.{goes_begin, goes_on, keeps_closed}
-use Rattle.group_pieces.specs.Faults.{AreRisen, RoseOn}
-use Rattle.group_pieces.specs.Usable.{IsLost}
+use Rattle.group_engine.proofs.Causes.{cause_on, dismount_on, gives_up, nothing_kept}
+use Rattle.group_engine.proofs.Endings.{goes_begin, keeps_closed}
+use Rattle.group_pieces.specs.Faults.{RoseOn}
 use Rattle.file_extents.specs.Closing.{IsOrShut, or_shut, shut}
-use Rattle.file_extents.specs.Filling.{FailedIn, FailsMore, FaultOn, FillCause, PutCause}
+use Rattle.file_extents.specs.Filling.{FailsMore, FaultOn, FillCause, PutCause}
 
 -- ---- what is kept
 

@@ -1,11 +1,10 @@
 -- Rows of homes, one behind the other, up to an extent for which there is no choice.
-use Rattle.std.proofs.Common.{◌≡◌, ℕ, ◌+◌, ◌<◌, ◌≤◌, take, List, [], ◌∷◌, ◌++◌, length, None, Result, Ok, Err, refl, sym, ap, subst, ◌∙◌, arith}
+use Rattle.std.proofs.Common.{◌≡◌, ℕ, ◌+◌, ◌<◌, ◌≤◌, take, List, [], ◌∷◌, ◌++◌, length, None, Err, refl, sym, subst, ◌∙◌, arith}
 use Rattle.std.proofs.lemmas.List.{length-append, length-take, take_all}
 use Rattle.asm_base.specs.declared.kinds.ExtentId.{ExtentId}
 use Rattle.asm_base.specs.declared.refusal.Refusal.{Refusal}
 use Rattle.asm_base.specs.declared.refusal.Refusal.TheVariants as cause
 use Rattle.asm_formats.specs.Items.{Homes}
-use Rattle.asm_placement.specs.Layout.{units_of}
 use Rattle.allocator.specs.UnitMaps.{UnitMap}
 use Rattle.partnership.specs.Rows.{Choosing, IsRow, homes_at}
 use Rattle.group_engine.specs.Mounts.{MountedGroup}

@@ -1,4 +1,4 @@
-use Rattle.std.proofs.Common.{sym, subst, ◌∙◌, ap}
+use Rattle.std.proofs.Common.{subst, ◌∙◌, ap}
 use Rattle.asm_formats.specs.Items.{Pending}
 use Rattle.catalog.specs.Plans.{IsPlan}
 use Rattle.catalog.specs.Tables.{Catalogued, Tables}

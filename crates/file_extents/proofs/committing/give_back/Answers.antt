@@ -1,4 +1,4 @@
-use Rattle.std.proofs.Common.{inl, inr, refl}
+use Rattle.std.proofs.Common.{inr}
 use Rattle.file_extents.proofs.committing.give_back.Goals as goal
 
 pub end_pending-requires-clause-whole : goal.end_pending-requires-clause-whole

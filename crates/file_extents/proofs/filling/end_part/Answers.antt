@@ -1,4 +1,4 @@
-use Rattle.file_extents.proofs.Chains.{goes_nothing, or_shut_goes}
+use Rattle.file_extents.proofs.Chains.{or_shut_goes}
 use Rattle.file_extents.proofs.filling.end_part.Goals as goal
 
 pub returns-clause-goes : goal.returns-clause-goes

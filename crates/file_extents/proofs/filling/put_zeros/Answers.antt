@@ -1,4 +1,3 @@
-use Rattle.std.proofs.Common.{sym, subst}
 use Rattle.std.proofs.lemmas.Result.{err_from_is_err_and}
 use Rattle.group_engine.proofs.Causes.{calls_keep}
 use Rattle.file_extents.proofs.Chains.{fails_none, fails_on, kept, put_on, takes_on}

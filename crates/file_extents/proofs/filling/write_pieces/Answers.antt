@@ -1,5 +1,4 @@
-use Rattle.std.proofs.Common.{refl, sym, ap, subst, ◌∙◌, arith, ℕ}
-use Rattle.std.proofs.lemmas.Result.{err_from_is_err_and}
+use Rattle.std.proofs.Common.{refl, ◌∙◌, arith}
 use Rattle.group_engine.proofs.Causes.{calls_keep}
 use Rattle.file_extents.proofs.Chains.{fails_none, fails_on, kept, takes_on}
 use Rattle.file_extents.proofs.filling.write_pieces.Goals as goal

@@ -1,4 +1,4 @@
-use Rattle.file_extents.proofs.Chains.{fails_none, fails_with, kept}
+use Rattle.file_extents.proofs.Chains.{fails_none, kept}
 use Rattle.file_extents.proofs.sparing.fill_copy.Goals as goal
 
 pub returns-in_default-clause-keeps : goal.returns-in_default-clause-keeps

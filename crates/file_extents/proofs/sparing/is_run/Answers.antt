@@ -1,5 +1,4 @@
 use Rattle.std.proofs.Common.{rules, ◌≡◌, ◌∙◌, sym, ap, arith}
-use Rattle.asm_group.specs.Shape.{Shape}
 use Rattle.asm_formats.specs.Items.{Home}
 use Rattle.asm_formats.specs.Regions.{reserved_units}
 use Rattle.catalog.specs.Tables.{Catalogued}
