@@ -34,16 +34,15 @@ abbrev pub FailedIn : MountedGroup → ℕ → BayState → BayState → DiskRef
 FailedIn m before s t (disk.Number d) = ((d < 64) × (has_bit before d ≡ true)) ⊎ RoseOn m d s t
 FailedIn m before s t (disk.Spelt text) = ⊥
 
--- Why the next bytes of a file that is filled aren't put: all copies of an extent failed, of which this disk, that has the first, failed
--- now or before; or the group was dismounted. Want of memory is free.
+-- Why the next bytes of a file that is filled aren't put: this disk failed, now or before; or the group takes no calls, or was
+-- dismounted. Want of memory is free.
 abbrev pub PutCause : MountedGroup → ℕ → MountedGroup → BayState → BayState → Refusal → Type 0
 PutCause old before new s t (cause.WriteFault by) = FailedIn old before s t by
 PutCause old before new s t (cause.Dismounted by) = DismountCause old new s t by
 PutCause old before new s t cause.NoMemory = ⊤
 PutCause old before new s t _ = ⊥
 
--- why bytes aren't written to new extents: all copies of one failed, of which this disk, that has the first, is in the set of those
--- that failed. Want of memory is free.
+-- why bytes aren't written to new extents: this disk is in the set of those that failed. Want of memory is free.
 abbrev pub FillCause : ℕ → Refusal → Type 0
 FillCause failed (cause.WriteFault (disk.Number d)) = (d < 64) × (has_bit failed d ≡ true)
 FillCause failed (cause.WriteFault (disk.Spelt text)) = ⊥

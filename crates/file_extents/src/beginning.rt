@@ -34,6 +34,7 @@ fn begin<B: Bay>(
         kept: new.first,
     };
     let catalog = m.catalog();
+    // The tables keep their rules: the proof takes this from here.
     let _shape = catalog.shape();
     match catalog.plan_begin(alloc, op) {
         Ok(change) => commit_plan(m, alloc, bay, &change),

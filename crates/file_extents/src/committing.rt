@@ -5,7 +5,7 @@ ghost use Rattle.catalog.specs.Plans.{IsPlan};
 ghost use Rattle.catalog.specs.Tables.{Tables};
 ghost use Rattle.group_engine.specs.Commits.{StatusCause};
 ghost use Rattle.group_engine.specs.Making.{closed};
-ghost use Rattle.group_engine.specs.Mounts.{Takes};
+ghost use Rattle.group_engine.specs.Mounts.{IsMounted, Takes};
 ghost use Rattle.group_engine.specs.Own.{KeepsGroup};
 ghost use Rattle.group_engine.specs.Pending.{GoesOn};
 ghost use Rattle.asm_base.specs.declared.refusal.Refusal.TheVariants as cause;
@@ -64,6 +64,8 @@ pub fn give_back<B: Bay>(m: &mut Mounted, alloc: Global, bay: &mut B, refusal: R
     requires takes { Takes m.old (B.state bay.old) }
     ensures keeps { KeepsGroup m.old m.new (B.state bay.old) (B.state bay.new) }
     ensures cause { (result ≡ refusal) ⊎ StatusCause m.old m.new (B.state bay.old) (B.state bay.new) result }
+    // While the group takes calls still, nothing is pending.
+    ensures ended { IsMounted m.new → m.new.catalog.tables.operations.pending ≡ None }
 {
     match m.end_pending(alloc, bay) {
         Ok(()) => refusal,
