@@ -20,10 +20,10 @@ spaced_after : (word : Bytes) (words : List Bytes) → spaced (word ∷ words) �
 spaced_after word [] = sym (append-nil word)
 spaced_after word (next ∷ words) = ap (λ line. word ++ 32 ∷ line) (spaced_after next words)
 
--- a text, its first word, the others each after a space, and a line feed
-pub line_made : {X : Type 0} (printed : X → Bytes) (first : Bytes) (others : List X) (t t₁ t₂ longer : Bytes) → t₁ ≡ t ++ first → t₂ ≡ t₁ ++ flat_map (λ x. 32 ∷ printed x) others → longer ≡ t₂ ++ 10 ∷ []
-    → longer ≡ (t ++ spaced (first ∷ map printed others)) ++ 10 ∷ []
-line_made printed first others t t₁ t₂ longer e f h = h ∙ ap (λ z. z ++ 10 ∷ []) (f ∙ (ap (λ z. z ++ rest) e ∙ (append_assoc t first rest ∙ ap (λ z. t ++ z) (sym whole)))) where
+-- a text, its first word, and the others each after a space
+pub words_made : {X : Type 0} (printed : X → Bytes) (first : Bytes) (others : List X) (t t₁ longer : Bytes) → t₁ ≡ t ++ first → longer ≡ t₁ ++ flat_map (λ x. 32 ∷ printed x) others
+    → longer ≡ t ++ spaced (first ∷ map printed others)
+words_made printed first others t t₁ longer e f = f ∙ (ap (λ z. z ++ rest) e ∙ (append_assoc t first rest ∙ ap (λ z. t ++ z) (sym whole))) where
   rest : Bytes
   rest = flat_map (λ x. 32 ∷ printed x) others
 

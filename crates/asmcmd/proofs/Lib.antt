@@ -5,3 +5,4 @@ pub mod Lines
 pub mod Endings
 pub mod Shown
 pub mod EqualBytes
+pub mod PutRuns

@@ -7,6 +7,7 @@ mod groups;
 mod line;
 mod listings;
 mod names;
+mod paths;
 mod rows;
 mod runs;
 mod text;
@@ -18,6 +19,7 @@ pub use group_reports::{
 };
 pub use line::read_line;
 pub use listings::{du_text, find_text, ls_text};
+pub use paths::path_text;
 pub use rows::{AttrRow, DiskRow, GroupRow, LsRow, TemplateRow};
-pub use runs::read_text;
+pub use runs::Runs;
 pub use verb::{ReadError, Verb};

@@ -6,9 +6,10 @@ ghost use Rattle.asm_world.specs.Reports.{du_lines};
 ghost use Rattle.asm_world.specs.Text.{ended};
 ghost use Rattle.asmcmd.specs.Texts.{short_line, file_line, directory_line, long_line, ls_lines, path_line};
 
+use crate::paths::with_path;
 use crate::rows::LsRow;
 use crate::text::{Field, with_byte, with_bytes, with_line};
-use asm_base::{Name, NoMemory, Path};
+use asm_base::{NoMemory, Path};
 use std::alloc::Global;
 
 fn with_short_row(text: Vec<u8>, row: &LsRow) -> Result<Vec<u8>, NoMemory>
@@ -108,20 +109,10 @@ pub fn ls_text(alloc: Global, rows: &[LsRow], long: bool) -> Result<Vec<u8>, NoM
     }
 }
 
-fn with_parts(mut text: Vec<u8>, parts: &[Name]) -> Result<Vec<u8>, NoMemory>
-    ensures { IfOk result (λ longer. longer.items ≡ text.items ++ flat_map (λ part. 47 ∷ part) parts.now) }
-{
-    for part in parts {
-        text = with_bytes(with_byte(text, b'/')?, part.as_bytes())?;
-    }
-    Ok(text)
-}
-
-fn with_path(text: Vec<u8>, path: &Path) -> Result<Vec<u8>, NoMemory>
+fn with_path_line(text: Vec<u8>, path: &Path) -> Result<Vec<u8>, NoMemory>
     ensures { IfOk result (λ longer. longer.items ≡ text.items ++ path_line path.now ++ 10 ∷ []) }
 {
-    let text = with_bytes(with_byte(text, b'+')?, path.group.as_bytes())?;
-    let text = with_parts(text, path.parts.as_slice())?;
+    let text = with_path(text, &path.group, path.parts.as_slice())?;
     with_byte(text, b'\n')
 }
 
@@ -129,7 +120,7 @@ fn with_paths(mut text: Vec<u8>, paths: &[Path]) -> Result<Vec<u8>, NoMemory>
     ensures { IfOk result (λ longer. longer.items ≡ text.items ++ flat_map (λ path. path_line path ++ 10 ∷ []) paths.now) }
 {
     for path in paths {
-        text = with_path(text, path)?;
+        text = with_path_line(text, path)?;
     }
     Ok(text)
 }

@@ -1,13 +1,15 @@
-//! The text of dbread: a line for each longest run of equal bytes.
+//! The lines of dbread: one for each longest run of equal bytes, whose bytes come piece by piece.
 
 ghost use Rattle.std.specs.Option.{option_map};
-ghost use Rattle.std.specs.Prelude.{◌≡◌, ◌≤◌, ◌<◌, ◌++◌, ◌∷◌, [], length, IfOk};
-ghost use Rattle.asm_world.specs.Text.{ended, hex, hex_digit, read_lines};
-ghost use Rattle.asmcmd.specs.Runs.{equal_front, first_run, run_line};
+ghost use Rattle.std.specs.Prelude.{◌≡◌, ◌≤◌, ◌<◌, ℕ, ◌+◌, ◌^◌, ◌++◌, ◌∷◌, [], length, replicate, IfOk, OnOk};
+ghost use Rattle.asm_group.specs.Names.{Bytes};
+ghost use Rattle.asm_world.specs.Text.{hex, hex_digit, read_lines};
+ghost use Rattle.asmcmd.specs.Runs.{Holds, equal_front, first_run, lines_with, run_line};
 
-use crate::text::{Field, with_line};
-use asm_base::NoMemory;
+use crate::text::{Field, with_words};
+use asm_base::{List, NoMemory, Text};
 use std::alloc::Global;
+use std::marker::Model;
 
 fn hex_digit(n: u8) -> u8
     requires { n < 16 }
@@ -38,42 +40,121 @@ fn equal_front(byte: u8, bytes: &[u8]) -> usize
 }
 
 /// The first byte, how many equal bytes stand at the front, and the bytes behind them. None of no bytes.
-fn first_run<'a>(bytes: &'a [u8]) -> Option<(u8, u128, &'a [u8])>
+fn first_run<'a>(bytes: &'a [u8]) -> Option<(u8, u64, &'a [u8])>
     ensures { option_map (λ r. (r.0, r.1, r.2.now)) result ≡ first_run bytes.now }
 {
     match bytes {
         [] => None,
         [first, behind @ ..] => {
             let others = equal_front(*first, behind);
-            Some((*first, others as u128 + 1, &behind[others..]))
+            Some((*first, others as u64 + 1, &behind[others..]))
         }
     }
 }
 
 /// The line of a run.
-fn with_run(text: Vec<u8>, offset: u128, byte: u8, len: u128) -> Result<Vec<u8>, NoMemory>
-    ensures { IfOk result (λ longer. longer.items ≡ text.items ++ run_line offset byte len ++ 10 ∷ []) }
+fn run_line(alloc: Global, at: u64, byte: u8, len: u64) -> Result<Text, NoMemory>
+    ensures { IfOk result (λ line. line ≡ run_line at byte len) }
 {
     let digits = hex(byte);
-    with_line(
-        text,
-        Field::Wide(offset),
-        &[Field::Wide(len), Field::Word(&digits)],
-    )
+    let line = with_words(
+        Vec::new(alloc),
+        Field::Number(at),
+        &[Field::Number(len), Field::Word(&digits)],
+    )?;
+    Ok(List::from_vec(line))
 }
 
-/// The runs of equal bytes that stand from the offset `at` on: where each begins, its length, and its byte.
-#[tactic(auto, using(crate::proofs::EqualBytes::one_run, crate::proofs::EqualBytes::run_size, crate::proofs::EqualBytes::no_run))]
-pub fn read_text(alloc: Global, at: u64, bytes: &[u8]) -> Result<Vec<u8>, NoMemory>
-    ensures { IfOk result (λ text. text.items ≡ ended (read_lines at bytes.now)) }
-{
-    let mut text = Vec::new(alloc);
-    let mut offset = at as u128;
-    let mut rest = bytes;
-    while let Some((byte, len, behind)) = first_run(rest) {
-        text = with_run(text, offset, byte, len)?;
-        offset += len;
-        rest = behind;
+/// The runs of equal bytes that were put so far. The last of them goes on where the next bytes are the same.
+#[derive(Drop)]
+pub struct Runs {
+    alloc: Global,
+    /// The lines of the runs that have ended.
+    lines: List<Text>,
+    /// The offset at which the last run begins, and the one behind it. At first they are the same.
+    at: u64,
+    end: u64,
+    byte: u8,
+}
+
+impl Model for Runs {
+    ghost use Rattle.std.specs.Prelude.{◌≤◌};
+    ghost use Rattle.asmcmd.specs.Runs.{RunsView};
+
+    ghost Value = { RunsView };
+
+    ghost view = { λ r. record { lines = r.lines; at = r.at; end = r.end; byte = r.byte } };
+
+    ghost invariant = { λ r. r.at ≤ r.end };
+}
+
+impl Runs {
+    /// No bytes, which stand from this offset on.
+    #[tactic(auto, using(crate::proofs::PutRuns::none_yet))]
+    pub fn new(alloc: Global, at: u64) -> Runs
+        ensures holds { Holds result at [] }
+        ensures end { result.end ≡ at }
+    {
+        Runs {
+            alloc,
+            lines: List::new(alloc),
+            at,
+            end: at,
+            byte: 0,
+        }
     }
-    Ok(text)
+
+    /// Puts the line of the last run behind the others, where it has bytes. Another byte comes next.
+    fn end_run(&mut self) -> Result<(), NoMemory>
+        ensures lines { OnOk result ((more : Bytes) → equal_front self.old.byte more ≡ 0 → lines_with self.new more ≡ lines_with self.old more) }
+        ensures end { self.new.end ≡ self.old.end }
+        ensures at { OnOk result (self.new.at ≡ self.old.end) }
+    {
+        if self.at < self.end {
+            let line = run_line(self.alloc, self.at, self.byte, self.end - self.at)?;
+            self.lines.push(line)?;
+            self.at = self.end;
+        }
+        Ok(())
+    }
+
+    /// Puts so many equal bytes behind the others.
+    #[tactic(auto, using(crate::proofs::PutRuns::begins))]
+    fn put_run(&mut self, byte: u8, len: u64) -> Result<(), NoMemory>
+        requires some { 0 < len }
+        requires room { self.old.end + len < 2 ^ 64 }
+        ensures lines { OnOk result ((more : Bytes) → lines_with self.new more ≡ lines_with self.old (replicate len byte ++ more)) }
+        ensures end { OnOk result (self.new.end ≡ self.old.end + len) }
+    {
+        if byte == self.byte {
+            self.end += len;
+            return Ok(());
+        }
+        self.end_run()?;
+        self.byte = byte;
+        self.end += len;
+        Ok(())
+    }
+
+    /// Puts bytes behind the others. All offsets are numbers of 64 bits.
+    pub fn put(&mut self, bytes: &[u8]) -> Result<(), NoMemory>
+        requires room { self.old.end + length bytes.now < 2 ^ 64 }
+        ensures holds { OnOk result ((at : ℕ) (before : Bytes) → Holds self.old at before → Holds self.new at (before ++ bytes.now)) }
+        ensures end { OnOk result (self.new.end ≡ self.old.end + length bytes.now) }
+    {
+        let mut rest = bytes;
+        while let Some((byte, len, behind)) = first_run(rest) {
+            self.put_run(byte, len)?;
+            rest = behind;
+        }
+        Ok(())
+    }
+
+    /// The lines of all runs: where each begins, how many bytes it has, and its byte in hexadecimal digits.
+    pub fn into_lines(mut self) -> Result<List<Text>, NoMemory>
+        ensures { IfOk result (λ lines. (at : ℕ) (bytes : Bytes) → Holds self at bytes → lines ≡ read_lines at bytes) }
+    {
+        self.end_run()?;
+        Ok(self.lines)
+    }
 }

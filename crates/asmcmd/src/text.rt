@@ -15,8 +15,6 @@ pub enum Field<'a> {
     /// A name, with `/` after it.
     Directory(&'a [u8]),
     Number(u64),
-    /// An offset or a length, which may be past the greatest number of 64 bits.
-    Wide(u128),
 }
 
 pub fn with_bytes(mut text: Vec<u8>, bytes: &[u8]) -> Result<Vec<u8>, NoMemory>
@@ -40,7 +38,6 @@ fn with_field(text: Vec<u8>, field: Field<'_>) -> Result<Vec<u8>, NoMemory>
         Field::Word(word) => with_bytes(text, word),
         Field::Directory(name) => with_byte(with_bytes(text, name)?, b'/'),
         Field::Number(n) => with_bytes(text, Buffer::new().format(n).as_bytes()),
-        Field::Wide(n) => with_bytes(text, Buffer::new().format(n).as_bytes()),
     }
 }
 
@@ -59,11 +56,22 @@ fn with_others(mut text: Vec<u8>, others: &[Field<'_>]) -> Result<Vec<u8>, NoMem
     Ok(text)
 }
 
-/// The text with a line more: its words with one space between, and a line feed.
+/// The text with words behind it, with one space between.
+pub fn with_words(
+    text: Vec<u8>,
+    first: Field<'_>,
+    others: &[Field<'_>],
+) -> Result<Vec<u8>, NoMemory>
+    ensures { IfOk result (λ longer. longer.items ≡ text.items ++ spaced (printed first.entry ∷ map printed others.now)) }
+{
+    let text = with_field(text, first)?;
+    with_others(text, others)
+}
+
+/// The text with a line more: words with one space between, and a line feed.
 pub fn with_line(text: Vec<u8>, first: Field<'_>, others: &[Field<'_>]) -> Result<Vec<u8>, NoMemory>
     ensures { IfOk result (λ longer. longer.items ≡ text.items ++ spaced (printed first.entry ∷ map printed others.now) ++ 10 ∷ []) }
 {
-    let text = with_field(text, first)?;
-    let text = with_others(text, others)?;
+    let text = with_words(text, first, others)?;
     with_byte(text, b'\n')
 }

@@ -1,8 +1,7 @@
 //! The rows of ls.
 
-ghost use Rattle.std.specs.Prelude.{◌≡◌, ◌++◌, ◌∷◌, false, true, flat_map, IfErr, IfOk, IfSome, IsSomeAnd, MatchOption, OnOk};
+ghost use Rattle.std.specs.Prelude.{◌≡◌, ◌++◌, false, true, IfErr, IfOk, IfSome, IsSomeAnd, MatchOption, OnOk};
 ghost use Rattle.std.specs.Option.{option_map, option_to_list};
-ghost use Rattle.asm_base.specs.Names.{path_text};
 ghost use Rattle.asm_base.specs.declared.refusal.Refusal.TheVariants as cause;
 ghost use Rattle.asm_group.specs.TreeEdits.{last_part, up};
 ghost use Rattle.asm_world.specs.Listings.{has_star};
@@ -14,8 +13,8 @@ ghost use Rattle.group_reports.specs.Places.{directory_in, node_named};
 use crate::places::{directory_in, is_directory, node_named, path_at};
 use crate::words::{copies_text, stripe_text};
 use alias_tree::Node;
-use asm_base::{List, Name, NoMemory, NodeKind, Path, Refusal, Text};
-use asmcmd::LsRow;
+use asm_base::{List, Name, NoMemory, NodeKind, Refusal, Text};
+use asmcmd::{LsRow, path_text};
 use catalog::Catalog;
 use file_directory::FileHead;
 use std::alloc::Global;
@@ -256,36 +255,7 @@ pub fn path_to(alloc: Global, group: &Name, catalog: &Catalog, node: u32) -> Res
     ensures { IfOk result (λ text. text ≡ path_to catalog.now.tables group.now node) }
 {
     match path_at(alloc, group, catalog, node)? {
-        Some(path) => path_text(alloc, &path),
+        Some(path) => path_text(alloc, &path.group, path.parts.as_slice()),
         None => Ok(List::new(alloc)),
-    }
-}
-
-pub(crate) fn path_text(alloc: Global, path: &Path) -> Result<Text, NoMemory>
-    ensures { IfOk result (λ text. text ≡ path_text path.now.group path.now.parts) }
-{
-    let mut text = Vec::new(alloc);
-    put_bytes(&mut text, b"+")?;
-    put_bytes(&mut text, path.group.as_bytes())?;
-    put_parts(&mut text, path.parts.as_slice())?;
-    Ok(List::from_vec(text))
-}
-
-fn put_parts(text: &mut Vec<u8>, parts: &[Name]) -> Result<(), NoMemory>
-    ensures { OnOk result (text.new.items ≡ text.old.items ++ flat_map (λ part. 47 ∷ part) parts.now) }
-{
-    for part in parts {
-        put_bytes(text, b"/")?;
-        put_bytes(text, part.as_bytes())?;
-    }
-    Ok(())
-}
-
-fn put_bytes(text: &mut Vec<u8>, bytes: &[u8]) -> Result<(), NoMemory>
-    ensures { OnOk result (text.new.items ≡ text.old.items ++ bytes.now) }
-{
-    match text.extend_from_slice(bytes) {
-        Ok(()) => Ok(()),
-        Err(_) => Err(NoMemory),
     }
 }

@@ -9,9 +9,9 @@ ghost use Rattle.group_reports.specs.Files.{folded_text, found_at, found_of_file
 ghost use Rattle.group_reports.specs.Keyed.{keyed};
 
 use crate::files::next_file;
-use crate::listing::path_text;
 use crate::places::path_below;
 use asm_base::{Name, NoMemory, Path, folded_byte};
+use asmcmd::path_text;
 use catalog::Catalog;
 use file_directory::FileHead;
 use std::alloc::Global;
@@ -140,7 +140,7 @@ fn values_of(alloc: Global, places: BTreeMap<Vec<u8>, Path>) -> Result<Vec<Path>
 fn folded_text(alloc: Global, path: &Path) -> Result<Vec<u8>, NoMemory>
     ensures { IfOk result (λ text. text.items ≡ folded_text path.now) }
 {
-    let text = path_text(alloc, path)?;
+    let text = path_text(alloc, &path.group, path.parts.as_slice())?;
     folded_bytes(alloc, text.as_slice())
 }
 

@@ -6,4 +6,6 @@ mod places;
 mod slashes;
 
 pub use pattern::{has_star, is_match, is_pattern};
-pub use places::{clause_path, is_host_path, resolve, resolve_or_here, resolve_pattern, target};
+pub use places::{
+    clause_path, is_host_path, parts_in_group, resolve, resolve_or_here, resolve_pattern, target,
+};

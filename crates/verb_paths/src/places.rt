@@ -169,8 +169,9 @@ pub fn resolve_pattern(
     }
 }
 
-/// A group's name and the parts behind it. None where there is no name.
-fn parts_in_group(parts: List<Name>) -> Option<Path>
+/// The group's name that a path's parts from the top begin with, and the parts behind it. None where there are no parts: the path
+/// comes to `+`.
+pub fn parts_in_group(parts: List<Name>) -> Option<Path>
     ensures { option_map (λ p. (p.group, p.parts)) result ≡ parts_of (Some parts) }
 {
     let mut parts = parts.into_vec();

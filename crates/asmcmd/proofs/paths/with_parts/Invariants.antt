@@ -1,6 +1,6 @@
 use Rattle.std.proofs.Common.{◌≡◌, [], ◌∷◌, ◌++◌, take}
 use Rattle.std.specs.List.{flat_map}
-use Rattle.asmcmd.proofs.listings.with_parts.Given as goal
+use Rattle.asmcmd.proofs.paths.with_parts.Given as goal
 
 abbrev pub invariant-loop-part : goal.invariant-loop-part
 invariant-loop-part l = l.text.items ≡ l.fn.text.items ++ flat_map (λ part. 47 ∷ part) (take l.part-index l.parts)
