@@ -1,0 +1,5 @@
+pub mod Chains
+pub mod Failed
+pub mod Lost
+pub mod Opened
+pub mod Steps

@@ -1,0 +1,250 @@
+-- Steps on the files of a group, one after the other: what they leave, and what they committed.
+use Rattle.std.proofs.Common.{◌≡◌, ◌⊎◌, ⊎_elim, inl, inr, ℕ, ◌<◌, Bool, true, false, List, None, Result, Ok, Err, refl, sym, ap, subst, arith}
+use Rattle.std.specs.Prelude.{IfErr, IfOk, OnOk}
+use Rattle.bay.specs.State.{BayState}
+use Rattle.asm_group.specs.Names.{Path}
+use Rattle.asm_group.specs.TreeEdits as e
+use Rattle.asm_group.specs.declared.Stripe.{Stripe}
+use Rattle.asm_base.specs.Records.{Entry}
+use Rattle.asm_base.specs.declared.refusal.Refusal.{Refusal}
+use Rattle.asm_base.specs.declared.refusal.Refusal.TheVariants as cause
+use Rattle.asm_formats.specs.Items.{Key}
+use Rattle.catalog.specs.Changing.{IsAfter}
+use Rattle.catalog.specs.FilePlans.{IsRemovalPlan, IsSizePlan, is_on_file, removed, sized}
+use Rattle.catalog.specs.NamePlans.{IsNamePlan, made_file}
+use Rattle.catalog.specs.Plans.{IsPlan}
+use Rattle.catalog.specs.Tables.{Catalogued, Tables}
+use Rattle.catalog.specs.TreePlans.{IsTreePlan, IsTreeRefusal}
+use Rattle.catalog.specs.declared.new_file.NewFile.{NewFile}
+use Rattle.group_engine.specs.Commits.{StatusCause}
+use Rattle.group_engine.specs.Mounts.{IsMounted, MountedGroup}
+use Rattle.group_engine.specs.Own.{KeepsGroup}
+use Rattle.group_engine.proofs.Causes.{cause_on}
+use Rattle.file_extents.specs.Closing.{IsOrShut, or_shut}
+use Rattle.file_extents.specs.Rows.{SpaceCause}
+use Rattle.file_extents.specs.declared.rows.NewExtents.{NewExtents}
+use Rattle.group_contents.specs.Creating.{AreNext, BeginCause, CreateCause, IsChosen, NamesFile, NewCause, RoomCause}
+use Rattle.group_contents.specs.Files.{IsOpened, OpenCause, WriteCause}
+use Rattle.group_contents.specs.Removing.{DropsDirectory, Goes, IsRemoved, RemoveCause, Removes, RemovesFile, StaysCause, leads_to_directory}
+use Rattle.group_contents.specs.declared.opening.OpenFile.{OpenFile}
+use Rattle.group_contents.specs.Sizes.{AreMore, GrowCause, IsCut, IsSized, ResizeCause, Resizes, SetsSize}
+use Rattle.group_contents.proofs.Chains.{status_writes, write_on}
+
+-- ---- answers
+
+pub on_ok : {P Q : Type 0} (r : Result (Unit {0}) Refusal) → (P → Q) → OnOk r P → OnOk r Q
+on_ok (Ok done) f p = f p
+on_ok (Err e) f p = tt
+
+pub on_err : {A : Type 0} (P Q : Refusal → Type 0) (r : Result A Refusal) → ((e : Refusal) → P e → Q e) → IfErr r P → IfErr r Q
+on_err P Q (Ok done) f p = tt
+on_err P Q (Err e) f p = f e p
+
+pub ok_with : {Q : Type 0} (r : Result (Unit {0}) Refusal) → Q → OnOk r Q
+ok_with (Ok done) q = q
+ok_with (Err e) q = tt
+
+pub ok_both : {P Q S : Type 0} (r : Result (Unit {0}) Refusal) → (P → Q → S) → OnOk r P → OnOk r Q → OnOk r S
+ok_both (Ok done) f p q = f p q
+ok_both (Err e) f p q = tt
+
+-- ---- what steps leave
+
+-- why the second of two steps is refused
+module _ {a b : MountedGroup} {s t : BayState} (keeps : KeepsGroup a b s t) (mounted : IsMounted b) (c : MountedGroup) (u : BayState) {A : Type 0} where
+  pub status_next : (r : Result A Refusal) → IfErr r (StatusCause b c t u) → IfErr r (StatusCause a c s u)
+  status_next (Ok done) why = tt
+  status_next (Err e) why = cause_on keeps u c mounted e why
+
+  pub write_next : (r : Result A Refusal) → IfErr r (WriteCause b c t u) → IfErr r (WriteCause a c s u)
+  write_next (Ok done) why = tt
+  write_next (Err e) why = write_on keeps mounted u c e why
+
+  pub status_write_next : (r : Result A Refusal) → IfErr r (StatusCause b c t u) → IfErr r (WriteCause a c s u)
+  status_write_next (Ok done) why = tt
+  status_write_next (Err e) why = write_on keeps mounted u c e (status_writes b c t u e why)
+
+pub status_write : {A : Type 0} (a b : MountedGroup) (s t : BayState) (r : Result A Refusal) → IfErr r (StatusCause a b s t) → IfErr r (WriteCause a b s t)
+status_write a b s t r = on_err (StatusCause a b s t) (WriteCause a b s t) r (status_writes a b s t)
+
+-- ---- what was committed
+
+-- where no operation is pending a removal is a plan
+pub removal_plan : (k : Catalogued) (f : ℕ) (put : List Entry) (gone : List Key) → IsRemovalPlan k f put gone → k.tables.operations.pending ≡ None
+    → (u : Tables) × IsPlan k put gone u
+removal_plan k f put gone p none = (removed k.tables f p.head, p.plan (p.owned (ap (is_on_file k.tables.files) none)))
+
+-- where the pending operation is on a file another size is one
+pub size_plan : (k : Catalogued) (f size : ℕ) (put : List Entry) (gone : List Key) → IsSizePlan k f size put gone
+    → is_on_file k.tables.files k.tables.operations.pending ≡ true → (u : Tables) × IsPlan k put gone u
+size_plan k f size put gone p on = (sized k.tables f p.head size p.pending, p.plan (p.owned on))
+
+pub removes : (a : MountedGroup) (k : Catalogued) (f : ℕ) (put : List Entry) (gone : List Key) (r : Result (Unit {0}) Refusal) (b : MountedGroup)
+    → k ≡ a.catalog → IsRemovalPlan k f put gone → OnOk r (IsAfter k.tables put gone b.catalog.tables) → OnOk r (RemovesFile a f b)
+removes a k f put gone r b same p applied = on_ok r
+    (λ (is : IsAfter k.tables put gone b.catalog.tables). record {
+      put = put;
+      gone = gone;
+      plan = subst (λ (j : Catalogued). IsRemovalPlan j f put gone) same p;
+      applied = subst (λ (j : Catalogued). IsAfter j.tables put gone b.catalog.tables) same is;
+    })
+    applied
+
+pub sizes : (a : MountedGroup) (k : Catalogued) (f size : ℕ) (put : List Entry) (gone : List Key) (r : Result (Unit {0}) Refusal) (b : MountedGroup)
+    → k ≡ a.catalog → IsSizePlan k f size put gone → OnOk r (IsAfter k.tables put gone b.catalog.tables) → OnOk r (SetsSize a f size b)
+sizes a k f size put gone r b same p applied = on_ok r
+    (λ (is : IsAfter k.tables put gone b.catalog.tables). record {
+      put = put;
+      gone = gone;
+      plan = subst (λ (j : Catalogued). IsSizePlan j f size put gone) same p;
+      applied = subst (λ (j : Catalogued). IsAfter j.tables put gone b.catalog.tables) same is;
+    })
+    applied
+
+pub drops : (a : MountedGroup) (path : Path) (put : List Entry) (gone : List Key) (r : Result (Unit {0}) Refusal) (b : MountedGroup)
+    → IsTreePlan a.catalog (e.DropDir path) put gone → OnOk r (IsAfter a.catalog.tables put gone b.catalog.tables) → OnOk r (DropsDirectory a path b)
+drops a path put gone r b p applied = on_ok r
+    (λ (after : IsAfter a.catalog.tables put gone b.catalog.tables). record { put = put; gone = gone; plan = p; applied = after })
+    applied
+
+pub names : (a : MountedGroup) (k : Catalogued) (new : NewFile) (file copies : ℕ) (stripe : Stripe) (put : List Entry) (gone : List Key) (r : Result (Unit {0}) Refusal)
+    (b : MountedGroup) → k ≡ a.catalog → made_file a.catalog.tables ≡ file → IsNamePlan k new.path.parts new.size copies stripe put gone
+    → OnOk r (IsAfter k.tables put gone b.catalog.tables) → OnOk r (NamesFile a new file b)
+names a k new file copies stripe put gone r b same number p applied = on_ok r
+    (λ (after : IsAfter k.tables put gone b.catalog.tables). record {
+      number = number;
+      copies = copies;
+      stripe = stripe;
+      put = put;
+      gone = gone;
+      plan = subst (λ (j : Catalogued). IsNamePlan j new.path.parts new.size copies stripe put gone) same p;
+      applied = subst (λ (j : Catalogued). IsAfter j.tables put gone b.catalog.tables) same after;
+    })
+    applied
+
+pub is_removed : (a : MountedGroup) (path : Path) (file : OpenFile) (r : Result (Unit {0}) Refusal) (b : MountedGroup) → IsOpened a.catalog.tables path file
+    → OnOk r ((after : MountedGroup) × RemovesFile a file.file after) → OnOk r (b.catalog.tables.operations.pending ≡ None) → OnOk r (IsRemoved a path b)
+is_removed a path file r b opened removed ended = ok_both r
+    (λ (went : (after : MountedGroup) × RemovesFile a file.file after) (done : b.catalog.tables.operations.pending ≡ None).
+    record { file = file.file; named = opened.number; between = went.0; removed = went.1; ended = done })
+    removed ended
+
+-- ---- what goes
+
+module _ (a : MountedGroup) (path : Path) (b : MountedGroup) (s t : BayState) {A : Type 0} (r : Result A Refusal) where
+  pub directory_refused : leads_to_directory a.catalog.tables path ≡ true
+      → IfErr r (λ refusal. IsTreeRefusal a.catalog (e.DropDir path) refusal ⊎ StatusCause a b s t refusal) → IfErr r (RemoveCause a path b s t)
+  directory_refused is = on_err (λ refusal. IsTreeRefusal a.catalog (e.DropDir path) refusal ⊎ StatusCause a b s t refusal) (RemoveCause a path b s t) r
+      (λ refusal why. subst (λ (x : Bool). StaysCause x a path refusal ⊎ StatusCause a b s t refusal) (sym is) why)
+
+  pub file_refused : leads_to_directory a.catalog.tables path ≡ false
+      → IfErr r (λ refusal. OpenCause a path refusal ⊎ StatusCause a b s t refusal) → IfErr r (RemoveCause a path b s t)
+  file_refused is = on_err (λ refusal. OpenCause a path refusal ⊎ StatusCause a b s t refusal) (RemoveCause a path b s t) r
+      (λ refusal why. subst (λ (x : Bool). StaysCause x a path refusal ⊎ StatusCause a b s t refusal) (sym is) why)
+
+module _ (a : MountedGroup) (path : Path) (b : MountedGroup) (r : Result (Unit {0}) Refusal) where
+  pub directory_goes : leads_to_directory a.catalog.tables path ≡ true → OnOk r (DropsDirectory a path b) → OnOk r (Removes a path b)
+  directory_goes is = on_ok r (λ (went : DropsDirectory a path b). subst (λ (x : Bool). Goes x a path b) (sym is) went)
+
+  pub file_goes : leads_to_directory a.catalog.tables path ≡ false → OnOk r (IsRemoved a path b) → OnOk r (Removes a path b)
+  file_goes is = on_ok r (λ (went : IsRemoved a path b). subst (λ (x : Bool). Goes x a path b) (sym is) went)
+
+-- ---- another size
+
+-- for want of blocks
+pub room_grows : (m : MountedGroup) (file : OpenFile) (e : Refusal) → RoomCause m.catalog e → GrowCause m file e
+room_grows m file (cause.DirectoryFull need free) why = inl why
+room_grows m file cause.NoMemory why = inl tt
+room_grows m file _ why = absurd why
+
+-- for want of space
+space_grows : (m : MountedGroup) (file : OpenFile) (new : NewExtents) → AreMore m.catalog file new → (e : Refusal) → SpaceCause m new e → GrowCause m file e
+space_grows m file new more (cause.NoSpace x) why = inr (new, more, why)
+space_grows m file new more cause.NoMemory why = inl tt
+space_grows m file new more _ why = absurd why
+
+pub lacks_more : {A : Type 0} (m : MountedGroup) (file : OpenFile) (new : NewExtents) (r : Result A Refusal) → AreMore m.catalog file new → IfErr r (SpaceCause m new) → IfErr r (GrowCause m file)
+lacks_more m file new r more = on_err (SpaceCause m new) (GrowCause m file) r (space_grows m file new more)
+
+pub grows : (m : MountedGroup) (file : OpenFile) (b : MountedGroup) (s t : BayState) (r : Result (Unit {0}) Refusal) → IfErr r (WriteCause m b s t)
+    → IfErr r (λ e. GrowCause m file e ⊎ WriteCause m b s t e)
+grows m file b s t r = on_err (WriteCause m b s t) (λ e. GrowCause m file e ⊎ WriteCause m b s t e) r (λ e why. inr why)
+
+pub size_set : (a : MountedGroup) (file size : ℕ) (b : MountedGroup) (r : Result (Unit {0}) Refusal) → OnOk r (SetsSize a file size b) → OnOk r (IsSized file size b)
+size_set a file size b r = on_ok r (λ (is : SetsSize a file size b). (a, is))
+
+-- of the file at a path
+module _ (a : MountedGroup) (path : Path) (size : ℕ) (b : MountedGroup) (s t : BayState) (r : Result (Unit {0}) Refusal) where
+  pub shrinking_refused : IfErr r (StatusCause a b s t) → IfErr r (ResizeCause a path size b s t)
+  shrinking_refused = on_err (StatusCause a b s t) (ResizeCause a path size b s t) r (λ e why. inr (status_writes a b s t e why))
+
+  pub growth_refused : (file : OpenFile) → IsOpened a.catalog.tables path file → IfErr r (λ e. GrowCause a file e ⊎ WriteCause a b s t e) → IfErr r (ResizeCause a path size b s t)
+  growth_refused file opened = on_err (λ e. GrowCause a file e ⊎ WriteCause a b s t e) (ResizeCause a path size b s t) r
+      (λ e why. ⊎_elim (λ grown. inl (inr (file, opened, inr grown))) (λ writes. inr writes) why)
+
+-- where the move that was on its way is given up before
+pub size_cut : (a new : MountedGroup) (file size : ℕ) (b : MountedGroup) (r : Result (Unit {0}) Refusal) → new ≡ record a { flight = None } → SetsSize new file size b → OnOk r (IsCut a file size)
+size_cut a new file size b r is set =
+    let here = subst (λ (v : MountedGroup). SetsSize v file size b) is set in
+    ok_with r (b, record { put = here.put; gone = here.gone; plan = here.plan; applied = here.applied })
+
+-- the size is that of the file
+pub stays_sized : (a : MountedGroup) (path : Path) (size : ℕ) (file : OpenFile) → IsOpened a.catalog.tables path file → size ≡ file.size → Resizes a path size a
+stays_sized a path size file opened is = record {
+  file = file;
+  opened = opened;
+  same = λ also. refl;
+  cut = λ less. absurd (omega (arith, is, less));
+  grown = λ more. absurd (omega (arith, is, more));
+}
+
+module _ (a : MountedGroup) (path : Path) (size : ℕ) (b : MountedGroup) (file : OpenFile) (r : Result (Unit {0}) Refusal) (opened : IsOpened a.catalog.tables path file) where
+  -- a smaller one
+  pub cuts : size < file.size → OnOk r (IsCut a file.file size) → OnOk r (Resizes a path size b)
+  cuts less = on_ok r (λ (is : IsCut a file.file size). record {
+    file = file;
+    opened = opened;
+    same = λ also. absurd (omega (arith, also, less));
+    cut = λ again. is;
+    grown = λ more. absurd (omega (arith, less, more));
+  })
+
+  -- a greater one
+  pub grows_to : file.size < size → OnOk r (IsSized file.file size b) → OnOk r (Resizes a path size b)
+  grows_to more = on_ok r (λ (is : IsSized file.file size b). record {
+    file = file;
+    opened = opened;
+    same = λ also. absurd (omega (arith, also, more));
+    cut = λ less. absurd (omega (arith, less, more));
+    grown = λ again. is;
+  })
+
+-- ---- after want of memory the group takes no more calls
+
+pub or_shut_ok : (P : MountedGroup → Type 0) (b c : MountedGroup) (r q : Result (Unit {0}) Refusal) → OnOk r (P b) → IsOrShut r b q c → OnOk q (P c)
+or_shut_ok P b c r q had is = subst (λ (x : Result (Unit {0}) Refusal). OnOk x (P c)) (sym is.0) (subst (λ (x : MountedGroup). OnOk r (P x)) (sym is.1) (go r had))
+  where
+    go : (x : Result (Unit {0}) Refusal) → OnOk x (P b) → OnOk x (P (or_shut x b))
+    go (Err cause.NoMemory) was = tt
+    go (Ok done) was = was
+    go (Err _) was = tt
+
+-- ---- new files
+
+pub lacks_space : {A : Type 0} (m : MountedGroup) (new : NewFile) (copies : ℕ) (stripe : Stripe) (extents : NewExtents) (r : Result A Refusal) → IsChosen m new new.by copies stripe
+    → AreNext m.catalog copies stripe new.size extents → IfErr r (SpaceCause m extents) → IfErr r (NewCause m new)
+lacks_space m new copies stripe extents r chosen next = on_err (SpaceCause m extents) (NewCause m new) r
+    (λ e why. inr (inr (inr (record { copies = copies; stripe = stripe; chosen = chosen; extents = extents; next = next; space = why }))))
+
+pub named_before : (a : MountedGroup) (new : NewFile) (b : MountedGroup) (r : Result ℕ Refusal) → IfOk r (λ file. NamesFile a new file b)
+    → IfOk r (λ file. (before : MountedGroup) × NamesFile before new file b)
+named_before a new b (Ok file) is = (a, is)
+named_before a new b (Err e) is = tt
+
+pub begin_creates : (a : MountedGroup) (new : NewFile) (b : MountedGroup) (s t : BayState) (e : Refusal) → BeginCause a new b s t e → CreateCause a new b s t e
+begin_creates a new b s t e why = ⊎_elim (λ is. inl is) (λ is. inr (status_writes a b s t e is)) why
+
+module _ (new : NewFile) {a b : MountedGroup} {s t : BayState} (keeps : KeepsGroup a b s t) (mounted : IsMounted b) (c : MountedGroup) (u : BayState) {A : Type 0} where
+  pub create_next : (r : Result A Refusal) → IfErr r (WriteCause b c t u) → IfErr r (CreateCause a new c s u)
+  create_next (Ok done) why = tt
+  create_next (Err e) why = inr (write_on keeps mounted u c e why)

@@ -1,0 +1,24 @@
+use Rattle.std.proofs.Common.{inl, inr}
+use Rattle.file_extents.proofs.Chains.{kept}
+use Rattle.group_contents.proofs.Chains.{shut_writes, write_opened}
+use Rattle.group_contents.proofs.writing.fill.Goals as goal
+
+pub returns-in-Err-clause-keeps : goal.returns-in-Err-clause-keeps
+returns-in-Err-clause-keeps g c = kept c.args.m.now (g.B.Bay.state c.args.bay.now) c.requires.takes
+
+pub returns-in-Err-clause-cause : goal.returns-in-Err-clause-cause
+returns-in-Err-clause-cause g c = inr (shut_writes c.args.m.now (g.B.Bay.state c.args.bay.now) c.in-Err.refusal c.in-Err.ensures.cause)
+
+pub returns-in-Err-open_span-clause-keeps : goal.returns-in-Err-open_span-clause-keeps
+returns-in-Err-open_span-clause-keeps g c = kept c.args.m.now (g.B.Bay.state c.args.bay.now) c.requires.takes
+
+pub returns-in-Err-open_span-clause-cause : goal.returns-in-Err-open_span-clause-cause
+returns-in-Err-open_span-clause-cause g c = inl c.in-Err-open_span.ensures.cause
+
+pub returns-in-Ok-buffer-clause-cause : goal.returns-in-Ok-buffer-clause-cause
+returns-in-Ok-buffer-clause-cause g c =
+    write_opened c.args.m.now c.args.path.now.parts c.args.at c.args.len c.fill_span-answer.new.m (g.B.Bay.state c.args.bay.now) (g.B.Bay.state c.fill_span-answer.new.bay) c.fill_span-answer.result
+    c.fill_span-answer.ensures.cause
+
+pub returns-in-Err-buffer-clause-keeps : goal.returns-in-Err-buffer-clause-keeps
+returns-in-Err-buffer-clause-keeps g c = kept c.args.m.now (g.B.Bay.state c.args.bay.now) c.requires.takes

@@ -1,0 +1,14 @@
+use Rattle.group_engine.specs.Mounts.{IsMounted}
+use Rattle.group_engine.specs.Own.{KeepsGroup}
+use Rattle.file_extents.specs.Filling.{FailsMore}
+use Rattle.group_contents.proofs.writing.fill_bytes.Given as goal
+
+abbrev pub invariant-loop-left : goal.invariant-loop-left
+invariant-loop-left g l = record {
+  mounted : IsMounted l.m;
+  keeps : KeepsGroup l.fn.m l.m (g.B.Bay.state l.fn.bay) (g.B.Bay.state l.bay);
+  failed : FailsMore l.fn.m 0 l.failed (g.B.Bay.state l.fn.bay) (g.B.Bay.state l.bay);
+}
+
+abbrev pub decreases-loop-left : goal.decreases-loop-left
+decreases-loop-left g l = l.left

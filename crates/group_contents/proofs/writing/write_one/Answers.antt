@@ -1,0 +1,32 @@
+use Rattle.std.proofs.Common.{subst}
+use Rattle.asm_base.specs.declared.refusal.Refusal.{Refusal}
+use Rattle.group_pieces.specs.Pieces.{WritePieceCause}
+use Rattle.group_contents.proofs.Chains.{fills_put, more_failed, piece_fails}
+use Rattle.group_contents.proofs.writing.write_one.Goals as goal
+
+pub returns-in-Ok-clause-failed : goal.returns-in-Ok-clause-failed
+returns-in-Ok-clause-failed g c =
+    more_failed c.args.m.now c.args.failed c.in-Ok.more c.joined.result (g.B.Bay.state c.args.bay.now) (g.B.Bay.state c.write_piece.new.bay) c.joined.ensures c.in-Ok.ensures.failed
+
+pub returns-in-Err-Lost-clause-cause : goal.returns-in-Err-Lost-clause-cause
+returns-in-Err-Lost-clause-cause g c =
+    fills_put c.args.m.now c.write_piece.new.m c.args.failed (g.B.Bay.state c.args.bay.now) (g.B.Bay.state c.write_piece.new.bay) c.lost_on_the_way.result c.lost_on_the_way.ensures
+
+pub returns-in-Err-WriteFault-clause-cause : goal.returns-in-Err-WriteFault-clause-cause
+returns-in-Err-WriteFault-clause-cause g c =
+    let m = c.args.m.now in
+    let x = c.args.piece.x in
+    let inner = c.args.piece.inner in
+    let new = c.write_piece.new.m in
+    let s = g.B.Bay.state c.args.bay.now in
+    let t = g.B.Bay.state c.write_piece.new.bay in
+    piece_fails m x inner c.args.failed s t c.in-Err-WriteFault.disk
+    (subst (λ (r : Refusal). WritePieceCause m x inner new s t r) c.in-Err-WriteFault.field-0-is c.in-Err-WriteFault.ensures.cause)
+
+pub returns-in-Err-Dismounted-clause-cause : goal.returns-in-Err-Dismounted-clause-cause
+returns-in-Err-Dismounted-clause-cause g c =
+    let m = c.args.m.now in
+    let new = c.write_piece.new.m in
+    let s = g.B.Bay.state c.args.bay.now in
+    let t = g.B.Bay.state c.write_piece.new.bay in
+    subst (λ (r : Refusal). WritePieceCause m c.args.piece.x c.args.piece.inner new s t r) c.in-Err-Dismounted.field-0-is c.in-Err-Dismounted.ensures.cause

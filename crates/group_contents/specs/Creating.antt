@@ -1,0 +1,117 @@
+-- Why a new file of a mounted group is refused.
+use Rattle.std.specs.Prelude.{◌≡◌, ◌⊎◌, ◌↔◌, ⊤, ℕ, ◌+◌, ◌<◌, List, [], ◌∷◌, Option, Some, None, IsTrue, true}
+use Rattle.bay.specs.State.{BayState}
+use Rattle.asm_base.specs.declared.refusal.Refusal.{Refusal}
+use Rattle.asm_base.specs.declared.refusal.Refusal.TheVariants as cause
+use Rattle.asm_group.specs.Group.{Template}
+use Rattle.asm_group.specs.Names.{Bytes, Path}
+use Rattle.asm_group.specs.declared.Stripe.{Stripe}
+use Rattle.asm_base.specs.Records.{Entry}
+use Rattle.asm_formats.specs.Items.{Key}
+use Rattle.asm_placement.specs.Layout.{has_extent}
+use Rattle.asm_world.specs.Files.{copies_for}
+use Rattle.catalog.specs.Changing.{IsAfter}
+use Rattle.catalog.specs.NameChecks.{IsCheckRefusal}
+use Rattle.catalog.specs.NamePlans.{IsNamePlan, made_file}
+use Rattle.catalog.specs.Numbers.{IsNextFile}
+use Rattle.catalog.specs.Rules.{blocks_used, has_copies}
+use Rattle.extent_map.specs.Extents.{extent_at}
+use Rattle.file_directory.specs.Files.{head_at}
+use Rattle.asm_group.specs.declared.PendingKind.TheVariants.{Create}
+use Rattle.catalog.specs.Tables.{Catalogued, Tables}
+use Rattle.catalog.specs.declared.new_file.FileBy.{FileBy}
+use Rattle.catalog.specs.declared.new_file.FileBy.TheVariants as by
+use Rattle.catalog.specs.declared.new_file.NewFile.{NewFile}
+use Rattle.extent_copies.specs.NewFiles.{serving_groups, template_by}
+use Rattle.group_engine.specs.Commits.{StatusCause}
+use Rattle.group_engine.specs.Mounts.{MountedGroup}
+use Rattle.file_extents.specs.Rows.{SpaceCause}
+use Rattle.file_extents.specs.declared.rows.NewExtents.{NewExtents}
+use Rattle.group_contents.specs.Files.{WriteCause}
+
+-- the template that is said
+abbrev pub template_said : FileBy → Option Bytes
+template_said by.System = None
+template_said (by.Template name) = Some name
+template_said (by.Given copies stripe) = None
+
+-- the template of this name, or else that of the file's type, for a path of three parts
+abbrev pub template_in : Tables → Option Bytes → Path → Option Template
+template_in t said (db ∷ type_name ∷ tag ∷ []) = template_by t.templates.templates type_name said
+template_in t said _ = None
+
+-- the template of a file at a path
+abbrev pub template_at : Tables → FileBy → Path → Option Template
+template_at t file_by path = template_in t (template_said file_by) path
+
+-- there is no template for the file
+abbrev pub IsTemplateCause : Tables → NewFile → Refusal → Type 0
+IsTemplateCause t new cause.NoTemplate = template_at t new.by new.path.parts ≡ None
+IsTemplateCause t new _ = ⊥
+
+-- more blocks are needed than are free
+abbrev pub RoomCause : Catalogued → Refusal → Type 0
+RoomCause c (cause.DirectoryFull need free) = (free + blocks_used c.tables + 2 ≡ c.shape.dir_blocks) × (free < need)
+RoomCause c cause.NoMemory = ⊤
+RoomCause c _ = ⊥
+
+-- copies and a stripe by a template and the failure groups that serve
+abbrev pub IsBy : MountedGroup → Option Template → ℕ → Stripe → Type 0
+IsBy m found copies stripe = (t : Template) × (found ≡ Some t)
+    × (copies ≡ copies_for m.catalog.shape.kind t.copies (serving_groups m.register.value.entries)) × (stripe ≡ t.stripe)
+
+-- The file gets so many copies and this stripe: those that are given, or by its template and the failure groups that serve.
+abbrev pub IsChosen : MountedGroup → NewFile → FileBy → ℕ → Stripe → Type 0
+IsChosen m new (by.Given said given) copies stripe = (copies ≡ said) × (stripe ≡ given)
+IsChosen m new file_by copies stripe = IsBy m (template_at m.catalog.tables new.by new.path.parts) copies stripe
+
+-- The extents of the next file, with this size.
+pub record AreNext (c : Catalogued) (copies : ℕ) (stripe : Stripe) (size : ℕ) (extents : NewExtents) : Type 0 where
+  pub file : IsNextFile c.tables extents.file
+  pub copies_are : extents.copies ≡ copies
+  pub first : extents.first ≡ 0
+  pub count : (i : ℕ) → (i < extents.count) ↔ IsTrue (has_extent stripe c.shape.au c.shape.step size i)
+
+-- There is no choice of homes for an extent of the file.
+pub record LacksSpace (m : MountedGroup) (new : NewFile) (refusal : Refusal) : Type 0 where
+  pub copies : ℕ
+  pub stripe : Stripe
+  pub chosen : IsChosen m new new.by copies stripe
+  pub extents : NewExtents
+  pub next : AreNext m.catalog copies stripe new.size extents
+  pub space : SpaceCause m extents refusal
+
+-- Why a file can't be made, before anything is changed: by its template, its name and its size, for want of blocks, or of space.
+abbrev pub NewCause : MountedGroup → NewFile → Refusal → Type 0
+NewCause m new refusal = IsTemplateCause m.catalog.tables new refusal
+    ⊎ (IsCheckRefusal m.catalog new.path.parts new.size refusal
+    ⊎ (RoomCause m.catalog refusal
+    ⊎ LacksSpace m new refusal))
+
+-- the same, or the group takes no calls, or was dismounted by the first commit
+abbrev pub BeginCause : MountedGroup → NewFile → MountedGroup → BayState → BayState → Refusal → Type 0
+BeginCause old new group s t refusal = NewCause old new refusal ⊎ StatusCause old group s t refusal
+
+-- the same, or by a disk that failed
+abbrev pub CreateCause : MountedGroup → NewFile → MountedGroup → BayState → BayState → Refusal → Type 0
+CreateCause old new group s t refusal = NewCause old new refusal ⊎ WriteCause old group s t refusal
+
+-- the creation of the file is pending, and it has no head yet
+pub record IsBegun (t : Tables) (file : ℕ) : Type 0 where
+  pub kept : ℕ
+  pub pending : t.operations.pending ≡ Some (record { kind = Create; file = file; kept = kept })
+  pub new : head_at t.files file ≡ None
+
+-- each extent that the size asks for is there with all its copies
+abbrev pub HasExtents : Catalogued → Stripe → ℕ → ℕ → ℕ → Type 0
+HasExtents c stripe size file copies = (i : ℕ) → has_extent stripe c.shape.au c.shape.step size i ≡ true → has_copies copies (extent_at c.tables.extents file i) ≡ true
+
+-- The head and the names of a new file of this number were committed, with its size.
+pub record NamesFile (before : MountedGroup) (new : NewFile) (file : ℕ) (after : MountedGroup) : Type 0 where
+  pub number : made_file before.catalog.tables ≡ file
+  pub copies : ℕ
+  pub stripe : Stripe
+  pub put : List Entry
+  pub gone : List Key
+  pub plan : IsNamePlan before.catalog new.path.parts new.size copies stripe put gone
+  pub applied : IsAfter before.catalog.tables put gone after.catalog.tables

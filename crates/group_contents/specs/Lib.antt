@@ -1,0 +1,5 @@
+pub mod Creating
+pub mod Files
+pub mod Removing
+pub mod Sizes
+pub mod Works

@@ -1,0 +1,27 @@
+-- A piece of work on a group's files: what it does, and why it is refused.
+use Rattle.std.specs.Prelude.{◌⊎◌, ⊤, length}
+use Rattle.bay.specs.State.{BayState}
+use Rattle.asm_base.specs.declared.refusal.Refusal.{Refusal}
+use Rattle.group_engine.specs.Commits.{StatusCause}
+use Rattle.group_engine.specs.Mounts.{MountedGroup}
+use Rattle.group_contents.specs.Files.{OpenCause, WriteFileCause}
+use Rattle.group_contents.specs.Removing.{IsRemoved, RemoveCause, Removes}
+use Rattle.group_contents.specs.Sizes.{ResizeCause, Resizes}
+use Rattle.group_contents.specs.declared.work.FileWork.{FileWork}
+use Rattle.group_contents.specs.declared.work.FileWork.TheVariants as work
+
+-- what was committed, as the call that does it says; of bytes nothing is said
+abbrev pub WorkDone : MountedGroup → FileWork → MountedGroup → Type 0
+WorkDone old (work.Resize path size) new = Resizes old path.parts size new
+WorkDone old (work.Remove path) new = Removes old path.parts new
+WorkDone old (work.RemoveFile path) new = IsRemoved old path.parts new
+WorkDone old (work.Write path at bytes) new = ⊤
+WorkDone old (work.Fill path at len byte) new = ⊤
+
+-- the cause is one of the call that does it
+abbrev pub WorkCause : MountedGroup → FileWork → MountedGroup → BayState → BayState → Refusal → Type 0
+WorkCause old (work.Resize path size) new s t refusal = ResizeCause old path.parts size new s t refusal
+WorkCause old (work.Remove path) new s t refusal = RemoveCause old path.parts new s t refusal
+WorkCause old (work.RemoveFile path) new s t refusal = OpenCause old path.parts refusal ⊎ StatusCause old new s t refusal
+WorkCause old (work.Write path at bytes) new s t refusal = WriteFileCause old path.parts at (length bytes) new s t refusal
+WorkCause old (work.Fill path at len byte) new s t refusal = WriteFileCause old path.parts at len new s t refusal

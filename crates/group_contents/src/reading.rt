@@ -1,0 +1,114 @@
+// The bytes of a file are read.
+ghost use Rattle.std.specs.Prelude.{◌≡◌, ◌⊎◌, IfErr, length};
+ghost use Rattle.striping.specs.Pieces.{IsLayout};
+ghost use Rattle.group_engine.specs.Mounts.{IsMounted, Takes};
+ghost use Rattle.group_engine.specs.Own.{KeepsGroup};
+ghost use Rattle.group_pieces.specs.Usable.{FitsExtent};
+ghost use Rattle.group_contents.specs.Files.{AtFile, ReadCause, SpanCause};
+
+use crate::opening::{OpenFile, open_span};
+use asm_base::{DiskRef, Path, Refusal, Span};
+use bay::Bay;
+use file_extents::{Piece, first_piece, layout_of};
+use group_engine::Mounted;
+use group_pieces::{ReadError, read_piece};
+use striping::Layout;
+
+/// Fills the buffer with a piece.
+fn read_one<B: Bay>(
+    m: &Mounted,
+    bay: &mut B,
+    file: &OpenFile,
+    piece: Piece,
+    buf: &mut [u8],
+) -> Result<(), Refusal>
+    requires mounted { IsMounted m.now }
+    requires takes { Takes m.now (B.state bay.old) }
+    requires file { piece.x.file ≡ file.now.file }
+    requires piece { FitsExtent m.now.catalog.shape piece.x.index piece.inner (length buf.old) }
+    ensures keeps { KeepsGroup m.now m.now (B.state bay.old) (B.state bay.new) }
+    ensures cause { IfErr result (ReadCause m.now (B.state bay.old) (B.state bay.new) file.now) }
+{
+    match read_piece(m, bay, piece.x, piece.inner, buf) {
+        Ok(()) => Ok(()),
+        Err(ReadError::Lost) => Err(Refusal::Lost { extent: piece.x }),
+        Err(ReadError::Fault { disk }) => Err(Refusal::ReadFault {
+            disk: DiskRef::Number(disk),
+        }),
+    }
+}
+
+/// Fills the buffer with bytes of a file that lie so, piece by piece.
+fn read_pieces<B: Bay>(
+    m: &Mounted,
+    bay: &mut B,
+    layout: Layout,
+    file: &OpenFile,
+    at: u64,
+    buf: &mut [u8],
+) -> Result<(), Refusal>
+    requires mounted { IsMounted m.now }
+    requires takes { Takes m.now (B.state bay.old) }
+    requires layout { IsLayout layout }
+    ensures keeps { KeepsGroup m.now m.now (B.state bay.old) (B.state bay.new) }
+    ensures cause { IfErr result (ReadCause m.now (B.state bay.old) (B.state bay.new) file.now) }
+{
+    let shape = m.catalog().shape();
+    let mut from = at;
+    let mut done = 0;
+    while done < buf.len() {
+        let left = buf.len() - done;
+        let Some(piece) = first_piece(shape, layout, file.file, from, left as u64) else {
+            return Err(Refusal::NoMemory);
+        };
+        match read_one(m, bay, file, piece, &mut buf[done..done + piece.len]) {
+            Ok(()) => {}
+            Err(refusal) => return Err(refusal),
+        }
+        from = from.saturating_add(piece.len as u64);
+        done += piece.len;
+    }
+    Ok(())
+}
+
+/// Fills the buffer with the bytes of a file from one on, which it has. Each piece is read from its usable copies, by number until one
+/// reads. Lost: an extent has none. ReadFault: those of an extent all failed, that on this disk first. Dismounted: the group is.
+pub fn read_next<B: Bay>(
+    m: &Mounted,
+    bay: &mut B,
+    file: &OpenFile,
+    at: u64,
+    buf: &mut [u8],
+) -> Result<(), Refusal>
+    requires takes { Takes m.now (B.state bay.old) }
+    ensures keeps { KeepsGroup m.now m.now (B.state bay.old) (B.state bay.new) }
+    ensures cause { IfErr result (ReadCause m.now (B.state bay.old) (B.state bay.new) file.now) }
+{
+    match m.takes_calls() {
+        Ok(()) => {}
+        Err(refusal) => return Err(refusal),
+    }
+    match layout_of(m.catalog().shape(), file.stripe) {
+        Some(layout) => read_pieces(m, bay, layout, file, at, buf),
+        None => Err(Refusal::NoMemory),
+    }
+}
+
+/// Fills the buffer with a span of a file, as long as the buffer. Refusals in their order: NoName, NotSectors, OutOfFile, Lost,
+/// ReadFault.
+pub fn read<B: Bay>(
+    m: &Mounted,
+    bay: &mut B,
+    path: &Path,
+    span: Span,
+    buf: &mut [u8],
+) -> Result<(), Refusal>
+    requires takes { Takes m.now (B.state bay.old) }
+    ensures keeps { KeepsGroup m.now m.now (B.state bay.old) (B.state bay.new) }
+    ensures cause { IfErr result (λ refusal. AtFile m.now path.now.parts (SpanCause m.now span.at span.len) refusal ⊎ AtFile m.now path.now.parts (ReadCause m.now (B.state bay.old) (B.state bay.new)) refusal) }
+{
+    match open_span(m, path, span.at, span.len) {
+        Ok(file) => read_next(m, bay, &file, span.at, buf),
+        Err(refusal) => Err(refusal),
+    }
+}

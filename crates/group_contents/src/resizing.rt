@@ -1,0 +1,367 @@
+//! Another size of a file.
+ghost use Rattle.std.specs.Bool.{OnTrue};
+ghost use Rattle.std.specs.Prelude.{◌≡◌, ◌⊎◌, IfErr, IfOk, IsTrue, OnOk};
+ghost use Rattle.file_directory.specs.Files.{is_file};
+ghost use Rattle.catalog.specs.FilePlans.{MayGrow, is_on_file};
+ghost use Rattle.group_engine.specs.Commits.{StatusCause};
+ghost use Rattle.group_engine.specs.Mounts.{IsMounted, IsWhole, Takes};
+ghost use Rattle.group_engine.specs.Own.{KeepsGroup};
+ghost use Rattle.group_engine.specs.Pending.{GoesOn};
+ghost use Rattle.group_contents.specs.Creating.{RoomCause};
+ghost use Rattle.group_contents.specs.Files.{WriteCause};
+ghost use Rattle.group_contents.specs.Sizes.{AreMore, GrowCause, IsCut, IsSized, ResizeCause, Resizes, SetsSize};
+
+use crate::buffers::buffer;
+use crate::chunks::chunks_of;
+use crate::opening::{OpenFile, first_lost, is_sectors, open};
+use crate::writing::fill_span;
+use asm_base::{Path, Refusal};
+use bay::Bay;
+use catalog::Catalog;
+use file_extents::{
+    Contents, Filling, LONGEST_PIECE, NewExtents, begin_filling, bytes_before, commit_plan,
+    has_all, is_at_rest, layout_of, or_shut, prepare, put_zeros,
+};
+use group_engine::Mounted;
+use operations_directory::PendingKind;
+use std::alloc::Global;
+use striping::extents_for;
+
+// ---- the size alone
+
+/// Whether no operation is pending, or one on a file that has a head.
+fn is_on_file(catalog: &Catalog) -> bool
+    ensures { result ≡ is_on_file catalog.now.tables.files catalog.now.tables.operations.pending }
+{
+    match catalog.pending() {
+        Some(op) => catalog.file(op.file).is_some(),
+        None => true,
+    }
+}
+
+/// Whether the file has a head, and the extents of a size with all their copies where that is greater.
+fn may_grow(catalog: &Catalog, file: u32, size: u64) -> bool
+    ensures file { OnTrue result (IsTrue (is_file catalog.now.tables.files file)) }
+    ensures grow { OnTrue result (MayGrow catalog.now.shape catalog.now.tables file size) }
+{
+    let Some(head) = catalog.file(file) else {
+        return false;
+    };
+    if size <= head.size {
+        return true;
+    }
+    match layout_of(catalog.shape(), head.stripe) {
+        Some(layout) => has_all(catalog, file, head.copies, extents_for(layout, size)),
+        None => false,
+    }
+}
+
+/// The same, where the pending operation is on a file that has a head, or none is.
+fn may_size(catalog: &Catalog, file: u32, size: u64) -> bool
+    ensures file { OnTrue result (IsTrue (is_file catalog.now.tables.files file)) }
+    ensures grow { OnTrue result (MayGrow catalog.now.shape catalog.now.tables file size) }
+    ensures on { OnTrue result (IsTrue (is_on_file catalog.now.tables.files catalog.now.tables.operations.pending)) }
+{
+    may_grow(catalog, file, size) && is_on_file(catalog)
+}
+
+/// Commits another size of a file, where all extents that it has then are there.
+fn set_size<B: Bay>(
+    m: &mut Mounted,
+    alloc: Global,
+    bay: &mut B,
+    file: u32,
+    size: u64,
+) -> Result<(), Refusal>
+    requires mounted { IsMounted m.old }
+    requires takes { Takes m.old (B.state bay.old) }
+    ensures goes { GoesOn m.old result m.new (B.state bay.old) (B.state bay.new) }
+    ensures sized { OnOk result (SetsSize m.old file size m.new) }
+{
+    if !may_size(m.catalog(), file, size) {
+        return Err(Refusal::NoMemory);
+    }
+    match m.catalog().plan_size(alloc, file, size) {
+        Ok(change) => commit_plan(m, alloc, bay, &change),
+        Err(_) => Err(Refusal::NoMemory),
+    }
+}
+
+// ---- a smaller file
+
+/// Makes a file smaller: the size first, and then the extents behind it go, chunk by chunk from the last.
+fn shrink<B: Bay>(
+    m: &mut Mounted,
+    alloc: Global,
+    bay: &mut B,
+    file: u32,
+    size: u64,
+) -> Result<(), Refusal>
+    requires mounted { IsMounted m.old }
+    requires takes { Takes m.old (B.state bay.old) }
+    ensures keeps { KeepsGroup m.old m.new (B.state bay.old) (B.state bay.new) }
+    ensures cause { IfErr result (StatusCause m.old m.new (B.state bay.old) (B.state bay.new)) }
+    ensures sized { OnOk result (IsCut m.old file size) }
+{
+    m.set_flight(None);
+    match set_size(m, alloc, bay, file, size) {
+        Ok(()) => m.end_pending(alloc, bay),
+        Err(refusal) => Err(refusal),
+    }
+}
+
+// ---- a greater file
+
+/// The extents that a file gets by a greater size, for which there are blocks. DirectoryFull: more are needed than are free.
+fn more_extents(m: &Mounted, file: &OpenFile, size: u64) -> Result<NewExtents, Refusal>
+    ensures cause { IfErr result (RoomCause m.now.catalog) }
+    ensures extents { IfOk result (AreMore m.now.catalog file.now) }
+{
+    let Some(layout) = layout_of(m.catalog().shape(), file.stripe) else {
+        return Err(Refusal::NoMemory);
+    };
+    let kept = extents_for(layout, file.size);
+    let count = extents_for(layout, size);
+    let chunks = chunks_of(count).saturating_sub(chunks_of(kept));
+    let need = chunks.saturating_mul(2);
+    let free = m.catalog().free_blocks();
+    if free < need {
+        return Err(Refusal::DirectoryFull { need, free });
+    }
+    Ok(NewExtents {
+        file: file.file,
+        copies: file.copies,
+        first: kept,
+        count: count.saturating_sub(kept),
+    })
+}
+
+/// The bytes that a file's extents have behind its size.
+fn bytes_behind(m: &Mounted, file: &OpenFile) -> u64 {
+    match layout_of(m.catalog().shape(), file.stripe) {
+        Some(layout) => {
+            let kept = extents_for(layout, file.size);
+            bytes_before(m.catalog().shape(), kept).saturating_sub(file.size)
+        }
+        None => 0,
+    }
+}
+
+/// Looks whether a file may have a greater size, and has all memory for it; nothing is changed.
+fn prepare_more(m: &Mounted, alloc: Global, file: &OpenFile, size: u64) -> Result<Filling, Refusal>
+    requires whole { IsWhole m.now }
+    ensures cause { IfErr result (GrowCause m.now file.now) }
+    ensures failed { IfOk result (λ filling. filling.failed ≡ 0) }
+{
+    if let Some(extent) = first_lost(m, file, file.size, bytes_behind(m, file)) {
+        return Err(Refusal::Lost { extent });
+    }
+    let new = more_extents(m, file, size)?;
+    prepare(m, alloc, new, file.stripe, Contents::Zeros, size)
+}
+
+/// A growth that is prepared: what its file and its size are, and when it begins.
+#[derive(Clone, Copy)]
+struct Growth {
+    file: OpenFile,
+    size: u64,
+    /// In seconds.
+    time: u64,
+}
+
+/// Puts the new extents of a growth that has begun, and commits its size. After want of memory the group takes no more calls.
+fn put_more<B: Bay>(
+    m: &mut Mounted,
+    alloc: Global,
+    bay: &mut B,
+    growth: &Growth,
+    filling: &mut Filling,
+    zeros: &[u8],
+) -> Result<(), Refusal>
+    requires mounted { IsMounted m.old }
+    requires takes { Takes m.old (B.state bay.old) }
+    requires fresh { filling.old.failed ≡ 0 }
+    ensures keeps { KeepsGroup m.old m.new (B.state bay.old) (B.state bay.new) }
+    ensures cause { IfErr result (WriteCause m.old m.new (B.state bay.old) (B.state bay.new)) }
+    ensures sized { OnOk result (IsSized growth.now.file.file growth.now.size m.new) }
+{
+    match put_zeros(m, alloc, bay, filling, zeros) {
+        Ok(()) => size_or_shut(m, alloc, bay, growth.file.file, growth.size),
+        Err(refusal) => Err(refusal),
+    }
+}
+
+/// Commits another size of a file. After want of memory the group takes no more calls.
+fn size_or_shut<B: Bay>(
+    m: &mut Mounted,
+    alloc: Global,
+    bay: &mut B,
+    file: u32,
+    size: u64,
+) -> Result<(), Refusal>
+    requires mounted { IsMounted m.old }
+    requires takes { Takes m.old (B.state bay.old) }
+    ensures goes { GoesOn m.old result m.new (B.state bay.old) (B.state bay.new) }
+    ensures sized { OnOk result (SetsSize m.old file size m.new) }
+{
+    let answer = set_size(m, alloc, bay, file, size);
+    or_shut(m, answer)
+}
+
+/// Puts the new extents of a growth behind those of its file, and commits its size.
+fn add_extents<B: Bay>(
+    m: &mut Mounted,
+    alloc: Global,
+    bay: &mut B,
+    growth: &Growth,
+    filling: &mut Filling,
+    zeros: &[u8],
+) -> Result<(), Refusal>
+    requires mounted { IsMounted m.old }
+    requires takes { Takes m.old (B.state bay.old) }
+    requires fresh { filling.old.failed ≡ 0 }
+    ensures keeps { KeepsGroup m.old m.new (B.state bay.old) (B.state bay.new) }
+    ensures cause { IfErr result (WriteCause m.old m.new (B.state bay.old) (B.state bay.new)) }
+    ensures sized { OnOk result (IsSized growth.now.file.file growth.now.size m.new) }
+{
+    match begin_filling(m, alloc, bay, PendingKind::Grow, filling) {
+        Ok(()) => put_more(m, alloc, bay, growth, filling, zeros),
+        Err(refusal) => Err(refusal),
+    }
+}
+
+/// The same, where extents are new; else the size alone is committed.
+fn extend<B: Bay>(
+    m: &mut Mounted,
+    alloc: Global,
+    bay: &mut B,
+    growth: &Growth,
+    filling: &mut Filling,
+    zeros: &[u8],
+) -> Result<(), Refusal>
+    requires mounted { IsMounted m.old }
+    requires takes { Takes m.old (B.state bay.old) }
+    requires fresh { filling.old.failed ≡ 0 }
+    ensures keeps { KeepsGroup m.old m.new (B.state bay.old) (B.state bay.new) }
+    ensures cause { IfErr result (WriteCause m.old m.new (B.state bay.old) (B.state bay.new)) }
+    ensures sized { OnOk result (IsSized growth.now.file.file growth.now.size m.new) }
+{
+    if filling.extents.count > 0 {
+        add_extents(m, alloc, bay, growth, filling, zeros)
+    } else {
+        set_size(m, alloc, bay, growth.file.file, growth.size)
+    }
+}
+
+/// Writes zeros over what a file's extents have behind its size, and makes it greater.
+fn grow_by<B: Bay>(
+    m: &mut Mounted,
+    alloc: Global,
+    bay: &mut B,
+    growth: &Growth,
+    filling: &mut Filling,
+    zeros: &[u8],
+) -> Result<(), Refusal>
+    requires mounted { IsMounted m.old }
+    requires takes { Takes m.old (B.state bay.old) }
+    requires fresh { filling.old.failed ≡ 0 }
+    ensures keeps { KeepsGroup m.old m.new (B.state bay.old) (B.state bay.new) }
+    ensures cause { IfErr result (WriteCause m.old m.new (B.state bay.old) (B.state bay.new)) }
+    ensures sized { OnOk result (IsSized growth.now.file.file growth.now.size m.new) }
+{
+    m.set_flight(None);
+    let file = growth.file;
+    let behind = bytes_behind(m, &file);
+    match fill_span(m, alloc, bay, &file, file.size, behind, zeros, growth.time) {
+        Ok(()) => extend(m, alloc, bay, growth, filling, zeros),
+        Err(refusal) => Err(refusal),
+    }
+}
+
+/// Makes a file greater, where it may be, with the zeros of a buffer.
+fn grow_with<B: Bay>(
+    m: &mut Mounted,
+    alloc: Global,
+    bay: &mut B,
+    growth: &Growth,
+    zeros: &[u8],
+) -> Result<(), Refusal>
+    requires mounted { IsMounted m.old }
+    requires takes { Takes m.old (B.state bay.old) }
+    ensures keeps { KeepsGroup m.old m.new (B.state bay.old) (B.state bay.new) }
+    ensures cause { IfErr result (λ refusal. GrowCause m.old growth.now.file refusal ⊎ WriteCause m.old m.new (B.state bay.old) (B.state bay.new) refusal) }
+    ensures sized { OnOk result (IsSized growth.now.file.file growth.now.size m.new) }
+{
+    match prepare_more(m, alloc, &growth.file, growth.size) {
+        Ok(mut filling) => {
+            let answer = grow_by(m, alloc, bay, growth, &mut filling, zeros);
+            drop(filling);
+            answer
+        }
+        Err(refusal) => Err(refusal),
+    }
+}
+
+/// Makes a file greater: zeros over what its extents have behind its size, and then more extents of zeros, chunk by chunk under a
+/// pending operation; the size comes last.
+fn grow<B: Bay>(m: &mut Mounted, alloc: Global, bay: &mut B, growth: &Growth) -> Result<(), Refusal>
+    requires mounted { IsMounted m.old }
+    requires takes { Takes m.old (B.state bay.old) }
+    ensures keeps { KeepsGroup m.old m.new (B.state bay.old) (B.state bay.new) }
+    ensures cause { IfErr result (λ refusal. GrowCause m.old growth.now.file refusal ⊎ WriteCause m.old m.new (B.state bay.old) (B.state bay.new) refusal) }
+    ensures sized { OnOk result (IsSized growth.now.file.file growth.now.size m.new) }
+{
+    if !is_at_rest(m) {
+        return Err(Refusal::NoMemory);
+    }
+    let Ok(zeros) = buffer(alloc, LONGEST_PIECE, 0) else {
+        return Err(Refusal::NoMemory);
+    };
+    let answer = grow_with(m, alloc, bay, growth, &zeros);
+    drop(zeros);
+    answer
+}
+
+/// Gives the file at a path another size in bytes; what it gets reads as zeros. Refusals in their order: NoName; NotSectors; of a
+/// greater size Lost, with the first of its extents that has bytes behind the old size and no usable copy, DirectoryFull and NoSpace;
+/// then Dismounted and WriteFault. A refusal leaves the size as it was, but for Dismounted, after which it is either.
+pub fn resize<B: Bay>(
+    m: &mut Mounted,
+    alloc: Global,
+    bay: &mut B,
+    path: &Path,
+    size: u64,
+    now: u64,
+) -> Result<(), Refusal>
+    requires takes { Takes m.old (B.state bay.old) }
+    ensures keeps { KeepsGroup m.old m.new (B.state bay.old) (B.state bay.new) }
+    ensures cause { IfErr result (ResizeCause m.old path.now.parts size m.new (B.state bay.old) (B.state bay.new)) }
+    // The file at the path had the size and the group stays, or a commit gave it.
+    ensures sized { OnOk result (Resizes m.old path.now.parts size m.new) }
+{
+    m.takes_calls()?;
+    let file = match open(m, path) {
+        Ok(file) => file,
+        Err(refusal) => return Err(refusal),
+    };
+    if !is_sectors(m, size) {
+        return Err(Refusal::NotSectors);
+    }
+    if size == file.size {
+        return Ok(());
+    }
+    if size < file.size {
+        shrink(m, alloc, bay, file.file, size)
+    } else {
+        grow(
+            m,
+            alloc,
+            bay,
+            &Growth {
+                file,
+                size,
+                time: now,
+            },
+        )
+    }
+}

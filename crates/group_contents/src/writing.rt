@@ -1,0 +1,301 @@
+//! The bytes of a file are written.
+ghost use Rattle.std.specs.Prelude.{◌≡◌, ◌⊎◌, ◌<◌, ℕ, IfErr, IfOk, IfSome, OnOk, length, true};
+ghost use Rattle.asm_formats.specs.Sets.{has_bit};
+ghost use Rattle.striping.specs.Pieces.{IsLayout};
+ghost use Rattle.group_engine.specs.Mounts.{IsMounted, Takes};
+ghost use Rattle.group_engine.specs.Own.{KeepsGroup};
+ghost use Rattle.group_pieces.specs.Usable.{FitsExtent};
+ghost use Rattle.file_extents.specs.Filling.{FailsMore, FillCause, PutCause};
+ghost use Rattle.group_contents.specs.Files.{WriteCause, WriteFileCause};
+
+use crate::buffers::buffer;
+use crate::opening::{OpenFile, open_span};
+use asm_base::{DiskRef, DiskSet, ExtentId, Home, Path, Refusal};
+use bay::Bay;
+use file_extents::{Piece, first_piece, layout_of};
+use group_engine::Mounted;
+use group_pieces::write_piece;
+use std::alloc::Global;
+use striping::Layout;
+
+/// The disk of a home, where it is in the set.
+fn on_failed(home: Option<Home>, failed: DiskSet) -> Option<u8>
+    ensures { IfSome result (λ disk. (disk < 64) × (has_bit failed disk ≡ true)) }
+{
+    match home {
+        Some(home) => {
+            if home.disk < 64 && failed.has(home.disk) {
+                Some(home.disk)
+            } else {
+                None
+            }
+        }
+        None => None,
+    }
+}
+
+fn first_failed(
+    first: Option<Home>,
+    second: Option<Home>,
+    third: Option<Home>,
+    failed: DiskSet,
+) -> Option<u8>
+    ensures { IfSome result (λ disk. (disk < 64) × (has_bit failed disk ≡ true)) }
+{
+    if let Some(disk) = on_failed(first, failed) {
+        return Some(disk);
+    }
+    if let Some(disk) = on_failed(second, failed) {
+        return Some(disk);
+    }
+    on_failed(third, failed)
+}
+
+/// The refusal where no copy of an extent is usable any more: by its first copy that is on one of the disks that failed.
+fn lost_on_the_way(m: &Mounted, x: ExtentId, failed: DiskSet) -> Refusal
+    ensures { FillCause failed result }
+{
+    let Some(homes) = m.catalog().homes(x) else {
+        return Refusal::NoMemory;
+    };
+    match first_failed(homes.first, homes.second, homes.third, failed) {
+        Some(disk) => Refusal::WriteFault {
+            disk: DiskRef::Number(disk),
+        },
+        None => Refusal::NoMemory,
+    }
+}
+
+/// The disks of two sets.
+#[tactic(auto, using(crate::proofs::Failed::joined_bits))]
+fn joined(one: DiskSet, other: DiskSet) -> DiskSet
+    ensures { (k : ℕ) → k < 64 → has_bit result k ≡ true → (has_bit one k ≡ true) ⊎ (has_bit other k ≡ true) }
+{
+    DiskSet::from_bits(one.bits() | other.bits())
+}
+
+/// Writes a piece. Gives the set of the disks that failed, with those of this set. Refusals: WriteFault, where no copy took it;
+/// Dismounted; NoMemory.
+fn write_one<B: Bay>(
+    m: &mut Mounted,
+    alloc: Global,
+    bay: &mut B,
+    piece: Piece,
+    bytes: &[u8],
+    now: u64,
+    failed: DiskSet,
+) -> Result<DiskSet, Refusal>
+    requires takes { Takes m.old (B.state bay.old) }
+    requires piece { FitsExtent m.old.catalog.shape piece.x.index piece.inner (length bytes.now) }
+    ensures keeps { KeepsGroup m.old m.new (B.state bay.old) (B.state bay.new) }
+    ensures mounted { OnOk result (IsMounted m.new) }
+    ensures cause { IfErr result (PutCause m.old failed m.new (B.state bay.old) (B.state bay.new)) }
+    ensures failed { IfOk result (λ more. FailsMore m.old failed more (B.state bay.old) (B.state bay.new)) }
+{
+    match write_piece(m, alloc, bay, piece.x, piece.inner, bytes, now) {
+        Ok(more) => Ok(joined(failed, more)),
+        Err(Refusal::Lost { extent }) => Err(lost_on_the_way(m, extent, failed)),
+        Err(Refusal::WriteFault { disk }) => Err(Refusal::WriteFault { disk }),
+        Err(Refusal::Dismounted { disk }) => Err(Refusal::Dismounted { disk }),
+        Err(_) => Err(Refusal::NoMemory),
+    }
+}
+
+/// How the pieces of a write to a file lie, and the time in seconds.
+#[derive(Clone, Copy)]
+struct Writing {
+    file: u32,
+    layout: Layout,
+    now: u64,
+}
+
+/// Writes bytes of a file from one on, piece by piece. Gives the set of the disks that failed, with those of this set.
+fn write_bytes<B: Bay>(
+    m: &mut Mounted,
+    alloc: Global,
+    bay: &mut B,
+    writing: Writing,
+    at: u64,
+    bytes: &[u8],
+    failed: DiskSet,
+) -> Result<DiskSet, Refusal>
+    requires mounted { IsMounted m.old }
+    requires takes { Takes m.old (B.state bay.old) }
+    requires layout { IsLayout writing.layout }
+    ensures keeps { KeepsGroup m.old m.new (B.state bay.old) (B.state bay.new) }
+    ensures mounted { OnOk result (IsMounted m.new) }
+    ensures cause { IfErr result (PutCause m.old failed m.new (B.state bay.old) (B.state bay.new)) }
+    ensures failed { IfOk result (λ more. FailsMore m.old failed more (B.state bay.old) (B.state bay.new)) }
+{
+    let mut failed = failed;
+    let mut from = at;
+    let mut done = 0;
+    while done < bytes.len() {
+        let left = (bytes.len() - done) as u64;
+        let shape = m.catalog().shape();
+        let Some(piece) = first_piece(shape, writing.layout, writing.file, from, left) else {
+            return Err(Refusal::NoMemory);
+        };
+        let part = &bytes[done..done + piece.len];
+        match write_one(m, alloc, bay, piece, part, writing.now, failed) {
+            Ok(more) => failed = more,
+            Err(refusal) => return Err(refusal),
+        }
+        from = from.saturating_add(piece.len as u64);
+        done += piece.len;
+    }
+    Ok(failed)
+}
+
+/// Fills so many bytes of a file from one on with those of a buffer, again and again.
+fn fill_bytes<B: Bay>(
+    m: &mut Mounted,
+    alloc: Global,
+    bay: &mut B,
+    writing: Writing,
+    at: u64,
+    len: u64,
+    buf: &[u8],
+) -> Result<(), Refusal>
+    requires mounted { IsMounted m.old }
+    requires takes { Takes m.old (B.state bay.old) }
+    requires layout { IsLayout writing.layout }
+    ensures keeps { KeepsGroup m.old m.new (B.state bay.old) (B.state bay.new) }
+    ensures mounted { OnOk result (IsMounted m.new) }
+    ensures cause { IfErr result (PutCause m.old 0 m.new (B.state bay.old) (B.state bay.new)) }
+{
+    let mut failed = DiskSet::empty();
+    let mut from = at;
+    let mut left = len;
+    while left > 0 {
+        let n = left.min(buf.len() as u64) as usize;
+        if n == 0 {
+            return Err(Refusal::NoMemory);
+        }
+        match write_bytes(m, alloc, bay, writing, from, &buf[..n], failed) {
+            Ok(more) => failed = more,
+            Err(refusal) => return Err(refusal),
+        }
+        from = from.saturating_add(n as u64);
+        left -= n as u64;
+    }
+    Ok(())
+}
+
+/// Fills a span of a file with the bytes of a buffer, again and again. All bytes of the buffer are the same.
+pub(crate) fn fill_span<B: Bay>(
+    m: &mut Mounted,
+    alloc: Global,
+    bay: &mut B,
+    file: &OpenFile,
+    at: u64,
+    len: u64,
+    buf: &[u8],
+    now: u64,
+) -> Result<(), Refusal>
+    requires mounted { IsMounted m.old }
+    requires takes { Takes m.old (B.state bay.old) }
+    ensures keeps { KeepsGroup m.old m.new (B.state bay.old) (B.state bay.new) }
+    ensures mounted { OnOk result (IsMounted m.new) }
+    ensures cause { IfErr result (WriteCause m.old m.new (B.state bay.old) (B.state bay.new)) }
+{
+    match layout_of(m.catalog().shape(), file.stripe) {
+        Some(layout) => {
+            let writing = Writing {
+                file: file.file,
+                layout,
+                now,
+            };
+            fill_bytes(m, alloc, bay, writing, at, len, buf)
+        }
+        None => Err(Refusal::NoMemory),
+    }
+}
+
+/// Writes bytes of a file from one on.
+fn write_span<B: Bay>(
+    m: &mut Mounted,
+    alloc: Global,
+    bay: &mut B,
+    file: &OpenFile,
+    at: u64,
+    bytes: &[u8],
+    now: u64,
+) -> Result<(), Refusal>
+    requires mounted { IsMounted m.old }
+    requires takes { Takes m.old (B.state bay.old) }
+    ensures keeps { KeepsGroup m.old m.new (B.state bay.old) (B.state bay.new) }
+    ensures cause { IfErr result (WriteCause m.old m.new (B.state bay.old) (B.state bay.new)) }
+{
+    let Some(layout) = layout_of(m.catalog().shape(), file.stripe) else {
+        return Err(Refusal::NoMemory);
+    };
+    let writing = Writing {
+        file: file.file,
+        layout,
+        now,
+    };
+    match write_bytes(m, alloc, bay, writing, at, bytes, DiskSet::empty()) {
+        Ok(_) => Ok(()),
+        Err(refusal) => Err(refusal),
+    }
+}
+
+/// Writes bytes of the file at a path from one on. Refusals in their order: NoName, NotSectors, OutOfFile, Lost; then WriteFault, where
+/// all copies of an extent failed or are gone by faults of this call, and Dismounted. After the last two, and after want of memory
+/// behind the first write, the bytes of the span are free.
+pub fn write<B: Bay>(
+    m: &mut Mounted,
+    alloc: Global,
+    bay: &mut B,
+    path: &Path,
+    at: u64,
+    bytes: &[u8],
+    now: u64,
+) -> Result<(), Refusal>
+    requires takes { Takes m.old (B.state bay.old) }
+    ensures keeps { KeepsGroup m.old m.new (B.state bay.old) (B.state bay.new) }
+    ensures cause { IfErr result (WriteFileCause m.old path.now.parts at (length bytes.now) m.new (B.state bay.old) (B.state bay.new)) }
+{
+    match m.takes_calls() {
+        Ok(()) => {}
+        Err(refusal) => return Err(refusal),
+    }
+    match open_span(m, path, at, bytes.len() as u64) {
+        Ok(file) => write_span(m, alloc, bay, &file, at, bytes, now),
+        Err(refusal) => Err(refusal),
+    }
+}
+
+/// Fills a span of the file at a path with a byte, as `write` does.
+pub fn fill<B: Bay>(
+    m: &mut Mounted,
+    alloc: Global,
+    bay: &mut B,
+    path: &Path,
+    at: u64,
+    len: u64,
+    byte: u8,
+    now: u64,
+) -> Result<(), Refusal>
+    requires takes { Takes m.old (B.state bay.old) }
+    ensures keeps { KeepsGroup m.old m.new (B.state bay.old) (B.state bay.new) }
+    ensures cause { IfErr result (WriteFileCause m.old path.now.parts at len m.new (B.state bay.old) (B.state bay.new)) }
+{
+    match m.takes_calls() {
+        Ok(()) => {}
+        Err(refusal) => return Err(refusal),
+    }
+    let file = match open_span(m, path, at, len) {
+        Ok(file) => file,
+        Err(refusal) => return Err(refusal),
+    };
+    match buffer(alloc, len, byte) {
+        Ok(buf) => {
+            let answer = fill_span(m, alloc, bay, &file, at, len, &buf, now);
+            drop(buf);
+            answer
+        }
+        Err(_) => Err(Refusal::NoMemory),
+    }
+}
