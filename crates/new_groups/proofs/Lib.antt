@@ -1,0 +1,10 @@
+pub mod Passing
+pub mod DiskLists
+pub mod Works
+pub mod Formed
+pub mod Records
+pub mod Trying
+pub mod GivenAttributes
+pub mod Refused
+pub mod PlannedLaws
+pub mod Unprepared

@@ -1,0 +1,7 @@
+use Rattle.new_groups.specs.Forming.{Works}
+use Rattle.new_groups.proofs.forming.close_all.Given as goal
+
+abbrev pub invariant-loop-disk : goal.invariant-loop-disk
+invariant-loop-disk g l = record {
+  works : Works l.disks (g.B.Bay.state l.fn.bay) (g.B.Bay.state l.bay);
+}

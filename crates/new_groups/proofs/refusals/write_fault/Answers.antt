@@ -1,0 +1,12 @@
+use Rattle.std.proofs.Common.{inl, inr, ℕ, List, refl, ap, ◌∙◌}
+use Rattle.asm_group.specs.Refusal.{WriteFault}
+use Rattle.asm_base.specs.Refusals.{said}
+use Rattle.new_groups.proofs.refusals.write_fault.Goals as goal
+
+pub returns-in-Ok : goal.returns-in-Ok
+unfolding said
+returns-in-Ok c = inl (ap (λ (t : List ℕ). WriteFault t) (c.in-Ok.ensures ∙ c.as_bytes.ensures.bytes))
+
+pub returns-in-Err : goal.returns-in-Err
+unfolding said
+returns-in-Err c = inr refl

@@ -1,0 +1,21 @@
+//! New groups of every kind: what a creation is refused for, what its disks become, and how they are formed and mounted.
+#![tactic(auto)]
+
+mod asked;
+mod attributes;
+mod checking;
+mod create;
+mod draft;
+mod entries;
+mod first_records;
+mod forming;
+mod lists;
+mod mounting;
+mod places;
+mod planned;
+mod preparing;
+mod refusals;
+mod sizes;
+
+pub use asked::{GroupAsked, Known, Taken};
+pub use create::create_group;

@@ -1,0 +1,106 @@
+//! The units of the disks of a creation.
+ghost use Rattle.std.specs.Prelude.{◌≡◌, ◌+◌, [], IfErr, IsTrue, None, OnOk};
+ghost use Rattle.asm_base.specs.Refusals.{said};
+ghost use Rattle.asm_formats.specs.Regions.{reserved_units, units_in};
+ghost use Rattle.asm_group.specs.Shape.{is_shape};
+ghost use Rattle.new_groups.specs.Causes.{IsFirst, candidate, candidates, first_refused, small_refusal, units_asked};
+
+use crate::places::Place;
+use crate::planned::Terms;
+use crate::refusals::too_small;
+use asm_base::{Refusal, Shape};
+use new_disks::PlannedDisk;
+use std::alloc::Global;
+
+/// The most units that a disk may have.
+const MOST_UNITS: u64 = 16_777_216;
+
+/// The units for users that a disk has at least.
+const LEAST_USER_UNITS: u64 = 16;
+
+/// The units that a disk needs: those of its directory region, and 16 for users.
+#[tactic(auto, using(asm_images::proofs::UserBytes::shape_au), unfolding(asm_formats::specs::Regions::reserved_units))]
+fn least_units(shape: &Shape) -> u64
+    requires { IsTrue (is_shape shape.now) }
+    ensures { result ≡ reserved_units shape.now + 16 }
+{
+    let au = shape.au as u64;
+    let blocks = 14 + 2 * shape.dir_blocks as u64;
+    (blocks * 4096 + (au - 1)) / au + LEAST_USER_UNITS
+}
+
+/// The units of an image of so many bytes.
+#[tactic(auto, using(asm_images::proofs::UserBytes::shape_au))]
+fn image_units(shape: &Shape, bytes: u64) -> u64
+    requires { IsTrue (is_shape shape.now) }
+    ensures { result ≡ units_in shape.now bytes }
+{
+    (bytes / shape.au as u64).min(MOST_UNITS)
+}
+
+/// The units that a disk is to have: those of the size that is said, or those of its image of so many bytes.
+#[tactic(auto, using(asm_images::proofs::UserBytes::shape_au))]
+fn units_asked(shape: &Shape, size: Option<u64>, bytes: u64) -> u64
+    requires { IsTrue (is_shape shape.now) }
+    ensures { result ≡ units_asked shape.now size bytes }
+{
+    match size {
+        Some(said) => said / shape.au as u64,
+        None => image_units(shape, bytes),
+    }
+}
+
+/// The units of a disk. Refused as TooSmall where its image has fewer than are said, or they are fewer than it needs.
+fn units_for(
+    alloc: Global,
+    shape: &Shape,
+    disk: &PlannedDisk,
+    terms: Terms,
+    place: Place,
+) -> Result<u32, Refusal>
+    requires shape { IsTrue (is_shape shape.now) }
+    ensures fit { OnOk result (small_refusal shape.now (candidate disk.now terms place) ≡ None) }
+    ensures refused { IfErr result (λ refusal. IsFirst (small_refusal shape.now (candidate disk.now terms place)) (said (λ _. []) refusal)) }
+{
+    let units = units_asked(shape, terms.size, place.size);
+    if image_units(shape, place.size) < units {
+        return Err(too_small(alloc, &disk.name, units));
+    }
+    let least = least_units(shape);
+    if units < least {
+        return Err(too_small(alloc, &disk.name, least));
+    }
+    Ok(units as u32)
+}
+
+/// The units of the disks, in their order. Refused as TooSmall by the first that has fewer than are said or needed.
+pub fn all_units(
+    alloc: Global,
+    shape: &Shape,
+    disks: &[PlannedDisk],
+    terms: &[Terms],
+    places: &[Place],
+    units: &mut Vec<u32>,
+) -> Result<(), Refusal>
+    requires shape { IsTrue (is_shape shape.now) }
+    ensures fit { OnOk result (first_refused (small_refusal shape.now) (candidates disks.now terms.now places.now) ≡ None) }
+    ensures refused { IfErr result (λ refusal. IsFirst (first_refused (small_refusal shape.now) (candidates disks.now terms.now places.now)) (said (λ _. []) refusal)) }
+{
+    let [disk, disks @ ..] = disks else {
+        return Ok(());
+    };
+    let [first, terms @ ..] = terms else {
+        return Ok(());
+    };
+    let [place, places @ ..] = places else {
+        return Ok(());
+    };
+    let own = match units_for(alloc, shape, disk, *first, *place) {
+        Ok(own) => own,
+        Err(refusal) => return Err(refusal),
+    };
+    if units.push(own).is_err() {
+        return Err(Refusal::NoMemory);
+    }
+    all_units(alloc, shape, disks, terms, places, units)
+}
