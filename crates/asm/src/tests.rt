@@ -189,10 +189,9 @@ fn scripts_are_answered(rt: HostRuntime) -> Result<(), Fail> {
 #[test]
 fn texts_are_refused_at_their_places(rt: HostRuntime) -> Result<(), Fail> {
     let alloc = rt.alloc();
-    let rows: [(&[u8], &[u8]); 12] = [
+    let rows: [(&[u8], &[u8]); 8] = [
         (b"ALTER DISKGROUP data ADD", b"error 1 Syntax 24\n"),
         (b"pwd\r\n", b"error 1 Syntax 3\n"),
-        (b"rm +d/a\n", b"error 1 Syntax 0\n"),
         (b"lsx", b"error 1 Syntax 2\n"),
         (b"LS", b"error 1 Syntax 0\n"),
         (b"CREx", b"error 1 Syntax 3\n"),
@@ -201,18 +200,6 @@ fn texts_are_refused_at_their_places(rt: HostRuntime) -> Result<(), Fail> {
         (
             b"ALTER DISKGROUP data ADD VOLUME v;",
             b"error 1 Syntax 25\n",
-        ),
-        (
-            b"CREATE DISKGROUP H HIGH REDUNDANCY DISK '/d0', '/d1';",
-            b"error 1 Syntax 0\n",
-        ),
-        (
-            b"CREATE DISKGROUP DATA EXTERNAL REDUNDANCY DISK '/d0' FORCE;",
-            b"error 1 Syntax 0\n",
-        ),
-        (
-            b"CREATE DISKGROUP DATA EXTERNAL REDUNDANCY DISK '/d0' ATTRIBUTE 'au_size' = '1M';",
-            b"error 1 Syntax 0\n",
         ),
     ];
     for (script, output) in rows {
@@ -297,6 +284,16 @@ fn later_runs_mount_the_group(rt: HostRuntime) -> Result<(), Fail> {
             script: b"ALTER DISKGROUP other MOUNT;\nALTER DISKGROUP data MOUNT;\nls +data/DB\n",
             status: 1,
             output: b"error 2 NoGroup\nok\nx/\nok\n",
+        },
+        Later {
+            script: b"ALTER DISKGROUP data MOUNT;\ndbcreate +data/db/datafile/u 1M\ndbfill +data/db/DATAFILE/u.256.1 512 1K 7a\ndbread +data/db/DATAFILE/u.256.1 0 2K\n",
+            status: 0,
+            output: b"ok\n+DATA/db/datafile/u.256.1\nok\nok\n0 512 00\n512 1024 7a\n1536 512 00\nok\n",
+        },
+        Later {
+            script: b"ALTER DISKGROUP data MOUNT;\ndbread +data/db/DATAFILE/u.256.1 0 2K\nrm +data/db/DATAFILE/u.256.1\ndbread +data/db/DATAFILE/u.256.1 0 2K\n",
+            status: 1,
+            output: b"ok\n0 512 00\n512 1024 7a\n1536 512 00\nok\nok\nerror 14 NoName\n",
         },
     ];
     let alloc = rt.alloc();

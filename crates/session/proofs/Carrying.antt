@@ -1,17 +1,17 @@
 -- The session over a call on one of its groups.
-use Rattle.std.proofs.Common.{◌≡◌, ◌⊎◌, ⊎_elim, inl, inr, ℕ, ◌≤◌, List, map, Option, Some, None, Result, Ok, Err, refl, sym, ◌∙◌, ap, subst, arith}
-use Rattle.std.specs.Prelude.{IfErr, OnOk}
+use Rattle.std.proofs.Common.{◌≡◌, ◌⊎◌, ⊎_elim, inl, inr, ℕ, List, map, Some, Result, Ok, Err, refl, ◌∙◌, ap, arith}
+use Rattle.std.specs.Prelude.{IfErr, IfOk, OnOk}
 use Rattle.std.specs.Map.{lookup, set_value}
 use Rattle.bay.specs.State.{BayState}
 use Rattle.asm_group.specs.Names.{Bytes}
-use Rattle.group_engine.specs.Mounts.{IsMounted}
+use Rattle.group_engine.specs.Mounts.{IsMounted, MountedGroup}
 use Rattle.group_engine.specs.Own.{KeepsGroup}
 use Rattle.group_engine.specs.declared.access.Access.{Access}
 use Rattle.group_engine.specs.declared.access.Access.TheVariants as access
 use Rattle.session.specs.declared.entry.Entry.{Entry}
 use Rattle.session.specs.Entries.{entry_view, group_view}
 use Rattle.asm_base.specs.declared.refusal.Refusal.{Refusal}
-use Rattle.session.specs.Naming.{CarriesOn, ChangesGroup, IsFound, IsGroupOf, IsOutCause, WorksOn, with_group}
+use Rattle.session.specs.Naming.{CarriesOn, ChangesGroup, DoesOn, IsFound, IsGroupOf, IsOutCause, WorksOn, with_group}
 use Rattle.session.specs.Sessions.{AreReady, SessionView}
 use Rattle.session.proofs.Entries.{sought}
 use Rattle.session.proofs.Grouped.{Pairs, group_found, groups_set, keys_set, same_set}
@@ -54,18 +54,27 @@ module _ (name : Bytes) (v w : Entry) (es fs : Pairs) (place : List Bytes) (give
   pub changed : ChangesGroup name (seen es place given time) (seen fs place given time) s t
   changed = record { before = v.group; after = w.group; is = group_is; keeps = keeps; groups = groups_are }
 
-on_ok : {P Q : Type 0} (result : Result (Unit {0}) Refusal) → (P → Q) → OnOk result P → OnOk result Q
-on_ok (Ok done) f p = f p
+on_ok : {T P Q : Type 0} (result : Result T Refusal) → (P → Q) → OnOk result P → OnOk result Q
+on_ok (Ok given) f p = f p
 on_ok (Err refusal) f p = tt
 
-if_err : (P Q : Refusal → Type 0) (result : Result (Unit {0}) Refusal) → ((refusal : Refusal) → P refusal → Q refusal) → IfErr result P → IfErr result Q
-if_err P Q (Ok done) f p = tt
+if_ok : {T : Type 0} (P Q : T → Type 0) (result : Result T Refusal) → ((given : T) → P given → Q given) → IfOk result P → IfOk result Q
+if_ok P Q (Ok given) f p = f given p
+if_ok P Q (Err refusal) f p = tt
+
+if_err : {T : Type 0} (P Q : Refusal → Type 0) (result : Result T Refusal) → ((refusal : Refusal) → P refusal → Q refusal) → IfErr result P → IfErr result Q
+if_err P Q (Ok given) f p = tt
 if_err P Q (Err refusal) f p = f refusal p
+
+-- ok doesn't come
+never_ok : {T P : Type 0} (Q : T → Type 0) (result : Result T Refusal) → OnOk result P → (P → ⊥) → IfOk result Q
+never_ok Q (Ok given) on off = absurd (off on)
+never_ok Q (Err refusal) on off = tt
 
 -- A piece of work on the group of one entry, which does nothing where the group takes no calls.
 module _ {B : Type 0} (state : B → BayState) (b b' : B) (name : Bytes) (v w : Entry) (es fs : Pairs) (place : List Bytes) (given time : ℕ) (is : fs ≡ set_value (sought name) es w) (found : lookup (sought name) es ≡ Some v)
     (id : w.id ≡ v.id) (keeps : IsMounted v.group → KeepsGroup v.group w.group (state b) (state b')) (idle : (IsMounted v.group → ⊥) → (w.group ≡ v.group) × (b' ≡ b)) (ready : AreReady (map group_view es) (state b))
-    (result : Result (Unit {0}) Refusal) (ok : OnOk result (IsMounted v.group)) (err : IfErr result (λ refusal. IsMounted v.group ⊎ IsOutCause (map entry_view es) name refusal)) where
+    {T : Type 0} (Does : MountedGroup → T → MountedGroup → Type 0) (result : Result T Refusal) (ok : OnOk result (IsMounted v.group)) (did : IfOk result (λ given. Does v.group given w.group)) (err : IfErr result (λ refusal. IsMounted v.group ⊎ IsOutCause (map entry_view es) name refusal)) where
   there : IsMounted v.group → IsFound (seen es place given time) name
   there on = (v.group, record { named = group_found name es v found; mounted = on })
 
@@ -76,12 +85,15 @@ module _ {B : Type 0} (state : B → BayState) (b b' : B) (name : Bytes) (v w : 
   same_entry : w.group ≡ v.group → w ≡ v
   same_entry group = λ i. record { id = id i; group = group i }
 
-  pub works : WorksOn name result (seen es place given time) (seen fs place given time) (state b) (state b')
+  pub works : WorksOn name Does result (seen es place given time) (seen fs place given time) (state b) (state b')
+  unfolding changed
   works = ⊎_elim
       (λ on. record {
         found = on_ok result there ok;
         out = causes;
         groups = inr (changed name v w es fs place given time is found on (keeps on));
+        done = if_ok (λ gives. Does v.group gives w.group) (DoesOn name Does (seen es place given time) (seen fs place given time) (state b) (state b')) result
+            (λ gives does. (changed name v w es fs place given time is found on (keeps on), does)) did;
         carries = carried name v w es fs place given time is found on (keeps on) id ready;
       })
       (λ off.
@@ -91,6 +103,7 @@ module _ {B : Type 0} (state : B → BayState) (b b' : B) (name : Bytes) (v w : 
         found = on_ok result there ok;
         out = causes;
         groups = inl refl;
+        done = never_ok (DoesOn name Does (seen es place given time) (seen es place given time) (state b) (state b)) result ok off;
         carries = carries_none (seen es place given time) ready;
       }))
       (mounted_or v.group.access)

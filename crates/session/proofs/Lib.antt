@@ -26,5 +26,9 @@ pub mod Ending
 pub mod Pieces
 pub mod Serving
 pub mod OnDisks
+pub mod Calls
+pub mod Sources
+pub mod Spans
 pub mod TextLines
 pub mod Telling
+pub mod GroupLists

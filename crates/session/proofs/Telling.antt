@@ -1,23 +1,19 @@
 -- What reports tell, and why they are refused.
-use Rattle.std.proofs.Common.{◌≡◌, inl, inr, true, false, List, [], ◌∷◌, ◌++◌, map, Option, Some, None, refl, sym, ap, ◌∙◌, append_assoc}
+use Rattle.std.proofs.Common.{◌≡◌, inl, inr, false, List, Some, None, refl, sym}
 use Rattle.std.proofs.lemmas.Bool.{cases_Bool}
-use Rattle.std.proofs.lemmas.List.{append-nil, map-append}
 use Rattle.asm_group.specs.Names.{Bytes, Path, is_part}
 use Rattle.asm_base.specs.Names.{name_of}
 use Rattle.asm_base.specs.Refusals.{said}
 use Rattle.asm_base.specs.declared.refusal.Refusal.{Refusal}
 use Rattle.asm_base.specs.declared.refusal.Refusal.TheVariants as cause
 use Rattle.asm_world.specs.World.{SessionEntry}
-use Rattle.asmcmd.specs.declared.rows.GroupRow.{GroupRow}
+use Rattle.asmcmd.specs.declared.rows.LsRow.{LsRow}
 use Rattle.group_engine.specs.Mounts.{MountedGroup}
 use Rattle.group_reports.specs.Listing as rows
 use Rattle.group_reports.specs.Places.{directory_at}
 use Rattle.std.specs.Prelude.{Err}
-use Rattle.session.specs.declared.entry.Entry.{Entry}
-use Rattle.session.specs.declared.group_name.GroupName.{GroupName}
-use Rattle.session.specs.Entries.{entry_view}
-use Rattle.session.specs.GroupRows.{Tells, is_asked, names_asked}
-use Rattle.session.specs.Listing.{IsCauseIn, IsPathCause}
+use Rattle.session.specs.GroupRows.{Tells}
+use Rattle.session.specs.Listing.{AreRowsInGroup, IsCauseIn, IsPathCause}
 use Rattle.session.specs.Naming.{IsGroupOf, IsOutCause}
 use Rattle.session.specs.Sessions.{SessionView}
 
@@ -65,37 +61,9 @@ pub in_group : (session : SessionView) (name text : Bytes) (parts : List Bytes) 
     → IsCauseIn session text parts refusal
 in_group session name text parts m refusal read is_group is = rw (sym (read_is name text read)) (inr (inr (record { group = m; is_group = is_group; caused = is })))
 
+pub rows_in : (session : SessionView) (name text : Bytes) (parts : List Bytes) (m : MountedGroup) (told : List LsRow) → Some name ≡ name_of 80 text → IsGroupOf session name m → rows.AreRowsAt m.catalog.tables m.name parts told
+    → AreRowsInGroup session text parts told
+rows_in session name text parts m told read is_group is = rw (sym (read_is name text read)) (record { group = m; is_group = is_group; caused = is })
+
 pub no_memory_in : (session : SessionView) (name : Bytes) (parts : List Bytes) (refusal : Refusal) → refusal ≡ cause.NoMemory → IsCauseIn session name parts refusal
 no_memory_in session name parts refusal none = rw none (inr (inl (no_memory_out session.entries name)))
-
--- ---- the groups that are asked for
-
-abbrev pub Pairs : Type 0
-Pairs = List (GroupName × Entry)
-
-abbrev row_names : List GroupRow → List Bytes
-row_names rows = map (λ (r : GroupRow). r.name) rows
-
-pub asked_more : (group : Option Bytes) (left next : Pairs) (e : GroupName × Entry) (told more : List GroupRow) (row : GroupRow) (all : List Bytes) → left ≡ e ∷ next
-    → map (λ (r : GroupRow). r.name) told ++ names_asked group (map entry_view left) ≡ all → is_asked group e.0.name ≡ true → row.name ≡ e.0.name → more ≡ told ++ row ∷ []
-    → map (λ (r : GroupRow). r.name) more ++ names_asked group (map entry_view next) ≡ all
-asked_more group left next e told more row all split so_far asked name put =
-    let one : names_asked group (map entry_view left) ≡ e.0.name ∷ names_asked group (map entry_view next) =
-    ap (λ (es : Pairs). names_asked group (map entry_view es)) split ∙ rw asked refl in
-    ap (λ (rs : List GroupRow). row_names rs ++ names_asked group (map entry_view next)) put
-    ∙ (ap (λ (ns : List Bytes). ns ++ names_asked group (map entry_view next)) (map-append (λ (r : GroupRow). r.name) told (row ∷ []) ∙ ap (λ (n : Bytes). row_names told ++ n ∷ []) name)
-    ∙ (append_assoc (row_names told) (e.0.name ∷ []) (names_asked group (map entry_view next))
-    ∙ (ap (λ (ns : List Bytes). row_names told ++ ns) (sym one) ∙ so_far)))
-
-pub asked_not : (group : Option Bytes) (left next : Pairs) (e : GroupName × Entry) (told : List GroupRow) (all : List Bytes) → left ≡ e ∷ next
-    → map (λ (r : GroupRow). r.name) told ++ names_asked group (map entry_view left) ≡ all → is_asked group e.0.name ≡ false
-    → map (λ (r : GroupRow). r.name) told ++ names_asked group (map entry_view next) ≡ all
-asked_not group left next e told all split so_far asked =
-    let same : names_asked group (map entry_view left) ≡ names_asked group (map entry_view next) =
-    ap (λ (es : Pairs). names_asked group (map entry_view es)) split ∙ rw asked refl in
-    ap (λ (ns : List Bytes). row_names told ++ ns) (sym same) ∙ so_far
-
-pub asked_end : (group : Option Bytes) (left : Pairs) (told : List GroupRow) (all : List Bytes) → left ≡ []
-    → map (λ (r : GroupRow). r.name) told ++ names_asked group (map entry_view left) ≡ all → map (λ (r : GroupRow). r.name) told ≡ all
-asked_end group left told all none so_far =
-    sym (append-nil (row_names told)) ∙ (ap (λ (es : Pairs). row_names told ++ names_asked group (map entry_view es)) (sym none) ∙ so_far)

@@ -1,5 +1,5 @@
--- Files: how they come and go, and their bytes. None of these commands is served yet.
-use Rattle.std.specs.Prelude.{⊤, ℕ, Bool, false, List}
+-- Files: how they come and go, and their bytes. All of these commands are served; what they do isn't proved yet.
+use Rattle.std.specs.Prelude.{⊤, ℕ, Bool, true, false, List}
 use Rattle.asm_group.specs.Names.{Bytes}
 use Rattle.asm_group.specs.Refusal as r
 use Rattle.asm_world.specs.Command.{Command}
@@ -8,11 +8,11 @@ use Rattle.group_disks.specs.Found.{Counts}
 
 -- which of them run
 abbrev pub is_served : Command → Bool
-is_served c = false
+is_served c = true
 
 -- of which it is proved what they do
 abbrev pub is_proved : Command → Bool
-is_proved c = is_served c
+is_proved c = false
 
 -- none makes a group
 abbrev pub IsMade : Command → ℕ → World → Type 0

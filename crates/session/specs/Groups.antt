@@ -1,5 +1,5 @@
--- How groups come and go. Served are CREATE DISKGROUP, so far with EXTERNAL REDUNDANCY on one disk, of which its path alone is said,
--- DROP DISKGROUP, MOUNT, DISMOUNT and CHECK. Of the creation and of DISMOUNT it is proved what they do.
+-- How groups come and go. Of DISMOUNT it is proved what it does, and of the creation of an EXTERNAL group on one disk, of which its path
+-- alone is said.
 use Rattle.std.specs.Prelude.{◌≡◌, ⊤, ℕ, Bool, true, false, ◌||◌, is_some, List, [], ◌∷◌, Option, Some, None, if◌then◌else◌}
 use Rattle.std.specs.Option.{option_map}
 use Rattle.std.specs.FinMap as maps
@@ -13,7 +13,7 @@ use Rattle.asm_world.specs.World.{World}
 use Rattle.group_disks.specs.Creating.{made_group}
 use Rattle.group_disks.specs.Found.{Counts, RefusalCause}
 
--- ---- which creations are served
+-- ---- the creation of which it is proved what it does
 
 abbrev pub one_disk : Bytes → NewFailgroup
 one_disk path = record { quorum = false; name = None; disks = record { path = path; name = None; size = None; force = false } ∷ [] }
@@ -60,14 +60,16 @@ creation_asked (Unreadable at) = None
 
 -- which of them run
 abbrev pub is_served : Command → Bool
+is_served (Said (CreateGroup name kind groups attributes)) = true
 is_served (Said (DropGroup name contents)) = true
 is_served (Said (Alter name (Mount force))) = true
 is_served (Said (Alter name (Dismount force))) = true
 is_served (Said (Alter name Check)) = true
-is_served c = is_some (creation_asked c)
+is_served c = false
 
 -- of which it is proved what they do
 abbrev pub is_proved : Command → Bool
+is_proved (Said (CreateGroup name kind groups attributes)) = is_some (external_path kind groups attributes)
 is_proved (Said (DropGroup name contents)) = false
 is_proved (Said (Alter name (Mount force))) = false
 is_proved (Said (Alter name Check)) = false

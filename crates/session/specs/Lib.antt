@@ -20,9 +20,13 @@ pub mod Acts
 pub mod Sessions
 pub mod Mounting
 pub mod Naming
+pub mod Copying
 pub mod Lines
 pub mod GroupRows
 pub mod Listing
+pub mod Told
+pub mod Leading
+pub mod FileLines
 pub mod Going
 pub mod Stops
 pub mod Serves

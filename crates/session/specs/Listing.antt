@@ -6,6 +6,7 @@ use Rattle.asm_base.specs.declared.refusal.Refusal.TheVariants as cause
 use Rattle.asm_world.specs.Reports.{du_lines}
 use Rattle.asm_world.specs.Text.{ended}
 use Rattle.asmcmd.specs.Texts.{path_line}
+use Rattle.asmcmd.specs.declared.rows.LsRow.{LsRow}
 use Rattle.group_engine.specs.Mounts.{MountedGroup}
 use Rattle.group_reports.specs.Files.{paths_found, usage_of}
 use Rattle.group_reports.specs.Listing as rows
@@ -30,6 +31,10 @@ pub record IsInGroup (session : SessionView) (name : Bytes) (why : MountedGroup 
   pub group : MountedGroup
   pub is_group : IsGroupOf session name group
   pub caused : why group
+
+-- the rows are those of ls at these parts in the mounted group of a name
+abbrev pub AreRowsInGroup : SessionView → Bytes → List Bytes → List LsRow → Type 0
+AreRowsInGroup session name parts told = IsInGroup session name (λ m. rows.AreRowsAt m.catalog.tables m.name parts told)
 
 -- of find and du: the group isn't there or isn't mounted, or the path names no directory in it
 abbrev pub IsPathCause : SessionView → Bytes → Path → Refusal → Type 0

@@ -1,5 +1,5 @@
 -- Groups of the session by their names, and what is done to one of them.
-use Rattle.std.specs.Prelude.{◌≡◌, ◌⊎◌, ℕ, ◌≤◌, List, [], ◌∷◌, map, Option, Some, None, IfErr, OnOk, Result, if◌then◌else◌}
+use Rattle.std.specs.Prelude.{◌≡◌, ◌⊎◌, ℕ, ◌≤◌, List, [], ◌∷◌, map, Option, Some, None, IfErr, IfOk, OnOk, Result, if◌then◌else◌}
 use Rattle.asm_group.specs.Names.{Bytes, is_same_name}
 use Rattle.asm_group.specs.Refusal as r
 use Rattle.asm_base.specs.Refusals.{said}
@@ -64,10 +64,15 @@ pub record CarriesOn (old new : SessionView) (s t : BayState) : Type 0 where
   pub calls : s.calls ≤ t.calls
   pub past : Past s t
 
+-- a piece of work changed the mounted group of the name, and did this where it gave that
+abbrev pub DoesOn : {T : Type 0} → Bytes → (MountedGroup → T → MountedGroup → Type 0) → SessionView → SessionView → BayState → BayState → T → Type 0
+DoesOn name Does old new s t given = (changes : ChangesGroup name old new s t) × Does changes.before given changes.after
+
 -- At most the mounted group of a name is worked on.
-pub record WorksOn (name : Bytes) (result : Result (Unit {0}) Refusal) (old new : SessionView) (s t : BayState) : Type 0 where
+pub record WorksOn {T : Type 0} (name : Bytes) (Does : MountedGroup → T → MountedGroup → Type 0) (result : Result T Refusal) (old new : SessionView) (s t : BayState) : Type 0 where
   -- ok comes of a mounted group alone, and of any other name the refusal that it has
   pub found : OnOk result (IsFound old name)
   pub out : IfErr result (λ refusal. IsFound old name ⊎ IsOutCause old.entries name refusal)
   pub groups : (new.groups ≡ old.groups) ⊎ ChangesGroup name old new s t
+  pub done : IfOk result (DoesOn name Does old new s t)
   pub carries : CarriesOn old new s t

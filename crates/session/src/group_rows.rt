@@ -1,18 +1,39 @@
 // What the reports on one mounted group tell, and the rows of lsdg.
 ghost use Rattle.std.specs.Prelude.{◌≡◌, IfErr, IfOk};
-ghost use Rattle.session.specs.GroupRows.{AreRowsOf, Tells, attributes_told, checked_told, disks_told, is_asked, templates_told};
+ghost use Rattle.session.specs.GroupRows.{AreRowsOf, IsRowOf, Tells, attributes_told, checked_told, disks_told, is_asked, templates_told};
+ghost use Rattle.session.specs.Listing.{IsPathCause, found_told, usage_told};
 ghost use Rattle.session.specs.Naming.{IsOutCause};
+ghost use Rattle.session.specs.Told.{told};
 
 use crate::entry::Entry;
 use crate::group_name::GroupName;
 use crate::session::Session;
-use asm_base::{Name, NoMemory, Refusal};
-use asmcmd::{GroupRow, check_text, lsattr_text, lsdsk_text, lstmpl_text};
+use asm_base::{Name, NoMemory, Path, Refusal};
+use asmcmd::{GroupRow, check_text, du_text, find_text, lsattr_text, lsdsk_text, lstmpl_text};
 use group_engine::Mounted;
-use group_reports::{attribute_rows, check, disk_rows, dismounted_row, group_row, template_rows};
+use group_reports::{
+    attribute_rows, check, directory_at, disk_rows, dismounted_row, group_row, paths_found,
+    template_rows, usage_below,
+};
 use std::alloc::Global;
 
-/// The text of lsdsk.
+/// A report on one mounted group.
+#[derive(Clone, Copy)]
+pub enum Report<'a> {
+    /// lsdsk.
+    Disks,
+    /// lstmpl.
+    Templates,
+    /// lsattr.
+    Attributes,
+    /// CHECK.
+    Check,
+    /// find: the paths below a directory whose last part matches a pattern.
+    Found { dir: &'a [Name], pattern: &'a [u8] },
+    /// du: what the files below a directory take.
+    Usage { dir: &'a [Name] },
+}
+
 fn disks_text(alloc: Global, m: &Mounted) -> Result<Vec<u8>, NoMemory>
     ensures { IfOk result (λ text. text.items ≡ disks_told m.now) }
 {
@@ -20,7 +41,6 @@ fn disks_text(alloc: Global, m: &Mounted) -> Result<Vec<u8>, NoMemory>
     lsdsk_text(alloc, &rows)
 }
 
-/// The text of lstmpl.
 fn templates_text(alloc: Global, m: &Mounted) -> Result<Vec<u8>, NoMemory>
     ensures { IfOk result (λ text. text.items ≡ templates_told m.now) }
 {
@@ -28,7 +48,6 @@ fn templates_text(alloc: Global, m: &Mounted) -> Result<Vec<u8>, NoMemory>
     lstmpl_text(alloc, &rows)
 }
 
-/// The text of lsattr.
 fn attributes_text(alloc: Global, m: &Mounted) -> Result<Vec<u8>, NoMemory>
     ensures { IfOk result (λ text. text.items ≡ attributes_told m.now) }
 {
@@ -36,7 +55,6 @@ fn attributes_text(alloc: Global, m: &Mounted) -> Result<Vec<u8>, NoMemory>
     lsattr_text(alloc, &rows)
 }
 
-/// The text of CHECK.
 fn checked_text(alloc: Global, m: &Mounted) -> Result<Vec<u8>, NoMemory>
     ensures { IfOk result (λ text. text.items ≡ checked_told m.now) }
 {
@@ -44,9 +62,38 @@ fn checked_text(alloc: Global, m: &Mounted) -> Result<Vec<u8>, NoMemory>
     check_text(alloc, checked.extents, checked.not_full)
 }
 
-/// The row of a group of the session, which has the name by which it is kept.
+fn found_text(alloc: Global, m: &Mounted, dir: &[Name], pattern: &[u8]) -> Result<Vec<u8>, NoMemory>
+    ensures { IfOk result (λ text. text.items ≡ found_told dir.now pattern.now m.now) }
+{
+    let paths = paths_found(alloc, m.name(), m.catalog(), dir, pattern)?;
+    find_text(alloc, &paths)
+}
+
+fn usage_text(alloc: Global, m: &Mounted, dir: &[Name]) -> Result<Vec<u8>, NoMemory>
+    ensures { IfOk result (λ text. text.items ≡ usage_told dir.now m.now) }
+{
+    let usage = usage_below(alloc, m.name(), m.catalog(), dir)?;
+    du_text(alloc, usage.used, usage.mirrored)
+}
+
+/// The text of a report on a group.
+fn text_of(alloc: Global, m: &Mounted, report: Report<'_>) -> Result<Vec<u8>, NoMemory>
+    ensures { IfOk result (λ text. text.items ≡ told report.entry m.now) }
+{
+    match report {
+        Report::Disks => disks_text(alloc, m),
+        Report::Templates => templates_text(alloc, m),
+        Report::Attributes => attributes_text(alloc, m),
+        Report::Check => checked_text(alloc, m),
+        Report::Found { dir, pattern } => found_text(alloc, m, dir, pattern),
+        Report::Usage { dir } => usage_text(alloc, m, dir),
+    }
+}
+
+/// The row of a group of the session, under the name by which it is kept.
+#[tactic(auto, using(crate::proofs::GroupLists::mounted_is, crate::proofs::GroupLists::dismounted_is))]
 fn row_of(alloc: Global, key: &GroupName, entry: &Entry) -> Result<GroupRow, NoMemory>
-    ensures { IfOk result (λ row. row.name ≡ key.now.name) }
+    ensures { IfOk result (IsRowOf key.now.name entry.now.group) }
 {
     let m = &entry.group;
     if entry.is_mounted() {
@@ -68,7 +115,7 @@ fn is_asked_for(group: &Option<Name>, key: &GroupName) -> bool
 
 impl Session {
     /// The rows of the group of a name, or of all groups, in the order of mounting.
-    #[tactic(auto, using(crate::proofs::Telling::asked_more, crate::proofs::Telling::asked_not, crate::proofs::Telling::asked_end))]
+    #[tactic(auto, using(crate::proofs::GroupLists::asked_more, crate::proofs::GroupLists::asked_not, crate::proofs::GroupLists::asked_end))]
     pub fn group_rows(&self, alloc: Global, group: &Option<Name>) -> Result<Vec<GroupRow>, NoMemory>
         ensures { IfOk result (λ rows. AreRowsOf self.now group.now rows.items) }
     {
@@ -81,53 +128,33 @@ impl Session {
         Ok(rows)
     }
 
-    /// What lsdsk tells of the mounted group of a name.
+    /// What a report tells of the mounted group of a name. Its refusals in order: NoGroup, Dismounted.
     #[tactic(auto, using(crate::proofs::Telling::no_memory_out))]
-    pub fn disks_told(&self, alloc: Global, name: &Name) -> Result<Vec<u8>, Refusal>
-        ensures told { IfOk result (λ text. Tells self.now name.now disks_told text.items) }
+    pub fn told(&self, alloc: Global, name: &Name, report: Report<'_>) -> Result<Vec<u8>, Refusal>
+        ensures told { IfOk result (λ text. Tells self.now name.now (told report.entry) text.items) }
         ensures cause { IfErr result (IsOutCause self.now.entries name.now) }
     {
         let m = self.mounted(alloc, name)?;
-        match disks_text(alloc, m) {
+        match text_of(alloc, m, report) {
             Ok(text) => Ok(text),
             Err(NoMemory) => Err(Refusal::NoMemory),
         }
     }
 
-    /// What lstmpl tells of it.
-    #[tactic(auto, using(crate::proofs::Telling::no_memory_out))]
-    pub fn templates_told(&self, alloc: Global, name: &Name) -> Result<Vec<u8>, Refusal>
-        ensures told { IfOk result (λ text. Tells self.now name.now templates_told text.items) }
-        ensures cause { IfErr result (IsOutCause self.now.entries name.now) }
+    /// The same of the directory at a path. Its refusals in order: NoGroup, Dismounted, NoName, NotDirectory.
+    #[tactic(auto, using(crate::proofs::Telling::at_path, crate::proofs::Telling::out_at, crate::proofs::Telling::no_memory_at))]
+    pub fn told_below(
+        &self,
+        alloc: Global,
+        path: &Path,
+        report: Report<'_>,
+    ) -> Result<Vec<u8>, Refusal>
+        ensures told { IfOk result (λ text. Tells self.now path.now.group (told report.entry) text.items) }
+        ensures cause { IfErr result (IsPathCause self.now path.now.group path.now.parts) }
     {
-        let m = self.mounted(alloc, name)?;
-        match templates_text(alloc, m) {
-            Ok(text) => Ok(text),
-            Err(NoMemory) => Err(Refusal::NoMemory),
-        }
-    }
-
-    /// What lsattr tells of it.
-    #[tactic(auto, using(crate::proofs::Telling::no_memory_out))]
-    pub fn attributes_told(&self, alloc: Global, name: &Name) -> Result<Vec<u8>, Refusal>
-        ensures told { IfOk result (λ text. Tells self.now name.now attributes_told text.items) }
-        ensures cause { IfErr result (IsOutCause self.now.entries name.now) }
-    {
-        let m = self.mounted(alloc, name)?;
-        match attributes_text(alloc, m) {
-            Ok(text) => Ok(text),
-            Err(NoMemory) => Err(Refusal::NoMemory),
-        }
-    }
-
-    /// What CHECK tells of it.
-    #[tactic(auto, using(crate::proofs::Telling::no_memory_out))]
-    pub fn checked_told(&self, alloc: Global, name: &Name) -> Result<Vec<u8>, Refusal>
-        ensures told { IfOk result (λ text. Tells self.now name.now checked_told text.items) }
-        ensures cause { IfErr result (IsOutCause self.now.entries name.now) }
-    {
-        let m = self.mounted(alloc, name)?;
-        match checked_text(alloc, m) {
+        let m = self.mounted(alloc, &path.group)?;
+        directory_at(m.catalog(), path)?;
+        match text_of(alloc, m, report) {
             Ok(text) => Ok(text),
             Err(NoMemory) => Err(Refusal::NoMemory),
         }

@@ -1,13 +1,14 @@
 // How groups come and go: CREATE and DROP DISKGROUP, MOUNT, DISMOUNT and CHECK.
-// What isn't served yet is a function of one line, to which its command is given with its operands.
-ghost use Rattle.std.specs.Prelude.{◌≡◌, true, false, is_some, nat_le};
+ghost use Rattle.std.specs.Prelude.{◌≡◌, ◌≤◌, true, false, None, Some, is_some, nat_le};
+ghost use Rattle.std.specs.Option.{option_copied};
 ghost use Rattle.asm_group.specs.Names.{is_name};
 ghost use Rattle.asm_world.specs.Causes.{mounted_count};
 ghost use Rattle.asm_world.specs.World.{World, entry_among};
 ghost use Rattle.asm_world.specs.Command.{Said};
 ghost use Rattle.asm_world.specs.Language.{command_of};
 ghost use Rattle.asm_world.specs.Statement.{CreateGroup, DropGroup, Alter, Mount, Dismount, Check};
-ghost use Rattle.session.specs.Desks.{IsAnswered};
+ghost use Rattle.session.specs.Desks.{IsAnswered, copies};
+ghost use Rattle.session.specs.Families.{is_proved};
 ghost use Rattle.session.specs.Sessions.{AreReady, held_by};
 ghost use Rattle.session.specs.Groups.{only, plain_path, path_in_group, external_path, creation_of};
 ghost use Rattle.session.specs.Meaning.{meaning};
@@ -15,66 +16,55 @@ ghost use Rattle.session.specs.Meaning.{meaning};
 use crate::answer::Answer;
 use crate::desk::Desk;
 use crate::found::FoundIds;
+use crate::group_rows::Report;
 use crate::mounting::{mount_named, option_of};
-use crate::refusing::{no_memory, refuse, refused, too_many_groups, unserved};
+use crate::refusing::{no_memory, refuse, refused, too_many_groups};
 use crate::reply::Reply;
-use crate::reports::tell;
+use crate::reports::tell_of;
+use crate::works::DropAll;
 use asm_base::{GroupKind, List, Name, NoMemory, Refusal, Text};
 use bay::{Bay, Host};
 use group_disks::create_group;
 use group_sql::{Attribute, NewDisk, NewFailgroup};
+use new_groups::{GroupAsked, Known};
 
 /// The item of a list of one.
-#[tactic(auto, using(crate::proofs::Creations::only_none, crate::proofs::Creations::only_one, crate::proofs::Creations::only_more))]
-fn only<T: Drop>(list: List<T>) -> Option<T>
-    ensures { result ≡ only list }
+fn only<T>(items: &[T]) -> Option<&T>
+    ensures { option_copied result ≡ only items.now }
 {
-    let mut items = list.into_vec();
-    let item = items.pop()?;
-    if !items.is_empty() {
-        return None;
+    match items {
+        [item] => Some(item),
+        _ => None,
     }
-    Some(item)
 }
 
 /// The path of a disk of which nothing else is said.
-fn plain_path(disk: NewDisk) -> Option<Text>
-    ensures { result ≡ plain_path (Some disk) }
+fn plain_path(disk: &NewDisk) -> Option<&Text>
+    ensures { option_copied result ≡ plain_path (Some disk.now) }
 {
-    let NewDisk {
-        path,
-        name,
-        size,
-        force,
-    } = disk;
-    if name.is_some() || size.is_some() || force {
+    if disk.name.is_some() || disk.size.is_some() || disk.force {
         return None;
     }
-    Some(path)
+    Some(&disk.path)
 }
 
 /// The same of the only disk of a failure group without a name.
-fn path_in_group(group: NewFailgroup) -> Option<Text>
-    ensures { result ≡ path_in_group (Some group) }
+fn path_in_group(group: &NewFailgroup) -> Option<&Text>
+    ensures { option_copied result ≡ path_in_group (Some group.now) }
 {
-    let NewFailgroup {
-        quorum,
-        name,
-        disks,
-    } = group;
-    if quorum || name.is_some() {
+    if group.quorum || group.name.is_some() {
         return None;
     }
-    plain_path(only(disks)?)
+    plain_path(only(group.disks.as_slice())?)
 }
 
 /// The path of the one disk of an EXTERNAL group without attributes, of which nothing else is said.
-fn external_path(
+fn external_path<'a>(
     kind: Option<GroupKind>,
-    groups: List<NewFailgroup>,
-    attributes: List<Attribute>,
-) -> Option<Text>
-    ensures { result ≡ external_path kind groups attributes }
+    groups: &'a [NewFailgroup],
+    attributes: &[Attribute],
+) -> Option<&'a Text>
+    ensures { option_copied result ≡ external_path kind groups.now attributes.now }
 {
     let Some(GroupKind::External) = kind else {
         return None;
@@ -85,8 +75,7 @@ fn external_path(
     path_in_group(only(groups)?)
 }
 
-/// CREATE DISKGROUP. Any other form than EXTERNAL on one disk, of which its path alone is said, isn't
-/// served yet.
+/// CREATE DISKGROUP. Of a creation of an EXTERNAL group on one disk, of which its path alone is said, it is proved what it does.
 pub fn create<B: Bay, H: Host>(
     desk: &mut Desk<B, H>,
     text: &[u8],
@@ -99,9 +88,92 @@ pub fn create<B: Bay, H: Host>(
     requires ready { AreReady desk.old.session.groups (B.state desk.old.bay) }
     ensures answers { IsAnswered text.now result desk.old desk.new }
 {
-    match external_path(kind, groups, attributes) {
+    match external_path(kind, groups.as_slice(), attributes.as_slice()) {
         Some(path) => create_external(desk, text, path.as_slice(), name),
-        None => unserved(desk, text),
+        None => create_any(desk, text, name, kind, groups, attributes),
+    }
+}
+
+/// The creation of any other form. Its refusals in order: TooMany, GroupExists, and then those of the statement and the disks.
+fn create_any<B: Bay, H: Host>(
+    desk: &mut Desk<B, H>,
+    text: &[u8],
+    name: Name,
+    kind: Option<GroupKind>,
+    groups: List<NewFailgroup>,
+    attributes: List<Attribute>,
+) -> Answer
+    requires asked { command_of text.now ≡ Said (CreateGroup name kind groups attributes) }
+    requires other { external_path kind groups attributes ≡ None }
+    requires ready { AreReady desk.old.session.groups (B.state desk.old.bay) }
+    ensures answers { IsAnswered text.now result desk.old desk.new }
+{
+    if desk.session.is_full() {
+        return refused(desk.alloc, too_many_groups());
+    }
+    if desk.session.has(&name) {
+        return refused(desk.alloc, Refusal::GroupExists);
+    }
+    if desk.session.make_room().is_err() {
+        return refused(desk.alloc, Refusal::NoMemory);
+    }
+    let asked = GroupAsked {
+        name,
+        kind: kind.unwrap_or(GroupKind::Normal),
+        groups,
+        attributes,
+    };
+    match desk.session.known(desk.alloc) {
+        Ok(known) => form_any(desk, text, asked, &known),
+        Err(NoMemory) => refused(desk.alloc, Refusal::NoMemory),
+    }
+}
+
+/// The refusal of a creation, with what it found.
+fn refused_with(refusal: Refusal, found: FoundIds) -> Answer {
+    Answer {
+        reply: Reply::Refused(refusal),
+        found,
+    }
+}
+
+/// The creation of a group whose name isn't in the session, for whose entry there is room.
+fn form_any<B: Bay, H: Host>(
+    desk: &mut Desk<B, H>,
+    text: &[u8],
+    asked: GroupAsked,
+    known: &Known,
+) -> Answer
+    requires none { is_proved (command_of text.now) ≡ false }
+    requires still { copies (command_of text.now) ≡ false }
+    requires absent { is_some (entry_among desk.old.session.entries asked.name) ≡ false }
+    requires floor { desk.old.session.given ≤ known.now.floor }
+    requires held { known.now.held.items ≡ held_by desk.old.session.groups }
+    requires ready { AreReady desk.old.session.groups (B.state desk.old.bay) }
+    ensures answers { IsAnswered text.now result desk.old desk.new }
+{
+    let mut ids = Vec::new(desk.alloc);
+    let (made, answer) = new_groups::create_group(
+        desk.alloc,
+        &mut desk.bay,
+        &desk.paths,
+        &asked,
+        known,
+        &mut ids,
+    );
+    let found = FoundIds { ids, made };
+    match answer {
+        Ok(group) => match desk.session.enter(asked.name, made, group) {
+            Ok(()) => Answer {
+                reply: Reply::Done(List::new(desk.alloc)),
+                found,
+            },
+            Err(NoMemory) => refused_with(Refusal::NoMemory, found),
+        },
+        Err(refusal) => {
+            desk.session.gave(made);
+            refused_with(refusal, found)
+        }
     }
 }
 
@@ -211,10 +283,8 @@ pub fn drop_group<B: Bay, H: Host>(
     requires ready { AreReady desk.old.session.groups (B.state desk.old.bay) }
     ensures answers { IsAnswered text.now result desk.old desk.new }
 {
-    match desk
-        .session
-        .drop_group(desk.alloc, &mut desk.bay, &name, contents)
-    {
+    let work = DropAll { contents };
+    match desk.session.work(desk.alloc, &mut desk.bay, &name, work) {
         Ok(()) => {
             desk.session.leave(&name);
             Answer::plain(desk.alloc, Reply::Done(List::new(desk.alloc)))
@@ -253,6 +323,5 @@ pub fn check<B: Bay, H: Host>(desk: &mut Desk<B, H>, text: &[u8], group: Name) -
     requires ready { AreReady desk.old.session.groups (B.state desk.old.bay) }
     ensures answers { IsAnswered text.now result desk.old desk.new }
 {
-    let told = desk.session.checked_told(desk.alloc, &group);
-    tell(desk, text, told)
+    tell_of(desk, text, &group, Report::Check)
 }

@@ -1,10 +1,12 @@
 // Which images the mounted groups of the session have.
-ghost use Rattle.std.specs.Prelude.{◌≡◌, ◌∷◌, ◌++◌, [], IfOk, OnOk};
+ghost use Rattle.std.specs.Prelude.{◌≡◌, ◌≤◌, ◌∷◌, ◌++◌, [], IfOk, OnOk};
 ghost use Rattle.session.specs.Sessions.{held_by, slots_in};
 
 use crate::session::Session;
 use asm_base::NoMemory;
 use group_engine::Attached;
+use new_groups::{Known, Taken};
+use status_table::PstRecord;
 use std::alloc::Global;
 
 fn put_slot(slots: &mut Vec<u32>, slot: u32) -> Result<(), NoMemory>
@@ -25,6 +27,19 @@ fn put_slots(disks: &[Option<Attached>], slots: &mut Vec<u32>) -> Result<(), NoM
     Ok(())
 }
 
+/// Puts the disks of a record's entries behind others.
+fn put_taken(status: &PstRecord, taken: &mut Vec<Taken>) -> Result<(), NoMemory> {
+    for entry in status.entries() {
+        let disk = Taken {
+            id: status.id,
+            number: entry.number,
+            birth: entry.birth,
+        };
+        taken.push(disk).map_err(|_| NoMemory)?;
+    }
+    Ok(())
+}
+
 impl Session {
     /// The slots of the attached disks of all mounted groups.
     pub fn held_slots(&self, alloc: Global) -> Result<Vec<u32>, NoMemory>
@@ -37,5 +52,26 @@ impl Session {
             }
         }
         Ok(held)
+    }
+
+    /// The disks of the entries of all groups, also of those that are dismounted.
+    fn taken_disks(&self, alloc: Global) -> Result<Vec<Taken>, NoMemory> {
+        let mut taken = Vec::new(alloc);
+        for (_, entry) in self.groups.iter() {
+            put_taken(entry.group.status(), &mut taken)?;
+        }
+        Ok(taken)
+    }
+
+    /// What a creation has to know of the groups.
+    pub fn known(&self, alloc: Global) -> Result<Known, NoMemory>
+        ensures floor { IfOk result (λ known. self.now.given ≤ known.floor) }
+        ensures held { IfOk result (λ known. known.held.items ≡ held_by self.now.groups) }
+    {
+        Ok(Known {
+            floor: self.next_id(),
+            held: self.held_slots(alloc)?,
+            taken: self.taken_disks(alloc)?,
+        })
     }
 }

@@ -3,6 +3,7 @@
 
 mod answer;
 mod commands;
+mod copying;
 mod desk;
 mod disks;
 mod entry;
@@ -30,6 +31,7 @@ mod session;
 mod settings;
 mod spelling;
 mod stop;
+mod works;
 
 pub use desk::Desk;
 pub use laws::{disks_are_made, meaning_is_of_the_languages};

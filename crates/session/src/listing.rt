@@ -1,17 +1,15 @@
-// What ls, find and du tell of the names in a group, and of ls at `+` the mounted groups.
+// What ls tells: the names in a group, and at `+` the mounted groups.
 ghost use Rattle.std.specs.Prelude.{◌≡◌, ◌≤◌, IfErr, IfOk, length, map};
 ghost use Rattle.asm_base.specs.Names.{name_of};
 ghost use Rattle.asm_base.specs.declared.refusal.Refusal.TheVariants as cause;
 ghost use Rattle.asm_world.specs.Reports.{Directory};
 ghost use Rattle.asmcmd.specs.Texts.{listed_row};
-ghost use Rattle.session.specs.GroupRows.{Tells};
-ghost use Rattle.session.specs.Listing.{IsCauseIn, IsListCause, IsPathCause, found_told, usage_told};
+ghost use Rattle.session.specs.Listing.{AreRowsInGroup, IsCauseIn, IsListCause};
 
 use crate::session::Session;
-use asm_base::{Name, NoMemory, Path, Refusal, Text};
-use asmcmd::{LsRow, du_text, find_text};
-use group_engine::Mounted;
-use group_reports::{directory_at, directory_row, paths_found, rows_listed, usage_below};
+use asm_base::{Name, NoMemory, Refusal, Text};
+use asmcmd::LsRow;
+use group_reports::{directory_row, rows_listed};
 use std::alloc::Global;
 use std::cmp::Ordering;
 use verb_paths::{has_star, is_match};
@@ -25,22 +23,6 @@ fn read_name(alloc: Global, text: &[u8]) -> Result<Option<Name>, Refusal>
         Ok(name) => Ok(name),
         Err(NoMemory) => Err(Refusal::NoMemory),
     }
-}
-
-/// The text of find on a directory.
-fn found_text(alloc: Global, m: &Mounted, dir: &[Name], pattern: &[u8]) -> Result<Vec<u8>, NoMemory>
-    ensures { IfOk result (λ text. text.items ≡ found_told dir.now pattern.now m.now) }
-{
-    let paths = paths_found(alloc, m.name(), m.catalog(), dir, pattern)?;
-    find_text(alloc, &paths)
-}
-
-/// The text of du on a directory.
-fn usage_text(alloc: Global, m: &Mounted, dir: &[Name]) -> Result<Vec<u8>, NoMemory>
-    ensures { IfOk result (λ text. text.items ≡ usage_told dir.now m.now) }
-{
-    let usage = usage_below(alloc, m.name(), m.catalog(), dir)?;
-    du_text(alloc, usage.used, usage.mirrored)
 }
 
 /// How many of some names come before a name in folded order.
@@ -116,13 +98,14 @@ impl Session {
     }
 
     /// The rows in the mounted group of a name.
-    #[tactic(auto, using(crate::proofs::Telling::in_group, crate::proofs::Telling::out_in, crate::proofs::Telling::no_memory_in, crate::proofs::Telling::no_name))]
+    #[tactic(auto, using(crate::proofs::Telling::in_group, crate::proofs::Telling::rows_in, crate::proofs::Telling::out_in, crate::proofs::Telling::no_memory_in, crate::proofs::Telling::no_name))]
     fn rows_in_group(
         &self,
         alloc: Global,
         name: &[u8],
         parts: &[Text],
     ) -> Result<Vec<LsRow>, Refusal>
+        ensures rows { IfOk result (λ rows. AreRowsInGroup self.now name.now parts.now rows.items) }
         ensures cause { IfErr result (IsCauseIn self.now name.now parts.now) }
     {
         let Some(name) = read_name(alloc, name)? else {
@@ -130,33 +113,5 @@ impl Session {
         };
         let m = self.mounted(alloc, &name)?;
         rows_listed(alloc, m.name(), m.catalog(), parts)
-    }
-
-    /// What find tells of the directory at a path. Its refusals in order: NoGroup, Dismounted, NoName, NotDirectory.
-    #[tactic(auto, using(crate::proofs::Telling::at_path, crate::proofs::Telling::out_at, crate::proofs::Telling::no_memory_at))]
-    pub fn found_told(&self, alloc: Global, path: &Path, pattern: &[u8]) -> Result<Vec<u8>, Refusal>
-        ensures told { IfOk result (λ text. Tells self.now path.now.group (found_told path.now.parts pattern.now) text.items) }
-        ensures cause { IfErr result (IsPathCause self.now path.now.group path.now.parts) }
-    {
-        let m = self.mounted(alloc, &path.group)?;
-        directory_at(m.catalog(), path)?;
-        match found_text(alloc, m, path.parts.as_slice(), pattern) {
-            Ok(text) => Ok(text),
-            Err(NoMemory) => Err(Refusal::NoMemory),
-        }
-    }
-
-    /// What du tells of the directory at a path. Its refusals in order: NoGroup, Dismounted, NoName, NotDirectory.
-    #[tactic(auto, using(crate::proofs::Telling::at_path, crate::proofs::Telling::out_at, crate::proofs::Telling::no_memory_at))]
-    pub fn usage_told(&self, alloc: Global, path: &Path) -> Result<Vec<u8>, Refusal>
-        ensures told { IfOk result (λ text. Tells self.now path.now.group (usage_told path.now.parts) text.items) }
-        ensures cause { IfErr result (IsPathCause self.now path.now.group path.now.parts) }
-    {
-        let m = self.mounted(alloc, &path.group)?;
-        directory_at(m.catalog(), path)?;
-        match usage_text(alloc, m, path.parts.as_slice()) {
-            Ok(text) => Ok(text),
-            Err(NoMemory) => Err(Refusal::NoMemory),
-        }
     }
 }

@@ -1,4 +1,4 @@
-// Directories and aliases: edits of a group's names, each of one commit. `rm` isn't served yet.
+// Directories and aliases: edits of a group's names, each of one commit. rm takes files away too.
 ghost use Rattle.std.specs.Prelude.{◌≡◌, [], false, IfErr, IfOk, OnOk};
 ghost use Rattle.std.specs.Option.{option_map};
 ghost use Rattle.alias_tree.specs.Edits.{edit_meant};
@@ -16,8 +16,10 @@ ghost use Rattle.session.specs.declared.reply.Reply.TheVariants.{Done, Refused};
 
 use crate::answer::Answer;
 use crate::desk::Desk;
-use crate::refusing::{no_memory, refuse, unserved};
+use crate::files::{AtFile, work_by_verb};
+use crate::refusing::{no_memory, refuse};
 use crate::reply::Reply;
+use crate::works::Edit;
 use alias_tree::TreeEdit;
 use asm_base::{List, Name, NoMemory, Path, Refusal, Text};
 use bay::{Bay, Host};
@@ -71,7 +73,7 @@ fn edit_between(kind: BetweenPaths, first: Path, second: Path) -> TreeEdit
 }
 
 /// The path of a clause in the group that the statement names. None where it isn't a path of that group.
-fn path_in(alloc: Global, group: &Name, path: &[u8]) -> Result<Option<Path>, NoMemory>
+pub(crate) fn path_in(alloc: Global, group: &Name, path: &[u8]) -> Result<Option<Path>, NoMemory>
     ensures { IfOk result (λ led. option_map (λ p. p.parts) led ≡ clause_path group.now path.now) }
 {
     match clause_path(alloc, group, path)? {
@@ -131,12 +133,14 @@ pub(crate) fn edit_named<B: Bay, H: Host>(
     if let Err(refusal) = desk.session.mounted(desk.alloc, group) {
         return refuse(desk, text, refusal);
     }
-    let done = desk.session.edit(desk.alloc, &mut desk.bay, group, edit);
+    let done = desk
+        .session
+        .work(desk.alloc, &mut desk.bay, group, Edit { edit });
     answer_of(desk.alloc, done)
 }
 
 /// `ok` without lines, or a refusal.
-fn answer_of(alloc: Global, done: Result<(), Refusal>) -> Answer
+pub(crate) fn answer_of(alloc: Global, done: Result<(), Refusal>) -> Answer
     ensures done { OnOk done (result.reply ≡ Done []) }
     ensures refused { IfErr done (λ refusal. result.reply ≡ Refused refusal) }
     ensures found { found_view result.found ≡ nothing_found }
@@ -394,11 +398,12 @@ fn alias_path<B: Bay, H: Host>(
     edit_named(desk, text, &group, &GroupEdit::Tree(edit))
 }
 
-/// rm.
-pub fn remove<B: Bay, H: Host>(desk: &mut Desk<B, H>, text: &[u8], _path: Text) -> Answer
-    requires asked { command_of text.now ≡ Asked (Remove _path) }
+/// rm: a file goes with all its names, or an empty directory. Its refusals in order: NoGroup, also where the path comes to `+`,
+/// Dismounted, and those of the edit that drops a directory; NoName where nothing is there.
+pub fn remove<B: Bay, H: Host>(desk: &mut Desk<B, H>, text: &[u8], path: Text) -> Answer
+    requires asked { command_of text.now ≡ Asked (Remove path) }
     requires ready { AreReady desk.old.session.groups (B.state desk.old.bay) }
     ensures answers { IsAnswered text.now result desk.old desk.new }
 {
-    unserved(desk, text)
+    work_by_verb(desk, text, path.as_slice(), AtFile::Remove)
 }

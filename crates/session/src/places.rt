@@ -1,11 +1,10 @@
 // Where the session stands: cd and pwd.
-ghost use Rattle.std.specs.Prelude.{◌≡◌, ◌⊎◌, ◌++◌, ◌∷◌, [], false, true, flat_map, IfErr, IfOk, OnOk};
-ghost use Rattle.std.specs.Option.{option_map};
+ghost use Rattle.std.specs.Prelude.{◌≡◌, ◌⊎◌, ◌++◌, ◌∷◌, [], false, true, IfErr, IfOk, OnOk};
 ghost use Rattle.alias_tree.specs.Nodes.{node_at};
 ghost use Rattle.asm_base.specs.declared.refusal.Refusal.TheVariants.{NoMemory as WantOfMemory};
 ghost use Rattle.asm_world.specs.Command.{Asked, Cd, Pwd};
 ghost use Rattle.asm_world.specs.Language.{command_of};
-ghost use Rattle.asm_world.specs.Paths.{parts_of, path_text};
+ghost use Rattle.asm_world.specs.Paths.{path_text};
 ghost use Rattle.session.specs.Desks.{IsAnswered};
 ghost use Rattle.session.specs.Families.{is_proved};
 ghost use Rattle.session.specs.Going.{IsDirectoryOf, IsGoingCause, IsGoingCauseBy, IsLed, IsLedBy, IsNoDirectory, IsPlaceOf};
@@ -18,11 +17,12 @@ use crate::refusing::{no_memory, refuse};
 use crate::reply::Reply;
 use crate::session::Session;
 use asm_base::{List, Name, NoMemory, NodeKind, Path, Refusal, Text};
+use asmcmd::path_text;
 use bay::{Bay, Host};
 use catalog::Catalog;
 use group_engine::Mounted;
 use std::alloc::Global;
-use verb_paths::resolve;
+use verb_paths::{parts_in_group, resolve};
 
 /// cd. Its refusals in order: NoGroup, Dismounted, NoName, NotDirectory. The place is spelt as the group's names are.
 pub fn cd<B: Bay, H: Host>(desk: &mut Desk<B, H>, text: &[u8], path: Text) -> Answer
@@ -109,21 +109,6 @@ fn directory_at(alloc: Global, m: &Mounted, path: &Path) -> Result<List<Name>, R
     }
 }
 
-/// A group's name and the parts behind it. None at `+`.
-fn in_group(parts: List<Name>) -> Option<Path>
-    ensures { option_map (λ p. (p.group, p.parts)) result ≡ parts_of (Some parts) }
-{
-    let mut parts = parts.into_vec();
-    if parts.is_empty() {
-        return None;
-    }
-    let group = parts.remove(0);
-    Some(Path {
-        group,
-        parts: List::from_vec(parts),
-    })
-}
-
 impl Session {
     /// The place to which a path leads.
     fn led(&self, alloc: Global, path: &[u8]) -> Result<List<Name>, Refusal>
@@ -142,7 +127,7 @@ impl Session {
         ensures led { IfOk result (IsLedBy self.now (Some parts)) }
         ensures cause { IfErr result (λ refusal. (refusal ≡ WantOfMemory) ⊎ IsGoingCauseBy self.now (Some parts) refusal) }
     {
-        let Some(path) = in_group(parts) else {
+        let Some(path) = parts_in_group(parts) else {
             return Ok(List::new(alloc));
         };
         match self.mounted(alloc, &path.group) {
@@ -174,31 +159,12 @@ fn place_lines(alloc: Global, place: &[Name]) -> Result<List<Text>, NoMemory>
 }
 
 /// The text of a place.
+#[tactic(auto, using(crate::proofs::Texts::text_below, crate::proofs::Texts::text_top))]
 fn place_text(alloc: Global, place: &[Name]) -> Result<Text, NoMemory>
     ensures { IfOk result (λ text. text ≡ path_text place.now) }
 {
-    let mut text = Vec::new(alloc);
-    put_bytes(&mut text, b"+")?;
-    if let Some((group, parts)) = place.split_first() {
-        put_bytes(&mut text, group.as_bytes())?;
-        put_parts(&mut text, parts)?;
+    match place.split_first() {
+        Some((group, parts)) => path_text(alloc, group, parts),
+        None => Text::from_slice(alloc, b"+"),
     }
-    Ok(List::from_vec(text))
-}
-
-/// Puts the parts of a path behind a text, each after a slash.
-fn put_parts(text: &mut Vec<u8>, parts: &[Name]) -> Result<(), NoMemory>
-    ensures { OnOk result (text.new.items ≡ text.old.items ++ flat_map (λ part. 47 ∷ part) parts.now) }
-{
-    for part in parts {
-        put_bytes(text, b"/")?;
-        put_bytes(text, part.as_bytes())?;
-    }
-    Ok(())
-}
-
-fn put_bytes(text: &mut Vec<u8>, bytes: &[u8]) -> Result<(), NoMemory>
-    ensures { OnOk result (text.new.items ≡ text.old.items ++ bytes.now) }
-{
-    text.extend_from_slice(bytes).map_err(|_| NoMemory)
 }

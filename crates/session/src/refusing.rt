@@ -1,5 +1,6 @@
 // Commands that are refused before anything is done.
-ghost use Rattle.std.specs.Prelude.{◌≡◌, [], false};
+ghost use Rattle.std.specs.Prelude.{◌≡◌, [], false, IfOk, OnErr};
+ghost use Rattle.asm_base.specs.declared.refusal.Refusal.TheVariants as cause;
 ghost use Rattle.asm_base.specs.Refusals.{said};
 ghost use Rattle.asm_group.specs.Refusal as r;
 ghost use Rattle.session.specs.Views.{found_view, nothing_found};
@@ -14,7 +15,7 @@ use crate::answer::Answer;
 use crate::desk::Desk;
 use crate::reply::Reply;
 use crate::session::MAX_GROUPS;
-use asm_base::{Limited, Refusal};
+use asm_base::{Limited, NoMemory, Refusal};
 use bay::{Bay, Host};
 use std::alloc::Global;
 
@@ -68,5 +69,16 @@ pub fn too_many_groups() -> Refusal
     Refusal::TooMany {
         kind: Limited::Groups,
         limit: MAX_GROUPS as u64,
+    }
+}
+
+/// The same, with want of memory as a refusal.
+pub fn or_refusal<T: Drop>(answer: Result<T, NoMemory>) -> Result<T, Refusal>
+    ensures ok { IfOk answer (λ given. result ≡ Ok given) }
+    ensures err { OnErr answer (result ≡ Err cause.NoMemory) }
+{
+    match answer {
+        Ok(given) => Ok(given),
+        Err(NoMemory) => Err(Refusal::NoMemory),
     }
 }

@@ -8,8 +8,9 @@ ghost use Rattle.session.specs.Sessions.{AreReady};
 
 use crate::answer::Answer;
 use crate::desk::Desk;
+use crate::group_rows::Report;
 use crate::lines::lines_of;
-use crate::refusing::{no_memory, refuse};
+use crate::refusing::{no_memory, or_refusal, refuse};
 use crate::reply::Reply;
 use asm_base::{Name, NoMemory, Refusal, Text};
 use asmcmd::{ls_text, lsdg_text};
@@ -17,7 +18,7 @@ use bay::{Bay, Host};
 use verb_paths::{resolve_pattern, target};
 
 /// The lines of a report's text and `ok`, or the refusal of a report.
-pub(crate) fn tell<B: Bay, H: Host>(
+fn tell<B: Bay, H: Host>(
     desk: &mut Desk<B, H>,
     text: &[u8],
     told: Result<Vec<u8>, Refusal>,
@@ -32,22 +33,6 @@ pub(crate) fn tell<B: Bay, H: Host>(
     }
 }
 
-/// The same of a report that isn't refused otherwise than for want of memory.
-fn tell_lines<B: Bay, H: Host>(
-    desk: &mut Desk<B, H>,
-    text: &[u8],
-    lines: Result<Vec<u8>, NoMemory>,
-) -> Answer
-    requires unproved { is_proved (command_of text.now) ≡ false }
-    requires ready { AreReady desk.old.session.groups (B.state desk.old.bay) }
-    ensures answers { IsAnswered text.now result desk.old desk.new }
-{
-    match lines {
-        Ok(lines) => report(desk, text, &lines),
-        Err(NoMemory) => no_memory(desk, text),
-    }
-}
-
 /// The lines of a report's text, and `ok`.
 fn report<B: Bay, H: Host>(desk: &mut Desk<B, H>, text: &[u8], lines: &[u8]) -> Answer
     requires unproved { is_proved (command_of text.now) ≡ false }
@@ -58,6 +43,21 @@ fn report<B: Bay, H: Host>(desk: &mut Desk<B, H>, text: &[u8], lines: &[u8]) -> 
         Ok(lines) => Answer::plain(desk.alloc, Reply::Done(lines)),
         Err(NoMemory) => no_memory(desk, text),
     }
+}
+
+/// A report on the mounted group of a name. Its refusals in order: NoGroup, Dismounted.
+pub(crate) fn tell_of<B: Bay, H: Host>(
+    desk: &mut Desk<B, H>,
+    text: &[u8],
+    group: &Name,
+    report: Report<'_>,
+) -> Answer
+    requires unproved { is_proved (command_of text.now) ≡ false }
+    requires ready { AreReady desk.old.session.groups (B.state desk.old.bay) }
+    ensures answers { IsAnswered text.now result desk.old desk.new }
+{
+    let told = desk.session.told(desk.alloc, group, report);
+    tell(desk, text, told)
 }
 
 /// ls. Its refusals in order: NoGroup, Dismounted, NoName, and NotDirectory of what a pattern is looked for in.
@@ -85,7 +85,7 @@ pub fn ls<B: Bay, H: Host>(
     match desk.session.rows_at(desk.alloc, parts.as_slice()) {
         Ok(rows) => {
             let lines = ls_text(desk.alloc, &rows, long);
-            tell_lines(desk, text, lines)
+            tell(desk, text, or_refusal(lines))
         }
         Err(refusal) => refuse(desk, text, refusal),
     }
@@ -108,9 +108,11 @@ pub fn find<B: Bay, H: Host>(
     let Some(path) = led else {
         return refuse(desk, text, Refusal::NoGroup);
     };
-    let told = desk
-        .session
-        .found_told(desk.alloc, &path, pattern.as_slice());
+    let report = Report::Found {
+        dir: path.parts.as_slice(),
+        pattern: pattern.as_slice(),
+    };
+    let told = desk.session.told_below(desk.alloc, &path, report);
     tell(desk, text, told)
 }
 
@@ -132,7 +134,10 @@ pub fn usage<B: Bay, H: Host>(desk: &mut Desk<B, H>, text: &[u8], path: Option<T
     let Some(path) = led else {
         return refuse(desk, text, Refusal::NoGroup);
     };
-    let told = desk.session.usage_told(desk.alloc, &path);
+    let dir = path.parts.as_slice();
+    let told = desk
+        .session
+        .told_below(desk.alloc, &path, Report::Usage { dir });
     tell(desk, text, told)
 }
 
@@ -154,7 +159,7 @@ pub fn list_groups<B: Bay, H: Host>(
     match desk.session.group_rows(desk.alloc, &group) {
         Ok(rows) => {
             let lines = lsdg_text(desk.alloc, &rows);
-            tell_lines(desk, text, lines)
+            tell(desk, text, or_refusal(lines))
         }
         Err(NoMemory) => no_memory(desk, text),
     }
@@ -166,8 +171,7 @@ pub fn list_disks<B: Bay, H: Host>(desk: &mut Desk<B, H>, text: &[u8], group: Na
     requires ready { AreReady desk.old.session.groups (B.state desk.old.bay) }
     ensures answers { IsAnswered text.now result desk.old desk.new }
 {
-    let told = desk.session.disks_told(desk.alloc, &group);
-    tell(desk, text, told)
+    tell_of(desk, text, &group, Report::Disks)
 }
 
 /// lstmpl. Its refusals in order: NoGroup, Dismounted.
@@ -176,8 +180,7 @@ pub fn list_templates<B: Bay, H: Host>(desk: &mut Desk<B, H>, text: &[u8], group
     requires ready { AreReady desk.old.session.groups (B.state desk.old.bay) }
     ensures answers { IsAnswered text.now result desk.old desk.new }
 {
-    let told = desk.session.templates_told(desk.alloc, &group);
-    tell(desk, text, told)
+    tell_of(desk, text, &group, Report::Templates)
 }
 
 /// lsattr. Its refusals in order: NoGroup, Dismounted.
@@ -186,6 +189,5 @@ pub fn list_attributes<B: Bay, H: Host>(desk: &mut Desk<B, H>, text: &[u8], grou
     requires ready { AreReady desk.old.session.groups (B.state desk.old.bay) }
     ensures answers { IsAnswered text.now result desk.old desk.new }
 {
-    let told = desk.session.attributes_told(desk.alloc, &group);
-    tell(desk, text, told)
+    tell_of(desk, text, &group, Report::Attributes)
 }

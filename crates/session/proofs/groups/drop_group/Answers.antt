@@ -6,8 +6,8 @@ use Rattle.session.proofs.groups.drop_group.Goals as goal
 pub returns-in-Ok : goal.returns-in-Ok
 returns-in-Ok g c = record {
   answers = answered-only c.args.text.now _ c.args.desk.now _ (rw c.requires.asked refl) refl (λ is. refl)
-      (rw c.leave.ensures.groups (left_ready c.drop_group.new.self.entries c.drop_group.new.self.groups c.args.name c.drop_group.ensures.carries.ready)) c.drop_group.ensures.carries.calls c.drop_group.ensures.carries.past;
+      (rw c.leave.ensures.groups (left_ready c.work.new.self.entries c.work.new.self.groups c.args.name c.work.ensures.carries.ready)) c.work.ensures.carries.calls c.work.ensures.carries.past;
 }
 
 pub returns : goal.returns
-returns g c = record { answers = answered-carried c.args.text.now _ c.args.desk.now _ (rw c.requires.asked refl) refl (λ is. refl) c.drop_group.ensures.carries }
+returns g c = record { answers = answered-carried c.args.text.now _ c.args.desk.now _ (rw c.requires.asked refl) refl (λ is. refl) c.work.ensures.carries }

@@ -18,6 +18,7 @@ returns-in_default g c =
     let ready = rw (← c.self.view_is) at c.requires.ready in
     rw (c.get_mut.follows.holds-at-none, ← c.self.view_is) (record {
       found = tt;
+      done = tt;
       out = inr (absent_out c.args.name.now c.self.inside.groups.entries NoGroup (sym c.in_default.ensures.value) refl);
       groups = inl refl;
       carries = carries_none _ ready;
@@ -49,9 +50,9 @@ returns g c =
     let is : (c.get_mut.follows.lender after).entries ≡ set_value (sought name) es after = (c.get_mut.follows.holds after).0 in
     let ready = rw (← c.self.view_is) at c.requires.ready in
     let all = works g.B.Bay.state c.args.bay.now c.work_on.new.bay name v after es (c.get_mut.follows.lender after).entries c.self.inside.place c.self.inside.given c.self.inside.time
-    is (sym c.in-Some.ensures.value) refl c.work_on.ensures.keeps c.work_on.ensures.idle ready in
+    is (sym c.in-Some.ensures.value) refl c.work_on.ensures.keeps c.work_on.ensures.idle ready (λ old given new. g.W.GroupWork.does c.args.work old given new) in
     elim c.match-work_on.branch [
-      | in-Ok w ↦ rw (w.result-is, w.self-inside-is, ← c.self.view_is) (all _ w.in-Ok.ensures.found tt)
+      | in-Ok w ↦ rw (w.result-is, w.self-inside-is, ← c.self.view_is) (all _ w.in-Ok.ensures.found w.in-Ok.ensures.done tt)
       | in-Err w ↦ rw (w.result-is, w.self-inside-is, ← c.self.view_is)
-          (all _ tt (⊎_elim (λ on. inl on) (λ shut. inr (shut_after name es v c.work_on.new.m w.in-Err.refusal _ (sym c.in-Some.ensures.value) (λ off. (c.work_on.ensures.idle off).0) shut w.spelt.ensures)) w.in-Err.ensures.shut))
+          (all _ tt tt (⊎_elim (λ on. inl on) (λ shut. inr (shut_after name es v c.work_on.new.m w.in-Err.refusal _ (sym c.in-Some.ensures.value) (λ off. (c.work_on.ensures.idle off).0) shut w.spelt.ensures)) w.in-Err.ensures.shut))
     ]
