@@ -11,9 +11,20 @@ const UNITS: u32 = 16_777_216;
 
 const RESERVED: u32 = 9;
 
-/// The time that it takes to take the last free unit, where nothing tells that all before it are used.
+/// The time that it takes to take the last free unit, where all before it were marked as used.
 pub fn last_unit(alloc: Global, rt: &HostRuntime) -> io::Result<Duration> {
-    let mut units = Units::new(alloc, RESERVED, UNITS).map_err(out_of_memory)?;
+    match Units::new(alloc, RESERVED, UNITS) {
+        Ok(mut units) => {
+            let time = last_of(rt, &mut units);
+            drop(units);
+            time
+        }
+        Err(error) => Err(out_of_memory(error)),
+    }
+}
+
+/// The same of the units of a disk, of which none is used.
+fn last_of(rt: &HostRuntime, units: &mut Units) -> io::Result<Duration> {
     if !units.mark(RESERVED, UNITS - RESERVED - 1) {
         return Err(unexpected());
     }

@@ -1,6 +1,6 @@
 //! Reading the heads of a group's files.
 
-use crate::records::{out_of_memory, put, unexpected};
+use crate::records::{put, there};
 use asm_base::Records;
 use file_directory::FileTable;
 use std::alloc::Global;
@@ -13,15 +13,35 @@ const FILES: u16 = 1;
 /// The time that a table of so many files takes to be read from its records.
 pub fn reading(alloc: Global, rt: &HostRuntime, files: u32) -> io::Result<Duration> {
     let mut records = Records::new(alloc);
+    let time = match put_heads(alloc, &mut records, files) {
+        Ok(()) => reading_of(alloc, rt, &records),
+        Err(error) => Err(error),
+    };
+    drop(records);
+    time
+}
+
+fn put_heads(alloc: Global, records: &mut Records, files: u32) -> io::Result<()> {
     for i in 0..files {
-        put(alloc, &mut records, FILES, i, &head())?;
+        put(alloc, records, FILES, i, &head())?;
     }
+    Ok(())
+}
+
+/// The same of these records.
+fn reading_of(alloc: Global, rt: &HostRuntime, records: &Records) -> io::Result<Duration> {
     let start = Instant::now(rt)?;
-    let read = FileTable::from_records(alloc, &records).map_err(out_of_memory)?;
-    let time = start.elapsed(rt)?;
+    let read = there(FileTable::from_records(alloc, records));
+    let time = start.elapsed(rt);
     match read {
-        Some(_) => Ok(time),
-        None => Err(unexpected()),
+        Ok(table) => {
+            drop(table);
+            time
+        }
+        Err(error) => {
+            drop(time);
+            Err(error)
+        }
     }
 }
 

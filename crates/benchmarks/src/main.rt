@@ -21,31 +21,55 @@ fn main(rt: HostRuntime) -> io::Result<()> {
 }
 
 fn show(alloc: Global, rt: &HostRuntime) -> io::Result<()> {
+    show_searches(alloc, rt)?;
+    show_adding(alloc, rt)?;
+    show_aliases(alloc, rt)?;
+    show_reading(alloc, rt)?;
+    show_last_unit(alloc, rt)?;
+    show_moves(alloc, rt)
+}
+
+fn show_searches(alloc: Global, rt: &HostRuntime) -> io::Result<()> {
     let few = paths::searches(alloc, rt, 10)?;
     let many = paths::searches(alloc, rt, 100_000)?;
     let of_few = percent(many, few);
     println!(rt;
         "finding a path beside 100,000 names of another directory: {of_few} % of the time beside 10"
-    )?;
+    )
+}
+
+fn show_adding(alloc: Global, rt: &HostRuntime) -> io::Result<()> {
     let few = names::adding(alloc, rt, 10)?;
     let many = names::adding(alloc, rt, 60_000)?;
     let of_few = percent(many, few);
-    println!(rt; "making 2,000 directories beside 60,000 names: {of_few} % of the time beside 10")?;
+    println!(rt; "making 2,000 directories beside 60,000 names: {of_few} % of the time beside 10")
+}
+
+fn show_aliases(alloc: Global, rt: &HostRuntime) -> io::Result<()> {
     let few = names::aliases(alloc, rt, 10)?;
     let many = names::aliases(alloc, rt, 60_000)?;
     let of_few = percent(many, few);
     println!(rt;
         "an alias for a file and the loss of its names, beside 60,000 names: {of_few} % of the time beside 10"
-    )?;
+    )
+}
+
+fn show_reading(alloc: Global, rt: &HostRuntime) -> io::Result<()> {
     let tenth = files::reading(alloc, rt, 1_000)?;
     let all = files::reading(alloc, rt, 10_000)?;
     let times = tenths(all, tenth);
     println!(rt;
         "reading the heads of 10,000 files: {times} tenths of the time of 1,000, so 100 if it is linear"
-    )?;
+    )
+}
+
+fn show_last_unit(alloc: Global, rt: &HostRuntime) -> io::Result<()> {
     let take = disk::last_unit(alloc, rt)?;
     let of_allowed = percent(take, Duration::from_millis(1));
-    println!(rt; "taking the last unit of 16,777,216: {of_allowed} % of a millisecond")?;
+    println!(rt; "taking the last unit of 16,777,216: {of_allowed} % of a millisecond")
+}
+
+fn show_moves(alloc: Global, rt: &HostRuntime) -> io::Result<()> {
     let (all, rest) = moves::searches(alloc, rt)?;
     let times = ratio(all, rest, 1);
     println!(rt;

@@ -9,8 +9,10 @@ ghost use Rattle.rebalance.specs.Cursors.{IsCursor};
 ghost use Rattle.rebalance.specs.Searching.{IsStatusOf};
 
 use crate::paths::{Kind, node};
-use crate::records::{name_of, out_of_memory, put_at, unexpected};
-use asm_base::{DiskSet, ExtentId, GroupKind, Home, Key, Mode, Name, Records, Shape, Stripe};
+use crate::records::{made, name_of, out_of_memory, put_at, there, unexpected};
+use asm_base::{
+    DiskSet, ExtentId, GroupKind, Home, Key, Mode, Name, NoMemory, Records, Shape, Stripe, Value,
+};
 use catalog::Catalog;
 use file_directory::{FileHead, record_of};
 use rebalance::{Cursor, Move, Next, next_move, next_move_from};
@@ -19,7 +21,9 @@ use status_table::{PstEntry, PstRecord, is_status};
 use std::alloc::Global;
 use std::io;
 use std::time::{Duration, Instant};
-use template_directory::{Settings, are_allowed, settings_value, system, templates_value};
+use template_directory::{
+    Settings, Template, are_allowed, settings_value, system, templates_value,
+};
 
 /// Files of 20,000 extents of one unit each, so 100,000 extents.
 const FILES: u32 = 5;
@@ -52,12 +56,44 @@ const SHAPE: Shape = Shape {
 /// The times of searches for the next move of a group in which the last two extents are to be shifted, and the one was: of
 /// searches that ask all extents, and of as many with the cursor of the search for the move before.
 pub fn searches(alloc: Global, rt: &HostRuntime) -> io::Result<(Duration, Duration)> {
-    let records = group(alloc)?;
+    let mut records = Records::new(alloc);
+    let times = match put_group(alloc, &mut records) {
+        Ok(()) => searches_of(alloc, rt, &records),
+        Err(error) => Err(error),
+    };
+    drop(records);
+    times
+}
+
+/// The same of the group of these records.
+fn searches_of(
+    alloc: Global,
+    rt: &HostRuntime,
+    records: &Records,
+) -> io::Result<(Duration, Duration)> {
     let status = status();
-    let mut catalog = catalog(alloc, &records, &status)?;
+    match catalog(alloc, records, &status) {
+        Ok(mut catalog) => {
+            let times = searches_in(alloc, rt, &mut catalog, &status);
+            drop(catalog);
+            times
+        }
+        Err(error) => Err(error),
+    }
+}
+
+/// The same in a catalog.
+fn searches_in(
+    alloc: Global,
+    rt: &HostRuntime,
+    catalog: &mut Catalog,
+    status: &PstRecord,
+) -> io::Result<(Duration, Duration)>
+    requires { IsStatusOf catalog.old status.now }
+{
     let mut cursor = Cursor::start();
-    make_next(alloc, &mut catalog, &status, &mut cursor)?;
-    timed(rt, &catalog, &status, &mut cursor)
+    make_next(alloc, catalog, status, &mut cursor)?;
+    timed(rt, catalog, status, &mut cursor)
 }
 
 /// The catalog of the records.
@@ -198,41 +234,57 @@ fn entry(number: u8, mode: Mode) -> PstEntry {
     }
 }
 
-fn group(alloc: Global) -> io::Result<Records> {
-    let mut records = Records::new(alloc);
-    put_attributes(alloc, &mut records)?;
+fn put_group(alloc: Global, records: &mut Records) -> io::Result<()> {
+    put_templates(alloc, records)?;
+    put_settings(alloc, records)?;
     for number in 0..2u8 {
-        put_at(alloc, &mut records, (2, number as u32, 0), &disk(number))?;
+        put_at(alloc, records, (2, number as u32, 0), &disk(number))?;
     }
     let directory = node(0, Kind::Directory, 0, b"d");
-    put_at(alloc, &mut records, (6, 1, 0), &directory)?;
+    put_at(alloc, records, (6, 1, 0), &directory)?;
     for file in 0..FILES {
-        put_file(alloc, &mut records, file)?;
+        put_file(alloc, records, file)?;
     }
-    Ok(records)
+    Ok(())
 }
 
-/// The templates and the settings of a new group.
-fn put_attributes(alloc: Global, records: &mut Records) -> io::Result<()> {
-    let templates = system(alloc, GroupKind::External).map_err(out_of_memory)?;
-    let settings = Settings::usual(alloc);
-    if !are_allowed(templates.as_slice()) || !settings.is_allowed() {
+/// The templates of a new group.
+fn put_templates(alloc: Global, records: &mut Records) -> io::Result<()> {
+    match system(alloc, GroupKind::External) {
+        Ok(templates) => {
+            let put = put_these(alloc, records, templates.as_slice());
+            drop(templates);
+            put
+        }
+        Err(error) => Err(out_of_memory(error)),
+    }
+}
+
+fn put_these(alloc: Global, records: &mut Records, templates: &[Template]) -> io::Result<()> {
+    if !are_allowed(templates) {
         return Err(unexpected());
     }
-    let value = templates_value(alloc, templates.as_slice()).map_err(out_of_memory)?;
-    let key = Key {
-        kind: 5,
-        a: 0,
-        b: 0,
+    put_value(records, 5, templates_value(alloc, templates))
+}
+
+/// The settings of a new group.
+fn put_settings(alloc: Global, records: &mut Records) -> io::Result<()> {
+    let settings = Settings::usual(alloc);
+    let put = if settings.is_allowed() {
+        put_value(records, 9, settings_value(alloc, &settings))
+    } else {
+        Err(unexpected())
     };
-    records.insert(key, value).map_err(out_of_memory)?;
-    let value = settings_value(alloc, &settings).map_err(out_of_memory)?;
-    let key = Key {
-        kind: 9,
-        a: 0,
-        b: 0,
-    };
-    records.insert(key, value).map_err(out_of_memory)
+    drop(settings);
+    put
+}
+
+/// Puts the one record of a kind.
+fn put_value(records: &mut Records, kind: u16, value: Result<Value, NoMemory>) -> io::Result<()> {
+    match value {
+        Ok(value) => made(records.insert(Key { kind, a: 0, b: 0 }, value)),
+        Err(error) => Err(out_of_memory(error)),
+    }
 }
 
 /// The value of a disk's record: its birth, and its name and failure group, each of one letter in a field of 31 bytes.
@@ -255,8 +307,7 @@ fn put_file(alloc: Global, records: &mut Records, file: u32) -> io::Result<()> {
     let system = node(1, Kind::System, number, &name_of(file));
     put_at(alloc, records, (6, name, 0), &system)?;
     for chunk in 0..CHUNKS {
-        let homes = homes(alloc, file, chunk)?;
-        put_at(alloc, records, (1, number, chunk.saturating_add(1)), &homes)?;
+        put_chunk(alloc, records, file, chunk)?;
         put_at(alloc, records, (12, number, chunk), &[0; 256])?;
     }
     Ok(())
@@ -264,9 +315,7 @@ fn put_file(alloc: Global, records: &mut Records, file: u32) -> io::Result<()> {
 
 /// The head of a coarse file of one copy, with its system node.
 fn put_head(alloc: Global, records: &mut Records, file: u32, system: u32) -> io::Result<()> {
-    let Some(kind) = Name::read(alloc, b"DATAFILE", 30).map_err(out_of_memory)? else {
-        return Err(unexpected());
-    };
+    let kind = there(Name::read(alloc, b"DATAFILE", 30))?;
     let head = FileHead {
         copies: 1,
         stripe: Stripe::Coarse,
@@ -276,23 +325,42 @@ fn put_head(alloc: Global, records: &mut Records, file: u32, system: u32) -> io:
         system,
         alias: 0,
     };
+    let put = put_this(alloc, records, file, &head);
+    drop(head);
+    put
+}
+
+fn put_this(alloc: Global, records: &mut Records, file: u32, head: &FileHead) -> io::Result<()> {
     if !head.is_allowed(file) {
         return Err(unexpected());
     }
-    let (key, value) = record_of(alloc, file, &head).map_err(out_of_memory)?;
-    records.insert(key, value).map_err(out_of_memory)
+    match record_of(alloc, file, head) {
+        Ok((key, value)) => made(records.insert(key, value)),
+        Err(error) => Err(out_of_memory(error)),
+    }
+}
+
+/// The homes of a chunk's extents.
+fn put_chunk(alloc: Global, records: &mut Records, file: u32, chunk: u32) -> io::Result<()> {
+    let key = (1, file.saturating_add(256), chunk.saturating_add(1));
+    let mut bytes = Vec::new(alloc);
+    let put = match put_homes(&mut bytes, file, chunk) {
+        Ok(()) => put_at(alloc, records, key, &bytes),
+        Err(error) => Err(error),
+    };
+    drop(bytes);
+    put
 }
 
 /// The value of a chunk's record: of each extent the home of its copy, and two that are absent.
-fn homes(alloc: Global, file: u32, chunk: u32) -> io::Result<Vec<u8>> {
-    let mut bytes = Vec::new(alloc);
+fn put_homes(bytes: &mut Vec<u8>, file: u32, chunk: u32) -> io::Result<()> {
     for place in 0..256u32 {
         let index = chunk.saturating_mul(256).saturating_add(place);
         bytes.extend_from_slice(&home(file, index))?;
         bytes.extend_from_slice(&ABSENT)?;
         bytes.extend_from_slice(&ABSENT)?;
     }
-    Ok(bytes)
+    Ok(())
 }
 
 /// A unit of the first disk, and of the second one for the last two extents of all.

@@ -1,6 +1,6 @@
 //! Finding a path beside the names of another directory.
 
-use crate::records::{name_of, out_of_memory, put, unexpected};
+use crate::records::{name_of, path, put, there, unexpected};
 use alias_tree::AliasTree;
 use asm_base::{Path, Records};
 use std::alloc::Global;
@@ -21,12 +21,32 @@ pub enum Kind {
 
 /// The time of many searches for a file's name in one directory, where another one has so many names.
 pub fn searches(alloc: Global, rt: &HostRuntime, names: u32) -> io::Result<Duration> {
-    let tree = tree_beside(alloc, names)?;
-    let Some(path) = Path::read(alloc, b"+G/first/x").map_err(out_of_memory)? else {
-        return Err(unexpected());
-    };
+    match tree_beside(alloc, names) {
+        Ok(tree) => {
+            let time = searches_in(alloc, rt, &tree);
+            drop(tree);
+            time
+        }
+        Err(error) => Err(error),
+    }
+}
+
+/// The same in a tree.
+fn searches_in(alloc: Global, rt: &HostRuntime, tree: &AliasTree) -> io::Result<Duration> {
+    match path(alloc, b"+G/first/x") {
+        Ok(path) => {
+            let time = searches_for(rt, tree, &path);
+            drop(path);
+            time
+        }
+        Err(error) => Err(error),
+    }
+}
+
+/// The same for a path, which must be found each time.
+fn searches_for(rt: &HostRuntime, tree: &AliasTree, path: &Path) -> io::Result<Duration> {
     let start = Instant::now(rt)?;
-    let found = found_often(&tree, &path);
+    let found = found_often(tree, path);
     let time = start.elapsed(rt)?;
     if found == SEARCHES {
         Ok(time)
@@ -48,20 +68,27 @@ fn found_often(tree: &AliasTree, path: &Path) -> u32 {
 /// A tree of two directories, of which the first has the one name `x` and the second so many.
 fn tree_beside(alloc: Global, names: u32) -> io::Result<AliasTree> {
     let mut records = Records::new(alloc);
+    let tree = match put_names(alloc, &mut records, names) {
+        Ok(()) => there(AliasTree::from_records(alloc, &records)),
+        Err(error) => Err(error),
+    };
+    drop(records);
+    tree
+}
+
+/// Puts the records of that tree.
+fn put_names(alloc: Global, records: &mut Records, names: u32) -> io::Result<()> {
     let file = node(0, Kind::Directory, 0, b"first");
-    put(alloc, &mut records, NODES, 1, &file)?;
+    put(alloc, records, NODES, 1, &file)?;
     let file = node(0, Kind::Directory, 0, b"second");
-    put(alloc, &mut records, NODES, 2, &file)?;
+    put(alloc, records, NODES, 2, &file)?;
     let file = node(1, Kind::System, 0, b"x");
-    put(alloc, &mut records, NODES, 3, &file)?;
+    put(alloc, records, NODES, 3, &file)?;
     for i in 0..names {
         let file = node(2, Kind::System, 0, &name_of(i));
-        put(alloc, &mut records, NODES, i.saturating_add(4), &file)?;
+        put(alloc, records, NODES, i.saturating_add(4), &file)?;
     }
-    match AliasTree::from_records(alloc, &records).map_err(out_of_memory)? {
-        Some(tree) => Ok(tree),
-        None => Err(unexpected()),
-    }
+    Ok(())
 }
 
 /// The value of a node's record: the parent, the kind, the file and the name in a field of 81 bytes.

@@ -6,14 +6,14 @@ ghost use Rattle.asm_formats.specs.Status.{Entry, is_entry};
 ghost use Rattle.catalog.specs.Faults.{IsCatalogOf};
 ghost use Rattle.catalog.specs.Placing.{HasUnits};
 
-use crate::making::wrong_in;
+use crate::making::{judged, wrong_in};
 use crate::steps::{Fact, Step};
 use asm_base::{Records, Shape};
 use catalog::Catalog;
 use sample_group::{SHAPE, disks, usual};
 use status_table::{PstRecord, is_status};
 use std::alloc::Global;
-use std::test::*;
+use std::test::Fail;
 
 /// The catalog of some records by a status record, in this shape.
 #[tactic(auto, unfolding(asm_formats::specs::Status::is_status))]
@@ -86,7 +86,11 @@ fn wrong_after(
     requires shape { group.old.shape ≡ shape }
 {
     match opened(alloc, records, next, shape) {
-        Ok(other) => wrong_by(alloc, group, &other, next),
+        Ok(other) => {
+            let wrong = wrong_by(alloc, group, &other, next);
+            drop(other);
+            wrong
+        }
         Err(fail) => Err(fail),
     }
 }
@@ -96,7 +100,9 @@ fn wrong_of(alloc: Global, records: &Records) -> Result<Option<usize>, Fail> {
     match opened(alloc, records, &disks(2), SHAPE) {
         Ok(mut group) => {
             let next = with_second(32, false);
-            wrong_after(alloc, records, &mut group, &next, SHAPE)
+            let wrong = wrong_after(alloc, records, &mut group, &next, SHAPE);
+            drop(group);
+            wrong
         }
         Err(fail) => Err(fail),
     }
@@ -104,14 +110,16 @@ fn wrong_of(alloc: Global, records: &Records) -> Result<Option<usize>, Fail> {
 
 fn wrong_units(alloc: Global) -> Result<Option<usize>, Fail> {
     match usual(alloc) {
-        Ok(records) => wrong_of(alloc, &records),
+        Ok(records) => {
+            let wrong = wrong_of(alloc, &records);
+            drop(records);
+            wrong
+        }
         Err(fail) => Err(fail),
     }
 }
 
 /// The units are those of the next entries, and those of the homes are used.
-#[test]
-fn units_of_a_status_record(rt: HostRuntime) -> Result<(), Fail> {
-    assert_eq!(rt; wrong_units(rt.alloc())?, None);
-    Ok(())
+pub fn units_of_a_status_record(alloc: Global) -> Result<(), Fail> {
+    judged("units of a status record", wrong_units(alloc)?)
 }

@@ -12,25 +12,45 @@ use catalog::{Catalog, DiskInfo};
 use std::alloc::Global;
 
 fn info(alloc: Global, birth: u64) -> Result<DiskInfo, Answer> {
-    Ok(DiskInfo {
-        birth,
-        name: name(alloc, b"d", 30)?,
-        failgroup: name(alloc, b"fg", 30)?,
-    })
+    let disk = name(alloc, b"d", 30)?;
+    match name(alloc, b"fg", 30) {
+        Ok(failgroup) => Ok(DiskInfo {
+            birth,
+            name: disk,
+            failgroup,
+        }),
+        Err(answer) => {
+            drop(disk);
+            Err(answer)
+        }
+    }
 }
 
-/// The change by which a disk has a record.
+/// The change by which a disk has this record.
 #[tactic(auto, using(crate::proofs::Planned::planned))]
-pub fn disk(alloc: Global, group: &Catalog, number: u8, birth: u64) -> Result<Change, Answer>
+fn disk_by(alloc: Global, group: &Catalog, number: u8, info: &DiskInfo) -> Result<Change, Answer>
     ensures { IfOk result (λ change. IsPlanned group.now change.put change.gone) }
 {
-    let info = info(alloc, birth)?;
     if !info.is_allowed(number) {
         return Err(Answer::Another);
     }
-    match group.plan_disk(alloc, number, Some(&info)) {
+    match group.plan_disk(alloc, number, Some(info)) {
         Ok(change) => Ok(change),
-        Err(refusal) => Err(answer_of(&refusal)),
+        Err(refusal) => Err(answer_of(refusal)),
+    }
+}
+
+/// The change by which a disk has a record.
+pub fn disk(alloc: Global, group: &Catalog, number: u8, birth: u64) -> Result<Change, Answer>
+    ensures { IfOk result (λ change. IsPlanned group.now change.put change.gone) }
+{
+    match info(alloc, birth) {
+        Ok(info) => {
+            let change = disk_by(alloc, group, number, &info);
+            drop(info);
+            change
+        }
+        Err(answer) => Err(answer),
     }
 }
 
@@ -41,7 +61,7 @@ pub fn no_disk(alloc: Global, group: &Catalog, number: u8) -> Result<Change, Ans
 {
     match group.plan_disk(alloc, number, None) {
         Ok(change) => Ok(change),
-        Err(refusal) => Err(answer_of(&refusal)),
+        Err(refusal) => Err(answer_of(refusal)),
     }
 }
 
@@ -54,18 +74,48 @@ fn are_new(group: &Catalog, first: u8, second: u8) -> bool
     group.disk(first).is_none() && group.disk(second).is_none() && second != first
 }
 
-/// The change by which two disks have records.
+/// The change by which two disks have these records.
 #[tactic(auto, using(crate::proofs::NewDisks::may_add, crate::proofs::Planned::planned))]
-pub fn two_disks(alloc: Global, group: &Catalog, first: u8, second: u8) -> Result<Change, Answer>
+fn two_disks_by(
+    alloc: Global,
+    group: &Catalog,
+    first: u8,
+    second: u8,
+    infos: (DiskInfo, DiskInfo),
+) -> Result<Change, Answer>
     ensures { IfOk result (λ change. IsPlanned group.now change.put change.gone) }
 {
-    let infos = (info(alloc, 3)?, info(alloc, 4)?);
     if !infos.0.is_allowed(first) || !infos.1.is_allowed(second) || !are_new(group, first, second) {
+        drop(infos);
         return Err(Answer::Another);
     }
     let added = [(first, infos.0), (second, infos.1)];
-    match group.plan_disks(alloc, &added) {
+    let planned = group.plan_disks(alloc, &added);
+    drop(added);
+    match planned {
         Ok(change) => Ok(change),
-        Err(refusal) => Err(answer_of(&refusal)),
+        Err(refusal) => Err(answer_of(refusal)),
+    }
+}
+
+/// Both records.
+fn infos(alloc: Global) -> Result<(DiskInfo, DiskInfo), Answer> {
+    let first = info(alloc, 3)?;
+    match info(alloc, 4) {
+        Ok(second) => Ok((first, second)),
+        Err(answer) => {
+            drop(first);
+            Err(answer)
+        }
+    }
+}
+
+/// The change by which two disks have records.
+pub fn two_disks(alloc: Global, group: &Catalog, first: u8, second: u8) -> Result<Change, Answer>
+    ensures { IfOk result (λ change. IsPlanned group.now change.put change.gone) }
+{
+    match infos(alloc) {
+        Ok(infos) => two_disks_by(alloc, group, first, second, infos),
+        Err(answer) => Err(answer),
     }
 }

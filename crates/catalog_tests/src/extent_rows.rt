@@ -4,7 +4,7 @@ use crate::making::play;
 use crate::steps::{Answer, Fact, Plan, Step};
 use sample_group::Edit;
 use std::alloc::Global;
-use std::test::*;
+use std::test::Fail;
 
 /// Marks of an extent are set, and then both are cleared, but one of them is set. Those of the others stay.
 const MARKS: [Step<'static>; 8] = [
@@ -128,7 +128,7 @@ const FIRST_MARKED: [Step<'static>; 13] = [
 ];
 
 /// Plays the rows, each in a group of its own.
-fn play_rows(alloc: Global) -> Result<(), Fail> {
+pub fn extents(alloc: Global) -> Result<(), Fail> {
     play(alloc, "marks", &[], 0, &MARKS)?;
     play(alloc, "moves", &[], 0, &MOVES)?;
     play(alloc, "more extents", &[], 0, &MORE_EXTENTS)?;
@@ -136,9 +136,4 @@ fn play_rows(alloc: Global) -> Result<(), Fail> {
     play(alloc, "one block for a chunk", &BEGUN, 115, &ONE_BLOCK)?;
     play(alloc, "last extent", &BEGUN, 0, &LAST_EXTENT)?;
     play(alloc, "first marked", &BEGUN, 0, &FIRST_MARKED)
-}
-
-#[test]
-fn extents(rt: HostRuntime) -> Result<(), Fail> {
-    play_rows(rt.alloc())
 }

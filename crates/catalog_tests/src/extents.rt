@@ -65,7 +65,7 @@ pub fn marks(
     }
     match group.plan_marks(alloc, x, set, clear) {
         Ok(change) => Ok(change),
-        Err(refusal) => Err(answer_of(&refusal)),
+        Err(refusal) => Err(answer_of(refusal)),
     }
 }
 
@@ -158,7 +158,7 @@ fn append_at(
     }
     match group.plan_chunk(alloc, file, 0, &[homes], &[marks]) {
         Ok(change) => Ok(change),
-        Err(refusal) => Err(answer_of(&refusal)),
+        Err(refusal) => Err(answer_of(refusal)),
     }
 }
 
@@ -197,6 +197,6 @@ pub fn cut(alloc: Global, group: &Catalog, file: u32, kept: u32) -> Result<Chang
     }
     match group.plan_cut(alloc, file, 0, kept) {
         Ok(change) => Ok(change),
-        Err(refusal) => Err(answer_of(&refusal)),
+        Err(refusal) => Err(answer_of(refusal)),
     }
 }

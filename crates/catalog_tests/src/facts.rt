@@ -51,7 +51,11 @@ fn is_told_of_disks(group: &Catalog, fact: Fact<'_>) -> bool {
 
 fn is_found(alloc: Global, group: &Catalog, at: &[u8], node: Option<u32>) -> bool {
     match path(alloc, at) {
-        Some(at) => group.find(&at) == node,
+        Some(at) => {
+            let found = group.find(&at);
+            drop(at);
+            found == node
+        }
         None => false,
     }
 }
@@ -65,18 +69,35 @@ fn file_named(group: &Catalog, node: u32) -> Option<u32> {
 
 fn are_children(alloc: Global, group: &Catalog, node: u32, wanted: &[u32]) -> bool {
     match group.children(alloc, node) {
-        Ok(children) => children.as_slice() == wanted,
+        Ok(children) => {
+            let are_wanted = children.as_slice() == wanted;
+            drop(children);
+            are_wanted
+        }
         Err(_) => false,
     }
 }
 
 /// Whether a node has the path of these parts, or has none where there are no parts.
 fn has_path(alloc: Global, group: &Catalog, node: u32, parts: &[&[u8]]) -> bool {
-    let Ok(Some(name)) = Name::read(alloc, b"data", 30) else {
-        return false;
-    };
-    match group.path_of(alloc, &name, node) {
-        Ok(Some(path)) => is_path(&path, b"data", parts),
+    match Name::read(alloc, b"data", 30) {
+        Ok(Some(name)) => {
+            let has_path = has_path_in(alloc, group, &name, node, parts);
+            drop(name);
+            has_path
+        }
+        _ => false,
+    }
+}
+
+/// The same in the group of a name.
+fn has_path_in(alloc: Global, group: &Catalog, name: &Name, node: u32, parts: &[&[u8]]) -> bool {
+    match group.path_of(alloc, name, node) {
+        Ok(Some(path)) => {
+            let is_path = is_path(&path, b"data", parts);
+            drop(path);
+            is_path
+        }
         Ok(None) => parts.is_empty(),
         Err(_) => false,
     }
@@ -98,7 +119,11 @@ fn is_path(path: &Path, group: &[u8], parts: &[&[u8]]) -> bool {
 
 fn is_change(alloc: Global, group: &Catalog, plan: Plan<'_>, put: usize, gone: usize) -> bool {
     match planned(alloc, group, plan) {
-        Ok(change) => change.put.len() == put && change.gone.len() == gone,
+        Ok(change) => {
+            let counts = (change.put.len(), change.gone.len());
+            drop(change);
+            counts == (put, gone)
+        }
         Err(_) => false,
     }
 }

@@ -4,7 +4,7 @@ use crate::making::play;
 use crate::steps::{Answer, Fact, Plan, Step};
 use asm_base::{PendingKind, Stripe};
 use std::alloc::Global;
-use std::test::*;
+use std::test::Fail;
 
 /// A file that shrinks is to keep the extents that it has then. One that keeps its size keeps what is pending, and one that
 /// grows ends it.
@@ -132,7 +132,7 @@ const ATTRIBUTES: [Step<'static>; 6] = [
 ];
 
 /// Plays the rows, each in a group of its own.
-fn play_rows(alloc: Global) -> Result<(), Fail> {
+pub fn files_and_disks(alloc: Global) -> Result<(), Fail> {
     play(alloc, "sizes", &[], 0, &SIZES)?;
     play(alloc, "removals", &[], 0, &REMOVALS)?;
     play(alloc, "operations", &[], 0, &OPERATIONS)?;
@@ -143,9 +143,4 @@ fn play_rows(alloc: Global) -> Result<(), Fail> {
     play(alloc, "one block for two disks", &[], 115, &ONE_BLOCK)?;
     play(alloc, "templates", &[], 0, &TEMPLATES)?;
     play(alloc, "attributes", &[], 0, &ATTRIBUTES)
-}
-
-#[test]
-fn files_and_disks(rt: HostRuntime) -> Result<(), Fail> {
-    play_rows(rt.alloc())
 }

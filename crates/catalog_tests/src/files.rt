@@ -107,7 +107,7 @@ pub fn size(alloc: Global, group: &Catalog, bytes: u64) -> Result<Change, Answer
     }
     match group.plan_size(alloc, 256, bytes) {
         Ok(change) => Ok(change),
-        Err(refusal) => Err(answer_of(&refusal)),
+        Err(refusal) => Err(answer_of(refusal)),
     }
 }
 
@@ -121,6 +121,6 @@ pub fn remove(alloc: Global, group: &Catalog) -> Result<Change, Answer>
     }
     match group.plan_unname(alloc, 256) {
         Ok(change) => Ok(change),
-        Err(refusal) => Err(answer_of(&refusal)),
+        Err(refusal) => Err(answer_of(refusal)),
     }
 }

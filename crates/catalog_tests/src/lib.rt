@@ -1,5 +1,5 @@
 //! Tests of a group's catalog: what it tells of records and once plans were made, and by which key records at fault are
-//! named. Each test is a row of steps, which one function plays.
+//! named. Each case is a row of steps, which one function plays.
 #![tactic(auto)]
 
 #[cfg(test)]
@@ -28,6 +28,8 @@ mod operations;
 mod plans;
 #[cfg(test)]
 mod refused;
+#[cfg(test)]
+mod rows;
 #[cfg(test)]
 mod steps;
 #[cfg(test)]

@@ -27,7 +27,11 @@ fn make(alloc: Global, catalog: &mut Catalog, change: &Change) -> Answer
 /// Makes the change of a plan. What comes of it.
 fn made(alloc: Global, group: &mut Catalog, plan: Plan<'_>) -> Answer {
     match planned(alloc, group, plan) {
-        Ok(change) => make(alloc, group, &change),
+        Ok(change) => {
+            let answer = make(alloc, group, &change);
+            drop(change);
+            answer
+        }
         Err(answer) => answer,
     }
 }
@@ -59,12 +63,18 @@ pub fn wrong_in(alloc: Global, group: &mut Catalog, steps: &[Step<'_>]) -> Optio
 
 /// The catalog of the usual records after edits, with so many directories more in the root.
 fn group_with(alloc: Global, edits: &[Edit<'_>], directories: u8) -> Result<Catalog, Fail> {
-    let records = edited(alloc, edits, directories)?;
-    catalog(alloc, &records)
+    match edited(alloc, edits, directories) {
+        Ok(records) => {
+            let group = catalog(alloc, &records);
+            drop(records);
+            group
+        }
+        Err(fail) => Err(fail),
+    }
 }
 
 /// Fails by the name of a row where a step of it isn't right, and tells its place.
-fn judged(name: &'static str, wrong: Option<usize>) -> Result<(), Fail> {
+pub fn judged(name: &'static str, wrong: Option<usize>) -> Result<(), Fail> {
     match wrong {
         Some(place) => Err(Fail::from((name, place))),
         None => Ok(()),
@@ -78,7 +88,9 @@ fn judged_in(
     mut group: Catalog,
     steps: &[Step<'_>],
 ) -> Result<(), Fail> {
-    judged(name, wrong_in(alloc, &mut group, steps))
+    let wrong = wrong_in(alloc, &mut group, steps);
+    drop(group);
+    judged(name, wrong)
 }
 
 /// Plays a row: steps in the group of the usual records after edits, with so many directories more in the root. Fails by its

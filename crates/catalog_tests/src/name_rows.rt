@@ -5,7 +5,7 @@ use crate::steps::{Answer, Fact, Plan, Step, Verb};
 use asm_base::NodeKind;
 use sample_group::Edit;
 use std::alloc::Global;
-use std::test::*;
+use std::test::Fail;
 
 /// The root, which an edit of one path doesn't heed.
 const ROOT: &[u8] = b"+DATA";
@@ -198,8 +198,7 @@ fn play_paths(alloc: Global) -> Result<(), Fail> {
     play(alloc, "next number", &TAKEN_AND_BEGUN, 0, &NEXT_NUMBER)
 }
 
-#[test]
-fn names(rt: HostRuntime) -> Result<(), Fail> {
-    play_names(rt.alloc())?;
-    play_paths(rt.alloc())
+pub fn names(alloc: Global) -> Result<(), Fail> {
+    play_names(alloc)?;
+    play_paths(alloc)
 }

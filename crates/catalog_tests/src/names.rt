@@ -54,6 +54,7 @@ pub fn name(alloc: Global, group: &Catalog, at: &[u8]) -> Result<Change, Answer>
         return Err(Answer::Another);
     };
     if !is_begun(group) {
+        drop(path);
         return Err(Answer::Another);
     }
     let new = NewFile {
@@ -61,9 +62,11 @@ pub fn name(alloc: Global, group: &Catalog, at: &[u8]) -> Result<Change, Answer>
         size: 0,
         by: FileBy::System,
     };
-    match group.plan_name(alloc, &new, 2, Stripe::Fine) {
+    let planned = group.plan_name(alloc, &new, 2, Stripe::Fine);
+    drop(new);
+    match planned {
         Ok(change) => Ok(change),
-        Err(refusal) => Err(answer_of(&refusal)),
+        Err(refusal) => Err(answer_of(refusal)),
     }
 }
 
@@ -83,8 +86,10 @@ pub fn is_checked(
         size,
         by: FileBy::System,
     };
-    match group.check_name(alloc, &new) {
+    let checked = group.check_name(alloc, &new);
+    drop(new);
+    match checked {
         Ok(nodes) => wanted == Ok(nodes),
-        Err(refusal) => wanted == Err(answer_of(&refusal)),
+        Err(refusal) => wanted == Err(answer_of(refusal)),
     }
 }

@@ -21,7 +21,7 @@ pub fn power(alloc: Global, group: &Catalog, value: Option<u16>) -> Result<Chang
 {
     match group.plan_rebalance(alloc, value) {
         Ok(change) => Ok(change),
-        Err(refusal) => Err(answer_of(&refusal)),
+        Err(refusal) => Err(answer_of(refusal)),
     }
 }
 
@@ -63,7 +63,7 @@ pub fn begin(alloc: Global, group: &Catalog) -> Result<Change, Answer>
     }
     match group.plan_begin(alloc, op) {
         Ok(change) => Ok(change),
-        Err(refusal) => Err(answer_of(&refusal)),
+        Err(refusal) => Err(answer_of(refusal)),
     }
 }
 
@@ -77,7 +77,7 @@ pub fn end(alloc: Global, group: &Catalog) -> Result<Change, Answer>
     }
     match group.plan_end(alloc) {
         Ok(change) => Ok(change),
-        Err(refusal) => Err(answer_of(&refusal)),
+        Err(refusal) => Err(answer_of(refusal)),
     }
 }
 
@@ -100,11 +100,14 @@ pub fn template(alloc: Global, group: &Catalog, text: &[u8]) -> Result<Change, A
         stripe: Stripe::Fine,
     };
     if !edit.is_allowed() {
+        drop(edit);
         return Err(Answer::Another);
     }
-    match group.plan_template(alloc, &edit) {
+    let planned = group.plan_template(alloc, &edit);
+    drop(edit);
+    match planned {
         Ok(change) => Ok(change),
-        Err(refusal) => Err(answer_of(&refusal)),
+        Err(refusal) => Err(answer_of(refusal)),
     }
 }
 
@@ -116,8 +119,34 @@ fn is_named(refusal: &Refusal, attribute: &Name) -> bool {
     }
 }
 
-/// The change by which an attribute has a value.
+/// Why an attribute hasn't a value.
+fn answer_for(refusal: Refusal, attribute: &Name) -> Answer {
+    let is_named = is_named(&refusal, attribute);
+    drop(refusal);
+    if is_named {
+        Answer::BadAttribute
+    } else {
+        Answer::Another
+    }
+}
+
+/// The change by which this attribute has a value.
 #[tactic(auto, using(crate::proofs::FilesMade::set))]
+fn attribute_by(
+    alloc: Global,
+    group: &Catalog,
+    attribute: &Name,
+    value: &[u8],
+) -> Result<Change, Answer>
+    ensures { IfOk result (λ change. IsPlanned group.now change.put change.gone) }
+{
+    match group.plan_attribute(alloc, attribute, value) {
+        Ok(change) => Ok(change),
+        Err(refusal) => Err(answer_for(refusal, attribute)),
+    }
+}
+
+/// The change by which an attribute has a value.
 pub fn attribute(
     alloc: Global,
     group: &Catalog,
@@ -126,14 +155,12 @@ pub fn attribute(
 ) -> Result<Change, Answer>
     ensures { IfOk result (λ change. IsPlanned group.now change.put change.gone) }
 {
-    let attribute = name(alloc, text, 255)?;
-    match group.plan_attribute(alloc, &attribute, value) {
-        Ok(change) => Ok(change),
-        Err(refusal) => {
-            if is_named(&refusal, &attribute) {
-                return Err(Answer::BadAttribute);
-            }
-            Err(Answer::Another)
+    match name(alloc, text, 255) {
+        Ok(attribute) => {
+            let change = attribute_by(alloc, group, &attribute, value);
+            drop(attribute);
+            change
         }
+        Err(answer) => Err(answer),
     }
 }

@@ -1,28 +1,31 @@
 //! Records that are refused, and the key that is named.
 
 use crate::disk_units::with_second;
+use crate::making::judged;
 use asm_base::{NodeKind, Records};
 use catalog::{Catalog, CatalogError};
 use sample_group::{Edit, NO, disks, edited, read};
 use status_table::PstRecord;
 use std::alloc::Global;
-use std::test::*;
+use std::test::Fail;
 
 /// The kind and the numbers of a key.
 type Key = (u16, u32, u32);
 
 /// The key that a reading names.
-fn key_of(read: &Result<Catalog, CatalogError>) -> Option<Key> {
-    match read {
+fn key_of(read: Result<Catalog, CatalogError>) -> Option<Key> {
+    let key = match &read {
         Err(CatalogError::Damaged { key }) => Some((key.kind, key.a, key.b)),
         _ => None,
-    }
+    };
+    drop(read);
+    key
 }
 
 /// The key that is named where records are read by a status record.
 fn named_in(alloc: Global, records: &Records, status: &PstRecord) -> Result<Option<Key>, Fail> {
     match read(alloc, records, status) {
-        Ok(read) => Ok(key_of(&read)),
+        Ok(read) => Ok(key_of(read)),
         Err(fail) => Err(fail),
     }
 }
@@ -35,7 +38,11 @@ fn named(
     status: &PstRecord,
 ) -> Result<Option<Key>, Fail> {
     match edited(alloc, edits, directories) {
-        Ok(records) => named_in(alloc, &records, status),
+        Ok(records) => {
+            let named = named_in(alloc, &records, status);
+            drop(records);
+            named
+        }
         Err(fail) => Err(fail),
     }
 }
@@ -48,6 +55,15 @@ fn wrong_fault(alloc: Global, rows: &[(Edit<'_>, Key)]) -> Result<Option<usize>,
         }
     }
     Ok(None)
+}
+
+/// Fails by the name of a row where another key is named.
+fn is_named(name: &'static str, named: Option<Key>, key: Key) -> Result<(), Fail> {
+    if named == Some(key) {
+        Ok(())
+    } else {
+        Err(Fail::from(name))
+    }
 }
 
 /// Edits of the usual records, after each of which a key is named.
@@ -123,17 +139,14 @@ const FAULTS: [(Edit<'static>, Key); 32] = [
 ];
 
 /// The key that is named of records at fault.
-#[test]
-fn faults(rt: HostRuntime) -> Result<(), Fail> {
-    let alloc = rt.alloc();
-    assert_eq!(rt; wrong_fault(alloc, &FAULTS)?, None);
+pub fn faults(alloc: Global) -> Result<(), Fail> {
+    judged("faults", wrong_fault(alloc, &FAULTS)?)?;
     // homes on a disk that the status record doesn't have, and on one of a quorum failure group
-    assert_eq!(rt; named(alloc, &[], 0, &disks(1))?, Some((1, 256, 1)));
-    assert_eq!(rt;
-        named(alloc, &[], 0, &with_second(64, true))?,
-        Some((1, 256, 1))
-    );
+    let key = named(alloc, &[], 0, &disks(1))?;
+    is_named("homes on no disk", key, (1, 256, 1))?;
+    let key = named(alloc, &[], 0, &with_second(64, true))?;
+    is_named("homes on a quorum disk", key, (1, 256, 1))?;
     // a record more than there is room for
-    assert_eq!(rt; named(alloc, &[], 117, &disks(2))?, Some((9, 0, 0)));
-    Ok(())
+    let key = named(alloc, &[], 117, &disks(2))?;
+    is_named("a record too many", key, (9, 0, 0))
 }

@@ -78,8 +78,14 @@ pub enum Answer {
     Full(u64, u64),
 }
 
-/// Why a plan is refused.
-pub fn answer_of(refusal: &Refusal) -> Answer {
+/// Why a plan is refused. The refusal is dropped by a call here alone, since what goes in place is proved in place.
+pub fn answer_of(refusal: Refusal) -> Answer {
+    let answer = answer_in(&refusal);
+    drop(refusal);
+    answer
+}
+
+fn answer_in(refusal: &Refusal) -> Answer {
     match refusal {
         Refusal::HasAlias => Answer::HasAlias,
         Refusal::NameTaken => Answer::NameTaken,

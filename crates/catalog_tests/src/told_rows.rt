@@ -5,7 +5,7 @@ use crate::steps::{Fact, Step};
 use asm_base::{NodeKind, PendingKind};
 use sample_group::Edit;
 use std::alloc::Global;
-use std::test::*;
+use std::test::Fail;
 
 /// Files and their names, in any case; the first file from a number on, and the next number.
 const FILES: [Step<'static>; 8] = [
@@ -77,16 +77,11 @@ const CHILDREN: [Step<'static>; 3] = [
 ];
 
 /// Plays the rows, each in a group of its own.
-fn play_rows(alloc: Global) -> Result<(), Fail> {
+pub fn records_told(alloc: Global) -> Result<(), Fail> {
     play(alloc, "files and names", &[], 0, &FILES)?;
     play(alloc, "extents and units", &[], 0, &EXTENTS)?;
     play(alloc, "disks and blocks", &[], 0, &DISKS)?;
     play(alloc, "half made file is taken", &HALF_MADE, 0, &TAKEN)?;
     play(alloc, "last block is taken", &[], 116, &FULL)?;
     play(alloc, "children", &ARCHIVE, 0, &CHILDREN)
-}
-
-#[test]
-fn records_told(rt: HostRuntime) -> Result<(), Fail> {
-    play_rows(rt.alloc())
 }

@@ -44,14 +44,18 @@ pub fn tree(
         return Err(Answer::Another);
     };
     let Some(to) = path(alloc, to) else {
+        drop(at);
         return Err(Answer::Another);
     };
     let edit = edit_of(verb, at, to);
     if !edit.is_allowed() {
+        drop(edit);
         return Err(Answer::Another);
     }
-    match group.plan_tree(alloc, &edit) {
+    let planned = group.plan_tree(alloc, &edit);
+    drop(edit);
+    match planned {
         Ok(change) => Ok(change),
-        Err(refusal) => Err(answer_of(&refusal)),
+        Err(refusal) => Err(answer_of(refusal)),
     }
 }

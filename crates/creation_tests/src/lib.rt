@@ -1,7 +1,10 @@
-//! Tests of the creation of a group on a disk in memory, and of how it is mounted and goes: calls, and refusals.
+//! Tests of a group on one disk in memory: how it is created, found, mounted and dropped, how many calls that takes, and what is
+//! refused. Each case is a row of steps, which one function plays.
 #![tactic(auto)]
 
 #[cfg(test)]
-mod mounted_groups;
+mod playing;
 #[cfg(test)]
-mod new_groups;
+mod rows;
+#[cfg(test)]
+mod steps;

@@ -1,4 +1,5 @@
-// What no clause says: that each call succeeds where no disk fails, and that what it writes are whole sectors.
+// What no clause says: that each call succeeds where no disk fails, and that what it writes are whole sectors. The cases are rows
+// of steps, which one function plays on images of its own.
 use asm_base::{GroupKind, Name, Shape};
 use bay::Bay;
 use bay_mem::MemBay;
@@ -21,23 +22,65 @@ const SHAPE: Shape = Shape {
     dir_blocks: 128,
 };
 
-fn name(alloc: Global, text: &[u8]) -> Result<Name, Fail> {
+// The name of a row that isn't right, and the place of its first step that isn't.
+type Wrong = (&'static str, usize);
+
+// What is done with the images, or must be seen of them.
+#[derive(Clone, Copy)]
+enum Step {
+    // The header of disk 3 of group 7 is written to the first image.
+    GiveHeader,
+    // The first image's header goes.
+    TakeHeader,
+    // The gate in a block of the first image is opened, whatever stands behind it.
+    OpenGate(u64),
+    // All gates of the first image are closed.
+    ShutGates,
+    // A call fails, by its number.
+    Fail(u64),
+    // So many bytes were written to the first image so far.
+    Written(u64),
+    // A look at the first image.
+    Look(Look),
+    // Looks at all three images.
+    Looks(Look, Look, Look),
+}
+
+// What a look has shown. Sizes are in bytes.
+#[derive(Clone, Copy, PartialEq, Eq)]
+enum Look {
+    Absent,
+    Unread(u64),
+    // There is no open header.
+    Blank(u64),
+    // The header of a disk of this number and birth, of the group of this id.
+    Headed(u64, u64, u8, u64),
+}
+
+fn name(alloc: Global, text: &[u8]) -> Option<Name> {
     match Name::read(alloc, text, 30) {
-        Ok(Some(name)) => Ok(name),
-        _ => Err(Fail::from("a name")),
+        Ok(name) => name,
+        Err(_) => None,
     }
 }
 
-// The header of disk 3 of the group with this id.
-fn header(alloc: Global, id: u64) -> Result<Header, Fail> {
-    Ok(Header {
-        group: name(alloc, b"DATA")?,
-        id,
+// Both values, where both are there.
+fn both<A: Drop, B: Drop>(first: Option<A>, second: Option<B>) -> Option<(A, B)> {
+    Some((first?, second?))
+}
+
+// The header of disk 3 of group 7.
+fn header(alloc: Global) -> Option<Header> {
+    let names = both(name(alloc, b"D3"), name(alloc, b"F1"));
+    let (group, (disk, failgroup)) = both(name(alloc, b"DATA"), names)?;
+    Some(Header {
+        group,
+        id: 7,
         number: 3,
         birth: 9,
         kind: SHAPE.kind,
-        disk: name(alloc, b"D3")?,
-        failgroup: name(alloc, b"F1")?,
+        disk,
+        failgroup,
         quorum: false,
         au_size: SHAPE.au,
         sector: SHAPE.sector,
@@ -55,6 +98,17 @@ fn give_header(bay: &mut MemBay, header: &Header) -> bool {
     }
 }
 
+fn give(alloc: Global, bay: &mut MemBay) -> bool {
+    match header(alloc) {
+        Some(header) => {
+            let is_given = give_header(bay, &header);
+            drop(header);
+            is_given
+        }
+        None => false,
+    }
+}
+
 fn take_header(bay: &mut MemBay) -> bool {
     match bay.attach(0, "d0") {
         Ok(size) if size >= SIZE => close_header(bay, 0, SHAPE).is_ok(),
@@ -69,7 +123,6 @@ fn shut_gates(bay: &mut MemBay) -> bool {
     }
 }
 
-// Opens the gate in a block of the disk, whatever stands behind it.
 fn open_gate(bay: &mut MemBay, block: u64) -> bool {
     match bay.attach(0, "d0") {
         Ok(size) if size >= SIZE && block < 270 => {
@@ -79,99 +132,174 @@ fn open_gate(bay: &mut MemBay, block: u64) -> bool {
     }
 }
 
-// The id in the open header that a look at the disk shows.
-fn shown(alloc: Global, bay: &mut MemBay) -> Result<Option<u64>, Fail> {
+fn look_of(looked: &Looked) -> Look {
+    match looked {
+        Looked::Absent => Look::Absent,
+        Looked::Unread { size } => Look::Unread(*size),
+        Looked::Read { size, header: None } => Look::Blank(*size),
+        Looked::Read {
+            size,
+            header: Some(header),
+        } => Look::Headed(*size, header.id, header.number, header.birth),
+    }
+}
+
+// What a look at the first image shows, where there is memory.
+fn first_look(alloc: Global, bay: &mut MemBay) -> Option<Look> {
     match look_at(alloc, bay, 0, "d0") {
-        Ok(Looked::Read { header, .. }) => Ok(header.map(|header| header.id)),
-        _ => Err(Fail::from("a look")),
+        Ok(looked) => {
+            let look = look_of(&looked);
+            drop(looked);
+            Some(look)
+        }
+        Err(_) => None,
     }
 }
 
-#[test]
-fn header_comes_and_goes_by_whole_sectors(rt: HostRuntime) -> Result<(), Fail> {
-    let alloc = rt.alloc();
-    let mut bay = MemBay::new(alloc, &[Some(SIZE)]).map_err(|_| "memory")?;
-    let header = header(alloc, 7)?;
-    assert!(rt; give_header(&mut bay, &header));
-    // A body, and a gate that is opened.
-    assert_eq!(rt; bay.written(0), 2 * SECTOR);
-    assert_eq!(rt; shown(alloc, &mut bay)?, Some(7));
-    assert!(rt; take_header(&mut bay));
-    assert_eq!(rt; bay.written(0), 3 * SECTOR);
-    assert_eq!(rt; shown(alloc, &mut bay)?, None);
-    Ok(())
-}
-
-#[test]
-fn open_gates_are_closed_by_whole_sectors(rt: HostRuntime) -> Result<(), Fail> {
-    let mut bay = MemBay::new(rt.alloc(), &[Some(SIZE)]).map_err(|_| "memory")?;
-    for block in [0, 2, 4, 6, 8, 138, 204] {
-        assert!(rt; open_gate(&mut bay, block));
+// The paths of three images.
+fn put_paths(alloc: Global, paths: &mut Vec<String>) -> Option<()> {
+    for path in ["d0", "d1", "d2"] {
+        paths.push(String::from_str(alloc, path).ok()?).ok()?;
     }
-    let opened = bay.written(0);
-    assert!(rt; shut_gates(&mut bay));
-    assert_eq!(rt; bay.written(0).saturating_sub(opened), 7 * SECTOR);
-    // Shut gates aren't written.
-    assert!(rt; shut_gates(&mut bay));
-    assert_eq!(rt; bay.written(0).saturating_sub(opened), 7 * SECTOR);
+    Some(())
+}
+
+fn are_looks(found: &[Looked], wanted: [Look; 3]) -> bool {
+    match found {
+        [first, second, third] => [look_of(first), look_of(second), look_of(third)] == wanted,
+        _ => false,
+    }
+}
+
+// Whether looks at the images of these paths show this.
+fn show(alloc: Global, bay: &mut MemBay, paths: &[String], wanted: [Look; 3]) -> bool {
+    if paths.len() > 512 {
+        return false;
+    }
+    match look_at_images(alloc, bay, paths) {
+        Ok(found) => {
+            let are_wanted = are_looks(&found, wanted);
+            drop(found);
+            are_wanted
+        }
+        Err(_) => false,
+    }
+}
+
+// The same of three images.
+fn all_show(alloc: Global, bay: &mut MemBay, wanted: [Look; 3]) -> bool {
+    let mut paths = Vec::new(alloc);
+    let are_wanted = match put_paths(alloc, &mut paths) {
+        Some(()) => show(alloc, bay, &paths, wanted),
+        None => false,
+    };
+    drop(paths);
+    are_wanted
+}
+
+// Does a step. Whether this comes of it.
+fn is_right(alloc: Global, bay: &mut MemBay, step: Step) -> bool {
+    match step {
+        Step::GiveHeader => give(alloc, bay),
+        Step::TakeHeader => take_header(bay),
+        Step::OpenGate(block) => open_gate(bay, block),
+        Step::ShutGates => shut_gates(bay),
+        Step::Fail(call) => bay.fail_at(call).is_ok(),
+        Step::Written(bytes) => bay.written(0) == bytes,
+        Step::Look(wanted) => first_look(alloc, bay) == Some(wanted),
+        Step::Looks(first, second, third) => all_show(alloc, bay, [first, second, third]),
+    }
+}
+
+// Does steps one after the other. Fails by the row's name and the place of the first step that isn't right.
+fn play_on(
+    alloc: Global,
+    name: &'static str,
+    bay: &mut MemBay,
+    steps: &[Step],
+) -> Result<(), Wrong> {
+    for (place, step) in steps.iter().enumerate() {
+        if !is_right(alloc, bay, *step) {
+            return Err((name, place));
+        }
+    }
     Ok(())
 }
 
-#[test]
-fn looks_tell_images_apart(rt: HostRuntime) -> Result<(), Fail> {
-    let alloc = rt.alloc();
-    let mut bay = MemBay::new(alloc, &[Some(SIZE), None, Some(36_864)]).map_err(|_| "memory")?;
-    let header = header(alloc, 7)?;
-    assert!(rt; give_header(&mut bay, &header));
-    let paths = [
-        String::from_str(alloc, "d0").map_err(|_| "memory")?,
-        String::from_str(alloc, "d1").map_err(|_| "memory")?,
-        String::from_str(alloc, "d2").map_err(|_| "memory")?,
-    ];
-    let Ok(found) = look_at_images(alloc, &mut bay, &paths) else {
-        return Err(Fail::from("looks"));
-    };
-    let [first, second, third] = found.as_slice() else {
-        return Err(Fail::from("three looks"));
-    };
-    assert!(rt;
-        matches!(
-            first,
-            Looked::Read {
-                size: SIZE,
-                header: Some(Header {
-                    id: 7,
-                    number: 3,
-                    birth: 9,
-                    ..
-                })
-            }
-        )
-    );
-    assert!(rt; matches!(second, Looked::Absent));
-    assert!(rt;
-        matches!(
-            third,
-            Looked::Read {
-                size: 36_864,
-                header: None
-            }
-        )
-    );
-    Ok(())
+// Plays a row on images of these sizes.
+fn play(
+    alloc: Global,
+    name: &'static str,
+    sizes: &[Option<u64>],
+    steps: &[Step],
+) -> Result<(), Wrong> {
+    match MemBay::new(alloc, sizes) {
+        Ok(mut bay) => {
+            let played = play_on(alloc, name, &mut bay, steps);
+            drop(bay);
+            played
+        }
+        Err(_) => Err((name, 0)),
+    }
+}
+
+const HEADED: Look = Look::Headed(SIZE, 7, 3, 9);
+
+// What is written are a body and a gate that is opened, and then the gate once more.
+const HEADER: [Step; 6] = [
+    Step::GiveHeader,
+    Step::Written(2 * SECTOR),
+    Step::Look(HEADED),
+    Step::TakeHeader,
+    Step::Written(3 * SECTOR),
+    Step::Look(Look::Blank(SIZE)),
+];
+
+// Open gates are closed by a sector each, and shut ones aren't written.
+const GATES: [Step; 12] = [
+    Step::OpenGate(0),
+    Step::OpenGate(2),
+    Step::OpenGate(4),
+    Step::OpenGate(6),
+    Step::OpenGate(8),
+    Step::OpenGate(138),
+    Step::OpenGate(204),
+    Step::Written(7 * SECTOR),
+    Step::ShutGates,
+    Step::Written(14 * SECTOR),
+    Step::ShutGates,
+    Step::Written(14 * SECTOR),
+];
+
+const APART: [Step; 2] = [
+    Step::GiveHeader,
+    Step::Looks(HEADED, Look::Absent, Look::Blank(36_864)),
+];
+
+// The sync behind the attaching fails.
+const FAILED: [Step; 2] = [Step::Fail(2), Step::Look(Look::Unread(SIZE))];
+
+const IMAGES: [Option<u64>; 3] = [Some(SIZE), None, Some(36_864)];
+
+fn play_rows(alloc: Global) -> Result<(), Wrong> {
+    play(
+        alloc,
+        "header comes and goes by whole sectors",
+        &[Some(SIZE)],
+        &HEADER,
+    )?;
+    play(
+        alloc,
+        "open gates are closed by whole sectors",
+        &[Some(SIZE)],
+        &GATES,
+    )?;
+    play(alloc, "looks tell images apart", &IMAGES, &APART)?;
+    play(alloc, "failed look is unread", &[Some(SIZE)], &FAILED)
 }
 
 #[test]
-fn failed_look_is_unread(rt: HostRuntime) -> Result<(), Fail> {
-    let alloc = rt.alloc();
-    let mut bay = MemBay::new(alloc, &[Some(SIZE)]).map_err(|_| "memory")?;
-    // The sync behind the attaching.
-    bay.fail_at(2).map_err(|_| "memory")?;
-    assert!(rt;
-        matches!(
-            look_at(alloc, &mut bay, 0, "d0"),
-            Ok(Looked::Unread { size: SIZE })
-        )
-    );
+fn headers_and_looks(rt: HostRuntime) -> Result<(), Fail> {
+    play_rows(rt.alloc())?;
     Ok(())
 }

@@ -2,6 +2,8 @@
 #![tactic(auto)]
 
 #[cfg(test)]
+mod play;
+#[cfg(test)]
 mod readings;
 #[cfg(test)]
 mod refused_statements;

@@ -1,6 +1,7 @@
 // Texts at the limits of the language, and where those beyond are refused.
-use crate::readings::{command, is_read, refused_at};
-use std::test::*;
+use crate::play::{Wrong, row, table};
+use crate::readings::{command, other_read, refused_at};
+use std::alloc::Global;
 
 /// A text that is no statement, and how many of its bytes begin one.
 #[derive(Clone, Copy)]
@@ -125,25 +126,18 @@ const READ: [&[u8]; 11] = [
     b"ALTER DISKGROUP g OFFLINE DISK d DROP AFTER 307445734561825860M;",
 ];
 
-#[test]
-fn other_texts_are_refused_at_their_place(rt: HostRuntime) -> Result<(), Fail> {
-    for row in REFUSED {
-        assert_eq!(rt; refused_at(rt.alloc(), row.text), Some(row.at));
-    }
-    Ok(())
+fn other_row(alloc: Global) -> Option<usize> {
+    REFUSED
+        .iter()
+        .position(|row| refused_at(alloc, row.text) != Some(row.at))
 }
 
-#[test]
-fn texts_at_the_limits_are_read(rt: HostRuntime) -> Result<(), Fail> {
-    for text in READ {
-        assert!(rt; is_read(rt.alloc(), text));
-    }
-    Ok(())
-}
-
-#[test]
-fn comment_lines_are_skipped_between_commands(rt: HostRuntime) -> Result<(), Fail> {
+pub fn play_rows(alloc: Global) -> Result<(), Wrong> {
+    table("other texts are refused at their place", other_row(alloc))?;
+    table("texts at the limits are read", other_read(alloc, &READ))?;
     let found = command(b"-- a;\n \t-- b\r\nDROP DISKGROUP g;\n");
-    assert_eq!(rt; found, Some((14, 17)));
-    Ok(())
+    row(
+        "comment lines are skipped between commands",
+        found == Some((14, 17)),
+    )
 }

@@ -1,9 +1,9 @@
 // One text for each form of each statement, which is read, written, and read again.
+use crate::play::{Wrong, row, table};
 use crate::readings::statement;
 use asm_base::{List, Name};
 use group_sql::{Clause, Statement, TemplateWords, write_statement};
 use std::alloc::Global;
-use std::test::*;
 
 /// Texts that are written as they stand.
 const CANONICAL: [&[u8]; 52] = [
@@ -146,69 +146,105 @@ fn written(alloc: Global, statement: &Statement) -> Option<Vec<u8>> {
 
 // The canonical text of what a text says. None where it is refused or there is no memory.
 fn rewritten(alloc: Global, text: &[u8]) -> Option<Vec<u8>> {
-    let statement = statement(alloc, text)?;
-    written(alloc, &statement)
+    match statement(alloc, text) {
+        Some(statement) => {
+            let text = written(alloc, &statement);
+            drop(statement);
+            text
+        }
+        None => None,
+    }
 }
 
 fn is_written(alloc: Global, text: &[u8], canonical: &[u8]) -> bool {
     match rewritten(alloc, text) {
-        Some(written) => written.as_slice() == canonical,
+        Some(written) => {
+            let is_same = written.as_slice() == canonical;
+            drop(written);
+            is_same
+        }
         None => false,
     }
 }
 
-#[test]
-fn a_canonical_text_is_written_as_it_stands(rt: HostRuntime) -> Result<(), Fail> {
-    for text in CANONICAL {
-        assert!(rt; is_written(rt.alloc(), text, text));
+fn other_canonical(alloc: Global) -> Option<usize> {
+    CANONICAL
+        .iter()
+        .position(|text| !is_written(alloc, text, text))
+}
+
+fn other_spelling(alloc: Global) -> Option<usize> {
+    OTHERS.iter().position(|row| {
+        !is_written(alloc, row.text, row.canonical)
+            || !is_written(alloc, row.canonical, row.canonical)
+    })
+}
+
+// Whether a change of the group g has no text.
+fn has_no_text(alloc: Global, clause: Clause) -> bool {
+    match Name::read(alloc, b"g", 30) {
+        Ok(Some(group)) => {
+            let statement = Statement::Alter { group, clause };
+            let text = written(alloc, &statement);
+            drop(statement);
+            is_empty(text)
+        }
+        _ => {
+            drop(clause);
+            false
+        }
     }
-    Ok(())
 }
 
-#[test]
-fn another_spelling_is_written_canonically(rt: HostRuntime) -> Result<(), Fail> {
-    for row in OTHERS {
-        assert!(rt; is_written(rt.alloc(), row.text, row.canonical));
-        assert!(rt; is_written(rt.alloc(), row.canonical, row.canonical));
-    }
-    Ok(())
-}
-
-fn altered(alloc: Global, clause: Clause) -> Result<Statement, Fail> {
-    let Ok(Some(group)) = Name::read(alloc, b"g", 30) else {
-        return Err(Fail::from("no name"));
-    };
-    Ok(Statement::Alter { group, clause })
-}
-
-fn has_no_text(alloc: Global, statement: &Statement) -> bool {
-    match written(alloc, statement) {
-        Some(text) => text.is_empty(),
+fn is_empty(text: Option<Vec<u8>>) -> bool {
+    match text {
+        Some(text) => {
+            let is_empty = text.is_empty();
+            drop(text);
+            is_empty
+        }
         None => false,
     }
 }
 
-#[test]
-fn what_no_text_says_has_no_text(rt: HostRuntime) -> Result<(), Fail> {
-    let alloc = rt.alloc();
-    let no_disks = Clause::DropDisks {
-        disks: List::new(alloc),
-        rebalance: None,
-    };
-    assert!(rt; has_no_text(alloc, &altered(alloc, no_disks)?));
-    let no_groups = Clause::AddDisks {
-        groups: List::new(alloc),
-        rebalance: None,
-    };
-    assert!(rt; has_no_text(alloc, &altered(alloc, no_groups)?));
-    let Ok(Some(name)) = Name::read(alloc, b"t", 30) else {
-        return Err(Fail::from("no name"));
-    };
+// A template without words.
+fn no_words(alloc: Global) -> Option<Clause> {
     let words = TemplateWords {
         redundancy: None,
         stripe: None,
     };
-    let no_words = Clause::AddTemplate { name, words };
-    assert!(rt; has_no_text(alloc, &altered(alloc, no_words)?));
-    Ok(())
+    match Name::read(alloc, b"t", 30) {
+        Ok(Some(name)) => Some(Clause::AddTemplate { name, words }),
+        _ => None,
+    }
+}
+
+// What no text says has no text.
+fn play_unsaid(alloc: Global) -> Result<(), Wrong> {
+    let no_disks = Clause::DropDisks {
+        disks: List::new(alloc),
+        rebalance: None,
+    };
+    row("no disks have no text", has_no_text(alloc, no_disks))?;
+    let no_groups = Clause::AddDisks {
+        groups: List::new(alloc),
+        rebalance: None,
+    };
+    row("no groups have no text", has_no_text(alloc, no_groups))?;
+    match no_words(alloc) {
+        Some(clause) => row("no words have no text", has_no_text(alloc, clause)),
+        None => Err(("no name", 0)),
+    }
+}
+
+pub fn play_rows(alloc: Global) -> Result<(), Wrong> {
+    table(
+        "a canonical text is written as it stands",
+        other_canonical(alloc),
+    )?;
+    table(
+        "another spelling is written canonically",
+        other_spelling(alloc),
+    )?;
+    play_unsaid(alloc)
 }

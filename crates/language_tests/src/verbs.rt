@@ -1,8 +1,8 @@
-// Lines of asmcmd that are read or refused, and short reports.
+// Lines of asmcmd that are read or refused, and short reports. A verb is dropped by a call, since what goes in place is proved in place.
+use crate::play::{Wrong, both, has_text, row, table, word};
 use asm_base::{List, Text};
-use asmcmd::{LsRow, ReadError, check_text, du_text, ls_text, read_line, read_text};
+use asmcmd::{LsRow, ReadError, Runs, check_text, du_text, ls_text, read_line};
 use std::alloc::Global;
-use std::test::*;
 
 /// A line of each verb, with and without what may be absent.
 const VERBS: [&[u8]; 36] = [
@@ -162,40 +162,46 @@ const REFUSED: [Refused; 29] = [
 ];
 
 fn is_verb(alloc: Global, line: &[u8]) -> bool {
-    read_line(alloc, line).is_ok()
+    match read_line(alloc, line) {
+        Ok(verb) => {
+            drop(verb);
+            true
+        }
+        Err(_) => false,
+    }
 }
 
 fn refused_at(alloc: Global, line: &[u8]) -> Option<u64> {
     match read_line(alloc, line) {
+        Ok(verb) => {
+            drop(verb);
+            None
+        }
         Err(ReadError::Syntax { at }) => Some(at),
-        _ => None,
+        Err(_) => None,
     }
 }
 
-#[test]
-fn each_verb_is_read(rt: HostRuntime) -> Result<(), Fail> {
-    for line in VERBS {
-        assert!(rt; is_verb(rt.alloc(), line));
-    }
-    Ok(())
+fn other_verb(alloc: Global) -> Option<usize> {
+    VERBS.iter().position(|line| !is_verb(alloc, line))
 }
 
-#[test]
-fn other_lines_are_refused_at_their_place(rt: HostRuntime) -> Result<(), Fail> {
-    for row in REFUSED {
-        assert_eq!(rt; refused_at(rt.alloc(), row.line), Some(row.at));
-    }
-    Ok(())
+fn other_refused(alloc: Global) -> Option<usize> {
+    REFUSED
+        .iter()
+        .position(|row| refused_at(alloc, row.line) != Some(row.at))
 }
 
-#[test]
-fn each_prefix_of_a_line_is_refused_at_its_length(rt: HostRuntime) -> Result<(), Fail> {
-    let line = b"dbfill u.256.1 512K 512 6A";
+const FILL: &[u8; 26] = b"dbfill u.256.1 512K 512 6A";
+
+// The length of a prefix that isn't refused at its length.
+fn other_prefix(alloc: Global) -> Option<usize> {
     for len in 1..26usize {
-        assert_eq!(rt; refused_at(rt.alloc(), &line[..len]), Some(len as u64));
+        if refused_at(alloc, &FILL[..len]) != Some(len as u64) {
+            return Some(len);
+        }
     }
-    assert!(rt; is_verb(rt.alloc(), line));
-    Ok(())
+    None
 }
 
 fn du(alloc: Global, used: u64, mirrored: u64) -> Option<Vec<u8>> {
@@ -206,47 +212,46 @@ fn checked(alloc: Global, extents: u64, not_full: u64) -> Option<Vec<u8>> {
     check_text(alloc, extents, not_full).ok()
 }
 
-fn bytes_read(alloc: Global, at: u64, bytes: &[u8]) -> Option<Vec<u8>> {
-    read_text(alloc, at, bytes).ok()
+/// The lines of bytes that come in two pieces.
+fn lines_read(alloc: Global, at: u32, first: &[u8; 4], second: &[u8; 3]) -> Option<List<Text>> {
+    let mut runs = Runs::new(alloc, at as u64);
+    runs.put(first).ok()?;
+    runs.put(second).ok()?;
+    runs.into_lines().ok()
 }
 
-#[test]
-fn short_reports(rt: HostRuntime) -> Result<(), Fail> {
-    let alloc = rt.alloc();
-    let Some(used) = du(alloc, 1_048_576, 2_097_152) else {
-        return Err(Fail::from("memory"));
-    };
-    assert_eq!(rt;
-        used.as_slice(),
-        b"Used Mirror_used\n1048576 2097152\n".as_slice()
-    );
-    let Some(checked) = checked(alloc, 1, 0) else {
-        return Err(Fail::from("memory"));
-    };
-    assert_eq!(rt; checked.as_slice(), b"check 1 0\n".as_slice());
-    let Some(read) = bytes_read(alloc, 510, b"aaa\x00\xab\xab") else {
-        return Err(Fail::from("memory"));
-    };
-    assert_eq!(rt;
-        read.as_slice(),
-        b"510 3 61\n513 1 00\n514 2 ab\n".as_slice()
-    );
-    Ok(())
+// Whether a run that goes on in the second piece has one line.
+fn are_runs_joined(alloc: Global) -> bool {
+    match lines_read(alloc, 510, b"aaa\x00", b"\x00\xab\xab") {
+        Some(lines) => {
+            let are_joined = match lines.as_slice() {
+                [first, second, third] => {
+                    first.as_slice() == b"510 3 61".as_slice()
+                        && second.as_slice() == b"513 2 00".as_slice()
+                        && third.as_slice() == b"515 2 ab".as_slice()
+                }
+                _ => false,
+            };
+            drop(lines);
+            are_joined
+        }
+        None => false,
+    }
 }
 
-fn word(alloc: Global, bytes: &[u8]) -> Result<Text, Fail> {
-    List::from_slice(alloc, bytes).map_err(|_| Fail::from("memory"))
-}
-
-fn alias_row(alloc: Global) -> Result<LsRow, Fail> {
-    Ok(LsRow {
-        kind: word(alloc, b"DATAFILE")?,
-        redund: word(alloc, b"UNPROT")?,
-        striped: word(alloc, b"COARSE")?,
-        sys: word(alloc, b"N")?,
-        name: word(alloc, b"x")?,
+fn alias_row(alloc: Global) -> Option<LsRow> {
+    let words = both(word(alloc, b"DATAFILE"), word(alloc, b"UNPROT"));
+    let others = both(word(alloc, b"COARSE"), word(alloc, b"N"));
+    let names = both(word(alloc, b"x"), word(alloc, b"+DATA/o/DATAFILE/u.256.1"));
+    let (((kind, redund), (striped, sys)), (name, target)) = both(both(words, others), names)?;
+    Some(LsRow {
+        kind,
+        redund,
+        striped,
+        sys,
+        name,
         dir: false,
-        target: Some(word(alloc, b"+DATA/o/DATAFILE/u.256.1")?),
+        target: Some(target),
     })
 }
 
@@ -254,19 +259,42 @@ fn listed(alloc: Global, rows: &[LsRow], long: bool) -> Option<Vec<u8>> {
     ls_text(alloc, rows, long).ok()
 }
 
-#[test]
-fn an_alias_is_listed(rt: HostRuntime) -> Result<(), Fail> {
-    let alloc = rt.alloc();
-    let rows = [alias_row(alloc)?];
-    let Some(long) = listed(alloc, &rows, true) else {
-        return Err(Fail::from("memory"));
-    };
-    let lines =
-        b"Type Redund Striped Sys Name\nDATAFILE UNPROT COARSE N x => +DATA/o/DATAFILE/u.256.1\n";
-    assert_eq!(rt; long.as_slice(), lines.as_slice());
-    let Some(short) = listed(alloc, &rows, false) else {
-        return Err(Fail::from("memory"));
-    };
-    assert_eq!(rt; short.as_slice(), b"x\n".as_slice());
-    Ok(())
+fn is_alias_listed(alloc: Global, long: bool, lines: &[u8]) -> bool {
+    match alias_row(alloc) {
+        Some(alias) => {
+            let rows = [alias];
+            let text = listed(alloc, &rows, long);
+            drop(rows);
+            has_text(text, lines)
+        }
+        None => false,
+    }
+}
+
+const LONG: &[u8] =
+    b"Type Redund Striped Sys Name\nDATAFILE UNPROT COARSE N x => +DATA/o/DATAFILE/u.256.1\n";
+
+pub fn play_rows(alloc: Global) -> Result<(), Wrong> {
+    table("each verb is read", other_verb(alloc))?;
+    table(
+        "other lines are refused at their place",
+        other_refused(alloc),
+    )?;
+    table(
+        "each prefix of a line is refused at its length",
+        other_prefix(alloc),
+    )?;
+    row("the whole line is read", is_verb(alloc, FILL))?;
+    let used = b"Used Mirror_used\n1048576 2097152\n";
+    row(
+        "use is shown",
+        has_text(du(alloc, 1_048_576, 2_097_152), used),
+    )?;
+    row(
+        "a check is shown",
+        has_text(checked(alloc, 1, 0), b"check 1 0\n"),
+    )?;
+    row("bytes are read in lines", are_runs_joined(alloc))?;
+    row("an alias is listed", is_alias_listed(alloc, true, LONG))?;
+    row("its name is listed", is_alias_listed(alloc, false, b"x\n"))
 }

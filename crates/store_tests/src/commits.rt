@@ -2,23 +2,26 @@
 ghost use Rattle.bay_mem.specs.MemState.{state_of};
 ghost use Rattle.directory_store.specs.Stores.{Keeps};
 
-use crate::trials::{REBALANCE, create_on_two, rebalance, two_disks};
+use crate::trials::{REBALANCE, Wrong, create_on_two, rebalance, row, two_disks};
 use bay::Bay;
 use bay_mem::MemBay;
 use directory_store::Store;
 use std::alloc::Global;
-use std::test::*;
 
 /// Commits a rebalance of power 7, and gives the disks whose copies failed, as bits.
 pub fn commit_rebalance(alloc: Global, bay: &mut MemBay, store: &mut Store) -> Option<u64>
     requires { Keeps store.old (state_of bay.old) }
     ensures { Keeps store.new (state_of bay.new) }
 {
-    let Ok(change) = rebalance(alloc) else {
-        return None;
-    };
-    match store.commit(alloc, bay, &change) {
-        Ok(failed) => Some(failed.bits()),
+    match rebalance(alloc) {
+        Ok(change) => {
+            let failed = store.commit(alloc, bay, &change);
+            drop(change);
+            match failed {
+                Ok(failed) => Some(failed.bits()),
+                Err(_) => None,
+            }
+        }
         Err(_) => None,
     }
 }
@@ -32,35 +35,84 @@ fn has_bytes(store: &Store, bytes: &[u8]) -> bool {
 }
 
 /// The bytes that a creation and a commit write to disk 1, the disks that failed, and whether the record is there.
-fn committed(alloc: Global) -> Option<([u64; 2], u64, bool)> {
-    let mut bay = two_disks(alloc)?;
-    let mut store = create_on_two(alloc, &mut bay)?;
+type Committed = ([u64; 2], u64, bool);
+
+fn committed_in(alloc: Global, bay: &mut MemBay, store: &mut Store) -> Option<Committed>
+    requires { Keeps store.old (state_of bay.old) }
+{
     let created = bay.written(1);
-    let failed = commit_rebalance(alloc, &mut bay, &mut store)?;
+    let failed = commit_rebalance(alloc, bay, store)?;
     let written = bay.written(1).saturating_sub(created);
-    Some(([created, written], failed, has_bytes(&store, &[0, 7])))
+    Some(([created, written], failed, has_bytes(store, &[0, 7])))
 }
 
-/// A creation writes 128 pages, and a head behind a gate that is opened; a commit a head, an image and a page, behind a gate
-/// that is opened.
-#[test]
-fn a_change_is_committed_on_both_copies(rt: HostRuntime) {
-    let wanted = ([528_896, 12_288 + 512], 0, true);
-    assert_eq!(rt; committed(rt.alloc()), Some(wanted));
+fn committed_on(alloc: Global, bay: &mut MemBay) -> Option<Committed> {
+    match create_on_two(alloc, bay) {
+        Some(mut store) => {
+            let committed = committed_in(alloc, bay, &mut store);
+            drop(store);
+            committed
+        }
+        None => None,
+    }
+}
+
+fn committed(alloc: Global) -> Option<Committed> {
+    match two_disks(alloc) {
+        Some(mut bay) => {
+            let committed = committed_on(alloc, &mut bay);
+            drop(bay);
+            committed
+        }
+        None => None,
+    }
 }
 
 /// The calls of a creation, and the disks that fail in a commit whose first call fails, and in the next one.
-fn given_up(alloc: Global) -> Option<(u64, [u64; 2])> {
-    let mut bay = two_disks(alloc)?;
-    bay.fail_at(39).ok()?;
-    let mut store = create_on_two(alloc, &mut bay)?;
+type GivenUp = (u64, [u64; 2]);
+
+fn given_up_in(alloc: Global, bay: &mut MemBay, store: &mut Store) -> Option<GivenUp>
+    requires { Keeps store.old (state_of bay.old) }
+{
     let calls = bay.calls();
-    let failed = commit_rebalance(alloc, &mut bay, &mut store)?;
-    let again = commit_rebalance(alloc, &mut bay, &mut store)?;
+    let failed = commit_rebalance(alloc, bay, store)?;
+    let again = commit_rebalance(alloc, bay, store)?;
     Some((calls, [failed, again]))
 }
 
-#[test]
-fn a_copy_that_fails_is_given_up(rt: HostRuntime) {
-    assert_eq!(rt; given_up(rt.alloc()), Some((38, [1, 0])));
+fn given_up_on(alloc: Global, bay: &mut MemBay) -> Option<GivenUp> {
+    bay.fail_at(39).ok()?;
+    match create_on_two(alloc, bay) {
+        Some(mut store) => {
+            let given_up = given_up_in(alloc, bay, &mut store);
+            drop(store);
+            given_up
+        }
+        None => None,
+    }
+}
+
+fn given_up(alloc: Global) -> Option<GivenUp> {
+    match two_disks(alloc) {
+        Some(mut bay) => {
+            let given_up = given_up_on(alloc, &mut bay);
+            drop(bay);
+            given_up
+        }
+        None => None,
+    }
+}
+
+pub fn play_rows(alloc: Global) -> Result<(), Wrong> {
+    // A creation writes 128 pages, and a head behind a gate that is opened; a commit a head, an image and a page, behind a gate that
+    // is opened.
+    let wanted = ([528_896, 12_288 + 512], 0, true);
+    row(
+        "a change is committed on both copies",
+        committed(alloc) == Some(wanted),
+    )?;
+    row(
+        "a copy that fails is given up",
+        given_up(alloc) == Some((38, [1, 0])),
+    )
 }

@@ -1,62 +1,167 @@
 // What a commit costs.
+ghost use Rattle.std.specs.Prelude.{◌≤◌, ◌+◌, length};
+ghost use Rattle.bay_mem.specs.MemState.{state_of};
+ghost use Rattle.directory_store.specs.Contents.{ArePutItems};
+ghost use Rattle.directory_store.specs.Stores.{Keeps};
+
 use crate::counting::CountingBay;
 use crate::stale::stale_change;
-use crate::trials::{create_on_two, create_with, rebalance, two_disks};
+use crate::trials::{Wrong, create_on_two, create_with, rebalance, row, two_disks};
+use asm_base::Change;
 use bay::Bay;
+use bay_mem::MemBay;
+use directory_store::Store;
 use std::alloc::Global;
-use std::test::*;
 
-/// How often a commit syncs each copy, and the disks that fail, as bits.
-fn syncs(alloc: Global) -> Option<([u64; 2], u64)> {
-    let mut bay = CountingBay {
-        disks: two_disks(alloc)?,
-        first: 0,
-        second: 0,
-    };
-    let mut store = create_on_two(alloc, &mut bay)?;
+/// How often a commit syncs the first copy and the second, and the disks that fail, as bits.
+type Syncs = (u64, u64, u64);
+
+fn syncs_of(
+    alloc: Global,
+    bay: &mut CountingBay,
+    store: &mut Store,
+    change: &Change,
+) -> Option<Syncs>
+    requires kept { Keeps store.old (state_of bay.old.disks) }
+    requires items { ArePutItems change.now.put }
+    requires few { length change.now.put + length change.now.gone ≤ 64 }
+{
     let first = bay.first;
     let second = bay.second;
-    let Ok(change) = rebalance(alloc) else {
-        return None;
-    };
-    let failed = store.commit(alloc, &mut bay, &change).ok()?.bits();
+    let failed = store.commit(alloc, bay, change).ok()?.bits();
     let first = bay.first.saturating_sub(first);
     let second = bay.second.saturating_sub(second);
-    Some(([first, second], failed))
+    Some((first, second, failed))
+}
+
+/// The same of a rebalance in a store without records.
+fn syncs_on(alloc: Global, bay: &mut CountingBay) -> Option<Syncs> {
+    match rebalance(alloc) {
+        Ok(change) => match create_on_two(alloc, bay) {
+            Some(mut store) => {
+                let syncs = syncs_of(alloc, bay, &mut store, &change);
+                drop(store);
+                drop(change);
+                syncs
+            }
+            None => {
+                drop(change);
+                None
+            }
+        },
+        Err(_) => None,
+    }
+}
+
+fn syncs(alloc: Global) -> Option<Syncs> {
+    match two_disks(alloc) {
+        Some(disks) => {
+            let mut bay = CountingBay {
+                disks,
+                first: 0,
+                second: 0,
+            };
+            let syncs = syncs_on(alloc, &mut bay);
+            drop(bay);
+            syncs
+        }
+        None => None,
+    }
 }
 
 fn is_few(syncs: u64) -> bool {
     1 <= syncs && syncs <= 5
 }
 
-#[test]
-fn commit_syncs_each_copy_at_most_five_times(rt: HostRuntime) -> Result<(), Fail> {
-    let ([first, second], failed) = syncs(rt.alloc()).ok_or("a commit")?;
-    assert!(rt; is_few(first) && is_few(second));
-    assert_eq!(rt; failed, 0);
-    Ok(())
+fn commit_syncs_each_copy_at_most_five_times(alloc: Global) -> Result<(), Wrong> {
+    match syncs(alloc) {
+        Some((first, second, failed)) => {
+            let are_few = is_few(first) && is_few(second) && failed == 0;
+            row("commit syncs each copy at most five times", are_few)
+        }
+        None => Err(("a commit", 0)),
+    }
 }
 
-/// The bytes that a commit of one record beside 100 writes to disk 0, how many records there are then, and the disks that fail.
-fn beside_100(alloc: Global) -> Option<(u64, usize, u64)> {
-    let mut bay = two_disks(alloc)?;
-    let Ok(records) = stale_change(alloc, 0, 100, 1) else {
-        return None;
-    };
-    let mut store = create_with(alloc, &mut bay, &records)?;
+/// The bytes that a change writes to disk 0, how many records there are then, and the disks that fail.
+fn cost_of(
+    alloc: Global,
+    bay: &mut MemBay,
+    store: &mut Store,
+    change: &Change,
+) -> Option<(u64, usize, u64)>
+    requires kept { Keeps store.old (state_of bay.old) }
+    requires items { ArePutItems change.now.put }
+    requires few { length change.now.put + length change.now.gone ≤ 64 }
+{
     let created = bay.written(0);
-    let Ok(change) = stale_change(alloc, 100, 1, 1) else {
-        return None;
-    };
-    let failed = store.commit(alloc, &mut bay, &change).ok()?.bits();
+    let failed = store.commit(alloc, bay, change).ok()?.bits();
     let written = bay.written(0).saturating_sub(created);
     Some((written, store.content().iter().count(), failed))
 }
 
-#[test]
-fn one_record_beside_100_is_written_alone(rt: HostRuntime) -> Result<(), Fail> {
-    let (written, records, failed) = beside_100(rt.alloc()).ok_or("a commit")?;
-    assert_eq!(rt; (records, failed), (101, 0));
-    assert!(rt; written <= 22_016);
-    Ok(())
+/// The same of one record in a store.
+fn cost_in(alloc: Global, bay: &mut MemBay, store: &mut Store) -> Option<(u64, usize, u64)>
+    requires { Keeps store.old (state_of bay.old) }
+{
+    match stale_change(alloc, 100, 1, 1) {
+        Ok(change) => {
+            let cost = cost_of(alloc, bay, store, &change);
+            drop(change);
+            cost
+        }
+        Err(_) => None,
+    }
+}
+
+/// The same in a store of these records.
+fn cost_beside(alloc: Global, bay: &mut MemBay, records: &Change) -> Option<(u64, usize, u64)>
+    requires { ArePutItems records.now.put }
+{
+    match create_with(alloc, bay, records) {
+        Some(mut store) => {
+            let cost = cost_in(alloc, bay, &mut store);
+            drop(store);
+            cost
+        }
+        None => None,
+    }
+}
+
+/// The same beside 100 records.
+fn cost_beside_100(alloc: Global, bay: &mut MemBay) -> Option<(u64, usize, u64)> {
+    match stale_change(alloc, 0, 100, 1) {
+        Ok(records) => {
+            let cost = cost_beside(alloc, bay, &records);
+            drop(records);
+            cost
+        }
+        Err(_) => None,
+    }
+}
+
+fn beside_100(alloc: Global) -> Option<(u64, usize, u64)> {
+    match two_disks(alloc) {
+        Some(mut bay) => {
+            let cost = cost_beside_100(alloc, &mut bay);
+            drop(bay);
+            cost
+        }
+        None => None,
+    }
+}
+
+fn one_record_beside_100_is_written_alone(alloc: Global) -> Result<(), Wrong> {
+    match beside_100(alloc) {
+        Some((written, records, failed)) => {
+            let is_alone = records == 101 && failed == 0 && written <= 22_016;
+            row("one record beside 100 is written alone", is_alone)
+        }
+        None => Err(("a commit", 0)),
+    }
+}
+
+pub fn play_rows(alloc: Global) -> Result<(), Wrong> {
+    commit_syncs_each_copy_at_most_five_times(alloc)?;
+    one_record_beside_100_is_written_alone(alloc)
 }

@@ -17,6 +17,8 @@ mod many;
 #[cfg(test)]
 mod page_maps;
 #[cfg(test)]
+mod play;
+#[cfg(test)]
 mod stale;
 #[cfg(test)]
 mod stops;

@@ -1,10 +1,9 @@
 // What a load of several copies takes, and what it refuses.
-use crate::trials::{Order, REBALANCE, load, two_disks};
+use crate::trials::{Order, REBALANCE, Wrong, all_right, load, row, two_disks};
 use bay::Bay;
 use bay_mem::MemBay;
 use directory_store::{LoadError, Store};
 use std::alloc::Global;
-use std::test::*;
 
 /// What stands on two disks of zeros, or happens to them.
 #[derive(Clone, Copy)]
@@ -70,13 +69,12 @@ fn give(bay: &mut MemBay, given: Given) -> Option<()> {
     }
 }
 
-/// The disks with all that is given.
-fn disks(alloc: Global, all: &[Given]) -> Option<MemBay> {
-    let mut bay = two_disks(alloc)?;
+/// Gives the disks all that is given.
+fn give_all(bay: &mut MemBay, all: &[Given]) -> Option<()> {
     for given in all {
-        give(&mut bay, *given)?;
+        give(bay, *given)?;
     }
-    Some(bay)
+    Some(())
 }
 
 /// The power of a store's active rebalance.
@@ -85,26 +83,59 @@ fn power_of(store: &Store) -> Option<u8> {
     value.as_bytes().get(1).copied()
 }
 
+/// The power of a store that was loaded, or why it wasn't.
+fn power_loaded(loaded: Result<Store, LoadError>) -> Option<Result<u8, LoadError>> {
+    match loaded {
+        Ok(store) => {
+            let power = power_of(&store);
+            drop(store);
+            Some(Ok(power?))
+        }
+        Err(cause) => Some(Err(cause)),
+    }
+}
+
+fn loaded_on(
+    alloc: Global,
+    bay: &mut MemBay,
+    all: &[Given],
+    order: Order,
+) -> Option<Result<u8, LoadError>> {
+    give_all(bay, all)?;
+    match load(alloc, bay, order) {
+        Some(loaded) => power_loaded(loaded),
+        None => None,
+    }
+}
+
 /// The power that the copies are loaded with, in an order, or why they aren't.
 fn loaded(alloc: Global, all: &[Given], order: Order) -> Option<Result<u8, LoadError>> {
-    let mut bay = disks(alloc, all)?;
-    match load(alloc, &mut bay, order)? {
-        Ok(store) => Some(Ok(power_of(&store)?)),
-        Err(cause) => Some(Err(cause)),
+    match two_disks(alloc) {
+        Some(mut bay) => {
+            let loaded = loaded_on(alloc, &mut bay, all, order);
+            drop(bay);
+            loaded
+        }
+        None => None,
     }
 }
 
 /// What the disks are given, the order of their copies, and what is loaded.
 type Row = (&'static [Given], Order, Result<u8, LoadError>);
 
-/// The place of a row that isn't so.
-fn other_row(alloc: Global, rows: &[Row]) -> Option<usize> {
+/// How many rows are so, until one isn't.
+fn count_right(alloc: Global, rows: &[Row]) -> usize {
     for (place, (all, order, wanted)) in rows.iter().enumerate() {
         if loaded(alloc, all, *order) != Some(*wanted) {
-            return Some(place);
+            return place;
         }
     }
-    None
+    rows.len()
+}
+
+/// Loads the copies of each row. Fails by a name and the place of the first row that isn't so.
+fn load_all(alloc: Global, name: &'static str, rows: &[Row]) -> Result<(), Wrong> {
+    all_right(name, count_right(alloc, rows), rows.len())
 }
 
 const LOST: Result<u8, LoadError> = Err(LoadError::DirectoriesLost);
@@ -166,9 +197,8 @@ const DAMAGED: [Row; 7] = [
     ),
 ];
 
-#[test]
-fn damage_in_one_copy_refuses(rt: HostRuntime) {
-    assert_eq!(rt; other_row(rt.alloc(), &DAMAGED), None);
+fn damage_in_one_copy_refuses(alloc: Global) -> Result<(), Wrong> {
+    load_all(alloc, "damage in one copy refuses", &DAMAGED)
 }
 
 const TAKEN: [Row; 6] = [
@@ -196,11 +226,6 @@ const TAKEN: [Row; 6] = [
     (&[FIRST, SECOND, Given::Fault(3)], Order::Given, Ok(1)),
 ];
 
-#[test]
-fn greatest_number_and_least_disk_are_taken(rt: HostRuntime) {
-    assert_eq!(rt; other_row(rt.alloc(), &TAKEN), None);
-}
-
 const WITHOUT: [Row; 2] = [
     (&[Given::Power(0, 12, 1)], Order::Given, LOST),
     (
@@ -210,9 +235,12 @@ const WITHOUT: [Row; 2] = [
     ),
 ];
 
-#[test]
-fn shut_and_failing_copies_have_no_directories(rt: HostRuntime) {
-    assert_eq!(rt; other_row(rt.alloc(), &WITHOUT), None);
+fn shut_and_failing_copies_have_no_directories(alloc: Global) -> Result<(), Wrong> {
+    load_all(
+        alloc,
+        "shut and failing copies have no directories",
+        &WITHOUT,
+    )
 }
 
 const LAGGING: [Given; 3] = [
@@ -221,14 +249,44 @@ const LAGGING: [Given; 3] = [
     Given::Log(1, 7, 2),
 ];
 
-/// The power that is loaded, and whether the copies of disks 0 and 1 are the store's.
-fn lagging(alloc: Global) -> Option<(u8, [bool; 2])> {
-    let mut bay = disks(alloc, &LAGGING)?;
-    let store = load(alloc, &mut bay, Order::Given)?.ok()?;
-    Some((power_of(&store)?, [store.has(0), store.has(1)]))
+/// The power that a store has, and whether the copies of disks 0 and 1 are its own.
+fn told(store: &Store) -> Option<(u8, [bool; 2])> {
+    Some((power_of(store)?, [store.has(0), store.has(1)]))
 }
 
-#[test]
-fn two_pages_with_one_key_in_a_lagging_copy_are_no_damage(rt: HostRuntime) {
-    assert_eq!(rt; lagging(rt.alloc()), Some((2, [false, true])));
+fn told_loaded(loaded: Option<Result<Store, LoadError>>) -> Option<(u8, [bool; 2])> {
+    match loaded {
+        Some(Ok(store)) => {
+            let told = told(&store);
+            drop(store);
+            told
+        }
+        _ => None,
+    }
+}
+
+/// The same of two copies of which one lags.
+fn lagging(alloc: Global) -> Option<(u8, [bool; 2])> {
+    match two_disks(alloc) {
+        Some(mut bay) => {
+            let told = match give_all(&mut bay, &LAGGING) {
+                Some(()) => told_loaded(load(alloc, &mut bay, Order::Given)),
+                None => None,
+            };
+            drop(bay);
+            told
+        }
+        None => None,
+    }
+}
+
+pub fn play_rows(alloc: Global) -> Result<(), Wrong> {
+    damage_in_one_copy_refuses(alloc)?;
+    load_all(alloc, "greatest number and least disk are taken", &TAKEN)?;
+    shut_and_failing_copies_have_no_directories(alloc)?;
+    let told = lagging(alloc);
+    row(
+        "two pages with one key in a lagging copy are no damage",
+        told == Some((2, [false, true])),
+    )
 }

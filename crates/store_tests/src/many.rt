@@ -4,14 +4,14 @@ ghost use Rattle.bay_mem.specs.MemState.{state_of};
 ghost use Rattle.directory_store.specs.Stores.{Keeps};
 
 use crate::stale::{stale_change, stale_key};
-use crate::trials::{FIRST, SECOND, SIZE, create_on_two, is_there, load_one, two_disks};
+use crate::trials::{
+    FIRST, SECOND, SIZE, Wrong, all_right, create_on_two, is_there, load_one, row, two_disks,
+};
 use asm_base::{Records, Value};
 use bay::Bay;
 use bay_mem::MemBay;
-use change_directory::DirCopy;
-use directory_store::Store;
+use directory_store::{LoadError, Store};
 use std::alloc::Global;
-use std::test::*;
 
 /// How many commits there are.
 const COMMITS: u32 = 200;
@@ -72,35 +72,62 @@ fn commit_batch(alloc: Global, bay: &mut MemBay, store: &mut Store, batch: Batch
     requires few { batch.count ≤ 64 }
     ensures kept { Keeps store.new (state_of bay.new) }
 {
-    let Ok(change) = stale_change(alloc, batch.first, batch.count, batch.mark) else {
-        return None;
-    };
-    match store.commit(alloc, bay, &change) {
-        Ok(_) => Some(()),
+    match stale_change(alloc, batch.first, batch.count, batch.mark) {
+        Ok(change) => {
+            let is_done = store.commit(alloc, bay, &change).is_ok();
+            drop(change);
+            if is_done { Some(()) } else { None }
+        }
         Err(_) => None,
     }
 }
 
 /// Commits all batches but the last, and gives the marks then.
-fn commit_many(alloc: Global, bay: &mut MemBay) -> Option<Marks> {
+fn commit_many(alloc: Global, bay: &mut MemBay, store: &mut Store) -> Option<Marks>
+    requires { Keeps store.old (state_of bay.old) }
+{
     let mut marks = [None; 101];
-    let mut store = create_on_two(alloc, bay)?;
     for number in 1..COMMITS {
         let put = batch_of(number);
-        commit_batch(alloc, bay, &mut store, put)?;
+        commit_batch(alloc, bay, store, put)?;
         put_marks(&mut marks, put);
     }
     Some(marks)
 }
 
-/// The bytes of a disk.
-fn disk_bytes(alloc: Global, bay: &mut MemBay, slot: u32) -> Option<Vec<u8>> {
-    let mut bytes = vec![in alloc; 0; SIZE as usize].ok()?;
-    if bay.attach(slot, "disk").ok()? < SIZE {
+/// The same in a new store.
+fn create_many(alloc: Global, bay: &mut MemBay) -> Option<Marks> {
+    match create_on_two(alloc, bay) {
+        Some(mut store) => {
+            let marks = commit_many(alloc, bay, &mut store);
+            drop(store);
+            marks
+        }
+        None => None,
+    }
+}
+
+/// Reads the bytes of a disk.
+fn read_disk(bay: &mut MemBay, slot: u32, bytes: &mut [u8]) -> Option<()> {
+    let size = bay.attach(slot, "disk").ok()?;
+    if size < SIZE || bytes.len() as u64 != SIZE {
         return None;
     }
-    bay.read(slot, 0, &mut bytes).ok()?;
-    Some(bytes)
+    bay.read(slot, 0, bytes).ok()
+}
+
+/// The bytes of a disk.
+fn disk_bytes(alloc: Global, bay: &mut MemBay, slot: u32) -> Option<Vec<u8>> {
+    match vec![in alloc; 0; SIZE as usize] {
+        Ok(mut bytes) => {
+            if read_disk(bay, slot, &mut bytes).is_some() {
+                return Some(bytes);
+            }
+            drop(bytes);
+            None
+        }
+        Err(_) => None,
+    }
 }
 
 /// Writes the bytes of a disk.
@@ -121,25 +148,46 @@ struct Disks {
     after: Marks,
 }
 
-fn committed(alloc: Global) -> Option<Disks> {
-    let mut bay = two_disks(alloc)?;
-    let before = commit_many(alloc, &mut bay)?;
+/// The bytes of both disks.
+fn both_bytes(alloc: Global, bay: &mut MemBay) -> Option<(Vec<u8>, Vec<u8>)> {
+    let first = disk_bytes(alloc, bay, 0)?;
+    match disk_bytes(alloc, bay, 1) {
+        Some(second) => Some((first, second)),
+        None => {
+            drop(first);
+            None
+        }
+    }
+}
+
+fn committed_on(alloc: Global, bay: &mut MemBay) -> Option<Disks> {
+    let before = create_many(alloc, bay)?;
     let mut after = before;
     put_marks(&mut after, batch_of(COMMITS));
+    let (first, second) = both_bytes(alloc, bay)?;
     Some(Disks {
-        first: disk_bytes(alloc, &mut bay, 0)?,
-        second: disk_bytes(alloc, &mut bay, 1)?,
+        first,
+        second,
         before,
         after,
     })
 }
 
-/// Two disks with these bytes.
-fn disks_of(alloc: Global, disks: &Disks) -> Option<MemBay> {
-    let mut bay = two_disks(alloc)?;
-    put_disk(&mut bay, 0, &disks.first)?;
-    put_disk(&mut bay, 1, &disks.second)?;
-    Some(bay)
+fn committed(alloc: Global) -> Option<Disks> {
+    match two_disks(alloc) {
+        Some(mut bay) => {
+            let disks = committed_on(alloc, &mut bay);
+            drop(bay);
+            disks
+        }
+        None => None,
+    }
+}
+
+/// Writes these bytes to two disks.
+fn put_disks(bay: &mut MemBay, disks: &Disks) -> Option<()> {
+    put_disk(bay, 0, &disks.first)?;
+    put_disk(bay, 1, &disks.second)
 }
 
 /// Loads the store of both copies on disks in memory, where a stop leaves what they hold. None where it may not be asked,
@@ -159,22 +207,23 @@ fn load_kept(alloc: Global, bay: &mut MemBay) -> Option<Store>
     }
 }
 
-/// Commits the last batch on such disks, where each call after so many fails, and gives the disks and the calls before the
-/// commit.
-fn last_commit(alloc: Global, disks: &Disks, calls: u64) -> Option<(MemBay, u64)> {
-    let mut bay = disks_of(alloc, disks)?;
+/// Commits the last batch on disks with these bytes, where each call after so many fails, and gives the calls before the commit.
+fn last_commit(alloc: Global, bay: &mut MemBay, disks: &Disks, calls: u64) -> Option<u64> {
+    put_disks(bay, disks)?;
     bay.stop_after(calls);
-    let mut store = load_kept(alloc, &mut bay)?;
-    let begin = bay.calls();
-    let _ = commit_batch(alloc, &mut bay, &mut store, batch_of(COMMITS));
-    Some((bay, begin))
+    match load_kept(alloc, bay) {
+        Some(mut store) => {
+            let begin = bay.calls();
+            let _ = commit_batch(alloc, bay, &mut store, batch_of(COMMITS));
+            drop(store);
+            Some(begin)
+        }
+        None => None,
+    }
 }
 
-/// Whether a copy has the marks after the last commit. None where it hasn't those before it either.
-fn is_after(alloc: Global, bay: &mut MemBay, copy: DirCopy, disks: &Disks) -> Option<bool>
-    requires { copy.number < 64 }
-{
-    let store = load_one(alloc, bay, copy)?.ok()?;
+/// Whether a store has the marks after the last commit. None where it hasn't those before it either.
+fn is_after_in(store: &Store, disks: &Disks) -> Option<bool> {
     if have_marks(store.content(), &disks.after) {
         Some(true)
     } else if have_marks(store.content(), &disks.before) {
@@ -184,31 +233,106 @@ fn is_after(alloc: Global, bay: &mut MemBay, copy: DirCopy, disks: &Disks) -> Op
     }
 }
 
+fn is_after_of(loaded: Option<Result<Store, LoadError>>, disks: &Disks) -> Option<bool> {
+    match loaded {
+        Some(Ok(store)) => {
+            let is_after = is_after_in(&store, disks);
+            drop(store);
+            is_after
+        }
+        _ => None,
+    }
+}
+
 /// Whether each copy has the marks after the last commit, where each call after so many fails.
-fn left(alloc: Global, disks: &Disks, calls: u64) -> Option<[bool; 2]> {
-    let (mut bay, _) = last_commit(alloc, disks, calls)?;
+fn left_on(alloc: Global, bay: &mut MemBay, disks: &Disks, calls: u64) -> Option<[bool; 2]> {
+    let _ = last_commit(alloc, bay, disks, calls)?;
     bay.restart();
-    let first = is_after(alloc, &mut bay, FIRST, disks)?;
-    let second = is_after(alloc, &mut bay, SECOND, disks)?;
+    let first = is_after_of(load_one(alloc, bay, FIRST), disks)?;
+    let second = is_after_of(load_one(alloc, bay, SECOND), disks)?;
     Some([first, second])
+}
+
+fn left(alloc: Global, disks: &Disks, calls: u64) -> Option<[bool; 2]> {
+    match two_disks(alloc) {
+        Some(mut bay) => {
+            let left = left_on(alloc, &mut bay, disks, calls);
+            drop(bay);
+            left
+        }
+        None => None,
+    }
 }
 
 /// The calls before the last commit, and once it is done.
 fn calls_of_last(alloc: Global, disks: &Disks) -> Option<(u64, u64)> {
-    let (bay, begin) = last_commit(alloc, disks, u64::MAX)?;
-    Some((begin, bay.calls()))
+    match two_disks(alloc) {
+        Some(mut bay) => {
+            let begin = last_commit(alloc, &mut bay, disks, u64::MAX);
+            let end = bay.calls();
+            drop(bay);
+            Some((begin?, end))
+        }
+        None => None,
+    }
 }
 
 /// The first copy is written first.
-#[test]
-fn stopped_commit_of_many_leaves_the_records_before_or_after(rt: HostRuntime) -> Result<(), Fail> {
-    let disks = committed(rt.alloc()).ok_or("commits")?;
-    let (begin, end) = calls_of_last(rt.alloc(), &disks).ok_or("the last commit")?;
-    for calls in begin..=end {
-        let [first, second] = left(rt.alloc(), &disks, calls).ok_or("other records")?;
-        assert!(rt; first || !second, "after {calls} calls");
+fn is_in_order(left: Option<[bool; 2]>) -> bool {
+    match left {
+        Some(left) => {
+            let [first, second] = left;
+            first || !second
+        }
+        None => false,
     }
-    assert_eq!(rt; left(rt.alloc(), &disks, begin), Some([false, false]));
-    assert_eq!(rt; left(rt.alloc(), &disks, end), Some([true, true]));
-    Ok(())
+}
+
+/// The calls after which a stop leaves other records, or one more than the last.
+fn other_stop(alloc: Global, disks: &Disks, begin: u64, end: u64) -> u64 {
+    for calls in begin..=end {
+        if !is_in_order(left(alloc, disks, calls)) {
+            return calls;
+        }
+    }
+    end.saturating_add(1)
+}
+
+/// Stops the last commit at each of its calls.
+fn stop_everywhere(alloc: Global, disks: &Disks) -> Result<(), Wrong> {
+    let Some((begin, end)) = calls_of_last(alloc, disks) else {
+        return Err(("the last commit", 0));
+    };
+    let other = other_stop(alloc, disks, begin, end) as usize;
+    let all = end.saturating_add(1) as usize;
+    all_right(
+        "stopped commit of many leaves the records before or after",
+        other,
+        all,
+    )?;
+    let first = left(alloc, disks, begin);
+    row(
+        "commit of many that is stopped at once",
+        first == Some([false, false]),
+    )?;
+    let last = left(alloc, disks, end);
+    row(
+        "commit of many that is stopped behind it",
+        last == Some([true, true]),
+    )
+}
+
+fn stopped_commit_of_many_leaves_the_records_before_or_after(alloc: Global) -> Result<(), Wrong> {
+    match committed(alloc) {
+        Some(disks) => {
+            let stopped = stop_everywhere(alloc, &disks);
+            drop(disks);
+            stopped
+        }
+        None => Err(("commits", 0)),
+    }
+}
+
+pub fn play_rows(alloc: Global) -> Result<(), Wrong> {
+    stopped_commit_of_many_leaves_the_records_before_or_after(alloc)
 }

@@ -1,11 +1,14 @@
 // The map of pages: that a change is applied where there is memory, and which pages it writes.
+use crate::trials::{Wrong, all_right};
 use asm_base::{Block, Key, Value, decode_record};
 use page_map::{PageError, PageMap, apply};
 use std::alloc::Global;
-use std::test::*;
 
 /// A record: the kind and the number of its key, and the byte that its value has three times.
 type Record = (u16, u32, u8);
+
+/// The pages that a change writes, or why it isn't applied.
+type Applied = Result<Vec<(u32, Block)>, PageError>;
 
 /// What is done with a map, and what must come of it.
 #[derive(Clone, Copy)]
@@ -26,21 +29,51 @@ fn key(kind: u16, a: u32) -> Key {
     Key { kind, a, b: 0 }
 }
 
-fn records(alloc: Global, all: &[Record]) -> Option<Vec<(Key, Value)>> {
-    let mut records = Vec::new(alloc);
+fn put_records(alloc: Global, records: &mut Vec<(Key, Value)>, all: &[Record]) -> Option<()> {
     for (kind, a, byte) in all {
         let value = Value::from_slice(alloc, &[*byte; 3]).ok()?;
         records.push((key(*kind, *a), value)).ok()?;
     }
-    Some(records)
+    Some(())
+}
+
+/// Puts records: the pages that change, or why there are none. None without memory for the records.
+fn put(alloc: Global, map: &mut PageMap, all: &[Record]) -> Option<Applied> {
+    let mut records = Vec::new(alloc);
+    let applied = match put_records(alloc, &mut records, all) {
+        Some(()) => Some(apply(alloc, map, &records, &[])),
+        None => None,
+    };
+    drop(records);
+    applied
 }
 
 /// Whether the block is that of a record.
 fn has_record(alloc: Global, block: &Block, record: Record) -> bool {
     let (kind, a, byte) = record;
     match decode_record(alloc, block) {
-        Ok(Some((at, value))) => at == key(kind, a) && value.as_bytes() == [byte; 3].as_slice(),
+        Ok(Some((at, value))) => {
+            let is_same = at == key(kind, a) && value.as_bytes() == [byte; 3].as_slice();
+            drop(value);
+            is_same
+        }
         _ => false,
+    }
+}
+
+/// Whether so many pages change, of which the first has a record.
+fn are_pages(
+    alloc: Global,
+    pages: &[(u32, Block)],
+    count: usize,
+    page: u32,
+    record: Record,
+) -> bool {
+    match pages.first() {
+        Some((first, block)) => {
+            pages.len() == count && *first == page && has_record(alloc, block, record)
+        }
+        None => false,
     }
 }
 
@@ -51,33 +84,54 @@ fn puts(
     count: usize,
     page: u32,
     record: Record,
-) -> Option<bool> {
-    let put = records(alloc, all)?;
-    let pages = apply(alloc, map, &put, &[]).ok()?;
-    let (first, block) = pages.first()?;
-    Some(pages.len() == count && *first == page && has_record(alloc, block, record))
+) -> bool {
+    match put(alloc, map, all) {
+        Some(Ok(pages)) => {
+            let are_right = are_pages(alloc, &pages, count, page, record);
+            drop(pages);
+            are_right
+        }
+        _ => false,
+    }
 }
 
-fn takes(alloc: Global, map: &mut PageMap, node: u32, page: u32) -> Option<bool> {
-    let pages = apply(alloc, map, &[], &[key(6, node)]).ok()?;
-    let is_gone = map.records().get(key(6, node)).is_none();
-    let (first, block) = pages.first()?;
-    Some(pages.len() == 1 && *first == page && block.bytes == [0; 4096] && is_gone)
+/// Whether a page is the only one, and has zeros.
+fn is_zeros(pages: &[(u32, Block)], page: u32) -> bool {
+    match pages {
+        [(only, block)] => *only == page && block.bytes == [0; 4096],
+        _ => false,
+    }
+}
+
+fn takes(alloc: Global, map: &mut PageMap, node: u32, page: u32) -> bool {
+    match apply(alloc, map, &[], &[key(6, node)]) {
+        Ok(pages) => {
+            let is_gone = map.records().get(key(6, node)).is_none();
+            let are_zeros = is_zeros(&pages, page);
+            drop(pages);
+            is_gone && are_zeros
+        }
+        Err(_) => false,
+    }
 }
 
 fn refusal(alloc: Global, map: &mut PageMap, node: u32) -> Option<PageError> {
-    let put = records(alloc, &[(6, node, 1)])?;
-    apply(alloc, map, &put, &[]).err()
+    match put(alloc, map, &[(6, node, 1)]) {
+        Some(Ok(pages)) => {
+            drop(pages);
+            None
+        }
+        Some(Err(error)) => Some(error),
+        None => None,
+    }
 }
 
 const FULL: PageError = PageError::Full { need: 1, free: 0 };
 
 fn holds(alloc: Global, map: &mut PageMap, step: Step) -> bool {
     match step {
-        Step::Put(all, count, page, record) => {
-            puts(alloc, map, all, count, page, record) == Some(true)
-        }
-        Step::Gone(node, page) => takes(alloc, map, node, page) == Some(true),
+        Step::Put(all, count, page, record) => puts(alloc, map, all, count, page, record),
+        Step::Gone(node, page) => takes(alloc, map, node, page),
         Step::Full(node) => refusal(alloc, map, node) == Some(FULL),
         Step::Place(kind, a, page) => map.place(key(kind, a)) == page,
         Step::Room(room) => map.room() == room,
@@ -94,14 +148,31 @@ fn count_held(alloc: Global, map: &mut PageMap, steps: &[Step]) -> usize {
     steps.len()
 }
 
-/// The same, with a new map of 128 pages that has the records of nodes from 1 on.
-fn count_held_of(alloc: Global, nodes: u32, steps: &[Step]) -> Option<usize> {
-    let mut map = PageMap::new(alloc, 128).ok()?;
+/// Puts the records of so many nodes, from 1 on. Whether that is done.
+fn put_nodes(alloc: Global, map: &mut PageMap, nodes: u32) -> bool {
     for node in 0..nodes {
-        let put = records(alloc, &[(6, node.saturating_add(1), 1)])?;
-        let _pages = apply(alloc, &mut map, &put, &[]).ok()?;
+        match put(alloc, map, &[(6, node.saturating_add(1), 1)]) {
+            Some(Ok(pages)) => drop(pages),
+            _ => return false,
+        }
     }
-    Some(count_held(alloc, &mut map, steps))
+    true
+}
+
+/// Plays steps in turn with a new map of 128 pages that has the records of so many nodes.
+fn play(alloc: Global, name: &'static str, nodes: u32, steps: &[Step]) -> Result<(), Wrong> {
+    match PageMap::new(alloc, 128) {
+        Ok(mut map) => {
+            let held = if put_nodes(alloc, &mut map, nodes) {
+                count_held(alloc, &mut map, steps)
+            } else {
+                0
+            };
+            drop(map);
+            all_right(name, held, steps.len())
+        }
+        Err(_) => Err((name, 0)),
+    }
 }
 
 const THREE: Step = Step::Put(&[(6, 1, 1), (6, 2, 2), (6, 3, 3)], 3, 0, (6, 1, 1));
@@ -114,11 +185,6 @@ const FIRST_PAGES: [Step; 5] = [
     Step::Room(123),
 ];
 
-#[test]
-fn new_records_take_the_first_pages(rt: HostRuntime) {
-    assert_eq!(rt; count_held_of(rt.alloc(), 0, &FIRST_PAGES), Some(5));
-}
-
 const FREED: [Step; 6] = [
     THREE,
     Step::Gone(2, 1),
@@ -129,11 +195,7 @@ const FREED: [Step; 6] = [
     Step::Place(6, 3, Some(2)),
 ];
 
-#[test]
-fn a_freed_page_is_taken_again(rt: HostRuntime) {
-    assert_eq!(rt; count_held_of(rt.alloc(), 0, &FREED), Some(6));
-}
-
+/// A map with the records of 126 nodes, the most that a group may have, keeps two pages.
 const KEPT: [Step; 4] = [
     Step::Full(127),
     Step::Place(6, 127, None),
@@ -141,8 +203,8 @@ const KEPT: [Step; 4] = [
     Step::Place(4, 0, Some(126)),
 ];
 
-/// A map with the records of 126 nodes, the most that a group may have, keeps two pages.
-#[test]
-fn two_pages_are_kept(rt: HostRuntime) {
-    assert_eq!(rt; count_held_of(rt.alloc(), 126, &KEPT), Some(4));
+pub fn play_rows(alloc: Global) -> Result<(), Wrong> {
+    play(alloc, "new records take the first pages", 0, &FIRST_PAGES)?;
+    play(alloc, "a freed page is taken again", 0, &FREED)?;
+    play(alloc, "two pages are kept", 126, &KEPT)
 }

@@ -1,4 +1,5 @@
-// Two copies on disks in memory, and what is asked of them.
+// Two copies on disks in memory, and what is asked of them. Disks, stores and changes are dropped by a call in one place, since what
+// goes in place is proved in place.
 ghost use Rattle.std.specs.Prelude.{◌≡◌, ◌≤◌, ◌<◌, ◌+◌, ◌==◌, ◌&&◌, [], nat_le, true, length, IfOk, IfSome};
 ghost use Rattle.change_directory.specs.Places.{IsCopy};
 ghost use Rattle.change_directory.specs.declared.copy.DirCopy.{DirCopy as Copy};
@@ -11,6 +12,23 @@ use bay_mem::MemBay;
 use change_directory::DirCopy;
 use directory_store::{LoadError, Store};
 use std::alloc::Global;
+
+/// The name of a row that isn't right, and the place of its first step that isn't, or 0.
+pub type Wrong = (&'static str, usize);
+
+/// Fails by the name of a row that isn't right.
+pub fn row(name: &'static str, is_right: bool) -> Result<(), Wrong> {
+    if is_right { Ok(()) } else { Err((name, 0)) }
+}
+
+/// Fails by the name of a row, of whose steps so many are right and the next isn't.
+pub fn all_right(name: &'static str, right: usize, steps: usize) -> Result<(), Wrong> {
+    if right == steps {
+        Ok(())
+    } else {
+        Err((name, right))
+    }
+}
 
 /// The bytes of a disk.
 pub const SIZE: u64 = 1_105_920;
@@ -104,7 +122,9 @@ pub fn create_on_two<B: Bay>(alloc: Global, bay: &mut B) -> Option<Store>
     ensures { IfSome result (λ store. Keeps store (B.state bay.new)) }
 {
     let nothing = no_change(alloc);
-    create_with(alloc, bay, &nothing)
+    let store = create_with(alloc, bay, &nothing);
+    drop(nothing);
+    store
 }
 
 /// A store of one record on the first copy, which is then brought to the second, whatever that held. None where it may not

@@ -1,6 +1,24 @@
-// What the tables are given: values, records, names and paths. None stands for what isn't one, or for want of memory.
+// What the tables are given: values, records, names and paths. None stands for what isn't one, or for want of memory. What owns much
+// is dropped by a call in one place, since what goes in place is proved in place.
 use asm_base::{Change, Key, List, Name, Path, Records, Value};
 use std::alloc::Global;
+
+/// The name of a row that isn't right, and the place of its first step that isn't, or 0.
+pub type Wrong = (&'static str, usize);
+
+/// Fails by the name of a row that isn't right.
+pub fn row(name: &'static str, is_right: bool) -> Result<(), Wrong> {
+    if is_right { Ok(()) } else { Err((name, 0)) }
+}
+
+/// Fails by the name of a row, of whose steps so many are right and the next isn't.
+pub fn all_right(name: &'static str, right: usize, steps: usize) -> Result<(), Wrong> {
+    if right == steps {
+        Ok(())
+    } else {
+        Err((name, right))
+    }
+}
 
 pub fn value(alloc: Global, bytes: &[u8]) -> Option<Value> {
     if bytes.len() <= 4064 {
@@ -27,8 +45,10 @@ pub fn no_change(alloc: Global) -> Change {
 
 /// Puts the record of a key with these bytes.
 pub fn put(alloc: Global, records: &mut Records, key: Key, bytes: &[u8]) -> Option<()> {
-    let value = value(alloc, bytes)?;
-    records.insert(key, value).ok()
+    match value(alloc, bytes) {
+        Some(value) => records.insert(key, value).ok(),
+        None => None,
+    }
 }
 
 /// Puts the records that a change puts, but those of a kind.

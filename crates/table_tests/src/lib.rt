@@ -17,6 +17,8 @@ mod new_names;
 #[cfg(test)]
 mod operations;
 #[cfg(test)]
+mod play;
+#[cfg(test)]
 mod stale_marks;
 #[cfg(test)]
 mod template_edits;

@@ -1,9 +1,9 @@
 // Edits of the tree of names, and what they leave.
-use crate::given::path;
+use crate::given::{Wrong, path, row};
 use crate::names::{Found, count_found};
 use alias_tree::{AliasTree, TreeEdit, TreeError};
+use asm_base::Path;
 use std::alloc::Global;
-use std::test::*;
 
 /// What an edit is to do; the file of a new name, or of the names that go.
 #[derive(Clone, Copy)]
@@ -21,10 +21,23 @@ pub enum Verb {
 /// An edit of one path or two, and its answer: None where it is done.
 pub type Row = (Verb, &'static [u8], &'static [u8], Option<TreeError>);
 
-pub fn edit_of(alloc: Global, verb: Verb, at: &[u8], to: &[u8]) -> Option<TreeEdit> {
-    let at = path(alloc, at)?;
-    let to = path(alloc, to)?;
-    Some(match verb {
+/// Both paths, where both are paths.
+fn paths(alloc: Global, at: &[u8], to: &[u8]) -> Option<(Path, Path)> {
+    match path(alloc, at) {
+        Some(at) => match path(alloc, to) {
+            Some(to) => Some((at, to)),
+            None => {
+                drop(at);
+                None
+            }
+        },
+        None => None,
+    }
+}
+
+/// An edit by these paths. One of one path heeds the first alone.
+fn edit_by(verb: Verb, at: Path, to: Path) -> TreeEdit {
+    match verb {
         Verb::MakeDir => TreeEdit::MakeDir { path: at },
         Verb::DropDir => TreeEdit::DropDir { path: at },
         Verb::RenameDir => TreeEdit::RenameDir { old: at, new: to },
@@ -36,7 +49,7 @@ pub fn edit_of(alloc: Global, verb: Verb, at: &[u8], to: &[u8]) -> Option<TreeEd
         Verb::DropAlias => TreeEdit::DropAlias { path: at },
         Verb::AddFile(file) => TreeEdit::AddFile { path: at, file },
         Verb::DropFile(file) => TreeEdit::DropFile { file },
-    })
+    }
 }
 
 /// The answer of an edit. None of parts of more than 80 bytes.
@@ -50,8 +63,13 @@ fn answer(tree: &mut AliasTree, edit: &TreeEdit) -> Option<Option<TreeError>> {
 
 fn is_answered(alloc: Global, tree: &mut AliasTree, row: Row) -> bool {
     let (verb, at, to, wanted) = row;
-    match edit_of(alloc, verb, at, to) {
-        Some(edit) => answer(tree, &edit) == Some(wanted),
+    match paths(alloc, at, to) {
+        Some((at, to)) => {
+            let edit = edit_by(verb, at, to);
+            let is_wanted = answer(tree, &edit) == Some(wanted);
+            drop(edit);
+            is_wanted
+        }
         None => false,
     }
 }
@@ -79,15 +97,28 @@ pub fn edited(alloc: Global, rows: &[Row]) -> Option<AliasTree> {
     if count_answered(alloc, &mut tree, rows) == rows.len() {
         Some(tree)
     } else {
+        drop(tree);
         None
     }
 }
 
 /// Of edits of the usual tree how many have their answers, and of paths then how many lead to their nodes.
 fn counts(alloc: Global, edits: &[Row], found: &[Found]) -> Option<(usize, usize)> {
-    let mut tree = edited(alloc, &USUAL)?;
-    let answered = count_answered(alloc, &mut tree, edits);
-    Some((answered, count_found(alloc, &tree, found)))
+    match edited(alloc, &USUAL) {
+        Some(mut tree) => {
+            let answered = count_answered(alloc, &mut tree, edits);
+            let led = count_found(alloc, &tree, found);
+            drop(tree);
+            Some((answered, led))
+        }
+        None => None,
+    }
+}
+
+/// Plays edits of the usual tree, and then finds paths.
+fn play(alloc: Global, name: &'static str, edits: &[Row], found: &[Found]) -> Result<(), Wrong> {
+    let wanted = Some((edits.len(), found.len()));
+    row(name, counts(alloc, edits, found) == wanted)
 }
 
 const TAKEN: Option<TreeError> = Some(TreeError::NameTaken);
@@ -103,73 +134,73 @@ const SYSTEM: Option<TreeError> = Some(TreeError::SystemName);
 const HAS_ALIAS: Option<TreeError> = Some(TreeError::HasAlias);
 
 /// Directories are made, renamed with what lies below them, and dropped.
-#[test]
-fn directories(rt: HostRuntime) {
-    let edits: [Row; 4] = [
-        (Verb::MakeDir, b"+DATA/b", b"+DATA", None),
-        (Verb::RenameDir, b"+DATA/A", b"+DATA/b/c", None),
-        (Verb::MakeDir, b"+DATA/b/c/d", b"+DATA", None),
-        (Verb::DropDir, b"+DATA/b/c/D", b"+DATA", None),
-    ];
-    let found: [Found; 4] = [
-        (b"+DATA/b/C/T.256.1", Some(2)),
-        (b"+DATA/b/c", Some(1)),
-        (b"+DATA/a", None),
-        (b"+DATA/b/c/d", None),
-    ];
-    assert_eq!(rt; counts(rt.alloc(), &edits, &found), Some((4, 4)));
-}
+const DIRECTORIES: [Row; 4] = [
+    (Verb::MakeDir, b"+DATA/b", b"+DATA", None),
+    (Verb::RenameDir, b"+DATA/A", b"+DATA/b/c", None),
+    (Verb::MakeDir, b"+DATA/b/c/d", b"+DATA", None),
+    (Verb::DropDir, b"+DATA/b/c/D", b"+DATA", None),
+];
+
+const DIRECTORIES_FOUND: [Found; 4] = [
+    (b"+DATA/b/C/T.256.1", Some(2)),
+    (b"+DATA/b/c", Some(1)),
+    (b"+DATA/a", None),
+    (b"+DATA/b/c/d", None),
+];
 
 /// What is refused of directories, the first of its causes, and nothing is changed.
-#[test]
-fn directories_refused(rt: HostRuntime) {
-    let edits: [Row; 10] = [
-        (Verb::MakeDir, b"+DATA/A", b"+DATA", TAKEN),
-        (Verb::MakeDir, b"+DATA/z/y", b"+DATA", NONE),
-        (Verb::MakeDir, b"+DATA", b"+DATA", NONE),
-        (Verb::MakeDir, b"+DATA/x/y", b"+DATA", FILE),
-        (Verb::DropDir, b"+DATA/a", b"+DATA", NOT_EMPTY),
-        (Verb::DropDir, b"+DATA/x", b"+DATA", FILE),
-        (Verb::DropDir, b"+DATA/z", b"+DATA", NONE),
-        // A directory isn't renamed into itself, nor to another spelling of its name.
-        (Verb::RenameDir, b"+DATA/a", b"+DATA/A/b", TAKEN),
-        (Verb::RenameDir, b"+DATA/a", b"+DATA/A", TAKEN),
-        (Verb::RenameDir, b"+DATA/x", b"+DATA/b", FILE),
-    ];
-    let found: [Found; 1] = [(b"+DATA/a/t.256.1", Some(2))];
-    assert_eq!(rt; counts(rt.alloc(), &edits, &found), Some((10, 1)));
-}
+const DIRECTORIES_REFUSED: [Row; 10] = [
+    (Verb::MakeDir, b"+DATA/A", b"+DATA", TAKEN),
+    (Verb::MakeDir, b"+DATA/z/y", b"+DATA", NONE),
+    (Verb::MakeDir, b"+DATA", b"+DATA", NONE),
+    (Verb::MakeDir, b"+DATA/x/y", b"+DATA", FILE),
+    (Verb::DropDir, b"+DATA/a", b"+DATA", NOT_EMPTY),
+    (Verb::DropDir, b"+DATA/x", b"+DATA", FILE),
+    (Verb::DropDir, b"+DATA/z", b"+DATA", NONE),
+    // A directory isn't renamed into itself, nor to another spelling of its name.
+    (Verb::RenameDir, b"+DATA/a", b"+DATA/A/b", TAKEN),
+    (Verb::RenameDir, b"+DATA/a", b"+DATA/A", TAKEN),
+    (Verb::RenameDir, b"+DATA/x", b"+DATA/b", FILE),
+];
+
+const DIRECTORIES_REFUSED_FOUND: [Found; 1] = [(b"+DATA/a/t.256.1", Some(2))];
 
 /// An alias is made, renamed and dropped, and its file stays. What is refused has the first of its causes.
-#[test]
-fn aliases(rt: HostRuntime) {
-    let edits: [Row; 8] = [
-        (Verb::AddAlias, b"+DATA/y", b"+DATA/a/T.256.1", HAS_ALIAS),
-        (Verb::AddAlias, b"+DATA/X", b"+DATA/a/T.256.1", TAKEN),
-        (Verb::AddAlias, b"+DATA/y", b"+DATA/a", NONE),
-        (Verb::RenameAlias, b"+DATA/X", b"+DATA/a/y", None),
-        (Verb::RenameAlias, b"+DATA/a/t.256.1", b"+DATA/t", SYSTEM),
-        (Verb::DropAlias, b"+DATA/a/t.256.1", b"+DATA", SYSTEM),
-        (Verb::DropAlias, b"+DATA/a", b"+DATA", NONE),
-        (Verb::DropAlias, b"+DATA/A/Y", b"+DATA", None),
-    ];
-    let found: [Found; 2] = [(b"+DATA/a/y", None), (b"+DATA/a/t.256.1", Some(2))];
-    assert_eq!(rt; counts(rt.alloc(), &edits, &found), Some((8, 2)));
-}
+const ALIASES: [Row; 8] = [
+    (Verb::AddAlias, b"+DATA/y", b"+DATA/a/T.256.1", HAS_ALIAS),
+    (Verb::AddAlias, b"+DATA/X", b"+DATA/a/T.256.1", TAKEN),
+    (Verb::AddAlias, b"+DATA/y", b"+DATA/a", NONE),
+    (Verb::RenameAlias, b"+DATA/X", b"+DATA/a/y", None),
+    (Verb::RenameAlias, b"+DATA/a/t.256.1", b"+DATA/t", SYSTEM),
+    (Verb::DropAlias, b"+DATA/a/t.256.1", b"+DATA", SYSTEM),
+    (Verb::DropAlias, b"+DATA/a", b"+DATA", NONE),
+    (Verb::DropAlias, b"+DATA/A/Y", b"+DATA", None),
+];
+
+const ALIASES_FOUND: [Found; 2] = [(b"+DATA/a/y", None), (b"+DATA/a/t.256.1", Some(2))];
 
 /// A file goes with both its names, and their numbers are given again, the least first.
-#[test]
-fn files(rt: HostRuntime) {
-    let edits: [Row; 4] = [
-        (Verb::AddFile(257), b"+DATA/a/t.256.1", b"+DATA", TAKEN),
-        (Verb::DropFile(257), b"+DATA", b"+DATA", NONE),
-        (Verb::DropFile(256), b"+DATA", b"+DATA", None),
-        (Verb::AddFile(257), b"+DATA/a/u.257.2", b"+DATA", None),
-    ];
-    let found: [Found; 3] = [
-        (b"+DATA/a/t.256.1", None),
-        (b"+DATA/x", None),
-        (b"+DATA/A/U.257.2", Some(2)),
-    ];
-    assert_eq!(rt; counts(rt.alloc(), &edits, &found), Some((4, 3)));
+const FILES: [Row; 4] = [
+    (Verb::AddFile(257), b"+DATA/a/t.256.1", b"+DATA", TAKEN),
+    (Verb::DropFile(257), b"+DATA", b"+DATA", NONE),
+    (Verb::DropFile(256), b"+DATA", b"+DATA", None),
+    (Verb::AddFile(257), b"+DATA/a/u.257.2", b"+DATA", None),
+];
+
+const FILES_FOUND: [Found; 3] = [
+    (b"+DATA/a/t.256.1", None),
+    (b"+DATA/x", None),
+    (b"+DATA/A/U.257.2", Some(2)),
+];
+
+pub fn play_rows(alloc: Global) -> Result<(), Wrong> {
+    play(alloc, "directories", &DIRECTORIES, &DIRECTORIES_FOUND)?;
+    play(
+        alloc,
+        "directories that are refused",
+        &DIRECTORIES_REFUSED,
+        &DIRECTORIES_REFUSED_FOUND,
+    )?;
+    play(alloc, "aliases", &ALIASES, &ALIASES_FOUND)?;
+    play(alloc, "files with names", &FILES, &FILES_FOUND)
 }

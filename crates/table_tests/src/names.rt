@@ -1,9 +1,8 @@
 // The tree of names: what is read of records and written to them.
-use crate::given::{name, no_change, path, value};
+use crate::given::{Wrong, all_right, name, no_change, path, row};
 use alias_tree::{AliasTree, Node, OpenTree};
-use asm_base::{Block, Key, NodeKind, Records, Value, Writer, put_text, put_u8, put_u32};
+use asm_base::{Block, Key, Name, NodeKind, Records, Value, Writer, put_text, put_u8, put_u32};
 use std::alloc::Global;
-use std::test::*;
 
 /// The record of a node: its number, its parent, its kind, its file and its name.
 type Row = (u32, u32, u8, u32, &'static [u8]);
@@ -42,21 +41,35 @@ fn node_value(alloc: Global, row: Row) -> Option<Value> {
 }
 
 fn add(alloc: Global, records: &mut Records, row: Row) -> Option<()> {
-    let value = node_value(alloc, row)?;
-    records.insert(key(row.0), value).ok()
-}
-
-fn one_file(alloc: Global) -> Option<Records> {
-    let mut records = Records::new(alloc);
-    for row in ONE_FILE {
-        add(alloc, &mut records, row)?;
+    match node_value(alloc, row) {
+        Some(value) => records.insert(key(row.0), value).ok(),
+        None => None,
     }
-    Some(records)
 }
 
-fn tree(alloc: Global) -> Option<AliasTree> {
-    let records = one_file(alloc)?;
-    AliasTree::from_records(alloc, &records).ok().flatten()
+fn add_all(alloc: Global, records: &mut Records, rows: &[Row]) -> Option<()> {
+    for row in rows {
+        add(alloc, records, *row)?;
+    }
+    Some(())
+}
+
+/// The tree of the file's records with some more, where they are a tree's.
+fn tree_with(alloc: Global, more: &[Row]) -> Option<Option<AliasTree>> {
+    tree_of(alloc, &ONE_FILE, more)
+}
+
+/// The tree of these records, where they are a tree's.
+fn tree_of(alloc: Global, rows: &[Row], more: &[Row]) -> Option<Option<AliasTree>> {
+    let mut records = Records::new(alloc);
+    let is_added = add_all(alloc, &mut records, rows).is_some();
+    let tree = if is_added && add_all(alloc, &mut records, more).is_some() {
+        AliasTree::from_records(alloc, &records).ok()
+    } else {
+        None
+    };
+    drop(records);
+    tree
 }
 
 /// A path, and the node that it leads to.
@@ -64,7 +77,11 @@ pub type Found = (&'static [u8], Option<u32>);
 
 fn leads(alloc: Global, tree: &AliasTree, at: &[u8], node: Option<u32>) -> bool {
     match path(alloc, at) {
-        Some(path) => tree.find(&path) == node,
+        Some(path) => {
+            let found = tree.find(&path);
+            drop(path);
+            found == node
+        }
         None => false,
     }
 }
@@ -93,86 +110,99 @@ fn is_of(tree: &AliasTree, number: u32, file: u32, name: &[u8]) -> bool {
     }
 }
 
-/// How many paths lead to their nodes, and whether the file's node is what was read.
-fn found(alloc: Global) -> Option<(usize, bool)> {
-    let tree = tree(alloc)?;
-    let count = count_found(alloc, &tree, &FOUND);
-    Some((count, is_of(&tree, 3, 256, b"u.256.1")))
-}
-
-/// Names are found in any case, and the root is 0.
-#[test]
-fn found_in_any_case(rt: HostRuntime) {
-    assert_eq!(rt; found(rt.alloc()), Some((FOUND.len(), true)));
-}
-
 fn has_children(alloc: Global, tree: &AliasTree, node: u32, children: &[u32]) -> bool {
     match tree.children(alloc, node) {
-        Ok(found) => found.as_slice() == children,
+        Ok(found) => {
+            let are_these = found.as_slice() == children;
+            drop(found);
+            are_these
+        }
         Err(_) => false,
     }
 }
 
-fn children(alloc: Global) -> Option<[bool; 3]> {
-    let tree = tree(alloc)?;
-    Some([
-        has_children(alloc, &tree, 0, &[1]),
-        has_children(alloc, &tree, 1, &[2]),
-        has_children(alloc, &tree, 9, &[]),
-    ])
-}
-
-/// The names of a directory, of the root and of one without names.
-#[test]
-fn names_of_directories(rt: HostRuntime) {
-    assert_eq!(rt; children(rt.alloc()), Some([true, true, true]));
-}
-
-/// A tree without names in which the directory `db` is put.
-fn put_db(alloc: Global) -> Option<AliasTree> {
-    let mut tree = AliasTree::new(alloc);
-    let name = name(alloc, b"db")?;
-    let bytes = name.as_bytes();
-    if bytes.len() > 80 {
+/// A tree without names in which a directory of this name is put.
+fn put_directory(alloc: Global, name: Name) -> Option<AliasTree> {
+    if name.as_bytes().len() > 80 {
+        drop(name);
         return None;
     }
+    let mut tree = AliasTree::new(alloc);
     let node = Node {
         parent: 0,
         kind: NodeKind::Directory,
         file: 0,
         name,
     };
-    tree.put(1, node).ok()?;
-    Some(tree)
+    match tree.put(1, node) {
+        Ok(()) => Some(tree),
+        Err(_) => {
+            drop(tree);
+            None
+        }
+    }
 }
 
-fn is_put(alloc: Global) -> Option<bool> {
-    let tree = put_db(alloc)?;
-    Some(leads(alloc, &tree, b"+DATA/DB", Some(1)))
+/// The same of the directory `db`.
+fn put_db(alloc: Global) -> Option<AliasTree> {
+    match name(alloc, b"db") {
+        Some(name) => put_directory(alloc, name),
+        None => None,
+    }
 }
 
-/// A directory is put into a tree without names, and is found there.
-#[test]
-fn put_and_found(rt: HostRuntime) {
-    assert_eq!(rt; is_put(rt.alloc()), Some(true));
+fn is_put_and_found(alloc: Global) -> bool {
+    match put_db(alloc) {
+        Some(tree) => {
+            let is_found = leads(alloc, &tree, b"+DATA/DB", Some(1));
+            drop(tree);
+            is_found
+        }
+        None => false,
+    }
 }
 
-/// How many records the tree has, and the key and the bytes of that of the inner directory.
-fn has_record(alloc: Global, bytes: &[u8]) -> Option<(usize, bool)> {
+/// Whether three records are put, and the second is that of the inner directory with these bytes.
+fn is_written(put: &[(Key, Value)], bytes: &[u8]) -> bool {
+    match put {
+        [_, (at, value), _] => *at == key(2) && value.as_bytes() == bytes,
+        _ => false,
+    }
+}
+
+fn has_record(alloc: Global, tree: &AliasTree, bytes: &[u8]) -> bool {
     let mut change = no_change(alloc);
-    tree(alloc)?.to_records(alloc, &mut change).ok()?;
-    let (at, value) = change.put.as_slice().get(1)?;
-    Some((change.put.len(), *at == key(2) && value.as_bytes() == bytes))
+    let is_right = tree.to_records(alloc, &mut change).is_ok()
+        && is_written(change.put.as_slice(), bytes);
+    drop(change);
+    is_right
 }
 
 /// The parent, the kind, the file, and a name of 80 bytes.
 const BYTES: &[u8] =
     b"\0\0\0\x01\x01\0\0\0\0\x08DATAFILE\0\0\0\0\0\0\0\0\0\0\0\0\0\0\0\0\0\0\0\0\0\0\0\0\0\0\0\0\0\0\0\0\0\0\0\0\0\0\0\0\0\0\0\0\0\0\0\0\0\0\0\0\0\0\0\0\0\0\0\0\0\0\0\0\0\0\0\0\0\0\0\0";
 
-/// The records of a tree are those that it was read from.
-#[test]
-fn records_again(rt: HostRuntime) {
-    assert_eq!(rt; has_record(rt.alloc(), BYTES), Some((3, true)));
+/// What is told of the tree of one file. Names are found in any case, and the root is 0; the names of a directory, of the root and of
+/// one without names; and the records of a tree are those that it was read from.
+fn play_one_file(alloc: Global, tree: &AliasTree) -> Result<(), Wrong> {
+    let found = count_found(alloc, tree, &FOUND);
+    all_right("names are found in any case", found, FOUND.len())?;
+    row("the node of a file", is_of(tree, 3, 256, b"u.256.1"))?;
+    row("names of the root", has_children(alloc, tree, 0, &[1]))?;
+    row("names of a directory", has_children(alloc, tree, 1, &[2]))?;
+    row("no names", has_children(alloc, tree, 9, &[]))?;
+    row("records of a tree", has_record(alloc, tree, BYTES))
+}
+
+fn play_file(alloc: Global) -> Result<(), Wrong> {
+    match tree_with(alloc, &[]) {
+        Some(Some(tree)) => {
+            let played = play_one_file(alloc, &tree);
+            drop(tree);
+            played
+        }
+        _ => Err(("the tree of one file", 0)),
+    }
 }
 
 const BROKEN: [Row; 6] = [
@@ -188,27 +218,50 @@ const BROKEN: [Row; 6] = [
 
 /// Whether the records with one more are a tree's.
 fn is_tree_with(alloc: Global, row: Row) -> Option<bool> {
-    let mut records = one_file(alloc)?;
-    add(alloc, &mut records, row)?;
-    let tree = AliasTree::from_records(alloc, &records).ok()?;
-    Some(tree.is_some())
-}
-
-#[test]
-fn broken_records(rt: HostRuntime) {
-    for row in BROKEN {
-        assert_eq!(rt; is_tree_with(rt.alloc(), row), Some(false));
+    match tree_with(alloc, &[row]) {
+        Some(tree) => {
+            let is_tree = tree.is_some();
+            drop(tree);
+            Some(is_tree)
+        }
+        None => None,
     }
-    assert_eq!(rt; is_tree_with(rt.alloc(), (4, 1, 3, 257, b"x")), Some(true));
 }
 
-/// The names of the directory `db`, in a tree that is open, and whether a copy has it.
+/// How many records break the tree, until one doesn't.
+fn count_broken(alloc: Global, rows: &[Row]) -> usize {
+    for (place, row) in rows.iter().enumerate() {
+        if is_tree_with(alloc, *row) != Some(false) {
+            return place;
+        }
+    }
+    rows.len()
+}
+
+/// The directory `db`.
+const DB: [Row; 1] = [(1, 0, 1, 0, b"db")];
+
+/// The tree of the directory `db`, which is open, and whether a copy has it.
 fn open_db(alloc: Global) -> Option<(OpenTree, bool)> {
-    let mut records = Records::new(alloc);
-    add(alloc, &mut records, (1, 0, 1, 0, b"db"))?;
-    let tree = AliasTree::from_records(alloc, &records).ok()??;
-    let is_copied = tree.copy(alloc).ok()?.get(1).is_some();
-    Some((tree.open(), is_copied))
+    match tree_of(alloc, &DB, &[]) {
+        Some(Some(tree)) => {
+            let is_copied = has_copy(alloc, &tree);
+            Some((tree.open(), is_copied))
+        }
+        _ => None,
+    }
+}
+
+/// Whether a copy of the tree has its directory.
+fn has_copy(alloc: Global, tree: &AliasTree) -> bool {
+    match tree.copy(alloc) {
+        Ok(copy) => {
+            let is_there = copy.get(1).is_some();
+            drop(copy);
+            is_there
+        }
+        Err(_) => false,
+    }
 }
 
 const SECOND: Key = Key {
@@ -219,22 +272,41 @@ const SECOND: Key = Key {
 
 /// Whether the record of node 2 with the name in other letters is put, once another node is gone.
 fn put_again(alloc: Global, tree: &mut OpenTree, gone: u32) -> Option<bool> {
-    let again = node_value(alloc, (2, 0, 1, 0, b"DB"))?;
-    tree.remove_record(gone);
-    tree.remove_record(2);
-    tree.put_record(alloc, SECOND, &again).ok()
+    match node_value(alloc, (2, 0, 1, 0, b"DB")) {
+        Some(again) => {
+            tree.remove_record(gone);
+            tree.remove_record(2);
+            let is_put = tree.put_record(alloc, SECOND, &again).ok();
+            drop(again);
+            is_put
+        }
+        None => None,
+    }
 }
 
 /// Whether a copy has the directory, and whether the same name is put while it is there and once it is gone.
-fn put_by_records(alloc: Global) -> Option<[bool; 3]> {
-    let (mut tree, is_copied) = open_db(alloc)?;
-    let beside = put_again(alloc, &mut tree, 9)?;
-    let instead = put_again(alloc, &mut tree, 1)?;
-    Some([is_copied, beside, instead])
+fn put_by_records(alloc: Global) -> Option<(bool, Option<bool>, Option<bool>)> {
+    match open_db(alloc) {
+        Some((mut tree, is_copied)) => {
+            let beside = put_again(alloc, &mut tree, 9);
+            let instead = put_again(alloc, &mut tree, 1);
+            drop(tree);
+            Some((is_copied, beside, instead))
+        }
+        None => None,
+    }
 }
 
-/// A name in other letters is taken while its node is there.
-#[test]
-fn a_node_is_put_by_its_record(rt: HostRuntime) {
-    assert_eq!(rt; put_by_records(rt.alloc()), Some([true, false, true]));
+pub fn play_rows(alloc: Global) -> Result<(), Wrong> {
+    play_file(alloc)?;
+    row("a directory is put and found", is_put_and_found(alloc))?;
+    all_right("broken records", count_broken(alloc, &BROKEN), BROKEN.len())?;
+    let is_tree = is_tree_with(alloc, (4, 1, 3, 257, b"x"));
+    row("records that aren't broken", is_tree == Some(true))?;
+    // A name in other letters is taken while its node is there.
+    let put = put_by_records(alloc);
+    row(
+        "a node is put by its record",
+        put == Some((true, Some(false), Some(true))),
+    )
 }

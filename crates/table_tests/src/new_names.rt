@@ -1,10 +1,9 @@
 // What the name of a new file would change.
-use crate::given::path;
+use crate::given::{Wrong, path, row};
 use crate::name_edits::{Row, Verb, edited};
-use alias_tree::{Node, TreeEdit, TreeError};
+use alias_tree::{AliasTree, Node, TreeEdit, TreeError};
 use asm_base::NodeKind;
 use std::alloc::Global;
-use std::test::*;
 
 /// The directory `a` and the file 256 in it.
 const USUAL: [Row; 2] = [
@@ -15,23 +14,46 @@ const USUAL: [Row; 2] = [
 /// A node that is made: its number, its parent, its kind, its file and its name.
 type Made = (u32, u32, NodeKind, u32, &'static [u8]);
 
-/// The plan of the name of file 257.
-fn planned(alloc: Global, at: &[u8]) -> Option<Result<Vec<(u32, Node)>, TreeError>> {
-    let tree = edited(alloc, &USUAL)?;
-    let edit = TreeEdit::AddFile {
-        path: path(alloc, at)?,
-        file: 257,
-    };
+/// What a plan gives.
+type Planned = Result<Vec<(u32, Node)>, TreeError>;
+
+/// The plan of the name of file 257 at a path, by an edit.
+fn planned_by(alloc: Global, tree: &AliasTree, edit: &TreeEdit) -> Option<Planned> {
     if !edit.is_allowed() {
         return None;
     }
-    let TreeEdit::AddFile { path, file } = &edit else {
+    let TreeEdit::AddFile { path, file } = edit else {
         return None;
     };
     if path.parts.is_empty() {
         return None;
     }
     Some(tree.plan_file(alloc, path, *file))
+}
+
+/// The same in a tree.
+fn planned_in(alloc: Global, tree: &AliasTree, at: &[u8]) -> Option<Planned> {
+    match path(alloc, at) {
+        Some(path) => {
+            let edit = TreeEdit::AddFile { path, file: 257 };
+            let planned = planned_by(alloc, tree, &edit);
+            drop(edit);
+            planned
+        }
+        None => None,
+    }
+}
+
+/// The same in the usual tree.
+fn planned(alloc: Global, at: &[u8]) -> Option<Planned> {
+    match edited(alloc, &USUAL) {
+        Some(tree) => {
+            let planned = planned_in(alloc, &tree, at);
+            drop(tree);
+            planned
+        }
+        None => None,
+    }
 }
 
 fn is_made(made: &(u32, Node), wanted: &Made) -> bool {
@@ -45,40 +67,62 @@ fn is_made(made: &(u32, Node), wanted: &Made) -> bool {
 }
 
 /// Whether the nodes that are made are these.
+fn are_these(made: &[(u32, Node)], wanted: &[Made]) -> bool {
+    made.len() == wanted.len() && made.iter().zip(wanted.iter()).all(|(m, w)| is_made(m, w))
+}
+
 fn are_made(alloc: Global, at: &[u8], wanted: &[Made]) -> bool {
     match planned(alloc, at) {
         Some(Ok(made)) => {
-            made.len() == wanted.len() && made.iter().zip(wanted.iter()).all(|(m, w)| is_made(m, w))
+            let are_these = are_these(&made, wanted);
+            drop(made);
+            are_these
         }
         _ => false,
     }
 }
 
 /// The directories that are missing are made, from the top, and then the name, each with the least free number.
-#[test]
-fn new_file(rt: HostRuntime) {
-    let wanted: [Made; 3] = [
-        (3, 1, NodeKind::Directory, 0, b"b"),
-        (4, 3, NodeKind::Directory, 0, b"c"),
-        (5, 4, NodeKind::System, 257, b"u.257.2"),
-    ];
-    assert!(rt; are_made(rt.alloc(), b"+DATA/A/b/c/u.257.2", &wanted));
-}
+const MADE: [Made; 3] = [
+    (3, 1, NodeKind::Directory, 0, b"b"),
+    (4, 3, NodeKind::Directory, 0, b"c"),
+    (5, 4, NodeKind::System, 257, b"u.257.2"),
+];
 
-fn refusal(alloc: Global, at: &[u8]) -> Option<TreeError> {
-    planned(alloc, at)?.err()
-}
-
-/// A name below a file, and one that is there, is refused.
-#[test]
-fn new_file_refused(rt: HostRuntime) {
-    let rows: [(&[u8], TreeError); 4] = [
-        (b"+DATA/a/T.256.1/u.257.2", TreeError::NotDirectory),
-        (b"+DATA/a/t.256.1/b/u.257.2", TreeError::NotDirectory),
-        (b"+DATA/a/T.256.1", TreeError::NameTaken),
-        (b"+DATA/A", TreeError::NameTaken),
-    ];
-    for (at, wanted) in rows {
-        assert_eq!(rt; refusal(rt.alloc(), at), Some(wanted));
+/// Whether a name is refused so.
+fn is_refused(alloc: Global, at: &[u8], wanted: TreeError) -> bool {
+    match planned(alloc, at) {
+        Some(Err(refusal)) => refusal == wanted,
+        Some(Ok(made)) => {
+            drop(made);
+            false
+        }
+        None => false,
     }
+}
+
+pub fn play_rows(alloc: Global) -> Result<(), Wrong> {
+    let at = b"+DATA/A/b/c/u.257.2";
+    row("a new file", are_made(alloc, at, &MADE))?;
+    // A name below a file, and one that is there, is refused.
+    let at = b"+DATA/a/T.256.1/u.257.2";
+    row(
+        "a name below a file",
+        is_refused(alloc, at, TreeError::NotDirectory),
+    )?;
+    let at = b"+DATA/a/t.256.1/b/u.257.2";
+    row(
+        "a name far below a file",
+        is_refused(alloc, at, TreeError::NotDirectory),
+    )?;
+    let at = b"+DATA/a/T.256.1";
+    row(
+        "a file's name that is taken",
+        is_refused(alloc, at, TreeError::NameTaken),
+    )?;
+    let at = b"+DATA/A";
+    row(
+        "a directory's name that is taken",
+        is_refused(alloc, at, TreeError::NameTaken),
+    )
 }

@@ -1,9 +1,8 @@
 // The table of operations that are begun and not ended.
-use crate::given::{no_change, put_all_but, value};
-use asm_base::{Key, PendingKind, Records};
+use crate::given::{Wrong, no_change, put_all_but, row, value};
+use asm_base::{Change, Key, PendingKind, Records, Value};
 use operations_directory::{OperationTable, Pending};
 use std::alloc::Global;
-use std::test::*;
 
 /// A rebalance of power 4, and a file that grows.
 fn begun() -> OperationTable {
@@ -17,13 +16,27 @@ fn begun() -> OperationTable {
     table
 }
 
+/// The table of the records that a change puts.
+fn read(alloc: Global, change: Change) -> Option<OperationTable> {
+    let mut records = Records::new(alloc);
+    let table = match put_all_but(&mut records, change, 0) {
+        Some(()) => OperationTable::from_records(&records).ok().flatten(),
+        None => None,
+    };
+    drop(records);
+    table
+}
+
 /// The table that is read from the records of another.
 fn read_again(alloc: Global, table: &OperationTable) -> Option<OperationTable> {
     let mut change = no_change(alloc);
-    table.to_records(alloc, &mut change).ok()?;
-    let mut records = Records::new(alloc);
-    put_all_but(&mut records, change, 0)?;
-    OperationTable::from_records(&records).ok().flatten()
+    match table.to_records(alloc, &mut change) {
+        Ok(()) => read(alloc, change),
+        Err(_) => {
+            drop(change);
+            None
+        }
+    }
 }
 
 /// The power of the rebalance, and the file that is pending with the extents that it keeps.
@@ -32,14 +45,9 @@ fn told(table: &OperationTable) -> Option<(Option<u16>, u32, u64)> {
     Some((table.rebalance(), pending.file, pending.kept))
 }
 
+/// What is written is read again.
 fn told_again(alloc: Global) -> Option<(Option<u16>, u32, u64)> {
     told(&read_again(alloc, &begun())?)
-}
-
-/// What is written is read again.
-#[test]
-fn written_and_read(rt: HostRuntime) {
-    assert_eq!(rt; told_again(rt.alloc()), Some((Some(4), 256, 7)));
 }
 
 const REBALANCE: Key = Key {
@@ -49,10 +57,9 @@ const REBALANCE: Key = Key {
 };
 
 /// The power once a record is put, and once it is taken away.
-fn powers(alloc: Global) -> Option<[Option<u16>; 2]> {
+fn powers_by(power: &Value) -> Option<[Option<u16>; 2]> {
     let mut table = OperationTable::new();
-    let power = value(alloc, &[0, 4])?;
-    if !table.put_record(REBALANCE, &power) {
+    if !table.put_record(REBALANCE, power) {
         return None;
     }
     let put = table.rebalance();
@@ -60,7 +67,26 @@ fn powers(alloc: Global) -> Option<[Option<u16>; 2]> {
     Some([put, table.rebalance()])
 }
 
-#[test]
-fn a_rebalance_is_put_by_its_record(rt: HostRuntime) {
-    assert_eq!(rt; powers(rt.alloc()), Some([Some(4), None]));
+fn powers(alloc: Global) -> Option<[Option<u16>; 2]> {
+    match value(alloc, &[0, 4]) {
+        Some(power) => {
+            let powers = powers_by(&power);
+            drop(power);
+            powers
+        }
+        None => None,
+    }
+}
+
+pub fn play_rows(alloc: Global) -> Result<(), Wrong> {
+    let told = told_again(alloc);
+    row(
+        "operations are written and read",
+        told == Some((Some(4), 256, 7)),
+    )?;
+    let powers = powers(alloc);
+    row(
+        "a rebalance is put by its record",
+        powers == Some([Some(4), None]),
+    )
 }

@@ -1,9 +1,8 @@
 // Edits of the templates of a group, and what they leave.
-use crate::given::name;
+use crate::given::{Wrong, name, row};
 use crate::templates::new_table;
 use asm_base::{GroupKind, Limited, Refusal, Stripe};
 use std::alloc::Global;
-use std::test::*;
 use template_directory::{TemplateEdit, TemplateTable};
 
 /// An edit of the template of a name, and the copies that it says. One that is added has coarse stripes, one that is modified
@@ -16,7 +15,7 @@ enum Edit<'a> {
 }
 
 /// The answer of an edit.
-#[derive(Clone, Copy, Debug, PartialEq, Eq)]
+#[derive(Clone, Copy, PartialEq, Eq)]
 enum Answer {
     Done,
     NameTaken,
@@ -59,6 +58,20 @@ fn answer_of(refusal: &Refusal) -> Answer {
     }
 }
 
+fn answer_by(table: &mut TemplateTable, kind: GroupKind, edit: &TemplateEdit) -> Option<Answer> {
+    if !edit.is_allowed() {
+        return None;
+    }
+    match table.edit(kind, edit) {
+        Ok(()) => Some(Answer::Done),
+        Err(refusal) => {
+            let answer = answer_of(&refusal);
+            drop(refusal);
+            Some(answer)
+        }
+    }
+}
+
 /// The answer of an edit of a group of a kind. None where it is no edit, or there is no memory.
 fn answer_to(
     alloc: Global,
@@ -66,13 +79,13 @@ fn answer_to(
     kind: GroupKind,
     edit: Edit<'_>,
 ) -> Option<Answer> {
-    let edit = edit_of(alloc, edit)?;
-    if !edit.is_allowed() {
-        return None;
-    }
-    match table.edit(kind, &edit) {
-        Ok(()) => Some(Answer::Done),
-        Err(refusal) => Some(answer_of(&refusal)),
+    match edit_of(alloc, edit) {
+        Some(edit) => {
+            let answer = answer_by(table, kind, &edit);
+            drop(edit);
+            answer
+        }
+        None => None,
     }
 }
 
@@ -108,111 +121,123 @@ fn is_placed(table: &TemplateTable, row: Placed) -> bool {
     }
 }
 
-/// How many edits of a new group have their answers, how many templates it has then, and whether one is at its place.
-fn left(
+/// Plays edits of a new group, which has so many templates then, one of them at its place.
+fn play(
     alloc: Global,
+    name: &'static str,
     kind: GroupKind,
     rows: &[Row],
+    count: usize,
     placed: Placed,
-) -> Option<(usize, usize, bool)> {
-    let mut table = new_table(alloc, kind)?;
-    let answered = count_answered(alloc, &mut table, kind, rows);
-    Some((answered, table.list().len(), is_placed(&table, placed)))
+) -> Result<(), Wrong> {
+    match new_table(alloc, kind) {
+        Some(mut table) => {
+            let answered = count_answered(alloc, &mut table, kind, rows);
+            let is_left = table.list().len() == count && is_placed(&table, placed);
+            drop(table);
+            row(name, answered == rows.len() && is_left)
+        }
+        None => Err((name, 0)),
+    }
 }
 
 const CONTROL: Placed = (4, b"CONTROLFILE", 3, true);
 
 const FILE: Placed = (5, b"DATAFILE", 2, true);
 
-#[test]
-fn system_templates_are_made(rt: HostRuntime) {
-    let normal = GroupKind::Normal;
-    assert_eq!(rt; left(rt.alloc(), normal, &[], CONTROL), Some((0, 13, true)));
-    assert_eq!(rt; left(rt.alloc(), normal, &[], FILE), Some((0, 13, true)));
-}
-
 /// A template is added in its place, with the usual copies.
-#[test]
-fn template_is_added(rt: HostRuntime) {
-    let rows = [(Edit::Add(b"Bravo", None), Answer::Done)];
-    let left = left(
-        rt.alloc(),
-        GroupKind::Normal,
-        &rows,
-        (3, b"Bravo", 2, false),
-    );
-    assert_eq!(rt; left, Some((1, 14, true)));
-}
+const ADDED: [Row; 1] = [(Edit::Add(b"Bravo", None), Answer::Done)];
+
+const BRAVO: Placed = (3, b"Bravo", 2, false);
 
 /// A template is changed in any case of its name, and keeps its spelling and that it is the system's.
-#[test]
-fn template_is_modified(rt: HostRuntime) {
-    let rows = [(Edit::Modify(b"datafile", Some(3)), Answer::Done)];
-    let left = left(
-        rt.alloc(),
-        GroupKind::Normal,
-        &rows,
-        (5, b"DATAFILE", 3, true),
-    );
-    assert_eq!(rt; left, Some((1, 13, true)));
-}
+const MODIFIED: [Row; 1] = [(Edit::Modify(b"datafile", Some(3)), Answer::Done)];
+
+const OF_THREE: Placed = (5, b"DATAFILE", 3, true);
 
 /// A template is dropped in any case of its name.
-#[test]
-fn template_is_dropped(rt: HostRuntime) {
-    let rows = [
-        (Edit::Add(b"new", None), Answer::Done),
-        (Edit::Drop(b"NEW"), Answer::Done),
-    ];
-    let left = left(rt.alloc(), GroupKind::High, &rows, CONTROL);
-    assert_eq!(rt; left, Some((2, 13, true)));
-}
+const DROPPED: [Row; 2] = [
+    (Edit::Add(b"new", None), Answer::Done),
+    (Edit::Drop(b"NEW"), Answer::Done),
+];
 
 /// What is refused, and which cause comes first. The table stays.
-#[test]
-fn edits_are_refused(rt: HostRuntime) {
-    let rows = [
-        (Edit::Add(b"datafile", Some(2)), Answer::NameTaken),
-        (Edit::Add(b"new", Some(2)), Answer::BadRedundancy),
-        (Edit::Modify(b"new", Some(2)), Answer::NoTemplate),
-        (Edit::Modify(b"datafile", Some(3)), Answer::BadRedundancy),
-        (Edit::Drop(b"new"), Answer::NoTemplate),
-        (Edit::Drop(b"datafile"), Answer::SystemTemplate),
-    ];
-    let left = left(
-        rt.alloc(),
-        GroupKind::External,
-        &rows,
-        (5, b"DATAFILE", 1, true),
-    );
-    assert_eq!(rt; left, Some((6, 13, true)));
-}
+const REFUSED: [Row; 6] = [
+    (Edit::Add(b"datafile", Some(2)), Answer::NameTaken),
+    (Edit::Add(b"new", Some(2)), Answer::BadRedundancy),
+    (Edit::Modify(b"new", Some(2)), Answer::NoTemplate),
+    (Edit::Modify(b"datafile", Some(3)), Answer::BadRedundancy),
+    (Edit::Drop(b"new"), Answer::NoTemplate),
+    (Edit::Drop(b"datafile"), Answer::SystemTemplate),
+];
 
-/// A table with 51 templates beside the system's.
-fn full(alloc: Global) -> Option<TemplateTable> {
-    let mut table = new_table(alloc, GroupKind::High)?;
+const OF_ONE: Placed = (5, b"DATAFILE", 1, true);
+
+/// Adds 51 templates beside the system's. Whether that is done.
+fn fill(alloc: Global, table: &mut TemplateTable) -> bool {
     for i in 0..51 {
         let name = [b'T', b'0' + i / 10, b'0' + i % 10];
-        let answer = answer_to(alloc, &mut table, GroupKind::High, Edit::Add(&name, None))?;
-        if answer != Answer::Done {
-            return None;
+        let answer = answer_to(alloc, table, GroupKind::High, Edit::Add(&name, None));
+        if answer != Some(Answer::Done) {
+            return false;
         }
     }
-    Some(table)
+    true
 }
 
-fn one_more(alloc: Global) -> Option<Answer> {
-    let mut table = full(alloc)?;
-    answer_to(
-        alloc,
-        &mut table,
-        GroupKind::High,
-        Edit::Add(b"one_more", None),
-    )
+/// The answer to one template more.
+fn one_more(alloc: Global, table: &mut TemplateTable) -> Option<Answer> {
+    answer_to(alloc, table, GroupKind::High, Edit::Add(b"one_more", None))
 }
 
 /// A group has at most 64 templates.
-#[test]
-fn at_most_64(rt: HostRuntime) {
-    assert_eq!(rt; one_more(rt.alloc()), Some(Answer::MoreThan64));
+fn has_at_most_64(alloc: Global) -> bool {
+    match new_table(alloc, GroupKind::High) {
+        Some(mut table) => {
+            let is_refused = fill(alloc, &mut table)
+                && one_more(alloc, &mut table) == Some(Answer::MoreThan64);
+            drop(table);
+            is_refused
+        }
+        None => false,
+    }
+}
+
+pub fn play_rows(alloc: Global) -> Result<(), Wrong> {
+    let normal = GroupKind::Normal;
+    play(
+        alloc,
+        "control file of the system",
+        normal,
+        &[],
+        13,
+        CONTROL,
+    )?;
+    play(alloc, "data file of the system", normal, &[], 13, FILE)?;
+    play(alloc, "template is added", normal, &ADDED, 14, BRAVO)?;
+    play(
+        alloc,
+        "template is modified",
+        normal,
+        &MODIFIED,
+        13,
+        OF_THREE,
+    )?;
+    play(
+        alloc,
+        "template is dropped",
+        GroupKind::High,
+        &DROPPED,
+        13,
+        CONTROL,
+    )?;
+    play(
+        alloc,
+        "edits are refused",
+        GroupKind::External,
+        &REFUSED,
+        13,
+        OF_ONE,
+    )?;
+    row("at most 64 templates", has_at_most_64(alloc))
 }

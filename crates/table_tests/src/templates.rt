@@ -2,21 +2,26 @@
 ghost use Rattle.std.specs.Prelude.{IfSome, IsTrue};
 ghost use Rattle.asm_formats.specs.Items.{is_item, settings_item};
 
-use crate::given::{no_change, put, put_all_but};
-use asm_base::{GroupKind, Key, Records};
+use crate::given::{Wrong, no_change, put, put_all_but, row};
+use asm_base::{Change, GroupKind, Key, List, Records, Value};
 use std::alloc::Global;
-use std::test::*;
-use template_directory::{Settings, TemplateTable, are_allowed, settings_value, system};
+use template_directory::{Settings, Template, TemplateTable, are_allowed, settings_value, system};
 
 /// The table of a new group of a kind.
 pub fn new_table(alloc: Global, kind: GroupKind) -> Option<TemplateTable> {
-    let templates = system(alloc, kind).ok()?;
-    let settings = Settings::usual(alloc);
-    if are_allowed(templates.as_slice()) && settings.is_allowed() {
-        Some(TemplateTable::new(templates, settings))
-    } else {
-        None
+    match system(alloc, kind) {
+        Ok(templates) => table_of(templates, Settings::usual(alloc)),
+        Err(_) => None,
     }
+}
+
+fn table_of(templates: List<Template>, settings: Settings) -> Option<TemplateTable> {
+    if are_allowed(templates.as_slice()) && settings.is_allowed() {
+        return Some(TemplateTable::new(templates, settings));
+    }
+    drop(templates);
+    drop(settings);
+    None
 }
 
 /// The settings of a new group, with another incarnation.
@@ -28,19 +33,50 @@ fn settings(alloc: Global, incarnation: u64) -> Option<Settings>
     if settings.is_allowed() {
         Some(settings)
     } else {
+        drop(settings);
         None
     }
 }
 
-/// The records of a new group of incarnation 9, but those of a kind.
-fn records_but(alloc: Global, left_out: u16) -> Option<Records> {
-    let mut table = new_table(alloc, GroupKind::Normal)?;
-    table.set_settings(settings(alloc, 9)?);
+/// The table of a new group of incarnation 9.
+fn table_of_9(alloc: Global) -> Option<TemplateTable> {
+    match settings(alloc, 9) {
+        Some(settings) => match new_table(alloc, GroupKind::Normal) {
+            Some(mut table) => {
+                table.set_settings(settings);
+                Some(table)
+            }
+            None => {
+                drop(settings);
+                None
+            }
+        },
+        None => None,
+    }
+}
+
+/// The change that puts the records of a table.
+fn records_in(alloc: Global, table: &TemplateTable) -> Option<Change> {
     let mut change = no_change(alloc);
-    table.to_records(alloc, &mut change).ok()?;
-    let mut records = Records::new(alloc);
-    put_all_but(&mut records, change, left_out)?;
-    Some(records)
+    match table.to_records(alloc, &mut change) {
+        Ok(()) => Some(change),
+        Err(_) => {
+            drop(change);
+            None
+        }
+    }
+}
+
+/// The same of a new group of incarnation 9.
+fn records_of_9(alloc: Global) -> Option<Change> {
+    match table_of_9(alloc) {
+        Some(table) => {
+            let change = records_in(alloc, &table);
+            drop(table);
+            change
+        }
+        None => None,
+    }
 }
 
 /// The incarnation, the repair time in seconds, and how many templates there are.
@@ -53,22 +89,27 @@ fn told(table: &TemplateTable) -> Told {
 
 /// What is told of the table of these records. The inner None where they are no table's.
 fn read(alloc: Global, records: &Records) -> Option<Option<Told>> {
-    match TemplateTable::from_records(alloc, records).ok()? {
-        Some(table) => Some(Some(told(&table))),
-        None => Some(None),
+    match TemplateTable::from_records(alloc, records) {
+        Ok(Some(table)) => {
+            let told = told(&table);
+            drop(table);
+            Some(Some(told))
+        }
+        Ok(None) => Some(None),
+        Err(_) => None,
     }
 }
 
-/// What is told of the records of a new group but those of a kind.
+/// What is told of the records of a new group of incarnation 9, but those of a kind.
 fn read_but(alloc: Global, left_out: u16) -> Option<Option<Told>> {
-    read(alloc, &records_but(alloc, left_out)?)
-}
-
-/// A table is read from the records that it makes. Without one of them there is none.
-#[test]
-fn read_again(rt: HostRuntime) {
-    assert_eq!(rt; read_but(rt.alloc(), 0), Some(Some((9, 12_960, 13))));
-    assert_eq!(rt; read_but(rt.alloc(), 5), Some(None));
+    let change = records_of_9(alloc)?;
+    let mut records = Records::new(alloc);
+    let told = match put_all_but(&mut records, change, left_out) {
+        Some(()) => read(alloc, &records),
+        None => None,
+    };
+    drop(records);
+    told
 }
 
 const OTHER_KEY: Key = Key {
@@ -79,14 +120,12 @@ const OTHER_KEY: Key = Key {
 
 fn read_other_key(alloc: Global) -> Option<Option<Told>> {
     let mut records = Records::new(alloc);
-    put(alloc, &mut records, OTHER_KEY, &[0])?;
-    read(alloc, &records)
-}
-
-/// A record of their kinds with another key makes no table.
-#[test]
-fn another_key(rt: HostRuntime) {
-    assert_eq!(rt; read_other_key(rt.alloc()), Some(None));
+    let told = match put(alloc, &mut records, OTHER_KEY, &[0]) {
+        Some(()) => read(alloc, &records),
+        None => None,
+    };
+    drop(records);
+    told
 }
 
 const SETTINGS: Key = Key {
@@ -95,18 +134,76 @@ const SETTINGS: Key = Key {
     b: 0,
 };
 
-/// What is told of a copy of a table that is given settings by their record.
-fn told_put(alloc: Global) -> Option<Told> {
-    let settings = settings(alloc, 8)?;
-    let value = settings_value(alloc, &settings).ok()?;
-    let mut table = new_table(alloc, GroupKind::Normal)?;
-    if table.put_record(alloc, SETTINGS, &value) != Ok(true) {
-        return None;
+/// The value of the record of the settings of incarnation 8.
+fn value_of_8(alloc: Global) -> Option<Value> {
+    match settings(alloc, 8) {
+        Some(settings) => {
+            let value = settings_value(alloc, &settings).ok();
+            drop(settings);
+            value
+        }
+        None => None,
     }
-    Some(told(&table.copy(alloc).ok()?))
 }
 
-#[test]
-fn settings_are_put_by_their_record(rt: HostRuntime) {
-    assert_eq!(rt; told_put(rt.alloc()), Some((8, 12_960, 13)));
+/// What is told of a copy of a table.
+fn told_of_copy(alloc: Global, table: &TemplateTable) -> Option<Told> {
+    match table.copy(alloc) {
+        Ok(copy) => {
+            let told = told(&copy);
+            drop(copy);
+            Some(told)
+        }
+        Err(_) => None,
+    }
+}
+
+/// The same of a new table that is given settings by their record.
+fn told_by(alloc: Global, value: &Value) -> Option<Told> {
+    match new_table(alloc, GroupKind::Normal) {
+        Some(mut table) => {
+            let told = if table.put_record(alloc, SETTINGS, value) == Ok(true) {
+                told_of_copy(alloc, &table)
+            } else {
+                None
+            };
+            drop(table);
+            told
+        }
+        None => None,
+    }
+}
+
+fn told_put(alloc: Global) -> Option<Told> {
+    match value_of_8(alloc) {
+        Some(value) => {
+            let told = told_by(alloc, &value);
+            drop(value);
+            told
+        }
+        None => None,
+    }
+}
+
+/// A table is read from the records that it makes. Without one of them there is none, and a record of their kinds with another key
+/// makes none.
+pub fn play_rows(alloc: Global) -> Result<(), Wrong> {
+    let whole = read_but(alloc, 0);
+    row(
+        "templates are read again",
+        whole == Some(Some((9, 12_960, 13))),
+    )?;
+    row(
+        "without a record of templates",
+        read_but(alloc, 5) == Some(None),
+    )?;
+    row(
+        "templates of another key",
+        read_other_key(alloc) == Some(None),
+    )?;
+    let put = told_put(alloc);
+    row(
+        "settings are put by their record",
+        put == Some((8, 12_960, 13)),
+    )
 }
