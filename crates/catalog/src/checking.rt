@@ -1,21 +1,24 @@
 //! Whether the tables of a group keep the rules that hold across them.
 
 ghost use Rattle.std.specs.Prelude.{◌≡◌, List as Items, IfErr, IfNone, IfOk, IfSome, IsTrue, None};
+ghost use Rattle.std.specs.Bool.{OnTrue};
 ghost use Rattle.std.specs.List.{list_all};
 ghost use Rattle.asm_group.specs.Shape.{Shape as GroupShape, is_shape};
 ghost use Rattle.asm_formats.specs.Status.{Entry, is_entry};
+ghost use Rattle.allocator.specs.UnitMaps.{UnitMap};
 ghost use Rattle.extent_map.specs.Extents as extent_table;
 ghost use Rattle.catalog.specs.Faults.{AreChunksRight, AreNamesRight, AreSizesRight, BreaksRule, IsChunkFault, Names, disk_key, file_key, key_of_marks};
 ghost use Rattle.catalog.specs.Placing.{HasUnits};
 ghost use Rattle.catalog.specs.Rules.{AreOnRegular, KeepsRules, first_unknown};
 ghost use Rattle.catalog.specs.Tables.{AreTables};
 
+use crate::catalog::Catalog;
 use crate::error::CatalogError;
 use crate::parts::Parts;
 use crate::placing::{place_in, unused_units};
 use crate::reading::{SETTINGS, chunk_key, node_key};
 use allocator::Units;
-use asm_base::{Key, Shape};
+use asm_base::{Key, NoMemory, Shape};
 use status_table::PstEntry;
 use std::alloc::Global;
 
@@ -124,6 +127,24 @@ impl Parts {
         match place_in(&mut units, shape.step, &self.extents) {
             None => Ok(units),
             Some(at) => Err(CatalogError::Damaged { key: chunk_key(at) }),
+        }
+    }
+}
+
+impl Catalog {
+    /// Whether the units of these entries cover the homes that the tables name: all are user units of theirs, and none is used
+    /// twice. Work and memory go by the number of homes and of units.
+    pub fn covers(&self, alloc: Global, entries: &[PstEntry]) -> Result<bool, NoMemory>
+        requires entries { IsTrue (list_all is_entry entries.now) }
+        ensures { IfOk result (λ covers. OnTrue covers ((ms : Items UnitMap) × HasUnits self.now.shape entries.now self.now.tables ms)) }
+    {
+        match self.parts.units(alloc, &self.shape, entries) {
+            Ok(units) => {
+                drop(units);
+                Ok(true)
+            }
+            Err(CatalogError::Damaged { .. }) => Ok(false),
+            Err(CatalogError::NoMemory) => Err(NoMemory),
         }
     }
 }

@@ -59,7 +59,7 @@ not_open m is mounted = false≢true (sym (ap takes_calls is) ∙ ap takes_calls
 -- ---- disks
 
 -- a run of calls on some slots, in fewer words
-run_less : {slots more : ℕ → Type 0} {step whole : bay.Image → bay.Image → Type 0} {a b : BayState} → ((s : ℕ) → slots s → more s) → ((x y : bay.Image) → step x y → whole x y) → Runs slots step a b → Runs more whole a b
+pub run_less : {slots more : ℕ → Type 0} {step whole : bay.Image → bay.Image → Type 0} {a b : BayState} → ((s : ℕ) → slots s → more s) → ((x y : bay.Image) → step x y → whole x y) → Runs slots step a b → Runs more whole a b
 run_less {slots} {more} {step} {whole} {a} {b} wider weaker run = record {
   later = run.later;
   faults = run.faults;
@@ -71,7 +71,7 @@ run_less {slots} {more} {step} {whole} {a} {b} wider weaker run = record {
 }
 
 -- two runs, one after the other
-run_on : {slots : ℕ → Type 0} {step : bay.Image → bay.Image → Type 0} {a b c : BayState} → ((x y z : bay.Image) → step x y → step y z → step x z) → Runs slots step a b → Runs slots step b c → Runs slots step a c
+pub run_on : {slots : ℕ → Type 0} {step : bay.Image → bay.Image → Type 0} {a b c : BayState} → ((x y z : bay.Image) → step x y → step y z → step x z) → Runs slots step a b → Runs slots step b c → Runs slots step a c
 run_on {slots} {step} {a} {b} {c} joins one two = record {
   later = omega (arith, one.later, two.later);
   faults = λ s. omega (arith, one.faults s, two.faults s);
@@ -95,7 +95,7 @@ run_on {slots} {step} {a} {b} {c} joins one two = record {
       (cases_lt k b.calls);
 }
 
-own_joins : (m : MountedGroup) (x y z : bay.Image) → OnOwnDisks m x y → OnOwnDisks m y z → OnOwnDisks m x z
+pub own_joins : (m : MountedGroup) (x y z : bay.Image) → OnOwnDisks m x y → OnOwnDisks m y z → OnOwnDisks m x z
 own_joins m x y z a b = record { size = λ s. b.size s ∙ a.size s; byte = λ s k out. b.byte s k out ∙ a.byte s k out }
 
 -- nothing changes

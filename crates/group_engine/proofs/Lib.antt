@@ -24,3 +24,7 @@ pub mod Forgotten
 pub mod Chunks
 pub mod Endings
 pub mod Gones
+pub mod Members
+pub mod MayGet
+pub mod Copied
+pub mod TakingOut

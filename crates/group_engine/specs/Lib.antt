@@ -13,3 +13,6 @@ pub mod NextRecords
 pub mod Forgetting
 pub mod Pending
 pub mod Gone
+pub mod Members
+pub mod Copying
+pub mod Trying

@@ -3,17 +3,23 @@
 
 mod access;
 mod attached;
+mod attaching;
+mod births;
 mod byte_laws;
 mod changing;
 mod commit;
 mod commit_laws;
+mod copying;
 mod dropping;
 mod flight;
 mod forgetting;
 mod frames;
 mod gone;
+mod leaving;
+mod letting_laws;
 mod mounted;
 mod next_laws;
+mod next_record;
 mod pending;
 mod status;
 
@@ -26,5 +32,6 @@ pub use frames::{
     calls_keep, causes_join, giving_up_keeps, mounted_elsewhere, ready_elsewhere, ready_with_own,
     spared_is_held, stays_attached,
 };
+pub use letting_laws::{keeping_lets_go, lettings_join};
 pub use mounted::Mounted;
 pub use next_laws::same_disks_are_next;

@@ -250,7 +250,7 @@ impl Mounted {
     }
 
     /// Commits a plan on a group that takes calls: want of blocks is answered as want of memory.
-    fn commit_plan<B: Bay>(
+    pub(crate) fn commit_plan<B: Bay>(
         &mut self,
         alloc: Global,
         bay: &mut B,

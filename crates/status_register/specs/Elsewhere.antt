@@ -50,6 +50,10 @@ NoRecordsFit =
 abbrev pub with_attached : Registered → Member → Registered
 with_attached register m = record register { members = set register.members m.number (Some m) }
 
+-- the register with no member of a number
+abbrev pub without_attached : Registered → ℕ → Registered
+without_attached register number = record register { members = set register.members number None }
+
 -- no attached member of another number has the member's slot
 abbrev pub IsApartFrom : Registered → Member → Type 0
 IsApartFrom register m = (i : ℕ) (n : Member) → get_or register.members i None ≡ Some n → n.slot ≡ m.slot → i ≡ m.number

@@ -1,13 +1,13 @@
 //! The record of a group whose epoch was claimed.
 
-ghost use Rattle.std.specs.Prelude.{◌≡◌, ◌≤◌, ◌<◌, ◌+◌, ◌*◌, ◌^◌, ◌↔◌, [], None, Some, true, length, replicate, IsTrue, IfErr, IfOk, OnOk};
+ghost use Rattle.std.specs.Prelude.{◌≡◌, ◌≤◌, ◌<◌, ◌+◌, ◌*◌, ◌^◌, ◌↔◌, [], None, Some, true, get_or, length, replicate, IsTrue, IfErr, IfOk, OnOk};
 ghost use Rattle.asm_formats.specs.Claim.{claim_spelling};
 ghost use Rattle.asm_formats.specs.Following.{Follows, Holder, disks_of, sets};
 ghost use Rattle.asm_formats.specs.Status.{is_status, status_spelling};
 ghost use Rattle.asm_placement.specs.Among.{IsAmong};
 ghost use Rattle.bay.specs.State.{KeepsAttached};
 ghost use Rattle.bay.specs.Moments.{Ends, Runs};
-ghost use Rattle.status_register.specs.Elsewhere.{with_attached};
+ghost use Rattle.status_register.specs.Elsewhere.{with_attached, without_attached};
 ghost use Rattle.status_register.specs.Holders.{HoldSlots, SlotsDiffer, attached_to, numbered};
 ghost use Rattle.status_register.specs.Keeping.{IsReady, KeepsFromFirst, KeepsStanding, KeepsWritten};
 ghost use Rattle.status_register.specs.Reaching.{Reaches};
@@ -91,6 +91,23 @@ impl Register {
         ensures { self.new ≡ with_attached self.old member }
     {
         self.members[member.number as usize] = Some(member);
+    }
+
+    /// The member of a number is attached no more.
+    pub fn detach(&mut self, number: u8)
+        requires { number < 64 }
+        ensures { self.new ≡ without_attached self.old number }
+    {
+        self.members[number as usize] = None;
+    }
+
+    /// The attached member of a number. There is none of a number from 64 on.
+    pub fn member(&self, number: u8) -> Option<Member>
+        requires { number < 64 }
+        ensures member { result ≡ get_or self.now.members number None }
+        ensures all { length self.now.members ≡ 64 }
+    {
+        self.members[number as usize]
     }
 
     /// Whether a majority of each set of a record is attached.

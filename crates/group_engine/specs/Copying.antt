@@ -1,0 +1,69 @@
+-- The directories are stored on a disk more.
+use Rattle.std.specs.Prelude.{◌≡◌, ◌⊎◌, ⊤, ℕ, ◌*◌, ◌<◌, ◌≤◌, ◌^◌, ◌==◌, ◌||◌, true, get_or, Some, None, IfErr, OnOk, Result}
+use Rattle.bay.specs.State.{BayState}
+use Rattle.bay.specs.Counts.{Rose}
+use Rattle.asm_formats.specs.Bytes.{block_size}
+use Rattle.asm_formats.specs.Regions.{region_end}
+use Rattle.asm_formats.specs.Sets.{has_bit}
+use Rattle.asm_base.specs.declared.refusal.DiskRef.TheVariants as disk
+use Rattle.asm_base.specs.declared.refusal.Refusal.{Refusal}
+use Rattle.asm_base.specs.declared.refusal.Refusal.TheVariants as cause
+use Rattle.change_directory.specs.declared.copy.DirCopy.{DirCopy}
+use Rattle.asm_placement.specs.Among.{IsAmong}
+use Rattle.status_register.specs.Holders.{is_of}
+use Rattle.status_register.specs.Registered.{Registered}
+use Rattle.status_register.specs.declared.error.Dead.{Dead}
+use Rattle.status_register.specs.declared.member.Member.{Member}
+use Rattle.group_engine.specs.Commits.{DismountCause}
+use Rattle.group_engine.specs.Dropping.{HasWritten}
+use Rattle.group_engine.specs.Mounts.{IsMounted, MountedGroup, slot_at}
+use Rattle.group_engine.specs.Own.{KeepsGroup}
+use Rattle.group_engine.specs.declared.attached.Attached.{Attached}
+
+-- a set with a disk more
+abbrev pub IsWith : ℕ → ℕ → ℕ → Type 0
+IsWith more all d = (k : ℕ) → k < 64 → has_bit more k ≡ (k == d || has_bit all k)
+
+-- The register's record was written with the directory copy of a disk more.
+pub record WritesMore (old : Registered) (d : ℕ) (answer : Result ℕ Dead) (new : Registered) (s t : BayState) : Type 0 where
+  pub more : ℕ
+  pub small : more < 2 ^ 64
+  pub with : IsWith more old.value.directories d
+  pub written : HasWritten old (record old.value { directories = more }) answer new s t
+
+-- The copy may be one more of the group's: it is that of an attached disk that isn't named yet and has the entry of its number, it is
+-- like one that the store has, and its region ends inside the image.
+pub record IsOneMore (m : MountedGroup) (d : ℕ) (c : DirCopy) : Type 0 where
+  pub small : d < 64
+  pub number : c.number ≡ d
+  pub member : Member
+  pub attached : get_or m.register.members d None ≡ Some member
+  pub slot : c.slot ≡ member.slot
+  pub entry : is_of m.register.value.entries member ≡ true
+  pub first : DirCopy
+  pub stored : IsAmong m.store.copies first
+  pub pages : c.dir_blocks ≡ first.dir_blocks
+  pub sector : c.sector ≡ first.sector
+  pub image : Attached
+  pub at : get_or m.disks d None ≡ Some image
+  pub room : region_end c.dir_blocks * block_size ≤ image.size
+
+-- a write to the disk was refused: no image is attached as it, or the slot of its image failed
+abbrev pub IsNotCopied : MountedGroup → ℕ → BayState → BayState → Type 0
+IsNotCopied m d s t = (slot_at m.disks d ≡ None) ⊎ ((slot : ℕ) × (slot_at m.disks d ≡ Some slot) × Rose (s.faults slot) (t.faults slot))
+
+-- Why the directories aren't stored on a disk. Want of memory is free.
+abbrev pub CopyCause : MountedGroup → ℕ → MountedGroup → BayState → BayState → Refusal → Type 0
+CopyCause old d new s t (cause.WriteFault by) = (by ≡ disk.Number d) × IsNotCopied old d s t
+CopyCause old d new s t (cause.Dismounted by) = DismountCause old new s t by
+CopyCause old d new s t cause.NoMemory = ⊤
+CopyCause old d new s t _ = ⊥
+
+-- The storing of the directories on a disk, of a group that takes calls.
+pub record CopiesTo (old : MountedGroup) (d : ℕ) (answer : Result (Unit {0}) Refusal) (new : MountedGroup) (s t : BayState) : Type 0 where
+  pub keeps : KeepsGroup old new s t
+  pub flight : new.flight ≡ old.flight
+  pub tables : new.catalog ≡ old.catalog
+  pub mounted : OnOk answer (IsMounted new)
+  pub named : OnOk answer (has_bit new.register.value.directories d ≡ true)
+  pub cause : IfErr answer (CopyCause old d new s t)
