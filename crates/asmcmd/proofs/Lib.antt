@@ -5,4 +5,5 @@ pub mod Lines
 pub mod Endings
 pub mod Shown
 pub mod EqualBytes
+pub mod EqualPieces
 pub mod PutRuns

@@ -1,7 +1,7 @@
 //! The lines of dbread: one for each longest run of equal bytes, whose bytes come piece by piece.
 
 ghost use Rattle.std.specs.Option.{option_map};
-ghost use Rattle.std.specs.Prelude.{◌≡◌, ◌≤◌, ◌<◌, ℕ, ◌+◌, ◌^◌, ◌++◌, ◌∷◌, [], length, replicate, IfOk, OnOk};
+ghost use Rattle.std.specs.Prelude.{◌≡◌, ◌≤◌, ◌<◌, ℕ, ◌+◌, ◌^◌, ◌++◌, ◌∷◌, [], length, drop, replicate, IfOk, IsTrue, OnOk};
 ghost use Rattle.asm_group.specs.Names.{Bytes};
 ghost use Rattle.asm_world.specs.Text.{hex, hex_digit, read_lines};
 ghost use Rattle.asmcmd.specs.Runs.{Holds, equal_front, first_run, lines_with, run_line};
@@ -25,9 +25,33 @@ fn hex(byte: u8) -> [u8; 2]
     [hex_digit(byte / 16), hex_digit(byte % 16)]
 }
 
-/// How many bytes at the front are this one.
+/// How many bytes are compared at once.
+const PIECE: usize = 64;
+
+/// Whether a piece holds this byte alone.
+fn holds_only(byte: u8, piece: &[u8; PIECE]) -> bool
+    ensures { IsTrue result → piece.now ≡ replicate 64 byte }
+{
+    *piece == [byte; PIECE]
+}
+
+/// How many bytes at the front are told to be this one by whole pieces.
+fn equal_pieces(byte: u8, bytes: &[u8]) -> usize
+    ensures front { result + equal_front byte (drop result bytes.now) ≡ equal_front byte bytes.now }
+    ensures within { result ≤ length bytes.now }
+{
+    let (pieces, behind) = bytes.as_chunks::<PIECE>();
+    for (i, piece) in pieces.iter().enumerate() {
+        if !holds_only(byte, piece) {
+            return i * PIECE;
+        }
+    }
+    bytes.len() - behind.len()
+}
+
+/// How many bytes at the front are this one, told byte by byte.
 #[tactic(auto, using(std::proofs::lemmas::List::drop_all))]
-fn equal_front(byte: u8, bytes: &[u8]) -> usize
+fn equal_bytes(byte: u8, bytes: &[u8]) -> usize
     ensures count { result ≡ equal_front byte bytes.now }
     ensures within { result ≤ length bytes.now }
 {
@@ -37,6 +61,15 @@ fn equal_front(byte: u8, bytes: &[u8]) -> usize
         }
     }
     bytes.len()
+}
+
+/// How many bytes at the front are this one.
+fn equal_front(byte: u8, bytes: &[u8]) -> usize
+    ensures count { result ≡ equal_front byte bytes.now }
+    ensures within { result ≤ length bytes.now }
+{
+    let told = equal_pieces(byte, bytes);
+    told + equal_bytes(byte, &bytes[told..])
 }
 
 /// The first byte, how many equal bytes stand at the front, and the bytes behind them. None of no bytes.

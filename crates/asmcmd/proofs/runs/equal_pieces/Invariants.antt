@@ -1,0 +1,6 @@
+use Rattle.std.proofs.Common.{◌≡◌, ◌+◌, ◌*◌, drop}
+use Rattle.asmcmd.specs.Runs.{equal_front}
+use Rattle.asmcmd.proofs.runs.equal_pieces.Given as goal
+
+abbrev pub invariant-loop-i : goal.invariant-loop-i
+invariant-loop-i l = l.i * 64 + equal_front l.byte (drop (l.i * 64) l.bytes) ≡ equal_front l.byte l.bytes
