@@ -1,0 +1,4 @@
+pub mod Keeping
+pub mod Steps
+pub mod NextRecords
+pub mod Reasons

@@ -1,0 +1,25 @@
+use Rattle.std.proofs.Common.{IsTrue, sym, subst}
+use Rattle.asm_formats.specs.Status.{Status, is_status}
+use Rattle.disk_modes.specs.Records.{IsChanged}
+use Rattle.disk_modes.proofs.NextRecords.{changed_is_next}
+use Rattle.disk_modes.proofs.Steps.{goes_short, kept}
+use Rattle.disk_modes.proofs.changing.put_modes.Goals as goal
+
+pub next_record-requires : goal.next_record-requires
+next_record-requires g c = subst (λ (r : Status). IsTrue (is_status r)) (sym c.status.ensures) (c.requires.takes c.requires.mounted).0.status
+
+pub set_status-requires-clause-whole : goal.set_status-requires-clause-whole
+set_status-requires-clause-whole g c = λ mounted. (c.requires.takes mounted).0
+
+pub set_status-requires-clause-ready : goal.set_status-requires-clause-ready
+set_status-requires-clause-ready g c = λ mounted. (c.requires.takes mounted).1
+
+pub set_status-requires-clause-next : goal.set_status-requires-clause-next
+set_status-requires-clause-next g c = λ mounted. changed_is_next c.args.m.now c.in-Ok.next (c.requires.takes mounted).0 c.in-Ok.ensures.status
+    (subst (λ (r : Status). IsChanged r c.in-Ok.next) c.status.ensures c.in-Ok.ensures.changed)
+
+pub returns-in-Ok : goal.returns-in-Ok
+returns-in-Ok g c = record { keeps = c.set_status.ensures.keeps; mounted = c.set_status.ensures.mounted; cause = c.set_status.ensures.cause }
+
+pub returns-in-Err : goal.returns-in-Err
+returns-in-Err g c = goes_short (kept c.args.m.now (g.B.Bay.state c.args.bay.now) c.requires.takes)

@@ -1,0 +1,31 @@
+use Rattle.std.proofs.Common.{inl, inr}
+use Rattle.std.specs.Prelude.{◌⊎◌}
+use Rattle.std.proofs.lemmas.Result.{err_from_is_err_and}
+use Rattle.asm_base.specs.declared.refusal.Refusal.{Refusal}
+use Rattle.group_engine.specs.Commits.{StatusCause}
+use Rattle.disk_modes.specs.Causes.{DropRefused}
+use Rattle.disk_modes.proofs.Steps.{kept, on_err, shut_cause}
+use Rattle.disk_modes.proofs.dropping.drop_disks.Goals as goal
+
+pub returns-in_err-takes_calls-clause-keeps : goal.returns-in_err-takes_calls-clause-keeps
+returns-in_err-takes_calls-clause-keeps g c = kept c.args.m.now (g.B.Bay.state c.args.bay.now) c.requires.takes
+
+pub returns-in_err-takes_calls-clause-cause : goal.returns-in_err-takes_calls-clause-cause
+returns-in_err-takes_calls-clause-cause g c =
+    let f = err_from_is_err_and c.from_residual.result c.from_residual.ensures.1 in
+    rw (f.1, f.2) (inr (shut_cause c.args.m.now (g.B.Bay.state c.args.bay.now) c.in_err-takes_calls.field-0.0 c.in_err-takes_calls.ensures.cause))
+
+pub returns-in-Ok-clause-cause : goal.returns-in-Ok-clause-cause
+returns-in-Ok-clause-cause g c =
+    let s = g.B.Bay.state c.args.bay.now in
+    let t = g.B.Bay.state c.drop_named.new.bay in
+    on_err (StatusCause c.args.m.now c.drop_named.new.m s t) (λ (refusal : Refusal). DropRefused c.args.m.now refusal ⊎ StatusCause c.args.m.now c.drop_named.new.m s t refusal) c.drop_named.result (λ refusal why. inr why) c.drop_named.ensures.cause
+
+pub returns-in-Err-clause-keeps : goal.returns-in-Err-clause-keeps
+returns-in-Err-clause-keeps g c = kept c.args.m.now (g.B.Bay.state c.args.bay.now) c.requires.takes
+
+pub returns-in-Err-clause-cause : goal.returns-in-Err-clause-cause
+returns-in-Err-clause-cause g c = inl c.in-Err.ensures
+
+pub check_drop-requires : goal.check_drop-requires
+check_drop-requires g c = (c.requires.takes c.in_ok-takes_calls.ensures.ok).0

@@ -1,0 +1,28 @@
+use Rattle.std.proofs.Common.{inl, inr}
+use Rattle.std.specs.Prelude.{◌⊎◌}
+use Rattle.std.proofs.lemmas.Result.{err_from_is_err_and}
+use Rattle.asm_base.specs.declared.refusal.Refusal.{Refusal}
+use Rattle.group_engine.specs.Commits.{StatusCause}
+use Rattle.disk_modes.specs.Causes.{OfflineRefused}
+use Rattle.disk_modes.proofs.Steps.{kept, on_err, shut_cause}
+use Rattle.disk_modes.proofs.offline.offline_disks.Goals as goal
+
+pub returns-in_err-takes_calls-clause-keeps : goal.returns-in_err-takes_calls-clause-keeps
+returns-in_err-takes_calls-clause-keeps g c = kept c.args.m.now (g.B.Bay.state c.args.bay.now) c.requires.takes
+
+pub returns-in_err-takes_calls-clause-cause : goal.returns-in_err-takes_calls-clause-cause
+returns-in_err-takes_calls-clause-cause g c =
+    let f = err_from_is_err_and c.from_residual.result c.from_residual.ensures.1 in
+    rw (f.1, f.2) (inr (shut_cause c.args.m.now (g.B.Bay.state c.args.bay.now) c.in_err-takes_calls.field-0.0 c.in_err-takes_calls.ensures.cause))
+
+pub returns-in-Ok-clause-cause : goal.returns-in-Ok-clause-cause
+returns-in-Ok-clause-cause g c =
+    let s = g.B.Bay.state c.args.bay.now in
+    let t = g.B.Bay.state c.put_offline.new.bay in
+    on_err (StatusCause c.args.m.now c.put_offline.new.m s t) (λ (refusal : Refusal). OfflineRefused c.args.m.now c.args.disks refusal ⊎ StatusCause c.args.m.now c.put_offline.new.m s t refusal) c.put_offline.result (λ refusal why. inr why) c.put_offline.ensures.cause
+
+pub returns-in-Err-clause-keeps : goal.returns-in-Err-clause-keeps
+returns-in-Err-clause-keeps g c = kept c.args.m.now (g.B.Bay.state c.args.bay.now) c.requires.takes
+
+pub returns-in-Err-clause-cause : goal.returns-in-Err-clause-cause
+returns-in-Err-clause-cause g c = inl c.in-Err.ensures

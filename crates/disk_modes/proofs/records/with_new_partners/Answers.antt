@@ -1,0 +1,14 @@
+use Rattle.std.proofs.Common.{◌≡◌, ◌∙◌, length, ap}
+use Rattle.std.proofs.lemmas.List.{length-map}
+use Rattle.asm_formats.specs.Status.{Entry}
+use Rattle.asm_placement.specs.Partners.{partner_set}
+use Rattle.disk_modes.proofs.Keeping.{keeps_partners}
+use Rattle.disk_modes.proofs.records.with_new_partners.Goals as goal
+
+pub returns-clause-disks : goal.returns-clause-disks
+returns-clause-disks c =
+    let sets = c.deref.result.now in
+    let all = c.entries.result.now in
+    let many : length sets ≡ length c.args.status.now.entries =
+    ap length (c.deref.ensures.value ∙ c.in_ok-sets.ensures.sets) ∙ length-map all (λ (e : Entry). partner_set all e.number) ∙ ap length c.entries.ensures.entries in
+    keeps_partners c.args.status.now c.with_partners.result sets many c.with_partners.ensures.value

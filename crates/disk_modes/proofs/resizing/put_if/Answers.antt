@@ -1,0 +1,18 @@
+use Rattle.group_engine.proofs.Endings.{on_true}
+use Rattle.disk_modes.proofs.Steps.{goes_short, kept}
+use Rattle.disk_modes.proofs.resizing.put_if.Goals as goal
+
+pub set_status-requires-clause-whole : goal.set_status-requires-clause-whole
+set_status-requires-clause-whole g c = λ mounted. (c.requires.takes mounted).0
+
+pub set_status-requires-clause-ready : goal.set_status-requires-clause-ready
+set_status-requires-clause-ready g c = λ mounted. (c.requires.takes mounted).1
+
+pub set_status-requires-clause-next : goal.set_status-requires-clause-next
+set_status-requires-clause-next g c = λ mounted. on_true c.args.may c.requires.next c.if-not-may.false
+
+pub returns-then-not-may : goal.returns-then-not-may
+returns-then-not-may g c = goes_short (kept c.args.m.now (g.B.Bay.state c.args.bay.now) c.requires.takes)
+
+pub returns : goal.returns
+returns g c = record { keeps = c.set_status.ensures.keeps; mounted = c.set_status.ensures.mounted; cause = c.set_status.ensures.cause }

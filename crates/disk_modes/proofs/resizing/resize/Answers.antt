@@ -1,0 +1,14 @@
+use Rattle.group_engine.proofs.Endings.{goes_on}
+use Rattle.disk_modes.proofs.Steps.{given_mounted, given_up, takes_on}
+use Rattle.disk_modes.proofs.resizing.resize.Goals as goal
+
+pub rebalance_first-requires-clause-mounted : goal.rebalance_first-requires-clause-mounted
+rebalance_first-requires-clause-mounted g c = given_mounted c.args.m.now c.set_flight.new.self c.requires.mounted c.set_flight.ensures
+
+pub rebalance_first-requires-clause-takes : goal.rebalance_first-requires-clause-takes
+rebalance_first-requires-clause-takes g c = takes_on (given_up c.args.m.now c.set_flight.new.self (g.B.Bay.state c.args.bay.now) c.requires.takes c.set_flight.ensures)
+
+pub returns : goal.returns
+returns g c =
+    goes_on c.rebalance_first.result (given_up c.args.m.now c.set_flight.new.self (g.B.Bay.state c.args.bay.now) c.requires.takes c.set_flight.ensures)
+    (given_mounted c.args.m.now c.set_flight.new.self c.requires.mounted c.set_flight.ensures) c.rebalance_first.ensures

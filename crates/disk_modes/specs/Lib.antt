@@ -1,0 +1,5 @@
+pub mod Modes
+pub mod Losing
+pub mod Directories
+pub mod Records
+pub mod Causes

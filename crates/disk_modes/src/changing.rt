@@ -1,0 +1,189 @@
+// The two changes of which each statement on disks is made: the status record, and the record of the active rebalance.
+ghost use Rattle.std.specs.Prelude.{OnOk};
+ghost use Rattle.catalog.specs.Changing.{IsAfter};
+ghost use Rattle.catalog.specs.Plans.{IsPlan};
+ghost use Rattle.catalog.specs.Tables.{Tables};
+ghost use Rattle.group_engine.specs.Mounts.{IsMounted, Takes};
+ghost use Rattle.group_engine.specs.Pending.{GoesOn};
+
+use crate::records::{NewModes, next_record};
+use asm_base::{Change, NoMemory, Refusal};
+use bay::Bay;
+use group_engine::Mounted;
+use std::alloc::Global;
+
+/// The changes that a statement makes, in their order. The rebalance is of a power.
+#[derive(Clone, Copy)]
+pub enum Changes {
+    Modes,
+    Rebalance { power: u16 },
+    /// A stop between leaves an active rebalance, and no disk that none empties.
+    RebalanceThenModes { power: u16 },
+    /// The commit may lose a directory copy, and those that are left might all be on disks that the modes take off.
+    ModesThenRebalance { power: u16 },
+}
+
+/// Gives up the move that is on its way, and makes the changes. Refusals: Dismounted; NoMemory, after which between two changes the group
+/// takes no more calls.
+pub(crate) fn change_disks<B: Bay>(
+    m: &mut Mounted,
+    alloc: Global,
+    bay: &mut B,
+    new: &NewModes,
+    changes: &Changes,
+) -> Result<(), Refusal>
+    requires mounted { IsMounted m.old }
+    requires takes { Takes m.old (B.state bay.old) }
+    ensures { GoesOn m.old result m.new (B.state bay.old) (B.state bay.new) }
+{
+    m.set_flight(None);
+    make_changes(m, alloc, bay, new, changes)
+}
+
+fn make_changes<B: Bay>(
+    m: &mut Mounted,
+    alloc: Global,
+    bay: &mut B,
+    new: &NewModes,
+    changes: &Changes,
+) -> Result<(), Refusal>
+    requires mounted { IsMounted m.old }
+    requires takes { Takes m.old (B.state bay.old) }
+    ensures { GoesOn m.old result m.new (B.state bay.old) (B.state bay.new) }
+{
+    match *changes {
+        Changes::Modes => put_modes(m, alloc, bay, new),
+        Changes::Rebalance { power } => put_rebalance(m, alloc, bay, Some(power)),
+        Changes::RebalanceThenModes { power } => rebalance_first(m, alloc, bay, new, power),
+        Changes::ModesThenRebalance { power } => modes_first(m, alloc, bay, new, power),
+    }
+}
+
+fn rebalance_first<B: Bay>(
+    m: &mut Mounted,
+    alloc: Global,
+    bay: &mut B,
+    new: &NewModes,
+    power: u16,
+) -> Result<(), Refusal>
+    requires mounted { IsMounted m.old }
+    requires takes { Takes m.old (B.state bay.old) }
+    ensures { GoesOn m.old result m.new (B.state bay.old) (B.state bay.new) }
+{
+    match put_rebalance(m, alloc, bay, Some(power)) {
+        Ok(()) => modes_or_shut(m, alloc, bay, new),
+        Err(refusal) => Err(refusal),
+    }
+}
+
+fn modes_first<B: Bay>(
+    m: &mut Mounted,
+    alloc: Global,
+    bay: &mut B,
+    new: &NewModes,
+    power: u16,
+) -> Result<(), Refusal>
+    requires mounted { IsMounted m.old }
+    requires takes { Takes m.old (B.state bay.old) }
+    ensures { GoesOn m.old result m.new (B.state bay.old) (B.state bay.new) }
+{
+    match put_modes(m, alloc, bay, new) {
+        Ok(()) => rebalance_or_shut(m, alloc, bay, power),
+        Err(refusal) => Err(refusal),
+    }
+}
+
+/// Puts new modes behind a commit. After want of memory the group takes no more calls.
+fn modes_or_shut<B: Bay>(
+    m: &mut Mounted,
+    alloc: Global,
+    bay: &mut B,
+    new: &NewModes,
+) -> Result<(), Refusal>
+    requires mounted { IsMounted m.old }
+    requires takes { Takes m.old (B.state bay.old) }
+    ensures { GoesOn m.old result m.new (B.state bay.old) (B.state bay.new) }
+{
+    match put_modes(m, alloc, bay, new) {
+        Ok(()) => Ok(()),
+        Err(Refusal::Dismounted { disk }) => Err(Refusal::Dismounted { disk }),
+        Err(_) => {
+            m.close();
+            Err(Refusal::NoMemory)
+        }
+    }
+}
+
+/// Makes the rebalance active behind a record. After want of memory the group takes no more calls.
+fn rebalance_or_shut<B: Bay>(
+    m: &mut Mounted,
+    alloc: Global,
+    bay: &mut B,
+    power: u16,
+) -> Result<(), Refusal>
+    requires mounted { IsMounted m.old }
+    requires takes { Takes m.old (B.state bay.old) }
+    ensures { GoesOn m.old result m.new (B.state bay.old) (B.state bay.new) }
+{
+    match put_rebalance(m, alloc, bay, Some(power)) {
+        Ok(()) => Ok(()),
+        Err(Refusal::Dismounted { disk }) => Err(Refusal::Dismounted { disk }),
+        Err(_) => {
+            m.close();
+            Err(Refusal::NoMemory)
+        }
+    }
+}
+
+/// Puts the record with new modes, made from the one that holds. Refusals: Dismounted, NoMemory.
+fn put_modes<B: Bay>(
+    m: &mut Mounted,
+    alloc: Global,
+    bay: &mut B,
+    new: &NewModes,
+) -> Result<(), Refusal>
+    requires mounted { IsMounted m.old }
+    requires takes { Takes m.old (B.state bay.old) }
+    ensures { GoesOn m.old result m.new (B.state bay.old) (B.state bay.new) }
+{
+    match next_record(alloc, m.status(), new) {
+        Ok(next) => m.set_status(alloc, bay, &next),
+        Err(NoMemory) => Err(Refusal::NoMemory),
+    }
+}
+
+/// Puts the record of the active rebalance, or takes it away. Refusals: Dismounted, NoMemory.
+pub(crate) fn put_rebalance<B: Bay>(
+    m: &mut Mounted,
+    alloc: Global,
+    bay: &mut B,
+    power: Option<u16>,
+) -> Result<(), Refusal>
+    requires mounted { IsMounted m.old }
+    requires takes { Takes m.old (B.state bay.old) }
+    ensures { GoesOn m.old result m.new (B.state bay.old) (B.state bay.new) }
+{
+    match m.catalog().plan_rebalance(alloc, power) {
+        Ok(change) => commit_plan(m, alloc, bay, &change),
+        Err(_) => Err(Refusal::NoMemory),
+    }
+}
+
+/// Commits a change that a plan gave. The plan has counted the blocks, so that DirectoryFull doesn't come.
+fn commit_plan<B: Bay>(
+    m: &mut Mounted,
+    alloc: Global,
+    bay: &mut B,
+    change: &Change,
+) -> Result<(), Refusal>
+    requires takes { Takes m.old (B.state bay.old) }
+    requires plan { (u : Tables) × IsPlan m.old.catalog change.now.put change.now.gone u }
+    ensures goes { GoesOn m.old result m.new (B.state bay.old) (B.state bay.new) }
+    ensures applied { OnOk result (IsAfter m.old.catalog.tables change.now.put change.now.gone m.new.catalog.tables) }
+{
+    match m.commit(alloc, bay, change) {
+        Ok(()) => Ok(()),
+        Err(Refusal::Dismounted { disk }) => Err(Refusal::Dismounted { disk }),
+        Err(_) => Err(Refusal::NoMemory),
+    }
+}

@@ -1,0 +1,242 @@
+//! DROP and UNDROP.
+ghost use Rattle.std.specs.Prelude.{◌≡◌, ◌⊎◌, IfErr, OnOk};
+ghost use Rattle.group_engine.specs.Commits.{StatusCause};
+ghost use Rattle.group_engine.specs.Mounts.{IsMounted, IsWhole, Takes};
+ghost use Rattle.group_engine.specs.Own.{KeepsGroup};
+ghost use Rattle.group_engine.specs.Pending.{GoesOn};
+ghost use Rattle.disk_modes.specs.Causes.{DropRefused, drop_as};
+
+use crate::changing::{Changes, change_disks};
+use crate::checking::{
+    Statement, check_directories, check_extents, check_groups, check_modes, directories_of,
+};
+use crate::finding::with_number;
+use crate::losing::Counted;
+use crate::records::{NewModes, with_modes};
+use asm_base::{DiskSet, GroupKind, Mode, Refusal};
+use bay::Bay;
+use group_engine::Mounted;
+use status_table::PstEntry;
+use std::alloc::Global;
+
+/// A disk that a DROP names by its number.
+#[derive(Clone, Copy, Debug, PartialEq, Eq)]
+pub struct DropDisk {
+    pub disk: u8,
+    /// Whether FORCE is said.
+    pub force: bool,
+}
+
+/// The disks that a DROP names, without FORCE and with it.
+#[derive(Clone, Copy)]
+struct Named {
+    dropping: DiskSet,
+    forced: DiskSet,
+}
+
+/// Drops disks. Those without FORCE are emptied by a rebalance of the power, which is active from then on; those with FORCE are not
+/// asked any more, and have no directory copy. Of a disk that is named twice the last option holds. Refusals in their order: Dismounted;
+/// DiskState, by the first disk of the statement that isn't Online, or with FORCE is Forced; HoldsDirectories and WouldLose, by the disks
+/// with FORCE; TooFewGroups, as counted after the whole statement, where one is named without FORCE; NoMemory, after which between the two
+/// changes the group takes no more calls.
+pub fn drop_disks<B: Bay>(
+    m: &mut Mounted,
+    alloc: Global,
+    bay: &mut B,
+    disks: &[DropDisk],
+    power: u16,
+) -> Result<(), Refusal>
+    requires takes { Takes m.old (B.state bay.old) }
+    ensures keeps { KeepsGroup m.old m.new (B.state bay.old) (B.state bay.new) }
+    ensures mounted { OnOk result (IsMounted m.new) }
+    ensures cause { IfErr result (λ refusal. DropRefused m.old refusal ⊎ StatusCause m.old m.new (B.state bay.old) (B.state bay.new) refusal) }
+{
+    m.takes_calls()?;
+    let named = named_by(disks);
+    match check_drop(m, disks, &named) {
+        Ok(()) => drop_named(m, alloc, bay, &named, power),
+        Err(refusal) => Err(refusal),
+    }
+}
+
+/// The disks named without FORCE and with it, by the last option of each.
+fn named_by(disks: &[DropDisk]) -> Named {
+    let mut named = Named {
+        dropping: DiskSet::empty(),
+        forced: DiskSet::empty(),
+    };
+    for one in disks {
+        named = and_named(named, one.disk, one.force);
+    }
+    named
+}
+
+/// One disk more.
+fn and_named(named: Named, disk: u8, force: bool) -> Named {
+    if disk >= 64 {
+        return named;
+    }
+    if force {
+        Named {
+            dropping: named.dropping.without(disk),
+            forced: named.forced.with(disk),
+        }
+    } else {
+        Named {
+            dropping: named.dropping.with(disk),
+            forced: named.forced.without(disk),
+        }
+    }
+}
+
+/// Tries the refusals of a DROP.
+fn check_drop(m: &Mounted, disks: &[DropDisk], named: &Named) -> Result<(), Refusal>
+    requires { IsWhole m.now }
+    ensures { IfErr result (DropRefused m.now) }
+{
+    match check_named(m, disks, named) {
+        Ok(()) => check_copies(m, named),
+        Err(refusal) => Err(refusal),
+    }
+}
+
+/// Refused as DiskState by the first disk of the statement whose mode its option doesn't take.
+fn check_named(m: &Mounted, disks: &[DropDisk], named: &Named) -> Result<(), Refusal>
+    ensures { IfErr result (DropRefused m.now) }
+{
+    for one in disks {
+        match check_one(m, one.disk, named.forced.has(one.disk)) {
+            Ok(()) => {}
+            Err(refusal) => return Err(refusal),
+        }
+    }
+    Ok(())
+}
+
+#[tactic(auto, using(crate::proofs::Reasons::drop_state_by))]
+fn check_one(m: &Mounted, disk: u8, force: bool) -> Result<(), Refusal>
+    ensures { IfErr result (DropRefused m.now) }
+{
+    let alone = with_number(DiskSet::empty(), disk);
+    check_modes(m.status().entries(), alone, drop_as(force))
+}
+
+/// A disk is named with FORCE or without it.
+fn drop_as(force: bool) -> Statement
+    ensures { result ≡ drop_as force }
+{
+    if force {
+        Statement::Force
+    } else {
+        Statement::Drop
+    }
+}
+
+#[tactic(auto, using(crate::proofs::Reasons::drop_copies_by))]
+fn check_copies(m: &Mounted, named: &Named) -> Result<(), Refusal>
+    requires { IsWhole m.now }
+    ensures { IfErr result (DropRefused m.now) }
+{
+    match check_directories(directories_of(m.status()), named.forced) {
+        Ok(()) => check_current(m, named),
+        Err(refusal) => Err(refusal),
+    }
+}
+
+#[tactic(auto, using(crate::proofs::Reasons::drop_losing_by))]
+fn check_current(m: &Mounted, named: &Named) -> Result<(), Refusal>
+    requires { IsWhole m.now }
+    ensures { IfErr result (DropRefused m.now) }
+{
+    if named.forced.bits() == 0 {
+        return check_left(m, named);
+    }
+    match check_extents(
+        m.catalog(),
+        m.status().entries(),
+        &Counted::Current,
+        named.forced,
+    ) {
+        Ok(()) => check_left(m, named),
+        Err(refusal) => Err(refusal),
+    }
+}
+
+/// Refused as TooFewGroups where a disk is named without FORCE and the statement leaves too few.
+#[tactic(auto, using(crate::proofs::Reasons::drop_groups_by))]
+fn check_left(m: &Mounted, named: &Named) -> Result<(), Refusal>
+    requires { IsWhole m.now }
+    ensures { IfErr result (DropRefused m.now) }
+{
+    if named.dropping.bits() == 0 {
+        return Ok(());
+    }
+    let next = with_modes(m.status(), &modes_of(named));
+    check_groups(kind_of(m), &next)
+}
+
+fn kind_of(m: &Mounted) -> GroupKind
+    ensures { result ≡ m.now.catalog.shape.kind }
+{
+    m.catalog().shape().kind
+}
+
+fn modes_of(named: &Named) -> NewModes {
+    NewModes::Dropped {
+        dropping: named.dropping,
+        forced: named.forced,
+    }
+}
+
+/// Drops the disks. With any FORCE the modes come first.
+fn drop_named<B: Bay>(
+    m: &mut Mounted,
+    alloc: Global,
+    bay: &mut B,
+    named: &Named,
+    power: u16,
+) -> Result<(), Refusal>
+    requires mounted { IsMounted m.old }
+    requires takes { Takes m.old (B.state bay.old) }
+    ensures { GoesOn m.old result m.new (B.state bay.old) (B.state bay.new) }
+{
+    let changes = changes_for(named, power);
+    change_disks(m, alloc, bay, &modes_of(named), &changes)
+}
+
+fn changes_for(named: &Named, power: u16) -> Changes {
+    if named.forced.bits() == 0 {
+        Changes::RebalanceThenModes { power }
+    } else {
+        Changes::ModesThenRebalance { power }
+    }
+}
+
+/// Each disk that is being dropped is Online again, and a rebalance of power 1 is active, also where there is none. Refusals:
+/// Dismounted; NoMemory, after which between the two changes the group takes no more calls.
+pub fn undrop_disks<B: Bay>(m: &mut Mounted, alloc: Global, bay: &mut B) -> Result<(), Refusal>
+    requires takes { Takes m.old (B.state bay.old) }
+    ensures keeps { KeepsGroup m.old m.new (B.state bay.old) (B.state bay.new) }
+    ensures mounted { OnOk result (IsMounted m.new) }
+    ensures cause { IfErr result (StatusCause m.old m.new (B.state bay.old) (B.state bay.new)) }
+{
+    m.takes_calls()?;
+    let changes = undropping(m.status().entries());
+    change_disks(m, alloc, bay, &NewModes::Undropped, &changes)
+}
+
+/// The modes stay where no disk is being dropped.
+fn undropping(entries: &[PstEntry]) -> Changes {
+    if has_dropping(entries) {
+        Changes::RebalanceThenModes { power: 1 }
+    } else {
+        Changes::Rebalance { power: 1 }
+    }
+}
+
+/// Whether a disk is being dropped.
+fn has_dropping(entries: &[PstEntry]) -> bool {
+    entries
+        .iter()
+        .any(|entry| matches!(entry.mode, Mode::Dropping))
+}

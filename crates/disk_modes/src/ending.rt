@@ -1,0 +1,80 @@
+//! Expiry of disks, and REBALANCE.
+ghost use Rattle.std.specs.Prelude.{IfErr, IfOk, OnOk};
+ghost use Rattle.group_engine.specs.Commits.{StatusCause};
+ghost use Rattle.group_engine.specs.Mounts.{IsMounted, Takes};
+ghost use Rattle.group_engine.specs.Own.{KeepsGroup};
+
+use crate::changing::{Changes, change_disks, put_rebalance};
+use crate::finding::with_number;
+use crate::records::NewModes;
+use asm_base::{DiskSet, Refusal};
+use bay::Bay;
+use group_engine::Mounted;
+use group_reports::expiring;
+use std::alloc::Global;
+
+/// Drops by force the least Offline disk whose time is up at a second, and which has neither the only directory copy nor all current
+/// copies of an extent. A rebalance of power 1 is active then. None where there is no such disk. Refusals: Dismounted; NoMemory, after
+/// which between the two changes the group takes no more calls.
+pub fn expire<B: Bay>(
+    m: &mut Mounted,
+    alloc: Global,
+    bay: &mut B,
+    now: u64,
+) -> Result<Option<u8>, Refusal>
+    requires takes { Takes m.old (B.state bay.old) }
+    ensures keeps { KeepsGroup m.old m.new (B.state bay.old) (B.state bay.new) }
+    ensures mounted { IfOk result (λ disk. IsMounted m.new) }
+    ensures cause { IfErr result (StatusCause m.old m.new (B.state bay.old) (B.state bay.new)) }
+{
+    m.takes_calls()?;
+    match expiring(m.catalog(), m.status(), now) {
+        Some(disk) => expire_disk(m, alloc, bay, disk),
+        None => Ok(None),
+    }
+}
+
+/// Drops the disk by force.
+fn expire_disk<B: Bay>(
+    m: &mut Mounted,
+    alloc: Global,
+    bay: &mut B,
+    disk: u8,
+) -> Result<Option<u8>, Refusal>
+    requires mounted { IsMounted m.old }
+    requires takes { Takes m.old (B.state bay.old) }
+    ensures keeps { KeepsGroup m.old m.new (B.state bay.old) (B.state bay.new) }
+    ensures mounted { IfOk result (λ disk. IsMounted m.new) }
+    ensures cause { IfErr result (StatusCause m.old m.new (B.state bay.old) (B.state bay.new)) }
+{
+    let new = NewModes::Dropped {
+        dropping: DiskSet::empty(),
+        forced: with_number(DiskSet::empty(), disk),
+    };
+    match change_disks(
+        m,
+        alloc,
+        bay,
+        &new,
+        &Changes::ModesThenRebalance { power: 1 },
+    ) {
+        Ok(()) => Ok(Some(disk)),
+        Err(refusal) => Err(refusal),
+    }
+}
+
+/// A rebalance of this power is active, or none is. The move that is on its way stays. Refusals: Dismounted, NoMemory.
+pub fn set_rebalance<B: Bay>(
+    m: &mut Mounted,
+    alloc: Global,
+    bay: &mut B,
+    power: Option<u16>,
+) -> Result<(), Refusal>
+    requires takes { Takes m.old (B.state bay.old) }
+    ensures keeps { KeepsGroup m.old m.new (B.state bay.old) (B.state bay.new) }
+    ensures mounted { OnOk result (IsMounted m.new) }
+    ensures cause { IfErr result (StatusCause m.old m.new (B.state bay.old) (B.state bay.new)) }
+{
+    m.takes_calls()?;
+    put_rebalance(m, alloc, bay, power)
+}

@@ -1,0 +1,177 @@
+// The status records that statements on disks put.
+ghost use Rattle.std.specs.Prelude.{IfOk, IsTrue};
+ghost use Rattle.asm_formats.specs.Status.{is_status};
+ghost use Rattle.group_engine.specs.Dropping.{IsWithout};
+ghost use Rattle.group_engine.specs.NextRecords.{KeepsDisks};
+ghost use Rattle.disk_modes.specs.Records.{HasFewer, IsChanged};
+
+use asm_base::{DiskSet, Mode, NoMemory};
+use partnership::partners;
+use status_table::{PstEntry, PstRecord, with_dirs, with_mode, with_offline, with_partners};
+use std::alloc::Global;
+
+/// What becomes of the modes of disks.
+#[derive(Clone, Copy)]
+pub enum NewModes {
+    /// These are Offline since a second, to be dropped after so many seconds.
+    Offline {
+        disks: DiskSet,
+        since: u64,
+        repair: u64,
+    },
+    /// These are being dropped, and those by force.
+    Dropped {
+        dropping: DiskSet,
+        forced: DiskSet,
+    },
+    /// Each that is being dropped is Online.
+    Undropped,
+}
+
+/// What becomes of the entry of one disk.
+#[derive(Clone, Copy)]
+pub enum Becomes {
+    Same,
+    Offline { since: u64, repair: u64 },
+    InMode { mode: Mode },
+}
+
+/// The record with new modes. Disks that go Offline or by force have no directory copy then. Where disks come to the table of partners or
+/// leave it, that is made anew.
+#[tactic(auto, using(crate::proofs::Keeping::changed_by))]
+pub(crate) fn next_record(
+    alloc: Global,
+    status: &PstRecord,
+    new: &NewModes,
+) -> Result<PstRecord, NoMemory>
+    requires { IsTrue (is_status status.now) }
+    ensures status { IfOk result (λ next. IsTrue (is_status next)) }
+    ensures changed { IfOk result (IsChanged status.now) }
+{
+    let modes = with_modes(status, new);
+    let next = with_partners_for(alloc, &modes, new)?;
+    Ok(without_copies(&next, taken_off(new)))
+}
+
+/// The record with new modes, and all else as it was.
+pub(crate) fn with_modes(status: &PstRecord, new: &NewModes) -> PstRecord
+    requires { IsTrue (is_status status.now) }
+    ensures status { IsTrue (is_status result) }
+    ensures disks { KeepsDisks status.now result }
+{
+    let mut next = status.copy();
+    for entry in status.entries() {
+        next = with_changed(&next, entry, change_of(entry, new));
+    }
+    next
+}
+
+/// What becomes of an entry.
+fn change_of(entry: &PstEntry, new: &NewModes) -> Becomes {
+    match *new {
+        NewModes::Offline {
+            disks,
+            since,
+            repair,
+        } => {
+            if disks.has(entry.number) {
+                Becomes::Offline { since, repair }
+            } else {
+                Becomes::Same
+            }
+        }
+        NewModes::Dropped { dropping, forced } => dropped(entry.number, dropping, forced),
+        NewModes::Undropped => {
+            if matches!(entry.mode, Mode::Dropping) {
+                Becomes::InMode { mode: Mode::Online }
+            } else {
+                Becomes::Same
+            }
+        }
+    }
+}
+
+/// What becomes of the entry of a disk where some are being dropped, and some by force.
+fn dropped(disk: u8, dropping: DiskSet, forced: DiskSet) -> Becomes {
+    if forced.has(disk) {
+        Becomes::InMode { mode: Mode::Forced }
+    } else if dropping.has(disk) {
+        Becomes::InMode {
+            mode: Mode::Dropping,
+        }
+    } else {
+        Becomes::Same
+    }
+}
+
+/// The record with the change of one disk. Since when it was Offline stays where it isn't Offline then.
+#[tactic(auto, using(crate::proofs::Keeping::keeps_same, crate::proofs::Keeping::keeps_offline, crate::proofs::Keeping::keeps_mode))]
+fn with_changed(status: &PstRecord, entry: &PstEntry, change: Becomes) -> PstRecord
+    requires { IsTrue (is_status status.now) }
+    ensures status { IsTrue (is_status result) }
+    ensures disks { KeepsDisks status.now result }
+{
+    match change {
+        Becomes::Same => status.copy(),
+        Becomes::Offline { since, repair } => with_offline(status, entry.number, since, repair),
+        Becomes::InMode { mode } => with_mode(status, entry.number, mode, entry.since),
+    }
+}
+
+/// The record with the partners of its disks, where disks come to their table or leave it.
+fn with_partners_for(
+    alloc: Global,
+    status: &PstRecord,
+    new: &NewModes,
+) -> Result<PstRecord, NoMemory>
+    requires { IsTrue (is_status status.now) }
+    ensures status { IfOk result (λ next. IsTrue (is_status next)) }
+    ensures disks { IfOk result (KeepsDisks status.now) }
+{
+    match *new {
+        NewModes::Offline { .. } => Ok(status.copy()),
+        NewModes::Dropped { .. } => with_new_partners(alloc, status),
+        NewModes::Undropped => with_new_partners(alloc, status),
+    }
+}
+
+fn with_new_partners(alloc: Global, status: &PstRecord) -> Result<PstRecord, NoMemory>
+    requires { IsTrue (is_status status.now) }
+    ensures status { IfOk result (λ next. IsTrue (is_status next)) }
+    ensures disks { IfOk result (KeepsDisks status.now) }
+{
+    let sets = partners(alloc, status.entries())?;
+    Ok(with_partners(status, &sets))
+}
+
+/// The disks that have no directory copy any more.
+fn taken_off(new: &NewModes) -> DiskSet {
+    match *new {
+        NewModes::Offline { disks, .. } => disks,
+        NewModes::Dropped { forced, .. } => forced,
+        NewModes::Undropped => DiskSet::empty(),
+    }
+}
+
+/// The record without the directory copies of some disks.
+fn without_copies(status: &PstRecord, gone: DiskSet) -> PstRecord
+    requires { IsTrue (is_status status.now) }
+    ensures status { IsTrue (is_status result) }
+    ensures fewer { HasFewer status.now result }
+{
+    let left = without(status.dirs, gone);
+    with_dirs(status, left)
+}
+
+/// A set without the disks of another.
+fn without(all: DiskSet, gone: DiskSet) -> DiskSet
+    ensures { IsWithout result all gone }
+{
+    let mut left = all;
+    for disk in 0..64u8 {
+        if gone.has(disk) {
+            left = left.without(disk);
+        }
+    }
+    left
+}

@@ -1,0 +1,188 @@
+//! RESIZE.
+ghost use Rattle.std.specs.Bool.{OnTrue};
+ghost use Rattle.std.specs.Prelude.{◌⊎◌, IfErr, OnOk};
+ghost use Rattle.group_engine.specs.Commits.{StatusCause};
+ghost use Rattle.group_engine.specs.Mounts.{IsMounted, Takes};
+ghost use Rattle.group_engine.specs.Own.{KeepsGroup};
+ghost use Rattle.group_engine.specs.Pending.{GoesOn};
+ghost use Rattle.group_engine.specs.Statuses.{IsNextOf};
+ghost use Rattle.disk_modes.specs.Causes.{ResizeRefused};
+
+use crate::changing::put_rebalance;
+use crate::checking::{Statement, check_modes};
+use crate::sizes::{Asked, check_sizes, units_asked};
+use asm_base::{DiskSet, NoMemory, Refusal};
+use bay::Bay;
+use group_engine::Mounted;
+use status_table::{PstEntry, PstRecord, with_units};
+use std::alloc::Global;
+
+/// Gives disks the units of a size in bytes, or those of their images, and makes a rebalance of the power active, also where they have
+/// these. Refusals in their order: Dismounted; DiskState, by the least that doesn't serve; TooSmall, by the least whose image has fewer
+/// units than it is to have, with these, or that needs more; NoMemory, after which between the two changes the group takes no more calls.
+pub fn resize_disks<B: Bay>(
+    m: &mut Mounted,
+    alloc: Global,
+    bay: &mut B,
+    disks: DiskSet,
+    size: Option<u64>,
+    power: u16,
+) -> Result<(), Refusal>
+    requires takes { Takes m.old (B.state bay.old) }
+    ensures keeps { KeepsGroup m.old m.new (B.state bay.old) (B.state bay.new) }
+    ensures mounted { OnOk result (IsMounted m.new) }
+    ensures cause { IfErr result (λ refusal. ResizeRefused m.old disks refusal ⊎ StatusCause m.old m.new (B.state bay.old) (B.state bay.new) refusal) }
+{
+    m.takes_calls()?;
+    let asked = Asked { disks, size };
+    match check_resize(m, &asked) {
+        Ok(()) => resize(m, alloc, bay, &asked, power),
+        Err(refusal) => Err(refusal),
+    }
+}
+
+/// Tries the refusals of a RESIZE.
+#[tactic(auto, using(crate::proofs::Reasons::resize_state_by))]
+fn check_resize(m: &Mounted, asked: &Asked) -> Result<(), Refusal>
+    ensures { IfErr result (ResizeRefused m.now asked.now.disks) }
+{
+    match check_modes(m.status().entries(), asked.disks, Statement::Resize) {
+        Ok(()) => check_sizes(m, asked),
+        Err(refusal) => Err(refusal),
+    }
+}
+
+/// Gives up the move that is on its way, and makes both changes.
+fn resize<B: Bay>(
+    m: &mut Mounted,
+    alloc: Global,
+    bay: &mut B,
+    asked: &Asked,
+    power: u16,
+) -> Result<(), Refusal>
+    requires mounted { IsMounted m.old }
+    requires takes { Takes m.old (B.state bay.old) }
+    ensures { GoesOn m.old result m.new (B.state bay.old) (B.state bay.new) }
+{
+    m.set_flight(None);
+    rebalance_first(m, alloc, bay, asked, power)
+}
+
+/// Makes the rebalance active, and then gives the units.
+fn rebalance_first<B: Bay>(
+    m: &mut Mounted,
+    alloc: Global,
+    bay: &mut B,
+    asked: &Asked,
+    power: u16,
+) -> Result<(), Refusal>
+    requires mounted { IsMounted m.old }
+    requires takes { Takes m.old (B.state bay.old) }
+    ensures { GoesOn m.old result m.new (B.state bay.old) (B.state bay.new) }
+{
+    match put_rebalance(m, alloc, bay, Some(power)) {
+        Ok(()) => units_or_shut(m, alloc, bay, asked),
+        Err(refusal) => Err(refusal),
+    }
+}
+
+/// Puts the units behind a commit. After want of memory the group takes no more calls.
+fn units_or_shut<B: Bay>(
+    m: &mut Mounted,
+    alloc: Global,
+    bay: &mut B,
+    asked: &Asked,
+) -> Result<(), Refusal>
+    requires mounted { IsMounted m.old }
+    requires takes { Takes m.old (B.state bay.old) }
+    ensures { GoesOn m.old result m.new (B.state bay.old) (B.state bay.new) }
+{
+    match put_units(m, alloc, bay, asked) {
+        Ok(()) => Ok(()),
+        Err(Refusal::Dismounted { disk }) => Err(Refusal::Dismounted { disk }),
+        Err(_) => {
+            m.close();
+            Err(Refusal::NoMemory)
+        }
+    }
+}
+
+/// Puts the record with other units, where they are others.
+fn put_units<B: Bay>(
+    m: &mut Mounted,
+    alloc: Global,
+    bay: &mut B,
+    asked: &Asked,
+) -> Result<(), Refusal>
+    requires mounted { IsMounted m.old }
+    requires takes { Takes m.old (B.state bay.old) }
+    ensures { GoesOn m.old result m.new (B.state bay.old) (B.state bay.new) }
+{
+    if !has_others(m, asked) {
+        return Ok(());
+    }
+    let next = with_asked(m, asked);
+    put_next(m, alloc, bay, &next)
+}
+
+/// Puts a record, where it may come next. One with units that were checked may.
+fn put_next<B: Bay>(
+    m: &mut Mounted,
+    alloc: Global,
+    bay: &mut B,
+    next: &PstRecord,
+) -> Result<(), Refusal>
+    requires mounted { IsMounted m.old }
+    requires takes { Takes m.old (B.state bay.old) }
+    ensures { GoesOn m.old result m.new (B.state bay.old) (B.state bay.new) }
+{
+    match m.may_get(alloc, next) {
+        Ok(may) => put_if(m, alloc, bay, next, may),
+        Err(NoMemory) => Err(Refusal::NoMemory),
+    }
+}
+
+fn put_if<B: Bay>(
+    m: &mut Mounted,
+    alloc: Global,
+    bay: &mut B,
+    next: &PstRecord,
+    may: bool,
+) -> Result<(), Refusal>
+    requires mounted { IsMounted m.old }
+    requires takes { Takes m.old (B.state bay.old) }
+    requires next { OnTrue may (IsNextOf m.old next.now) }
+    ensures { GoesOn m.old result m.new (B.state bay.old) (B.state bay.new) }
+{
+    if !may {
+        // It doesn't come.
+        return Err(Refusal::NoMemory);
+    }
+    m.set_status(alloc, bay, next)
+}
+
+/// Whether one of the disks is to have other units than it has.
+fn has_others(m: &Mounted, asked: &Asked) -> bool {
+    for entry in m.status().entries() {
+        if is_other(m, entry, asked) {
+            return true;
+        }
+    }
+    false
+}
+
+fn is_other(m: &Mounted, entry: &PstEntry, asked: &Asked) -> bool {
+    asked.disks.has(entry.number) && units_asked(m, entry.number, asked) != entry.units as u64
+}
+
+/// The record with the units that the disks are to have.
+fn with_asked(m: &Mounted, asked: &Asked) -> PstRecord {
+    let mut next = m.status().copy();
+    for disk in 0..64u8 {
+        if asked.disks.has(disk) {
+            let units = units_asked(m, disk, asked).min(u32::MAX as u64) as u32;
+            next = with_units(&next, disk, units);
+        }
+    }
+    next
+}

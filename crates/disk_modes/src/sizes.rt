@@ -1,0 +1,140 @@
+// The units that disks have, need and are to have.
+ghost use Rattle.std.specs.Prelude.{IfErr};
+ghost use Rattle.disk_modes.specs.Causes.{ResizeRefused};
+
+use asm_base::{DiskRef, DiskSet, Home, Homes, Refusal, Shape};
+use catalog::Catalog;
+use group_engine::Mounted;
+
+/// The most units that a disk may have.
+const MOST_UNITS: u64 = 16_777_216;
+
+/// The units for users that a disk has at least.
+const LEAST_USER_UNITS: u64 = 16;
+
+/// What a RESIZE asks for: of some disks a size in bytes, or else that of their images.
+#[derive(Clone, Copy)]
+pub struct Asked {
+    pub disks: DiskSet,
+    pub size: Option<u64>,
+}
+
+/// The units that a disk is to have.
+pub(crate) fn units_asked(m: &Mounted, disk: u8, asked: &Asked) -> u64 {
+    match asked.size {
+        Some(said) => units_in(&m.catalog().shape(), said),
+        None => image_units(m, disk),
+    }
+}
+
+/// The units of a disk's image, and none where it isn't attached.
+fn image_units(m: &Mounted, disk: u8) -> u64 {
+    if disk >= 64 {
+        return 0;
+    }
+    match m.size(disk) {
+        Some(size) => units_in(&m.catalog().shape(), size).min(MOST_UNITS),
+        None => 0,
+    }
+}
+
+/// The whole units in so many bytes.
+fn units_in(shape: &Shape, bytes: u64) -> u64 {
+    if shape.au == 0 {
+        return 0;
+    }
+    bytes / shape.au as u64
+}
+
+/// The units that a disk needs: those of its directory region with 16 for users, and those up to its last used one.
+fn least_units(shape: &Shape, used: u64) -> u64 {
+    let au = shape.au as u64;
+    if au == 0 {
+        return used;
+    }
+    let blocks = 14 + 2 * shape.dir_blocks as u64;
+    let reserved = (blocks * 4096 + (au - 1)) / au;
+    reserved.saturating_add(LEAST_USER_UNITS).max(used)
+}
+
+/// Refused as TooSmall by the least of the disks whose image has fewer units than it is to have, or that needs more.
+pub(crate) fn check_sizes(m: &Mounted, asked: &Asked) -> Result<(), Refusal>
+    ensures { IfErr result (ResizeRefused m.now asked.now.disks) }
+{
+    let ends = used_ends(m.catalog());
+    for disk in 0..64u8 {
+        match check_size(m, asked, disk, ends[disk as usize]) {
+            Ok(()) => {}
+            Err(refusal) => return Err(refusal),
+        }
+    }
+    Ok(())
+}
+
+/// The same of one disk, with the units up to its last used one.
+fn check_size(m: &Mounted, asked: &Asked, disk: u8, used: u64) -> Result<(), Refusal>
+    ensures { IfErr result (ResizeRefused m.now asked.now.disks) }
+{
+    if !asked.disks.has(disk) {
+        return Ok(());
+    }
+    let units = units_asked(m, disk, asked);
+    if image_units(m, disk) < units {
+        return too_small(m, asked, disk, units);
+    }
+    let need = least_units(&m.catalog().shape(), used);
+    if units < need {
+        return too_small(m, asked, disk, need);
+    }
+    Ok(())
+}
+
+fn too_small(m: &Mounted, asked: &Asked, disk: u8, need: u64) -> Result<(), Refusal>
+    ensures { IfErr result (ResizeRefused m.now asked.now.disks) }
+{
+    let _group = m.status();
+    let _asked = asked.disks;
+    Err(Refusal::TooSmall {
+        disk: DiskRef::Number(disk),
+        need,
+    })
+}
+
+/// Of each disk the units up to its last used one. It goes over the extents once.
+fn used_ends(catalog: &Catalog) -> [u64; 64] {
+    let mut ends = [0u64; 64];
+    for (at, chunk) in catalog.chunks() {
+        end_behind(&mut ends, catalog, at.1, chunk.as_slice());
+    }
+    ends
+}
+
+/// The same with the extents of a chunk.
+fn end_behind(ends: &mut [u64], catalog: &Catalog, chunk: u32, extents: &[Homes]) {
+    let mut index = chunk as u64 * 256;
+    for homes in extents {
+        let units = catalog.units_of(index.min(u32::MAX as u64) as u32) as u64;
+        end_behind_homes(ends, units, homes);
+        index = index.saturating_add(1);
+    }
+}
+
+/// The same with the copies of an extent of so many units.
+fn end_behind_homes(ends: &mut [u64], units: u64, homes: &Homes) {
+    let homes = *homes;
+    end_behind_home(ends, units, homes.first);
+    end_behind_home(ends, units, homes.second);
+    end_behind_home(ends, units, homes.third);
+}
+
+/// The same with one copy.
+fn end_behind_home(ends: &mut [u64], units: u64, home: Option<Home>) {
+    let Some(home) = home else {
+        return;
+    };
+    let place = home.disk as usize;
+    if place < ends.len() {
+        let end = (home.unit as u64).saturating_add(units);
+        ends[place] = ends[place].max(end);
+    }
+}
