@@ -55,7 +55,7 @@ fn is_right(shape: &Shape, entries: &[PstEntry], disk: &Headed) -> bool
 }
 
 /// Whether the image is there, is long enough, and is no other group's.
-fn is_there(looked: &[Looked], held: &[u32], disk: &Headed) -> bool
+pub fn is_there(looked: &[Looked], held: &[u32], disk: &Headed) -> bool
     ensures { result ≡ is_there looked.now held.now disk.now }
 {
     has_size(looked, disk.slot, disk.size)

@@ -112,7 +112,7 @@ fn said_name(said: &Option<Name>, other: &Name) -> Result<Name, NoMemory>
 }
 
 /// A disk of this number. Without the name of a failure group it is in one of its own name.
-fn planned_disk(
+pub fn planned_disk(
     alloc: Global,
     group: &Name,
     number: usize,
@@ -197,7 +197,7 @@ fn put_terms(groups: &[NewFailgroup], terms: &mut Vec<Terms>) -> Result<(), NoMe
 }
 
 /// How many disks the statement has, where there are at most so many.
-fn disks_within(groups: &[NewFailgroup], most: usize) -> bool
+pub fn disks_within(groups: &[NewFailgroup], most: usize) -> bool
     ensures { result ≡ nat_le (disk_count groups.now) most }
 {
     let [first, rest @ ..] = groups else {

@@ -1,0 +1,4 @@
+pub mod Taking
+pub mod Causes
+pub mod Attaching
+pub mod Returning

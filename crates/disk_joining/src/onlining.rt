@@ -1,0 +1,303 @@
+//! ONLINE: disks that were offline come back.
+ghost use Rattle.std.specs.Prelude.{◌≡◌, ◌≤◌, IfErr, IfSome, OnOk, length};
+ghost use Rattle.asm_formats.specs.Status.{entry_of};
+ghost use Rattle.group_engine.specs.Mounts.{IsMounted, Takes};
+ghost use Rattle.disk_joining.specs.Causes.{IsNoneOf, OnlineCause};
+ghost use Rattle.disk_joining.specs.Returning.{AreShown, IsShownAs, IsSize};
+ghost use Rattle.disk_joining.specs.Taking.{IsApart, TakesIn};
+
+use crate::attaching::{DiskImage, attach_image};
+use crate::recording::write_next;
+use crate::slots::{is_held, is_own};
+use asm_base::{DiskRef, DiskSet, Mode, NoMemory, Refusal};
+use bay::Bay;
+use disk_header::Header;
+use disk_images::{Looked, look_at_images};
+use group_engine::Mounted;
+use status_table::{PstEntry, PstRecord, with_mode};
+use std::alloc::Global;
+
+/// The entry of a disk among these.
+#[tactic(auto, unfolding(asm_formats::specs::Status::entry_of))]
+fn entry_among(entries: &[PstEntry], number: u8) -> Option<PstEntry>
+    ensures { result ≡ entry_of entries.now number }
+{
+    for entry in entries {
+        if entry.number == number {
+            return Some(*entry);
+        }
+    }
+    None
+}
+
+/// The entry of a disk.
+fn entry_of(status: &PstRecord, number: u8) -> Option<PstEntry>
+    ensures { result ≡ entry_of status.now.entries number }
+{
+    entry_among(status.entries(), number)
+}
+
+/// Whether the disk, where it is one of these, is Offline.
+fn check_state(m: &Mounted, disks: DiskSet, number: u8) -> Result<(), Refusal>
+    ensures cause { IfErr result (IsNoneOf m.now disks) }
+{
+    if !disks.has(number) {
+        return Ok(());
+    }
+    match entry_of(m.status(), number) {
+        Some(entry) => match entry.mode {
+            Mode::Offline => Ok(()),
+            mode => Err(Refusal::DiskState {
+                disk: DiskRef::Number(number),
+                mode,
+            }),
+        },
+        None => Err(Refusal::NoName),
+    }
+}
+
+/// Whether all of the disks are Offline. Refused as DiskState by the one of the least number that isn't.
+fn check_states(m: &Mounted, disks: DiskSet) -> Result<(), Refusal>
+    ensures cause { IfErr result (IsNoneOf m.now disks) }
+{
+    for number in 0..64u8 {
+        match check_state(m, disks, number) {
+            Ok(()) => {}
+            Err(refusal) => return Err(refusal),
+        }
+    }
+    Ok(())
+}
+
+/// Whether a header on an image of so many bytes is that of an entry's disk: a member of the id with its number and birth,
+/// and at least its units.
+fn is_disk_of(id: u64, entry: PstEntry, header: &Header, size: u64) -> bool {
+    header.id == id
+        && (header.number == entry.number
+            && (header.birth == entry.birth && entry.units as u64 * header.au_size as u64 <= size))
+}
+
+/// The size of the image that was looked at, where it is the disk of an entry.
+fn size_of(id: u64, entry: PstEntry, looked: &Looked) -> Option<u64>
+    ensures { IfSome result (IsSize looked.now) }
+{
+    match looked {
+        Looked::Absent => None,
+        Looked::Unread { .. } => None,
+        Looked::Read { size, header } => match header {
+            Some(header) => {
+                if is_disk_of(id, entry, header, *size) {
+                    Some(*size)
+                } else {
+                    None
+                }
+            }
+            None => None,
+        },
+    }
+}
+
+/// Whether the image in a slot is the disk of an entry.
+fn is_still(m: &Mounted, looked: &[Looked], entry: PstEntry, slot: u32) -> bool {
+    match looked.get(slot as usize) {
+        Some(image) => size_of(m.status().id, entry, image).is_some(),
+        None => false,
+    }
+}
+
+/// The first image that is the disk of an entry, in a slot that neither this group nor another has.
+fn image_of(m: &Mounted, looked: &[Looked], held: &[u32], entry: PstEntry) -> Option<DiskImage>
+    ensures { IfSome result (IsShownAs looked.now) }
+{
+    for (i, image) in looked.iter().enumerate() {
+        if i < 512 {
+            let slot = i as u32;
+            if let Some(size) = size_of(m.status().id, entry, image) {
+                if !is_own(m, slot) && !is_held(held, slot) {
+                    return Some(DiskImage {
+                        slot,
+                        size,
+                        number: entry.number,
+                        birth: entry.birth,
+                    });
+                }
+            }
+        }
+    }
+    None
+}
+
+/// Whether the disk of an entry is there: attached, and still that disk, or another image is it. Of a disk that is attached
+/// no other image is it, as no two images are one disk.
+fn is_there(m: &Mounted, looked: &[Looked], held: &[u32], entry: PstEntry) -> bool {
+    if entry.number >= 64 {
+        return false;
+    }
+    match m.slot(entry.number) {
+        Some(slot) => is_still(m, looked, entry, slot),
+        None => image_of(m, looked, held, entry).is_some(),
+    }
+}
+
+/// Whether the disk, where it is one of these, is there.
+fn check_image(
+    m: &Mounted,
+    looked: &[Looked],
+    held: &[u32],
+    disks: DiskSet,
+    number: u8,
+) -> Result<(), Refusal>
+    ensures cause { IfErr result (IsNoneOf m.now disks) }
+{
+    if !disks.has(number) {
+        return Ok(());
+    }
+    match entry_of(m.status(), number) {
+        Some(entry) => {
+            if is_there(m, looked, held, entry) {
+                Ok(())
+            } else {
+                Err(Refusal::NoDisk {
+                    text: DiskRef::Number(number),
+                })
+            }
+        }
+        None => Err(Refusal::NoName),
+    }
+}
+
+/// Whether all of the disks are there. Refused as NoDisk by the one of the least number that isn't.
+fn check_images(m: &Mounted, looked: &[Looked], held: &[u32], disks: DiskSet) -> Result<(), Refusal>
+    ensures cause { IfErr result (IsNoneOf m.now disks) }
+{
+    for number in 0..64u8 {
+        match check_image(m, looked, held, disks, number) {
+            Ok(()) => {}
+            Err(refusal) => return Err(refusal),
+        }
+    }
+    Ok(())
+}
+
+/// Attaches the image of the disk, where it is one of these and isn't attached.
+fn attach_found<B: Bay>(
+    m: &mut Mounted,
+    bay: &B,
+    looked: &[Looked],
+    held: &[u32],
+    disks: DiskSet,
+    number: u8,
+)
+    requires takes { Takes m.old (B.state bay.now) }
+    requires apart { IsApart held.now m.old }
+    requires shown { AreShown looked.now (B.state bay.now) }
+    ensures taken { TakesIn held.now m.old m.new (B.state bay.now) (B.state bay.now) }
+    ensures same { m.new.access ≡ m.old.access }
+{
+    if !disks.has(number) {
+        return;
+    }
+    let Some(entry) = entry_of(m.status(), number) else {
+        return;
+    };
+    if let Some(image) = image_of(m, looked, held, entry) {
+        attach_image(m, bay, held, image);
+    }
+}
+
+/// Attaches the images of the disks that aren't attached.
+fn attach_missing<B: Bay>(m: &mut Mounted, bay: &B, looked: &[Looked], held: &[u32], disks: DiskSet)
+    requires takes { Takes m.old (B.state bay.now) }
+    requires apart { IsApart held.now m.old }
+    requires shown { AreShown looked.now (B.state bay.now) }
+    ensures taken { TakesIn held.now m.old m.new (B.state bay.now) (B.state bay.now) }
+    ensures same { m.new.access ≡ m.old.access }
+{
+    for number in 0..64u8 {
+        attach_found(m, bay, looked, held, disks, number);
+    }
+}
+
+/// The record with the disk Syncing. Since when it is offline, and after how long it is dropped, stay.
+fn with_syncing(status: &PstRecord, number: u8) -> PstRecord {
+    match entry_of(status, number) {
+        Some(entry) => with_mode(status, number, Mode::Syncing, entry.since),
+        None => status.copy(),
+    }
+}
+
+/// The record with the disks Syncing.
+fn syncing(status: &PstRecord, disks: DiskSet) -> PstRecord {
+    let mut next = status.copy();
+    for number in 0..64u8 {
+        if disks.has(number) {
+            next = with_syncing(&next, number);
+        }
+    }
+    next
+}
+
+/// The disks, whose images were looked at, come back.
+fn bring_back<B: Bay>(
+    m: &mut Mounted,
+    alloc: Global,
+    bay: &mut B,
+    looked: &[Looked],
+    held: &[u32],
+    disks: DiskSet,
+) -> Result<(), Refusal>
+    requires mounted { IsMounted m.old }
+    requires takes { Takes m.old (B.state bay.old) }
+    requires apart { IsApart held.now m.old }
+    requires shown { AreShown looked.now (B.state bay.old) }
+    ensures taken { TakesIn held.now m.old m.new (B.state bay.old) (B.state bay.new) }
+    ensures mounted { OnOk result (IsMounted m.new) }
+    ensures cause { IfErr result (OnlineCause m.old disks m.new (B.state bay.old) (B.state bay.new)) }
+{
+    match check_images(m, looked, held, disks) {
+        Ok(()) => {}
+        Err(refusal) => return Err(refusal),
+    }
+    m.set_flight(None);
+    attach_missing(m, bay, looked, held, disks);
+    let next = syncing(m.status(), disks);
+    write_next(m, alloc, bay, &next)
+}
+
+/// Brings disks back that are Offline: they are Syncing from then on. `paths` are the program's images, which are looked at
+/// for disks that aren't attached, and `held` the slots of the disks of other groups. The move that is on its way is given
+/// up. An empty set changes nothing. Refusals in their order: Dismounted; DiskState, by the least disk that isn't Offline;
+/// NoDisk, by the least disk of which there is no image; Dismounted, where too few disks took the record; NoMemory. NoName
+/// comes of a number alone that has no entry.
+pub fn online_disks<B: Bay>(
+    m: &mut Mounted,
+    alloc: Global,
+    bay: &mut B,
+    paths: &[String],
+    held: &[u32],
+    disks: DiskSet,
+) -> Result<(), Refusal>
+    requires few { length paths.now ≤ 512 }
+    requires takes { Takes m.old (B.state bay.old) }
+    requires apart { IsApart held.now m.old }
+    // The group's parts agree, it takes the next call, and the disks of others stay.
+    ensures taken { TakesIn held.now m.old m.new (B.state bay.old) (B.state bay.new) }
+    ensures mounted { OnOk result (IsMounted m.new) }
+    ensures cause { IfErr result (OnlineCause m.old disks m.new (B.state bay.old) (B.state bay.new)) }
+{
+    match m.takes_calls() {
+        Ok(()) => {}
+        Err(refusal) => return Err(refusal),
+    }
+    if disks.bits() == 0 {
+        return Ok(());
+    }
+    match check_states(m, disks) {
+        Ok(()) => {}
+        Err(refusal) => return Err(refusal),
+    }
+    match look_at_images(alloc, bay, paths) {
+        Ok(looked) => bring_back(m, alloc, bay, &looked, held, disks),
+        Err(NoMemory) => Err(Refusal::NoMemory),
+    }
+}
