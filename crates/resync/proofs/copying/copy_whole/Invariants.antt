@@ -1,0 +1,9 @@
+use Rattle.std.proofs.Common.{◌-◌}
+use Rattle.group_engine.specs.Own.{KeepsGroup}
+use Rattle.resync.proofs.copying.copy_whole.Given as goal
+
+abbrev pub invariant-loop-copied : goal.invariant-loop-copied
+invariant-loop-copied g l = KeepsGroup l.m l.m (g.B.Bay.state l.fn.bay) (g.B.Bay.state l.bay)
+
+abbrev pub decreases-loop-copied : goal.decreases-loop-copied
+decreases-loop-copied g l = l.size - l.copied

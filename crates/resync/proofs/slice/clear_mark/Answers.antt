@@ -1,0 +1,19 @@
+use Rattle.std.proofs.Common.{sym, subst}
+use Rattle.catalog.specs.Plans.{IsPlan}
+use Rattle.catalog.specs.Tables.{Catalogued, Tables}
+use Rattle.group_engine.proofs.Endings.{goes_without}
+use Rattle.resync.proofs.Marks.{may_clear}
+use Rattle.resync.proofs.slice.clear_mark.Goals as goal
+
+pub plan_marks-requires : goal.plan_marks-requires
+plan_marks-requires g c = record { marks = may_clear c.catalog-catalog.result.now.tables c.args.x.file c.args.x.index c.in-Some._homes (sym c.in-Some.ensures) }
+
+pub commit_plan-requires-clause-plan : goal.commit_plan-requires-clause-plan
+commit_plan-requires-clause-plan g c =
+    subst (λ (v : Catalogued). (u : Tables) × IsPlan v c.in-Ok.change.put c.in-Ok.change.gone u) c.catalog-catalog.ensures (_, c.in-Ok.ensures.planned)
+
+pub returns-in_default : goal.returns-in_default
+returns-in_default g c = let t = c.requires.takes c.requires.mounted in record { goes = goes_without c.args.m.now (g.B.Bay.state c.args.bay.now) t.0 t.1 }
+
+pub returns : goal.returns
+returns g c = let t = c.requires.takes c.requires.mounted in record { goes = goes_without c.args.m.now (g.B.Bay.state c.args.bay.now) t.0 t.1 }

@@ -1,0 +1,35 @@
+-- Why bytes of an extent aren't copied.
+use Rattle.std.specs.Prelude.{◌≡◌, ⊤, ℕ}
+use Rattle.bay.specs.State.{BayState}
+use Rattle.asm_base.specs.declared.refusal.DiskRef.{DiskRef}
+use Rattle.asm_base.specs.declared.refusal.DiskRef.TheVariants as disk
+use Rattle.asm_base.specs.declared.refusal.Refusal.{Refusal}
+use Rattle.asm_base.specs.declared.refusal.Refusal.TheVariants as cause
+use Rattle.group_engine.specs.Mounts.{MountedGroup}
+use Rattle.group_pieces.specs.Faults.{RoseOn}
+use Rattle.group_pieces.specs.declared.reading.ReadError.{ReadError}
+use Rattle.group_pieces.specs.declared.reading.ReadError.TheVariants as reads
+use Rattle.resync.specs.declared.copying.CopyError.{CopyError}
+use Rattle.resync.specs.declared.copying.CopyError.TheVariants as copies
+
+-- the disk from which they were read, or to which they go, failed
+abbrev pub CopyCause : MountedGroup → ℕ → BayState → BayState → CopyError → Type 0
+CopyCause m to s t (copies.Unread d) = RoseOn m d s t
+CopyCause m to s t (copies.Unwritten d) = (d ≡ to) × RoseOn m d s t
+CopyCause m to s t copies.Nowhere = ⊤
+
+-- the disk is that of this number, and failed
+abbrev pub FaultCause : MountedGroup → ℕ → BayState → BayState → DiskRef → Type 0
+FaultCause m to s t (disk.Number d) = (d ≡ to) × RoseOn m d s t
+FaultCause m to s t (disk.Spelt text) = ⊥
+
+-- what is answered of it
+abbrev pub refusal_of : CopyError → Refusal
+refusal_of (copies.Unread d) = cause.ReadFault (disk.Number d)
+refusal_of (copies.Unwritten d) = cause.WriteFault (disk.Number d)
+refusal_of copies.Nowhere = cause.NoMemory
+
+-- why bytes aren't copied that can't be read
+abbrev pub unread : ReadError → CopyError
+unread (reads.Fault d) = copies.Unread d
+unread reads.Lost = copies.Nowhere
