@@ -1,0 +1,3 @@
+pub mod MovedHomes
+pub mod Chains
+pub mod Leaving

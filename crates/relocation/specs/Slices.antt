@@ -1,0 +1,38 @@
+-- What slices of a rebalance do, and why they are refused.
+use Rattle.std.specs.Prelude.{◌≡◌, ⊤, IfErr, OnOk, Result}
+use Rattle.bay.specs.State.{BayState}
+use Rattle.asm_base.specs.declared.refusal.DiskRef.{DiskRef}
+use Rattle.asm_base.specs.declared.refusal.DiskRef.TheVariants as disk
+use Rattle.asm_base.specs.declared.refusal.Refusal.{Refusal}
+use Rattle.asm_base.specs.declared.refusal.Refusal.TheVariants as cause
+use Rattle.group_engine.specs.Members.{HasFailed, IsLetDown, LetsGo}
+use Rattle.group_engine.specs.Mounts.{IsMounted, MountedGroup}
+use Rattle.group_pieces.specs.Faults.{RoseOn}
+use Rattle.resync.specs.declared.copying.CopyError.{CopyError}
+use Rattle.resync.specs.declared.copying.CopyError.TheVariants as copies
+
+-- the disk is named by its number, and failed
+abbrev pub FailedBy : MountedGroup → MountedGroup → BayState → BayState → DiskRef → Type 0
+FailedBy old new s t (disk.Number d) = HasFailed old new d s t
+FailedBy old new s t (disk.Spelt text) = ⊥
+
+-- Why a slice is refused: a disk that was read, or that is to have a copy, failed; or the group takes no calls, or was dismounted. Want of
+-- memory is free.
+abbrev pub SliceCause : MountedGroup → MountedGroup → BayState → BayState → Refusal → Type 0
+SliceCause old new s t (cause.ReadFault by) = FailedBy old new s t by
+SliceCause old new s t (cause.WriteFault by) = FailedBy old new s t by
+SliceCause old new s t (cause.Dismounted by) = IsLetDown old new s t by
+SliceCause old new s t cause.NoMemory = ⊤
+SliceCause old new s t _ = ⊥
+
+-- the disk from which bytes were read, or to which they go, failed
+abbrev pub HasFault : MountedGroup → BayState → BayState → CopyError → Type 0
+HasFault m s t (copies.Unread d) = RoseOn m d s t
+HasFault m s t (copies.Unwritten d) = RoseOn m d s t
+HasFault m s t copies.Nowhere = ⊤
+
+-- A step of a slice, or several of them.
+pub record Goes (old : MountedGroup) (answer : Result (Unit {0}) Refusal) (new : MountedGroup) (s t : BayState) : Type 0 where
+  pub lets : LetsGo old new s t
+  pub mounted : OnOk answer (IsMounted new)
+  pub cause : IfErr answer (SliceCause old new s t)
