@@ -185,7 +185,7 @@ fn scripts_are_answered(rt: HostRuntime) -> Result<(), Fail> {
     Ok(())
 }
 
-// A text that isn't of the languages is refused where it parts from them, and one whose form isn't built at its first byte.
+// A text that isn't of the languages is refused where it parts from them, and a statement on a group that isn't there by that.
 #[test]
 fn texts_are_refused_at_their_places(rt: HostRuntime) -> Result<(), Fail> {
     let alloc = rt.alloc();
@@ -196,7 +196,7 @@ fn texts_are_refused_at_their_places(rt: HostRuntime) -> Result<(), Fail> {
         (b"LS", b"error 1 Syntax 0\n"),
         (b"CREx", b"error 1 Syntax 3\n"),
         (b"cp ./a ./b", b"error 1 Syntax 8\n"),
-        (b"ALTER DISKGROUP data UNDROP DISKS;", b"error 1 Syntax 0\n"),
+        (b"ALTER DISKGROUP data UNDROP DISKS;", b"error 2 NoGroup\n"),
         (
             b"ALTER DISKGROUP data ADD VOLUME v;",
             b"error 1 Syntax 25\n",

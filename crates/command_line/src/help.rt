@@ -24,18 +24,26 @@ usage: asm [--generate N] IMAGE...
   --             what follows is an image, also where it begins with a hyphen.
 
 The script is read on standard input. A statement ends with ; and any other command with its line.
-Each command is answered by ok or by an error line on standard output. These are served, more come:
+Each command is answered by ok or by an error line on standard output. The statements are
 
   CREATE DISK 'image' SIZE size;
-  CREATE DISKGROUP name EXTERNAL REDUNDANCY DISK 'image';
-  DROP DISKGROUP name;
-  ALTER DISKGROUP name MOUNT | DISMOUNT | CHECK;
-  ALTER DISKGROUP name ADD | RENAME | DROP DIRECTORY ..; the same of ALIAS
-  ALTER DISKGROUP name ADD | MODIFY | DROP TEMPLATE ..; SET ATTRIBUTE ..;
-  pwd  cd  ls  find  du  mkdir  mkalias  rmalias  lsdg  lsdsk  lstmpl  lsattr
+  CREATE DISKGROUP name [EXTERNAL | NORMAL | HIGH REDUNDANCY] [[QUORUM] FAILGROUP name] DISK 'image' ..
+      [ATTRIBUTE 'name' = 'value' ..];
+  DROP DISKGROUP name [INCLUDING CONTENTS];
+  ALTER DISKGROUP name MOUNT [FORCE] | DISMOUNT | CHECK;
+  ALTER DISKGROUP name DROP DISK disk [FORCE] .. | UNDROP DISKS;
+  ALTER DISKGROUP name OFFLINE DISK disk [DROP AFTER n M | H] | ONLINE DISK disk | RESIZE ALL [SIZE size];
+  ALTER DISKGROUP name REBALANCE [POWER n] [WAIT];
+  ALTER DISKGROUP name ADD | RENAME | DROP DIRECTORY ..; the same of ALIAS; DROP FILE 'path';
+  ALTER DISKGROUP name ADD | MODIFY | DROP TEMPLATE ..; SET ATTRIBUTE 'name' = 'value';
 
-Any other command or form of one is answered error 1 Syntax 0, and a text that is no command error 1
-Syntax and the place where it parts from all commands. For example
+and the verbs, each on a line of its own
+
+  dbcreate  dbwrite  dbfill  dbread  dbresize  cp  rm  ls  find  du  cd  pwd  mkdir  mkalias  rmalias
+  lsdg  lsdsk  lstmpl  lsattr  offline  online  rebal
+
+ALTER DISKGROUP name ADD .. DISK isn't served yet: it is answered error 1 Syntax 0. A text that is no command
+is answered error 1 Syntax and the place where it parts from all commands. For example
 
   truncate -s 64M disk0
   asm disk0 <<'END'

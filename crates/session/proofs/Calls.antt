@@ -16,16 +16,17 @@ use Rattle.session.specs.FileLines.{IsNewLine, line_of_head, system_lines}
 use Rattle.session.specs.Listing.{IsInGroup}
 use Rattle.session.specs.Naming.{CarriesOn, DoesOn, IsGroupOf, group_among, key_of, with_group}
 use Rattle.session.specs.Sessions.{AreReady, SessionView}
+use Rattle.session.proofs.Keeping.{lets_go}
 use Rattle.session.proofs.Ready.{read_ready}
 
 -- a call that reads from a group
 pub carries_read : (session : SessionView) (name : Bytes) (m : MountedGroup) {s t : BayState} → AreReady session.groups s → IsGroupOf session name m → KeepsGroup m m s t → CarriesOn session session s t
-carries_read session name m ready is keeps = record {
+carries_read session name m {s} {t} ready is keeps = record {
   keys = refl;
   place = refl;
   given = refl;
   time = refl;
-  ready = read_ready session name m ready is keeps;
+  ready = read_ready session name m ready is (lets_go m m s t keeps);
   calls = keeps.runs.later;
   past = λ n image before left. (keeps.runs.ended n image before).0 left;
 }

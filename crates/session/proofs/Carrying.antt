@@ -5,7 +5,7 @@ use Rattle.std.specs.Map.{lookup, set_value}
 use Rattle.bay.specs.State.{BayState}
 use Rattle.asm_group.specs.Names.{Bytes}
 use Rattle.group_engine.specs.Mounts.{IsMounted, MountedGroup}
-use Rattle.group_engine.specs.Own.{KeepsGroup}
+use Rattle.group_engine.specs.Members.{LetsGo}
 use Rattle.group_engine.specs.declared.access.Access.{Access}
 use Rattle.group_engine.specs.declared.access.Access.TheVariants as access
 use Rattle.session.specs.declared.entry.Entry.{Entry}
@@ -33,7 +33,7 @@ mounted_or access.Closed = inr (λ is. absurd cc)
 
 -- A call on the group of one entry, which was mounted: `es` and `fs` are the map before and after.
 module _ (name : Bytes) (v w : Entry) (es fs : Pairs) (place : List Bytes) (given time : ℕ) {s t : BayState} (is : fs ≡ set_value (sought name) es w) (found : lookup (sought name) es ≡ Some v)
-    (mounted : IsMounted v.group) (keeps : KeepsGroup v.group w.group s t) where
+    (mounted : IsMounted v.group) (keeps : LetsGo v.group w.group s t) where
   groups_are : map group_view fs ≡ with_group (map entry_view es) (map group_view es) name w.group
   groups_are = ap (map group_view) is ∙ groups_set name w es
 
@@ -54,26 +54,26 @@ module _ (name : Bytes) (v w : Entry) (es fs : Pairs) (place : List Bytes) (give
   pub changed : ChangesGroup name (seen es place given time) (seen fs place given time) s t
   changed = record { before = v.group; after = w.group; is = group_is; keeps = keeps; groups = groups_are }
 
-on_ok : {T P Q : Type 0} (result : Result T Refusal) → (P → Q) → OnOk result P → OnOk result Q
+pub on_ok : {T P Q : Type 0} (result : Result T Refusal) → (P → Q) → OnOk result P → OnOk result Q
 on_ok (Ok given) f p = f p
 on_ok (Err refusal) f p = tt
 
-if_ok : {T : Type 0} (P Q : T → Type 0) (result : Result T Refusal) → ((given : T) → P given → Q given) → IfOk result P → IfOk result Q
+pub if_ok : {T : Type 0} (P Q : T → Type 0) (result : Result T Refusal) → ((given : T) → P given → Q given) → IfOk result P → IfOk result Q
 if_ok P Q (Ok given) f p = f given p
 if_ok P Q (Err refusal) f p = tt
 
-if_err : {T : Type 0} (P Q : Refusal → Type 0) (result : Result T Refusal) → ((refusal : Refusal) → P refusal → Q refusal) → IfErr result P → IfErr result Q
+pub if_err : {T : Type 0} (P Q : Refusal → Type 0) (result : Result T Refusal) → ((refusal : Refusal) → P refusal → Q refusal) → IfErr result P → IfErr result Q
 if_err P Q (Ok given) f p = tt
 if_err P Q (Err refusal) f p = f refusal p
 
 -- ok doesn't come
-never_ok : {T P : Type 0} (Q : T → Type 0) (result : Result T Refusal) → OnOk result P → (P → ⊥) → IfOk result Q
+pub never_ok : {T P : Type 0} (Q : T → Type 0) (result : Result T Refusal) → OnOk result P → (P → ⊥) → IfOk result Q
 never_ok Q (Ok given) on off = absurd (off on)
 never_ok Q (Err refusal) on off = tt
 
 -- A piece of work on the group of one entry, which does nothing where the group takes no calls.
 module _ {B : Type 0} (state : B → BayState) (b b' : B) (name : Bytes) (v w : Entry) (es fs : Pairs) (place : List Bytes) (given time : ℕ) (is : fs ≡ set_value (sought name) es w) (found : lookup (sought name) es ≡ Some v)
-    (id : w.id ≡ v.id) (keeps : IsMounted v.group → KeepsGroup v.group w.group (state b) (state b')) (idle : (IsMounted v.group → ⊥) → (w.group ≡ v.group) × (b' ≡ b)) (ready : AreReady (map group_view es) (state b))
+    (id : w.id ≡ v.id) (keeps : IsMounted v.group → LetsGo v.group w.group (state b) (state b')) (idle : (IsMounted v.group → ⊥) → (w.group ≡ v.group) × (b' ≡ b)) (ready : AreReady (map group_view es) (state b))
     {T : Type 0} (Does : MountedGroup → T → MountedGroup → Type 0) (result : Result T Refusal) (ok : OnOk result (IsMounted v.group)) (did : IfOk result (λ given. Does v.group given w.group)) (err : IfErr result (λ refusal. IsMounted v.group ⊎ IsOutCause (map entry_view es) name refusal)) where
   there : IsMounted v.group → IsFound (seen es place given time) name
   there on = (v.group, record { named = group_found name es v found; mounted = on })

@@ -1,5 +1,6 @@
 -- What parts of the program do, one after another.
 use Rattle.std.proofs.Common.{◌≡◌, ◌||◌, ℕ, ◌<◌, ◌≤◌, Bool, true, false, MatchBool, List, [], ◌∷◌, ◌++◌, inl, inr, refl, sym, ◌∙◌, ap, subst, append_assoc, length, arith}
+use Rattle.std.proofs.lemmas.Bool.{false≢true}
 use Rattle.std.proofs.lemmas.List.{append-nil}
 use Rattle.std.proofs.lemmas.List.Concat.{flat_map-append}
 use Rattle.std.specs.Str.{bytes_eq}
@@ -8,12 +9,12 @@ use Rattle.bay.specs.Image.{Image}
 use Rattle.bay.specs.Readings.{Readings}
 use Rattle.bay.proofs.Known.{Appends-none, Appends-more}
 use Rattle.asm_group.specs.Names.{Bytes}
-use Rattle.asm_world.specs.Run.{Outside, State, Entry, Move, Full, IsMove, end_of, entry_text, IsFull, IsPrinted, IsPrintedToCut, output_of, commands_at, answered, times_at, times_of, marks_at, marks_of, refuses, has_refusal}
+use Rattle.asm_world.specs.Run.{Outside, State, Entry, Move, Full, AllMoves, IsMove, end_of, entry_text, text_of, IsFull, IsPrinted, IsPrintedToCut, output_of, commands_at, answered, times_at, times_of, marks_at, marks_of, refuses, has_refusal}
 use Rattle.asm_world.proofs.Histories.{end_append, rise_calls, rise_joined, moves_split, while_joined, while_past}
 use Rattle.group_disks.specs.Found.{Counts}
 use Rattle.session.specs.Claims.{outside, held_outside, StandsFor, IsProvedApart}
 use Rattle.session.specs.Effects.{Past}
-use Rattle.session.specs.Proved.{IsProved}
+use Rattle.session.specs.Proved.{IsProved, is_proved_move}
 use Rattle.session.specs.Acts.{Scene, state_of, Acts}
 
 full-append : (h k : List (Entry Counts)) → IsFull h → IsFull k → IsFull (h ++ k)
@@ -123,7 +124,7 @@ acts-cut gives paths xs a b p = record {
   refusal = p.refusal;
 }
 
-one-printed : (whole : Bool) (move : Move) (printed : List ℕ) (after : State Counts) →
+pub one-printed : (whole : Bool) (move : Move) (printed : List ℕ) (after : State Counts) →
     let e : Entry Counts = record { move = move; style = Full; printed = printed; after = after } in
     MatchBool whole (printed ≡ entry_text e) ((rest : List ℕ) × (entry_text e ≡ printed ++ rest)) → MatchBool whole (IsPrinted (e ∷ [])) (IsPrintedToCut (e ∷ []))
 one-printed true move printed after e = (e, tt)
@@ -163,3 +164,55 @@ acts-one gives paths whole move text old new one = record {
   marks_grow = one.marks_grow ∙ ap (λ ms. old.marks ++ ms) (sym (append-nil (marks_at move (bytes_eq text (entry_text (entry move text (state_of new)))) new.bay.calls)));
   refusal = one.refusal ∙ ap (λ b. old.refused || b) (sym (or-false (refuses move)));
 }
+
+-- ---- moves of which nothing is proved
+
+-- the move is no answer, gives no time and no mark, and nothing is proved of it
+pub record IsSilent (move : Move) : Type 0 where
+  pub unproved : is_proved_move move ≡ false
+  pub commands : commands_at move ≡ []
+  pub times : times_at move ≡ []
+  pub marks : (whole : Bool) (calls : ℕ) → marks_at move whole calls ≡ []
+  pub refuses_none : refuses move ≡ false
+
+pub acts-silent : {C : Type 0} (gives : C → ℕ → C → Type 0) (paths : List Bytes) (whole : Bool) (move : Move) (text : List ℕ) (old new : Scene C) → IsSilent move
+    → old.bay.calls ≤ new.bay.calls → Past old.bay new.bay → MatchBool whole (text ≡ text_of Full move) ((rest : List ℕ) × (text_of Full move ≡ text ++ rest)) → Appends old.taken new.taken text
+    → new.clock ≡ old.clock → new.marks ≡ old.marks → new.refused ≡ old.refused → Acts gives paths whole [] old new
+acts-silent gives paths whole move text old new is calls past texts written clock marks refused =
+    let never : IsProved move → ⊥ = λ proved. false≢true (sym is.unproved ∙ proved) in
+    record {
+      history = entry move text (state_of new) ∷ [];
+      run = λ proved. absurd (never proved);
+      calls_rise = (calls, tt);
+      ends = refl;
+      commands_are = append-nil (commands_at move) ∙ is.commands;
+      past = past;
+      holds = λ known stands. record { held = λ meets. absurd (never meets.0); now = λ all. absurd (never all.0.0) };
+      full = (refl, tt);
+      printed = one-printed whole move text (state_of new) texts;
+      written = rw append-nil written;
+      readings = rw (append-nil, is.times) clock;
+      marks_grow = marks ∙ sym (append-nil old.marks) ∙ ap (λ ms. old.marks ++ ms) (sym (append-nil (marks_at move (bytes_eq text (entry_text (entry move text (state_of new)))) new.bay.calls) ∙ is.marks _ _));
+      refusal = refused ∙ sym (or-false old.refused) ∙ ap (λ b. old.refused || b) (sym (or-false (refuses move) ∙ is.refuses_none));
+    }
+
+-- ---- which moves they are
+
+moves-append : (P : Move → Type 0) (h k : List (Entry Counts)) → AllMoves P h → AllMoves P k → AllMoves P (h ++ k)
+moves-append P [] k p q = q
+moves-append P (e ∷ h) k p q = (p.0, moves-append P h k p.1 q)
+
+pub none-moves : (P : Move → Type 0) {C : Type 0} (gives : C → ℕ → C → Type 0) (paths : List Bytes) (a : Scene C) → AllMoves P (acts-none gives paths a).history
+unfolding acts-none
+none-moves P gives paths a = tt
+
+pub then-moves : (P : Move → Type 0) {C : Type 0} (gives : C → ℕ → C → Type 0) (paths : List Bytes) (whole : Bool) (xs ys : List Bytes) (a b c : Scene C)
+    (p : Acts gives paths true xs a b) (q : Acts gives paths whole ys b c) → AllMoves P p.history → AllMoves P q.history → AllMoves P (acts-then gives paths whole xs ys a b c p q).history
+unfolding acts-then
+then-moves P gives paths whole xs ys a b c p q first rest = moves-append P p.history q.history first rest
+
+pub silent-moves : (P : Move → Type 0) {C : Type 0} (gives : C → ℕ → C → Type 0) (paths : List Bytes) (whole : Bool) (move : Move) (text : List ℕ) (old new : Scene C) (is : IsSilent move)
+    (calls : old.bay.calls ≤ new.bay.calls) (past : Past old.bay new.bay) (texts : MatchBool whole (text ≡ text_of Full move) ((rest : List ℕ) × (text_of Full move ≡ text ++ rest))) (written : Appends old.taken new.taken text)
+    (clock : new.clock ≡ old.clock) (marks : new.marks ≡ old.marks) (refused : new.refused ≡ old.refused) → P move → AllMoves P (acts-silent gives paths whole move text old new is calls past texts written clock marks refused).history
+unfolding acts-silent
+silent-moves P gives paths whole move text old new is calls past texts written clock marks refused p = (p, tt)

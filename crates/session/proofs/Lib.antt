@@ -1,3 +1,5 @@
+pub mod Keeping
+pub mod Attaching
 pub mod Reading
 pub mod Languages
 pub mod Creations
@@ -32,3 +34,5 @@ pub mod Spans
 pub mod TextLines
 pub mod Telling
 pub mod GroupLists
+pub mod Turning
+pub mod Stories

@@ -26,11 +26,13 @@ use Rattle.session.specs.Meaning.{meaning}
 use Rattle.session.specs.Effects.{HasEffect, IsServed, below_with}
 use Rattle.session.specs.Quiet.{quiet}
 use Rattle.session.specs.Desks.{paths_on}
-use Rattle.session.specs.Programs.{scene_of, AnswersOne, RunsOne}
+use Rattle.session.specs.Programs.{scene_of, AnswersOne, RunsOne, TellsEvents}
 use Rattle.session.specs.Stops.{IsReplyOrNoMemory}
+use Rattle.session.specs.Turns.{AfterReply, BeforeText}
 use Rattle.session.specs.declared.program.Program.{Program}
 use Rattle.session.specs.declared.stop.Stop.{Stop}
 use Rattle.session.proofs.Chains.{acts-none, acts-one, acts-then, acts-cut, or-false}
+use Rattle.session.proofs.Pieces.{at-paths, at-phase}
 use Rattle.asm_world.proofs.Memory.{no_lines}
 
 -- ---- nothing is due
@@ -169,43 +171,78 @@ acts-unmarked gives paths w below phase time given bay taken clock marks marks' 
     let P : List ℕ → Type 0 = λ ms. Acts gives paths false [] (scene w below phase time given bay taken clock marks refused) (scene w below phase time given bay taken clock ms refused) in
     subst P (sym same) (acts-cut gives paths [] _ _ (acts-none gives paths (scene w below phase time given bay taken clock marks refused)))
 
-module _ {B H K C : Type 0} {bay : Bay.Ghosts B} {host : Host.Ghosts H} {sink : Sink.Ghosts K} {clock : Clock.Ghosts C} (text : Bytes) (w : World) (below : ℕ → GroupBelow) (time : ℕ) where
-  -- a command and the moves around it, from the program as it was when the clock had been read
-  pub command-acts : (result : Result (Unit {0}) Stop) (old start new : Program B H K C bay host sink clock) (time' : ℕ) → clock.gives old.clock time' start.clock
-      → paths_on start.desk ≡ paths_on old.desk → start.desk.session.given ≡ old.desk.session.given → bay.state start.desk.bay ≡ bay.state old.desk.bay → sink.taken start.sink ≡ sink.taken old.sink
-      → start.marks.items ≡ old.marks.items → start.refused ≡ old.refused
-      → AnswersOne result text start new w below time' → RunsOne result text old new w below time
-  command-acts (Ok done) old start new time' g paths given at_bay at_sink marks refused a =
-      let first = acts-starts clock.gives (paths_on old.desk) w below time time' old.desk.session.given (bay.state old.desk.bay) (sink.taken old.sink) old.clock start.clock old.marks.items old.refused g in
-      let phase_is : a.phase ≡ Slicing (slices_of (mounted_groups a.w'.session)) = a.rests in
-      let middle : Acts clock.gives (paths_on old.desk) true (text ∷ []) (scene w below (Expiring (mounted_groups w.session)) time' old.desk.session.given (bay.state old.desk.bay) (sink.taken old.sink) start.clock old.marks.items old.refused)
-      (scene_of a.w' a.below' (Slicing (slices_of (mounted_groups a.w'.session))) time' new) =
-      rw (← phase_is, ← paths, ← given, ← at_bay, ← at_sink, ← marks, ← refused) a.acts in
-      let rest = acts-rests clock.gives (paths_on old.desk) a.w' a.below' time' new.desk.session.given (bay.state new.desk.bay) (sink.taken new.sink) new.clock new.marks.items new.refused (rw a.knows.still (none_due a.w' (mounted_groups a.w'.session))) in
-      record {
-        w' = a.w';
-        below' = a.below';
-        phase = Resting;
+-- A command and the moves around it. The clock was read, which leads from the program as it was to the one that begins.
+module _ {B H K C : Type 0} {bay : Bay.Ghosts B} {host : Host.Ghosts H} {sink : Sink.Ghosts K} {clock : Clock.Ghosts C} (text : Bytes) (w : World) (below : ℕ → GroupBelow) (time time' : ℕ) (old start : Program B H K C bay host sink clock)
+    (g : clock.gives old.clock time' start.clock) (paths : paths_on start.desk ≡ paths_on old.desk) (given : start.desk.session.given ≡ old.desk.session.given) (at_bay : bay.state start.desk.bay ≡ bay.state old.desk.bay)
+    (at_sink : sink.taken start.sink ≡ sink.taken old.sink) (marks : start.marks.items ≡ old.marks.items) (refused : start.refused ≡ old.refused) where
+  started : Acts clock.gives (paths_on old.desk) true [] (scene_of w below Resting time old) (scene_of w below (Expiring (mounted_groups w.session)) time' start)
+  started = rw (given, at_bay, at_sink, marks, refused)
+      (acts-starts clock.gives (paths_on old.desk) w below time time' old.desk.session.given (bay.state old.desk.bay) (sink.taken old.sink) old.clock start.clock old.marks.items old.refused g)
+
+  -- the program stopped before the text
+  pub ends-expiring : (stop : Stop) (new : Program B H K C bay host sink clock) → TellsEvents {T = Unit {0}} (Err stop) BeforeText start new w below time' → RunsOne (Err stop) text old new w below time
+  ends-expiring stop new e = record {
+    w' = e.w';
+    below' = e.below';
+    phase = e.phase;
+    time' = time';
+    commands = [];
+    knows = e.knows;
+    rests = tt;
+    part = inl refl;
+    acts = acts-then clock.gives (paths_on old.desk) false [] [] _ _ _ started (at-paths clock.gives _ _ false [] _ _ paths e.acts);
+  }
+
+  -- expired disks were dropped before the text
+  module _ (mid : Program B H K C bay host sink clock) (e : TellsEvents {T = Unit {0}} (Ok tt) BeforeText start mid w below time') (mid_paths : paths_on mid.desk ≡ paths_on start.desk) where
+    expired : Acts clock.gives (paths_on old.desk) true [] (scene_of w below Resting time old) (scene_of e.w' e.below' (Expiring (mounted_groups e.w'.session)) time' mid)
+    expired = acts-then clock.gives (paths_on old.desk) true [] [] _ _ _ started (at-paths clock.gives _ _ true [] _ _ paths (at-phase clock.gives _ true [] _ _ _ _ _ _ _ _ _ _ _ _ e.rests e.acts))
+
+    -- the program stopped at the reply
+    pub ends-answering : (stop : Stop) (new : Program B H K C bay host sink clock) → AnswersOne (Err stop) text mid new e.w' e.below' time' → RunsOne (Err stop) text old new w below time
+    ends-answering stop new a = record {
+      w' = a.w';
+      below' = a.below';
+      phase = a.phase;
+      time' = time';
+      commands = text ∷ [];
+      knows = a.knows;
+      rests = tt;
+      part = inr refl;
+      acts = acts-then clock.gives (paths_on old.desk) false [] (text ∷ []) _ _ _ expired (at-paths clock.gives _ _ false (text ∷ []) _ _ (mid_paths ∙ paths) a.acts);
+    }
+
+    -- the text was answered
+    module _ (late : Program B H K C bay host sink clock) (a : AnswersOne (Ok tt) text mid late e.w' e.below' time') (late_paths : paths_on late.desk ≡ paths_on mid.desk) where
+      answered : Acts clock.gives (paths_on old.desk) true (text ∷ []) (scene_of w below Resting time old) (scene_of a.w' a.below' (Slicing (slices_of (mounted_groups a.w'.session))) time' late)
+      answered = acts-then clock.gives (paths_on old.desk) true [] (text ∷ []) _ _ _ expired
+          (at-paths clock.gives _ _ true (text ∷ []) _ _ (mid_paths ∙ paths) (at-phase clock.gives _ true (text ∷ []) _ _ _ _ _ _ _ _ _ _ _ _ a.rests a.acts))
+
+      -- slices ran behind the reply, and nothing more is due, or the program stopped there
+      pub ends-slicing : (result : Result (Unit {0}) Stop) (new : Program B H K C bay host sink clock) → TellsEvents result AfterReply late new a.w' a.below' time' → RunsOne result text old new w below time
+      ends-slicing (Ok done) new s =
+          let all = acts-then clock.gives (paths_on old.desk) true (text ∷ []) [] _ _ _ answered
+          (at-paths clock.gives _ _ true [] _ _ (late_paths ∙ mid_paths ∙ paths) (at-phase clock.gives _ true [] _ _ _ _ _ _ _ _ _ _ _ _ s.rests s.acts)) in
+          let rest = acts-rests clock.gives (paths_on old.desk) s.w' s.below' time' new.desk.session.given (bay.state new.desk.bay) (sink.taken new.sink) new.clock new.marks.items new.refused (rw s.knows.still (none_due s.w' (mounted_groups s.w'.session))) in
+          record {
+            w' = s.w';
+            below' = s.below';
+            phase = Resting;
+            time' = time';
+            commands = text ∷ [];
+            knows = s.knows;
+            rests = refl;
+            part = refl;
+            acts = acts-then clock.gives (paths_on old.desk) true (text ∷ []) [] _ _ _ all rest;
+          }
+      ends-slicing (Err stop) new s = record {
+        w' = s.w';
+        below' = s.below';
+        phase = s.phase;
         time' = time';
         commands = text ∷ [];
-        knows = a.knows;
-        rests = refl;
-        part = refl;
-        acts = acts-then clock.gives (paths_on old.desk) true (text ∷ []) [] _ _ _ (acts-then clock.gives (paths_on old.desk) true [] (text ∷ []) _ _ _ first middle) rest;
-      }
-  command-acts (Err stop) old start new time' g paths given at_bay at_sink marks refused a =
-      let first = acts-starts clock.gives (paths_on old.desk) w below time time' old.desk.session.given (bay.state old.desk.bay) (sink.taken old.sink) old.clock start.clock old.marks.items old.refused g in
-      let middle : Acts clock.gives (paths_on old.desk) false (text ∷ []) (scene w below (Expiring (mounted_groups w.session)) time' old.desk.session.given (bay.state old.desk.bay) (sink.taken old.sink) start.clock old.marks.items old.refused)
-      (scene_of a.w' a.below' a.phase time' new) =
-      rw (← paths, ← given, ← at_bay, ← at_sink, ← marks, ← refused) a.acts in
-      record {
-        w' = a.w';
-        below' = a.below';
-        phase = a.phase;
-        time' = time';
-        commands = text ∷ [];
-        knows = a.knows;
+        knows = s.knows;
         rests = tt;
         part = inr refl;
-        acts = acts-then clock.gives (paths_on old.desk) false [] (text ∷ []) _ _ _ first middle;
+        acts = acts-then clock.gives (paths_on old.desk) false (text ∷ []) [] _ _ _ answered (at-paths clock.gives _ _ false [] _ _ (late_paths ∙ mid_paths ∙ paths) s.acts);
       }

@@ -14,7 +14,7 @@ use Rattle.asm_world.specs.World.{SessionEntry}
 use Rattle.group_disks.specs.Holding.{IsHeldSlot, SparesHeld}
 use Rattle.group_engine.specs.Frames.{KeepsOwn, SparesDisks}
 use Rattle.group_engine.specs.Mounts.{IsMounted, IsOwn, IsReady, IsWhole, MountedGroup, Takes, slot_at}
-use Rattle.group_engine.specs.Own.{KeepsGroup}
+use Rattle.group_engine.specs.Members.{LetsGo}
 use Rattle.group_engine.specs.declared.attached.Attached.{Attached}
 use Rattle.group_engine.proofs.Elsewhere.{ready_with_own}
 use Rattle.session.specs.Naming.{IsGroupOf, group_among, with_group}
@@ -26,7 +26,7 @@ among_either : (xs ys : List MountedGroup) (m : MountedGroup) → IsAmong (xs ++
 among_either [] ys m is = inr is
 among_either (x ∷ xs) ys m is = ⊎_elim (λ here. inl (inl here)) (λ later. ⊎_elim (λ front. inl (inr front)) (λ back. inr back) (among_either xs ys m later)) is
 
-turned : (a b : MountedGroup) → AreTwoApart a b → AreTwoApart b a
+pub turned : (a b : MountedGroup) → AreTwoApart a b → AreTwoApart b a
 turned a b apart mounted_b mounted_a slot own_b own_a = apart mounted_a mounted_b slot own_a own_b
 
 apart_joined : (groups : List MountedGroup) (m : MountedGroup) → AreApart groups → ((other : MountedGroup) → IsAmong groups other → AreTwoApart other m) → AreApart (groups ++ m ∷ [])
@@ -42,7 +42,7 @@ apart_joined (g ∷ groups) m all new = (
 -- ---- a group that stays
 
 -- Over calls that leave the disks of a group it takes the next call.
-still : (m : MountedGroup) {s t : BayState} {on : ℕ → Type 0} {step : Image → Image → Type 0} → Takes m s
+pub still : (m : MountedGroup) {s t : BayState} {on : ℕ → Type 0} {step : Image → Image → Type 0} → Takes m s
     → ((slot size : ℕ) → IsMounted m → IsOwn m slot → s.attached slot ≡ Some size → t.attached slot ≡ Some size) → Runs on step s t
     → (IsMounted m → (x y : Image) → step x y → SparesDisks m x y) → Takes m t
 still m takes stays run spares mounted =
@@ -51,11 +51,11 @@ still m takes stays run spares mounted =
 
 -- ---- slots that are held
 
-or_left : (a b : Bool) → a ≡ true → (a || b) ≡ true
+pub or_left : (a b : Bool) → a ≡ true → (a || b) ≡ true
 or_left true b is = refl
 or_left false b is = absurd cc
 
-or_right : (a b : Bool) → b ≡ true → (a || b) ≡ true
+pub or_right : (a b : Bool) → b ≡ true → (a || b) ≡ true
 or_right true b is = refl
 or_right false b is = is
 
@@ -80,12 +80,15 @@ in_held (g ∷ groups) m slot among mounted is = list_any-append (λ s. s == slo
     (λ later. or_right (list_any (λ s. s == slot) (held_of g)) (list_any (λ s. s == slot) (held_by groups)) (in_held groups m slot later mounted is))
     among
 
+-- the slot of an attached disk is among those of its group's disks
+pub own_listed : (m : MountedGroup) (slot : ℕ) → IsWhole m → IsOwn m slot → IsHeldSlot (slots_in m.disks) slot
+own_listed m slot whole own =
+    let at : slot_at m.disks own.0 ≡ Some slot = whole.disks own.0 ∙ rw own.2 (ap (λ (k : ℕ). Some k) (sym own.3)) in
+    in_slots m.disks own.0 slot at
+
 -- each disk that is attached to a mounted group is in a slot that is held
 covered : (groups : List MountedGroup) {s : BayState} → AreReady groups s → (m : MountedGroup) (slot : ℕ) → IsAmong groups m → IsMounted m → IsOwn m slot → IsHeldSlot (held_by groups) slot
-covered groups ready m slot among mounted own =
-    let whole : IsWhole m = (ready.takes m among mounted).0 in
-    let at : slot_at m.disks own.0 ≡ Some slot = whole.disks own.0 ∙ rw own.2 (ap (λ (k : ℕ). Some k) (sym own.3)) in
-    in_held groups m slot among mounted (in_slots m.disks own.0 slot at)
+covered groups ready m slot among mounted own = in_held groups m slot among mounted (own_listed m slot (ready.takes m among mounted).0 own)
 
 -- what is held has the slots of the attached disks of each mounted group
 abbrev pub Covers : List MountedGroup → List ℕ → Type 0
@@ -169,51 +172,48 @@ module _ (name : Bytes) (a b : MountedGroup) where
       among
 
   -- a group among those after the call is the new one, or one of the others, which is apart from the old one
-  among_with : (es : List SessionEntry) (groups : List MountedGroup) → AreApart groups → (m : MountedGroup) → group_among es groups name ≡ Some a → IsAmong (with_group es groups name b) m
+  pub among_with : (es : List SessionEntry) (groups : List MountedGroup) → AreApart groups → (m : MountedGroup) → group_among es groups name ≡ Some a → IsAmong (with_group es groups name b) m
       → (m ≡ b) ⊎ (IsAmong groups m × AreTwoApart a m)
   among_with [] groups all m is among = absurd cc
   among_with (e ∷ es) [] all m is among = absurd cc
   among_with (e ∷ es) (g ∷ groups) all m is among = among_with_by (is_same_name e.name name) g m es groups all (among_with es groups all.1 m) is among
 
-  module _ (mounted : IsMounted a) (own : (slot : ℕ) → IsOwn b slot → IsOwn a slot) where
-    -- what is apart from the old one is so from the new one
-    renewed : (g : MountedGroup) → AreTwoApart g a → AreTwoApart g b
-    renewed g apart mounted_g mounted_b slot own_g own_b = apart mounted_g mounted slot own_g (own slot own_b)
+  -- what is apart from the old one, and is one of these groups, is so from the new one
+  abbrev pub Renews : List MountedGroup → Type 0
+  Renews groups = (g : MountedGroup) → IsAmong groups g → AreTwoApart g a → AreTwoApart g b
 
-    apart_with_by : (t : Bool) (g : MountedGroup) (es : List SessionEntry) (groups : List MountedGroup) → AreApart (g ∷ groups)
-        → (group_among es groups name ≡ Some a → AreApart (with_group es groups name b)) → (if t then Some g else group_among es groups name) ≡ Some a
-        → AreApart (if t then b ∷ groups else g ∷ with_group es groups name b)
-    apart_with_by true g es groups all rest is =
-        let same : g ≡ a = cc in
-        (λ m among. turned m b (renewed m (turned a m (subst (λ (x : MountedGroup). AreTwoApart x m) same (all.0 m among)))), all.1)
-    apart_with_by false g es groups all rest is = (
-      λ m among. ⊎_elim
-          (λ new. subst (λ (x : MountedGroup). AreTwoApart g x) (sym new) (renewed g (all.0 a (found_among es groups name a is))))
-          (λ old. all.0 m old.0)
-          (among_with es groups all.1 m is among),
-      rest is,
-    )
+  apart_with_by : (t : Bool) (g : MountedGroup) (es : List SessionEntry) (groups : List MountedGroup) → Renews (g ∷ groups) → AreApart (g ∷ groups)
+      → (group_among es groups name ≡ Some a → AreApart (with_group es groups name b)) → (if t then Some g else group_among es groups name) ≡ Some a
+      → AreApart (if t then b ∷ groups else g ∷ with_group es groups name b)
+  apart_with_by true g es groups renews all rest is =
+      let same : g ≡ a = cc in
+      (λ m among. turned m b (renews m (inr among) (turned a m (subst (λ (x : MountedGroup). AreTwoApart x m) same (all.0 m among)))), all.1)
+  apart_with_by false g es groups renews all rest is = (
+    λ m among. ⊎_elim
+        (λ new. subst (λ (x : MountedGroup). AreTwoApart g x) (sym new) (renews g (inl refl) (all.0 a (found_among es groups name a is))))
+        (λ old. all.0 m old.0)
+        (among_with es groups all.1 m is among),
+    rest is,
+  )
 
-    apart_with : (es : List SessionEntry) (groups : List MountedGroup) → AreApart groups → group_among es groups name ≡ Some a → AreApart (with_group es groups name b)
-    apart_with [] groups all is = absurd cc
-    apart_with (e ∷ es) [] all is = absurd cc
-    apart_with (e ∷ es) (g ∷ groups) all is = apart_with_by (is_same_name e.name name) g es groups all (apart_with es groups all.1) is
+  pub apart_with : (es : List SessionEntry) (groups : List MountedGroup) → Renews groups → AreApart groups → group_among es groups name ≡ Some a → AreApart (with_group es groups name b)
+  apart_with [] groups renews all is = absurd cc
+  apart_with (e ∷ es) [] renews all is = absurd cc
+  apart_with (e ∷ es) (g ∷ groups) renews all is =
+      apart_with_by (is_same_name e.name name) g es groups renews all (apart_with es groups (λ m among. renews m (inr among)) all.1) is
 
-same_own : (a b : MountedGroup) {s t : BayState} → KeepsGroup a b s t → (slot : ℕ) → IsOwn b slot → IsOwn a slot
-same_own a b keeps slot own = (own.0, own.1, sym (ap (λ ms. get_or ms own.0 None) keeps.same.members) ∙ own.2, own.3)
-
--- a call on the mounted group of a name keeps all of them ready
-pub worked_ready : (es : List SessionEntry) (groups : List MountedGroup) (name : Bytes) (a b : MountedGroup) {s t : BayState} → group_among es groups name ≡ Some a → IsMounted a → KeepsGroup a b s t
+-- a call on the mounted group of a name, by which disks of it may leave, keeps all of them ready
+pub worked_ready : (es : List SessionEntry) (groups : List MountedGroup) (name : Bytes) (a b : MountedGroup) {s t : BayState} → group_among es groups name ≡ Some a → IsMounted a → LetsGo a b s t
     → AreReady groups s → AreReady (with_group es groups name b) t
-worked_ready es groups name a b {s} {t} is mounted keeps ready = record {
+worked_ready es groups name a b {s} {t} is mounted goes ready = record {
   takes = λ m among. ⊎_elim
-      (λ new. subst (λ (x : MountedGroup). Takes x t) (sym new) (λ on. (keeps.whole on, keeps.ready on)))
+      (λ new. subst (λ (x : MountedGroup). Takes x t) (sym new) (λ on. (goes.whole on, goes.ready on)))
       (λ old. still m (ready.takes m old.0)
-      (λ slot size on own at. keeps.attached.same slot ∙ at)
-      keeps.runs
+      (λ slot size on own at. goes.attached.same slot ∙ at)
+      goes.runs
       (λ on x y step slot own. record { size = step.size slot; byte = λ k. step.byte slot k (λ other. old.1 mounted on slot other own) }))
       (among_with name a b es groups ready.apart m is among);
-  apart = apart_with name a b mounted (same_own a b keeps) es groups ready.apart is;
+  apart = apart_with name a b es groups (λ g among apart on_g on_b slot own_g own_b. apart on_g mounted slot own_g (goes.own slot own_b)) ready.apart is;
 }
 
 -- ---- a group that is found
@@ -232,7 +232,7 @@ with_same (e ∷ es) [] name a is = absurd cc
 with_same (e ∷ es) (g ∷ groups) name a is = same_by (is_same_name e.name name) g a groups (with_group es groups name a) (group_among es groups name) (with_same es groups name a) is
 
 -- a call that leaves the group as it is, as one that reads
-pub read_ready : (session : SessionView) (name : Bytes) (m : MountedGroup) {s t : BayState} → AreReady session.groups s → IsGroupOf session name m → KeepsGroup m m s t → AreReady session.groups t
+pub read_ready : (session : SessionView) (name : Bytes) (m : MountedGroup) {s t : BayState} → AreReady session.groups s → IsGroupOf session name m → LetsGo m m s t → AreReady session.groups t
 read_ready session name m {t = t} ready is keeps =
     subst (λ (l : List MountedGroup). AreReady l t) (with_same session.entries session.groups name m is.named)
     (worked_ready session.entries session.groups name m m is.named is.mounted keeps ready)

@@ -1,17 +1,15 @@
--- The disks of groups: which there are, how large they are, and whether they are online. Served is CREATE DISK; what it does isn't
--- proved yet.
+-- The disks of groups: which there are, how large they are, and whether they are online. All of these commands are served; what they
+-- do isn't proved yet.
 use Rattle.std.specs.Prelude.{⊤, ℕ, Bool, true, false, List}
 use Rattle.asm_group.specs.Names.{Bytes}
 use Rattle.asm_group.specs.Refusal as r
-use Rattle.asm_world.specs.Command.{Command, Said}
-use Rattle.asm_world.specs.Statement.{CreateDisk}
+use Rattle.asm_world.specs.Command.{Command}
 use Rattle.asm_world.specs.World.{World}
 use Rattle.group_disks.specs.Found.{Counts}
 
 -- which of them run
 abbrev pub is_served : Command → Bool
-is_served (Said (CreateDisk path size)) = true
-is_served other = false
+is_served c = true
 
 -- of which it is proved what they do
 abbrev pub is_proved : Command → Bool

@@ -20,6 +20,7 @@ pub mod Acts
 pub mod Sessions
 pub mod Mounting
 pub mod Naming
+pub mod Joining
 pub mod Copying
 pub mod Lines
 pub mod GroupRows
@@ -31,6 +32,8 @@ pub mod Going
 pub mod Stops
 pub mod Serves
 pub mod Quiet
+pub mod Slices
+pub mod Turns
 pub mod Effects
 pub mod Desks
 pub mod Programs

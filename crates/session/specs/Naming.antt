@@ -7,7 +7,7 @@ use Rattle.asm_base.specs.declared.refusal.Refusal.{Refusal}
 use Rattle.asm_world.specs.World.{SessionEntry, SessionState, Mounted, DismountedBy, entry_among}
 use Rattle.bay.specs.State.{BayState}
 use Rattle.group_engine.specs.Mounts.{IsMounted, MountedGroup}
-use Rattle.group_engine.specs.Own.{KeepsGroup}
+use Rattle.group_engine.specs.Members.{LetsGo}
 use Rattle.session.specs.Effects.{Past}
 use Rattle.session.specs.Sessions.{AreReady, SessionView}
 
@@ -47,7 +47,7 @@ pub record ChangesGroup (name : Bytes) (old new : SessionView) (s t : BayState) 
   pub before : MountedGroup
   pub after : MountedGroup
   pub is : IsGroupOf old name before
-  pub keeps : KeepsGroup before after s t
+  pub keeps : LetsGo before after s t
   pub groups : new.groups ≡ with_group old.entries old.groups name after
 
 -- a mounted group has the name

@@ -6,15 +6,16 @@ use Rattle.bay.specs.declared.stream.Sink as Sink
 use Rattle.bay.specs.declared.stream.Clock as Clock
 use Rattle.asm_group.specs.Names.{Bytes}
 use Rattle.asm_world.specs.World.{World}
-use Rattle.asm_world.specs.Run.{Phase, Resting, Expiring, Slicing, mounted_groups, slices_of}
+use Rattle.asm_world.specs.Run.{AllMoves, Phase, Resting, Expiring, Slicing, mounted_groups, slices_of}
 use Rattle.script.specs.Script.{Place, cut}
 use Rattle.session.specs.declared.program.Program.{Program}
 use Rattle.session.specs.declared.stop.Stop.{Stop}
 use Rattle.session.specs.Acts.{Scene, scene, Acts}
 use Rattle.session.specs.Desks.{paths_on}
 use Rattle.session.specs.Serves.{BeginsFrom, Serves, is_whole}
-use Rattle.session.specs.Sessions.{Knows}
-use Rattle.session.specs.Stops.{IsPart}
+use Rattle.session.specs.Sessions.{AreReady, Knows}
+use Rattle.session.specs.Stops.{IsPart, StopsByOutput}
+use Rattle.session.specs.Turns.{When, IsTurnMove, phase_at}
 use Rattle.asm_world.specs.Below.{GroupBelow}
 
 -- the program with the world that it works on
@@ -24,6 +25,26 @@ scene_of {bay = bay} {sink = sink} w below phase time p = scene w below phase ti
 -- for whatever world the program knows, with what is below its groups, and whatever time
 abbrev pub EachWorld : {B H K C : Type 0} {bay : Bay.Ghosts B} {host : Host.Ghosts H} {sink : Sink.Ghosts K} {clock : Clock.Ghosts C} → Program B H K C bay host sink clock → (World → (ℕ → GroupBelow) → ℕ → Type 0) → Type 0
 EachWorld p claim = (w : World) (below : ℕ → GroupBelow) (time : ℕ) → Knows p.desk.session w below → claim w below time
+
+-- Groups took turns, before a command's text or after its reply, and the lines of what happened were printed. The moves are events,
+-- or the end for want of memory.
+pub record TellsEvents {B H K C : Type 0} {bay : Bay.Ghosts B} {host : Host.Ghosts H} {sink : Sink.Ghosts K} {clock : Clock.Ghosts C} {T : Type 0} (result : Result T Stop) (when : When) (old new : Program B H K C bay host sink clock) (w : World) (below : ℕ → GroupBelow) (time : ℕ) : Type 0 where
+  pub w' : World
+  pub below' : ℕ → GroupBelow
+  pub phase : Phase
+  pub knows : Knows new.desk.session w' below'
+  pub rests : OnOk result (phase ≡ phase_at when w'.session)
+  pub acts : Acts clock.gives (paths_on old.desk) (is_ok result) [] (scene_of w below (phase_at when w.session) time old) (scene_of w' below' phase time new)
+  pub events : AllMoves (IsTurnMove when) acts.history
+
+-- All that is said of turns: besides, the groups take the next call, and the paths, the host and the marks are as they were.
+pub record Tells {B H K C : Type 0} {bay : Bay.Ghosts B} {host : Host.Ghosts H} {sink : Sink.Ghosts K} {clock : Clock.Ghosts C} {T : Type 0} (result : Result T Stop) (when : When) (old new : Program B H K C bay host sink clock) : Type 0 where
+  pub ready : AreReady new.desk.session.groups (bay.state new.desk.bay)
+  pub paths : paths_on new.desk ≡ paths_on old.desk
+  pub host_stays : new.desk.host ≡ old.desk.host
+  pub marks_stay : new.marks ≡ old.marks
+  pub tells : EachWorld old (TellsEvents result when old new)
+  pub cause : StopsByOutput result (sink.faults old.sink) (sink.faults new.sink)
 
 -- one command was answered, as far as its reply was printed
 pub record AnswersOne {B H K C : Type 0} {bay : Bay.Ghosts B} {host : Host.Ghosts H} {sink : Sink.Ghosts K} {clock : Clock.Ghosts C} (result : Result (Unit {0}) Stop) (text : Bytes) (old new : Program B H K C bay host sink clock) (w : World) (below : ℕ → GroupBelow) (time : ℕ) : Type 0 where

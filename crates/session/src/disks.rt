@@ -1,19 +1,20 @@
 // The disks of groups: which there are, how large they are, and whether they are online.
-// What isn't served yet is a function of one line, to which its command is given with its operands.
-ghost use Rattle.std.specs.Prelude.{◌≡◌};
+ghost use Rattle.std.specs.Prelude.{◌≡◌, false};
 ghost use Rattle.asm_world.specs.Command.{Said, Asked, OfflineDisk, OnlineDisk, SetPower};
 ghost use Rattle.asm_world.specs.Language.{command_of};
 ghost use Rattle.asm_world.specs.Statement.{Alter, CreateDisk, AddDisks, DropDisks, DropFailgroup, UndropDisks, ResizeAll, ResizeDisk, Rebalancing, Online, Offline};
 ghost use Rattle.asm_world.specs.Statement as s;
 ghost use Rattle.group_sql.specs.Said.{disks_said, maybe_kind_said};
 ghost use Rattle.session.specs.Desks.{IsAnswered};
+ghost use Rattle.session.specs.Families.{is_proved};
 ghost use Rattle.session.specs.Sessions.{AreReady};
 
 use crate::answer::Answer;
 use crate::desk::Desk;
-use crate::refusing::{no_memory, refused, unserved};
+use crate::disk_works::{Chosen, DiskChange, said_of};
+use crate::refusing::{no_memory, refuse, refused};
 use crate::reply::Reply;
-use asm_base::{List, Name, Text};
+use asm_base::{List, Name, Refusal, Text};
 use bay::{Bay, Host};
 use group_disks::create_disk as make_disk;
 use group_sql::{Disks, DroppedDisk, FailgroupKind, NewFailgroup, Rebalance};
@@ -45,7 +46,49 @@ pub fn create_disk<B: Bay, H: Host>(
     }
 }
 
-/// ADD DISK.
+/// Changes the disks of a group.
+fn change<B: Bay, H: Host>(
+    desk: &mut Desk<B, H>,
+    text: &[u8],
+    group: &Name,
+    change: DiskChange<'_>,
+    rebalance: Option<Rebalance>,
+) -> Answer
+    requires unproved { is_proved (command_of text.now) ≡ false }
+    requires ready { AreReady desk.old.session.groups (B.state desk.old.bay) }
+    ensures answers { IsAnswered text.now result desk.old desk.new }
+{
+    let (power, wait) = said_of(rebalance);
+    let reply = desk
+        .session
+        .change_disks(desk.alloc, &mut desk.bay, group, change, power, wait);
+    Answer::plain(desk.alloc, reply)
+}
+
+/// Brings disks of a group back.
+fn bring_back<B: Bay, H: Host>(
+    desk: &mut Desk<B, H>,
+    text: &[u8],
+    group: &Name,
+    chosen: Chosen<'_>,
+    wait: bool,
+) -> Answer
+    requires unproved { is_proved (command_of text.now) ≡ false }
+    requires ready { AreReady desk.old.session.groups (B.state desk.old.bay) }
+    ensures answers { IsAnswered text.now result desk.old desk.new }
+{
+    let reply = desk.session.online_disks(
+        desk.alloc,
+        &mut desk.bay,
+        &desk.paths,
+        group,
+        chosen,
+        wait,
+    );
+    Answer::plain(desk.alloc, reply)
+}
+
+/// ADD DISK, which isn't served yet.
 pub fn add_disks<B: Bay, H: Host>(
     desk: &mut Desk<B, H>,
     text: &[u8],
@@ -57,178 +100,224 @@ pub fn add_disks<B: Bay, H: Host>(
     requires ready { AreReady desk.old.session.groups (B.state desk.old.bay) }
     ensures answers { IsAnswered text.now result desk.old desk.new }
 {
-    unserved(desk, text)
+    refuse(desk, text, Refusal::Syntax { at: 0 })
 }
 
-/// DROP DISK.
+/// DROP DISK. Its refusals in order: NoGroup, Dismounted, BadPower, NoName, DiskState, HoldsDirectories, WouldLose, TooFewGroups.
 pub fn drop_disks<B: Bay, H: Host>(
     desk: &mut Desk<B, H>,
     text: &[u8],
-    _group: Name,
-    _disks: List<DroppedDisk>,
-    _rebalance: Option<Rebalance>,
+    group: Name,
+    disks: List<DroppedDisk>,
+    rebalance: Option<Rebalance>,
 ) -> Answer
-    requires asked { command_of text.now ≡ Said (Alter _group (DropDisks _disks _rebalance)) }
+    requires asked { command_of text.now ≡ Said (Alter group (DropDisks disks rebalance)) }
     requires ready { AreReady desk.old.session.groups (B.state desk.old.bay) }
     ensures answers { IsAnswered text.now result desk.old desk.new }
 {
-    unserved(desk, text)
+    let dropped = DiskChange::Drop(disks.as_slice());
+    change(desk, text, &group, dropped, rebalance)
 }
 
-/// DROP DISKS IN FAILGROUP.
+/// DROP DISKS IN FAILGROUP. Its refusals are those of DROP DISK.
 pub fn drop_failgroup<B: Bay, H: Host>(
     desk: &mut Desk<B, H>,
     text: &[u8],
-    _group: Name,
-    _kind: Option<FailgroupKind>,
-    _name: Name,
-    _force: bool,
-    _rebalance: Option<Rebalance>,
+    group: Name,
+    kind: Option<FailgroupKind>,
+    name: Name,
+    force: bool,
+    rebalance: Option<Rebalance>,
 ) -> Answer
     requires asked { command_of text.now
-        ≡ Said (Alter _group (DropFailgroup (maybe_kind_said _kind) _name _force _rebalance)) }
+        ≡ Said (Alter group (DropFailgroup (maybe_kind_said kind) name force rebalance)) }
     requires ready { AreReady desk.old.session.groups (B.state desk.old.bay) }
     ensures answers { IsAnswered text.now result desk.old desk.new }
 {
-    unserved(desk, text)
+    let dropped = DiskChange::DropGroup {
+        kind,
+        name: &name,
+        force,
+    };
+    change(desk, text, &group, dropped, rebalance)
 }
 
-/// UNDROP DISKS.
-pub fn undrop_disks<B: Bay, H: Host>(desk: &mut Desk<B, H>, text: &[u8], _group: Name) -> Answer
-    requires asked { command_of text.now ≡ Said (Alter _group UndropDisks) }
+/// UNDROP DISKS. Its refusals in order: NoGroup, Dismounted.
+pub fn undrop_disks<B: Bay, H: Host>(desk: &mut Desk<B, H>, text: &[u8], group: Name) -> Answer
+    requires asked { command_of text.now ≡ Said (Alter group UndropDisks) }
     requires ready { AreReady desk.old.session.groups (B.state desk.old.bay) }
     ensures answers { IsAnswered text.now result desk.old desk.new }
 {
-    unserved(desk, text)
+    change(desk, text, &group, DiskChange::Undrop, None)
 }
 
-/// RESIZE ALL.
+/// RESIZE ALL, of the disks that serve. Its refusals in order: NoGroup, Dismounted, BadPower, TooSmall.
 pub fn resize_all<B: Bay, H: Host>(
     desk: &mut Desk<B, H>,
     text: &[u8],
-    _group: Name,
-    _size: Option<u64>,
-    _rebalance: Option<Rebalance>,
+    group: Name,
+    size: Option<u64>,
+    rebalance: Option<Rebalance>,
 ) -> Answer
-    requires asked { command_of text.now ≡ Said (Alter _group (ResizeAll _size _rebalance)) }
+    requires asked { command_of text.now ≡ Said (Alter group (ResizeAll size rebalance)) }
     requires ready { AreReady desk.old.session.groups (B.state desk.old.bay) }
     ensures answers { IsAnswered text.now result desk.old desk.new }
 {
-    unserved(desk, text)
+    let disks = Chosen::Serving;
+    change(
+        desk,
+        text,
+        &group,
+        DiskChange::Resize { disks, size },
+        rebalance,
+    )
 }
 
-/// RESIZE DISK.
+/// RESIZE DISK. Its refusals in order: NoGroup, Dismounted, BadPower, NoName, DiskState, TooSmall.
 pub fn resize_disk<B: Bay, H: Host>(
     desk: &mut Desk<B, H>,
     text: &[u8],
-    _group: Name,
-    _name: Name,
-    _size: Option<u64>,
-    _rebalance: Option<Rebalance>,
+    group: Name,
+    name: Name,
+    size: Option<u64>,
+    rebalance: Option<Rebalance>,
 ) -> Answer
-    requires asked { command_of text.now ≡ Said (Alter _group (ResizeDisk _name _size _rebalance)) }
+    requires asked { command_of text.now ≡ Said (Alter group (ResizeDisk name size rebalance)) }
     requires ready { AreReady desk.old.session.groups (B.state desk.old.bay) }
     ensures answers { IsAnswered text.now result desk.old desk.new }
 {
-    unserved(desk, text)
+    let names = [name];
+    let disks = Chosen::Named(&names);
+    change(
+        desk,
+        text,
+        &group,
+        DiskChange::Resize { disks, size },
+        rebalance,
+    )
 }
 
-/// REBALANCE.
+/// REBALANCE. Its refusals in order: NoGroup, Dismounted, BadPower.
 pub fn start_rebalance<B: Bay, H: Host>(
     desk: &mut Desk<B, H>,
     text: &[u8],
-    _group: Name,
-    _rebalance: Rebalance,
+    group: Name,
+    rebalance: Rebalance,
 ) -> Answer
-    requires asked { command_of text.now ≡ Said (Alter _group (Rebalancing _rebalance)) }
+    requires asked { command_of text.now ≡ Said (Alter group (Rebalancing rebalance)) }
     requires ready { AreReady desk.old.session.groups (B.state desk.old.bay) }
     ensures answers { IsAnswered text.now result desk.old desk.new }
 {
-    unserved(desk, text)
+    change(desk, text, &group, DiskChange::Rebalance, Some(rebalance))
 }
 
-/// ONLINE ALL.
+/// ONLINE ALL, of the disks that are Offline. Its refusals in order: NoGroup, Dismounted, NoDisk.
 pub fn online_all<B: Bay, H: Host>(
     desk: &mut Desk<B, H>,
     text: &[u8],
-    _group: Name,
-    _wait: bool,
+    group: Name,
+    wait: bool,
 ) -> Answer
-    requires asked { command_of text.now ≡ Said (Alter _group (Online s.All _wait)) }
+    requires asked { command_of text.now ≡ Said (Alter group (Online s.All wait)) }
     requires ready { AreReady desk.old.session.groups (B.state desk.old.bay) }
     ensures answers { IsAnswered text.now result desk.old desk.new }
 {
-    unserved(desk, text)
+    bring_back(desk, text, &group, Chosen::Offline, wait)
 }
 
-/// ONLINE of some disks.
+/// The disks that a statement names.
+fn chosen(disks: &Disks) -> Chosen<'_> {
+    match disks {
+        Disks::Named(names) => Chosen::Named(names.as_slice()),
+        Disks::InFailgroup { kind, name } => Chosen::InGroup { kind: *kind, name },
+    }
+}
+
+/// ONLINE of some disks. Its refusals in order: NoGroup, Dismounted, NoName, DiskState, NoDisk.
 pub fn online_disks<B: Bay, H: Host>(
     desk: &mut Desk<B, H>,
     text: &[u8],
-    _group: Name,
-    _disks: Disks,
-    _wait: bool,
+    group: Name,
+    disks: Disks,
+    wait: bool,
 ) -> Answer
-    requires asked { command_of text.now ≡ Said (Alter _group (Online (disks_said _disks) _wait)) }
+    requires asked { command_of text.now ≡ Said (Alter group (Online (disks_said disks) wait)) }
     requires ready { AreReady desk.old.session.groups (B.state desk.old.bay) }
     ensures answers { IsAnswered text.now result desk.old desk.new }
 {
-    unserved(desk, text)
+    bring_back(desk, text, &group, chosen(&disks), wait)
 }
 
-/// OFFLINE of some disks.
+/// Disks that don't serve from now on, and are dropped after so many minutes.
+fn taken_offline<'a>(disks: Chosen<'a>, minutes: Option<u64>, now: u64) -> DiskChange<'a> {
+    DiskChange::Offline {
+        disks,
+        repair: minutes.map(|minutes| minutes.saturating_mul(60)),
+        now,
+    }
+}
+
+/// OFFLINE of some disks. Its refusals in order: NoGroup, Dismounted, NoName, DiskState, HoldsDirectories, WouldLose.
 pub fn offline_disks<B: Bay, H: Host>(
     desk: &mut Desk<B, H>,
     text: &[u8],
-    _group: Name,
-    _disks: Disks,
-    _minutes: Option<u64>,
+    group: Name,
+    disks: Disks,
+    minutes: Option<u64>,
 ) -> Answer
-    requires asked { command_of text.now ≡ Said (Alter _group (Offline (disks_said _disks) _minutes)) }
+    requires asked { command_of text.now ≡ Said (Alter group (Offline (disks_said disks) minutes)) }
     requires ready { AreReady desk.old.session.groups (B.state desk.old.bay) }
     ensures answers { IsAnswered text.now result desk.old desk.new }
 {
-    unserved(desk, text)
+    let taken = taken_offline(chosen(&disks), minutes, desk.session.time());
+    change(desk, text, &group, taken, None)
 }
 
-/// offline: one disk.
+/// offline: one disk, as OFFLINE DISK.
 pub fn offline_disk<B: Bay, H: Host>(
     desk: &mut Desk<B, H>,
     text: &[u8],
-    _group: Name,
-    _disk: Name,
+    group: Name,
+    disk: Name,
 ) -> Answer
-    requires asked { command_of text.now ≡ Asked (OfflineDisk _group _disk) }
+    requires asked { command_of text.now ≡ Asked (OfflineDisk group disk) }
     requires ready { AreReady desk.old.session.groups (B.state desk.old.bay) }
     ensures answers { IsAnswered text.now result desk.old desk.new }
 {
-    unserved(desk, text)
+    let names = [disk];
+    let taken = taken_offline(Chosen::Named(&names), None, desk.session.time());
+    change(desk, text, &group, taken, None)
 }
 
-/// online: one disk.
+/// online: one disk, as ONLINE DISK.
 pub fn online_disk<B: Bay, H: Host>(
     desk: &mut Desk<B, H>,
     text: &[u8],
-    _group: Name,
-    _disk: Name,
+    group: Name,
+    disk: Name,
 ) -> Answer
-    requires asked { command_of text.now ≡ Asked (OnlineDisk _group _disk) }
+    requires asked { command_of text.now ≡ Asked (OnlineDisk group disk) }
     requires ready { AreReady desk.old.session.groups (B.state desk.old.bay) }
     ensures answers { IsAnswered text.now result desk.old desk.new }
 {
-    unserved(desk, text)
+    let names = [disk];
+    bring_back(desk, text, &group, Chosen::Named(&names), false)
 }
 
-/// rebal: the power of a rebalance.
+/// rebal: the power of a rebalance, as REBALANCE POWER.
 pub fn set_power<B: Bay, H: Host>(
     desk: &mut Desk<B, H>,
     text: &[u8],
-    _group: Name,
-    _power: u64,
+    group: Name,
+    power: u64,
 ) -> Answer
-    requires asked { command_of text.now ≡ Asked (SetPower _group _power) }
+    requires asked { command_of text.now ≡ Asked (SetPower group power) }
     requires ready { AreReady desk.old.session.groups (B.state desk.old.bay) }
     ensures answers { IsAnswered text.now result desk.old desk.new }
 {
-    unserved(desk, text)
+    let rebalance = Rebalance {
+        power: Some(power),
+        wait: false,
+    };
+    change(desk, text, &group, DiskChange::Rebalance, Some(rebalance))
 }

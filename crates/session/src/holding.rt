@@ -9,14 +9,14 @@ use new_groups::{Known, Taken};
 use status_table::PstRecord;
 use std::alloc::Global;
 
-fn put_slot(slots: &mut Vec<u32>, slot: u32) -> Result<(), NoMemory>
+pub(crate) fn put_slot(slots: &mut Vec<u32>, slot: u32) -> Result<(), NoMemory>
     ensures { OnOk result (slots.new.items ≡ slots.old.items ++ slot ∷ []) }
 {
     slots.push(slot).map_err(|_| NoMemory)
 }
 
 /// Puts the slots of attached disks behind others.
-fn put_slots(disks: &[Option<Attached>], slots: &mut Vec<u32>) -> Result<(), NoMemory>
+pub(crate) fn put_slots(disks: &[Option<Attached>], slots: &mut Vec<u32>) -> Result<(), NoMemory>
     ensures { OnOk result (slots.new.items ≡ slots.old.items ++ slots_in disks.now) }
 {
     for disk in disks {

@@ -2,7 +2,7 @@
 ghost use Rattle.std.specs.Prelude.{◌≡◌, ◌⊎◌, IfErr, IfOk, OnOk};
 ghost use Rattle.group_engine.specs.Making.{IsShut};
 ghost use Rattle.group_engine.specs.Mounts.{IsMounted, MountedGroup, Takes};
-ghost use Rattle.group_engine.specs.Own.{KeepsGroup};
+ghost use Rattle.group_engine.specs.Members.{LetsGo};
 ghost use Rattle.session.specs.Naming.{IsGroupOf, IsOutCause, WorksOn};
 ghost use Rattle.session.specs.Sessions.{AreReady};
 
@@ -14,7 +14,7 @@ use bay::Bay;
 use group_engine::Mounted;
 use std::alloc::Global;
 
-/// What is done to one group.
+/// What is done to one group. Disks of it may leave.
 pub(crate) trait GroupWork {
     /// What it gives.
     type Given;
@@ -30,7 +30,7 @@ pub(crate) trait GroupWork {
         bay: &mut B,
     ) -> Result<Self::Given, Refusal>
         requires takes { Takes m.old (B.state bay.old) }
-        ensures keeps { KeepsGroup m.old m.new (B.state bay.old) (B.state bay.new) }
+        ensures keeps { LetsGo m.old m.new (B.state bay.old) (B.state bay.new) }
         ensures done { IfOk result (λ given. does self m.old given m.new) };
 }
 
@@ -42,7 +42,7 @@ fn work_on<B: Bay, W: GroupWork + Drop>(
     work: W,
 ) -> Result<W::Given, Refusal>
     requires takes { Takes m.old (B.state bay.old) }
-    ensures keeps { IsMounted m.old → KeepsGroup m.old m.new (B.state bay.old) (B.state bay.new) }
+    ensures keeps { IsMounted m.old → LetsGo m.old m.new (B.state bay.old) (B.state bay.new) }
     ensures idle { (IsMounted m.old → ⊥) → (m.new ≡ m.old) × (bay.new ≡ bay.old) }
     ensures found { OnOk result (IsMounted m.old) }
     ensures done { IfOk result (λ given. W.does work m.old given m.new) }

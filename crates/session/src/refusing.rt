@@ -9,7 +9,7 @@ ghost use Rattle.asm_world.specs.Command.{Unreadable};
 ghost use Rattle.asm_world.specs.Language.{command_of};
 ghost use Rattle.session.specs.Desks.{IsAnswered};
 ghost use Rattle.session.specs.Sessions.{AreReady};
-ghost use Rattle.session.specs.Families.{is_proved, is_served};
+ghost use Rattle.session.specs.Families.{is_proved};
 
 use crate::answer::Answer;
 use crate::desk::Desk;
@@ -18,15 +18,6 @@ use crate::session::MAX_GROUPS;
 use asm_base::{Limited, NoMemory, Refusal};
 use bay::{Bay, Host};
 use std::alloc::Global;
-
-/// What isn't served yet is refused at its first byte.
-pub fn unserved<B: Bay, H: Host>(desk: &mut Desk<B, H>, text: &[u8]) -> Answer
-    requires unserved { is_served (command_of text.now) ≡ false }
-    requires ready { AreReady desk.old.session.groups (B.state desk.old.bay) }
-    ensures answers { IsAnswered text.now result desk.old desk.new }
-{
-    Answer::plain(desk.alloc, Reply::Refused(Refusal::Syntax { at: 0 }))
-}
 
 /// What is no command is refused where its longest front that begins one ends.
 pub fn unreadable<B: Bay, H: Host>(desk: &mut Desk<B, H>, text: &[u8], at: u64) -> Answer

@@ -79,8 +79,9 @@ impl<B: Bay, H: Host, K: Sink, C: Clock> Program<B, H, K, C> {
         Ok(())
     }
 
-    /// Runs one command whole: the clock is read, the command runs, and its reply is printed. Nothing
-    /// expires and no slice is due as long as no command works on the disks of a mounted group.
+    /// Runs one command whole: the clock is read, expired disks are dropped, the command runs and its reply is printed, then
+    /// slices of resync and rebalance run. The memory for its mark is taken first, so that no line stands before a command that
+    /// gets no reply for want of that.
     pub fn run_command(&mut self, text: &[u8]) -> Result<(), Stop>
         requires ready { AreReady self.old.desk.session.groups (B.state self.old.desk.bay) }
         ensures ready { AreReady self.new.desk.session.groups (B.state self.new.desk.bay) }
@@ -92,6 +93,8 @@ impl<B: Bay, H: Host, K: Sink, C: Clock> Program<B, H, K, C> {
         self.marks.reserve(1)?;
         let time = self.clock.now();
         self.desk.session.see(time);
-        self.answer(text)
+        self.expire_groups()?;
+        self.answer(text)?;
+        self.slice_groups()
     }
 }

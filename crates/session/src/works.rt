@@ -26,6 +26,7 @@ impl GroupWork for Edit<'_> {
 
     ghost does = { λ work old given new. ⊤ };
 
+    #[tactic(auto, using(crate::proofs::Keeping::lets_go))]
     fn run<B: Bay>(self, m: &mut Mounted, alloc: Global, bay: &mut B) -> Result<(), Refusal> {
         match edit_group(m, alloc, bay, self.edit) {
             Ok(()) => Ok(()),
@@ -45,6 +46,7 @@ impl GroupWork for DropAll {
 
     ghost does = { λ work old given new. ⊤ };
 
+    #[tactic(auto, using(crate::proofs::Keeping::lets_go))]
     fn run<B: Bay>(self, m: &mut Mounted, _alloc: Global, bay: &mut B) -> Result<(), Refusal> {
         match drop_group(m, bay, self.contents) {
             Ok(()) => Ok(()),
@@ -65,6 +67,7 @@ impl GroupWork for OnFile<'_> {
 
     ghost does = { λ work old given new. WorkDone old work.work.now new };
 
+    #[tactic(auto, using(crate::proofs::Keeping::lets_go))]
     fn run<B: Bay>(self, m: &mut Mounted, alloc: Global, bay: &mut B) -> Result<(), Refusal> {
         match work_on_file(m, alloc, bay, self.work, self.now) {
             Ok(()) => Ok(()),
@@ -84,6 +87,7 @@ impl GroupWork for Create<'_> {
 
     ghost does = { λ work old file new. (before : MountedGroup) × NamesFile before work.new.now file new };
 
+    #[tactic(auto, using(crate::proofs::Keeping::lets_go))]
     fn run<B: Bay>(self, m: &mut Mounted, alloc: Global, bay: &mut B) -> Result<u32, Refusal> {
         create(m, alloc, bay, self.new)
     }
@@ -100,6 +104,7 @@ impl GroupWork for Begin<'_> {
 
     ghost does = { λ work old filling new. filling.end ≡ work.new.now.size };
 
+    #[tactic(auto, using(crate::proofs::Keeping::lets_go))]
     fn run<B: Bay>(self, m: &mut Mounted, alloc: Global, bay: &mut B) -> Result<Filling, Refusal> {
         begin_new(m, alloc, bay, self.new, Contents::Bytes)
     }
@@ -117,6 +122,7 @@ impl GroupWork for Put<'_> {
 
     ghost does = { λ work old filling new. filling.end ≡ work.filling.end };
 
+    #[tactic(auto, using(crate::proofs::Keeping::lets_go))]
     fn run<B: Bay>(self, m: &mut Mounted, alloc: Global, bay: &mut B) -> Result<Filling, Refusal> {
         let Put { mut filling, bytes } = self;
         match put_next(m, alloc, bay, &mut filling, bytes) {
@@ -141,6 +147,7 @@ impl GroupWork for Finish<'_> {
 
     ghost does = { λ work old file new. NamesFile old work.new.now file new };
 
+    #[tactic(auto, using(crate::proofs::Keeping::lets_go))]
     fn run<B: Bay>(self, m: &mut Mounted, alloc: Global, bay: &mut B) -> Result<u32, Refusal> {
         finish_new(m, alloc, bay, self.filling, self.new)
     }
@@ -158,6 +165,7 @@ impl GroupWork for GiveUp {
 
     ghost does = { λ work old given new. ⊥ };
 
+    #[tactic(auto, using(crate::proofs::Keeping::lets_go))]
     fn run<B: Bay>(self, m: &mut Mounted, alloc: Global, bay: &mut B) -> Result<(), Refusal> {
         Err(give_up(m, alloc, bay, self.refusal))
     }

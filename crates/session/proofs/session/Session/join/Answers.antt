@@ -1,0 +1,13 @@
+use Rattle.std.proofs.Common.{inr, refl}
+use Rattle.asm_base.specs.Refusals.{said}
+use Rattle.session.proofs.Carrying.{carries_none}
+use Rattle.session.proofs.Telling.{no_memory_out}
+use Rattle.session.proofs.session.Session.join.Goals as goal
+
+pub returns-in-Err : goal.returns-in-Err
+unfolding said
+returns-in-Err g c = record {
+  found = tt;
+  out = inr (inr refl);
+  carries = carries_none _ c.requires.ready;
+}
