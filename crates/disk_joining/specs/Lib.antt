@@ -1,4 +1,6 @@
 pub mod Taking
 pub mod Causes
+pub mod AddCauses
 pub mod Attaching
 pub mod Returning
+pub mod Joiners
