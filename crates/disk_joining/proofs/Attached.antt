@@ -1,5 +1,5 @@
 -- An image is attached as a disk of a group.
-use Rattle.std.proofs.Common.{◌≡◌, ◌⊎◌, ⊎_elim, inl, inr, ℕ, zero, suc, ◌≤◌, Bool, true, false, ◌==◌, List, [], ◌∷◌, get_or, set, Option, Some, None, refl, sym, ap, subst, ◌∙◌, arith, unwrap_or}
+use Rattle.std.proofs.Common.{◌≡◌, ◌⊎◌, ⊎_elim, inl, inr, ℕ, zero, suc, Bool, true, false, ◌==◌, List, [], ◌∷◌, get_or, set, Option, Some, None, refl, sym, ap, subst, ◌∙◌, arith, unwrap_or}
 use Rattle.std.specs.Prelude.{◌||◌, IsSome}
 use Rattle.std.specs.Option.{option_map}
 use Rattle.std.proofs.lemmas.Bool.{eq-eqb, true≢false}
@@ -7,11 +7,11 @@ use Rattle.std.proofs.lemmas.Option.{same_Some}
 use Rattle.bay.specs.State.{BayState}
 use Rattle.group_disks.specs.Holding.{IsHeldSlot}
 use Rattle.group_disks.proofs.Staying.{stays_refl}
-use Rattle.group_engine.specs.Mounts.{IsMounted, IsOwn, IsWhole, MountedGroup, Takes, slot_at}
+use Rattle.group_engine.specs.Mounts.{IsOwn, IsWhole, MountedGroup, Takes, slot_at}
 use Rattle.group_engine.specs.declared.attached.Attached.{Attached}
 use Rattle.group_mount.proofs.Searches.{sector_of}
 use Rattle.status_register.specs.declared.member.Member.{Member}
-use Rattle.disk_joining.specs.Attaching.{IsAttachable, has_slot, is_in, member_of}
+use Rattle.disk_joining.specs.Attaching.{IsAttachable, has_slot, member_of}
 use Rattle.group_engine.specs.Members.{HasImage, with_disk}
 use Rattle.disk_joining.specs.Taking.{IsApart, TakesIn}
 use Rattle.disk_joining.specs.declared.attaching.DiskImage.{DiskImage}

@@ -1,5 +1,5 @@
 -- Disks that come back.
-use Rattle.std.proofs.Common.{◌≡◌, ⊎_elim, tt, ℕ, ◌<◌, ◌≤◌, List, length, get_or, Option, Some, None, refl, sym, ap, subst, ◌∙◌, arith, Result, Ok, Err}
+use Rattle.std.proofs.Common.{◌≡◌, ⊎_elim, ℕ, ◌<◌, ◌≤◌, List, length, Option, refl, sym, subst, ◌∙◌, Result, Ok, Err}
 use Rattle.std.specs.Prelude.{IfErr}
 use Rattle.std.proofs.lemmas.Bool.{cases_lt}
 use Rattle.std.proofs.lemmas.List.{get_or_past}
@@ -16,16 +16,15 @@ use Rattle.disk_images.specs.declared.looking.Looked.TheVariants.{Absent, Read}
 use Rattle.group_disks.proofs.Told.{rose_before}
 use Rattle.group_engine.specs.Commits.{StatusCause}
 use Rattle.group_engine.specs.Making.{IsShut}
-use Rattle.group_engine.specs.Mounts.{IsMounted, MountedGroup, Takes}
-use Rattle.group_engine.specs.Own.{KeepsGroup}
+use Rattle.group_engine.specs.Mounts.{IsMounted, MountedGroup}
 use Rattle.group_engine.specs.Pending.{GoesOn}
 use Rattle.group_engine.specs.declared.access.Access.{Access}
 use Rattle.group_engine.specs.declared.access.Access.TheVariants as access
 use Rattle.disk_joining.specs.Causes.{IsLostBy, OnlineCause, StepCause}
 use Rattle.disk_joining.specs.Causes.IsLostBy.{has_failed, was_lost}
 use Rattle.disk_joining.specs.Causes.OnlineCause.{by_disk, by_record}
-use Rattle.disk_joining.specs.Returning.{AreShown, IsSize}
-use Rattle.disk_joining.specs.Taking.{IsApart, TakesIn}
+use Rattle.disk_joining.specs.Returning.{AreShown}
+use Rattle.disk_joining.specs.Taking.{TakesIn}
 use Rattle.disk_joining.proofs.Takings.{keeps_taken, step_cause, taken_on}
 
 -- ---- what looks have shown
@@ -41,20 +40,20 @@ shown_are looked s t are slot size is = ⊎_elim
 
 -- ---- causes
 
-lost_before : {old new : MountedGroup} {s m : BayState} (t : BayState) {slots : ℕ → Type 0} {step : Image → Image → Type 0} → Runs slots step s m → (d : ℕ) → IsLostBy old new m t d → IsLostBy old new s t d
-lost_before {old} {new} {s} {m} t run d (was_lost was) = was_lost was
-lost_before {old} {new} {s} {m} t run d (has_failed slot at rose) = has_failed slot at (rose_before (s.faults slot) (m.faults slot) (t.faults slot) (run.faults slot) rose)
+lost_before : (old new : MountedGroup) {s m : BayState} (t : BayState) {slots : ℕ → Type 0} {step : Image → Image → Type 0} → Runs slots step s m → (d : ℕ) → IsLostBy old new m t d → IsLostBy old new s t d
+lost_before old new {s} {m} t run d (was_lost was) = was_lost was
+lost_before old new {s} {m} t run d (has_failed slot at rose) = has_failed slot at (rose_before (s.faults slot) (m.faults slot) (t.faults slot) (run.faults slot) rose)
 
-pub step_before : {old new : MountedGroup} {s m : BayState} (t : BayState) {slots : ℕ → Type 0} {step : Image → Image → Type 0} → Runs slots step s m → (e : Refusal) → StepCause old new m t e → StepCause old new s t e
-step_before {old} {new} {s} {m} t run (refusal.Dismounted (disk.Number d)) why = lost_before t run d why
-step_before {old} {new} {s} {m} t run (refusal.Dismounted (disk.Spelt text)) why = absurd why
-step_before {old} {new} {s} {m} t run refusal.NoMemory why = tt
-step_before {old} {new} {s} {m} t run other why = absurd why
+pub step_before : (old new : MountedGroup) {s m : BayState} (t : BayState) {slots : ℕ → Type 0} {step : Image → Image → Type 0} → Runs slots step s m → (e : Refusal) → StepCause old new m t e → StepCause old new s t e
+step_before old new {s} {m} t run (refusal.Dismounted (disk.Number d)) why = lost_before old new t run d why
+step_before old new {s} {m} t run (refusal.Dismounted (disk.Spelt text)) why = absurd why
+step_before old new {s} {m} t run refusal.NoMemory why = tt
+step_before old new {s} {m} t run other why = absurd why
 
-pub online_before : {old new : MountedGroup} {s m : BayState} (disks : ℕ) (t : BayState) {slots : ℕ → Type 0} {step : Image → Image → Type 0} → Runs slots step s m → (e : Refusal) → OnlineCause old disks new m t e
+pub online_before : (old new : MountedGroup) {s m : BayState} (disks : ℕ) (t : BayState) {slots : ℕ → Type 0} {step : Image → Image → Type 0} → Runs slots step s m → (e : Refusal) → OnlineCause old disks new m t e
     → OnlineCause old disks new s t e
-online_before {old} {new} {s} {m} disks t run e (by_disk why) = by_disk why
-online_before {old} {new} {s} {m} disks t run e (by_record why) = by_record (step_before t run e why)
+online_before old new {s} {m} disks t run e (by_disk why) = by_disk why
+online_before old new {s} {m} disks t run e (by_record why) = by_record (step_before old new t run e why)
 
 shut_by : (a : Access) (m n : MountedGroup) (s t : BayState) (e : Refusal) → m.access ≡ a → IsShut a e → StepCause m n s t e
 shut_by access.Mounted m n s t e is why = absurd why
@@ -75,3 +74,9 @@ record_causes held {a} {b} {c} {s} {m} {t} disks r before mounted goes = each r 
     each : (x : Result (Unit {0}) Refusal) → IfErr x (StatusCause b c m t) → IfErr x (OnlineCause a disks c s t)
     each (Ok done) why = tt
     each (Err e) why = by_record (step_cause held before mounted goes.keeps e why)
+
+-- the same where the call comes after others
+pub causes_later : (old new : MountedGroup) {s m : BayState} (disks : ℕ) (t : BayState) {slots : ℕ → Type 0} {step : Image → Image → Type 0} (r : Result (Unit {0}) Refusal) → Runs slots step s m
+    → IfErr r (OnlineCause old disks new m t) → IfErr r (OnlineCause old disks new s t)
+causes_later old new {s} {m} disks t (Ok done) run why = tt
+causes_later old new {s} {m} disks t (Err e) run why = online_before old new disks t run e why

@@ -1,7 +1,7 @@
 -- What is kept over calls that may attach disks to a group.
-use Rattle.std.proofs.Common.{◌≡◌, ◌⊎◌, ⊎_elim, ⊤, tt, inl, inr, ℕ, List, get_or, set, Option, Some, None, refl, sym, ap, subst, ◌∙◌, Result, Ok, Err}
-use Rattle.bay.specs.Counts.{Rose}
-use Rattle.bay.specs.Image.{ChangesOnly, Image, Same}
+use Rattle.std.proofs.Common.{◌≡◌, ⊎_elim, ℕ, List, get_or, Option, None, refl, sym, ap, subst, ◌∙◌, Result, Err}
+use Rattle.std.specs.Prelude.{⊤}
+use Rattle.bay.specs.Image.{Image}
 use Rattle.bay.specs.Moments.{Runs}
 use Rattle.bay.specs.State.{BayState}
 use Rattle.bay.proofs.Calls.{goes_on, on_more, started, stops, widened}
@@ -10,21 +10,21 @@ use Rattle.asm_base.specs.declared.refusal.DiskRef.TheVariants as disk
 use Rattle.asm_base.specs.declared.refusal.Refusal.{Refusal}
 use Rattle.asm_base.specs.declared.refusal.Refusal.TheVariants as refusal
 use Rattle.disk_images.specs.Looks.{Looks}
-use Rattle.group_disks.specs.Holding.{IsHeldSlot, SameHeld}
+use Rattle.group_disks.specs.Holding.{SameHeld}
 use Rattle.group_disks.proofs.Spared.{change_held, held_trans, same_held}
 use Rattle.group_disks.proofs.Staying.{stays_keeps, stays_refl, stays_trans}
 use Rattle.group_disks.proofs.Told.{rose_before}
 use Rattle.group_engine.specs.Commits.{StatusCause}
-use Rattle.group_engine.specs.Frames.{SameDisk, SparesDisks, StaysAttached}
-use Rattle.group_engine.specs.Mounts.{IsMounted, IsOwn, IsReady, IsWhole, MountedGroup, Takes, slot_at}
-use Rattle.group_engine.specs.Own.{KeepsGroup, OnOwnDisks}
+use Rattle.group_engine.specs.Frames.{SparesDisks, StaysAttached}
+use Rattle.group_engine.specs.Mounts.{IsMounted, IsOwn, MountedGroup, Takes, slot_at}
+use Rattle.group_engine.specs.Own.{KeepsGroup}
 use Rattle.group_engine.specs.Pending.{GoesOn}
 use Rattle.group_engine.specs.declared.attached.Attached.{Attached}
-use Rattle.group_engine.proofs.Causes.{calls_keep, gives_up, not_mounted, nothing_kept}
+use Rattle.group_engine.proofs.Causes.{gives_up, not_mounted, nothing_kept}
 use Rattle.group_engine.proofs.Elsewhere.{ready_elsewhere}
 use Rattle.status_register.specs.declared.member.Member.{Member}
 use Rattle.disk_joining.specs.Causes.{StepCause}
-use Rattle.disk_joining.specs.Causes.IsLostBy.{has_failed, was_lost}
+use Rattle.disk_joining.specs.Causes.IsLostBy.{has_failed}
 use Rattle.disk_joining.specs.Taking.{IsApart, TakesIn}
 
 -- ---- runs that leave what is held

@@ -1,6 +1,4 @@
 pub mod Taking
 pub mod Causes
-pub mod AddCauses
 pub mod Attaching
 pub mod Returning
-pub mod Joiners

@@ -17,16 +17,24 @@ use group_engine::Mounted;
 use status_table::{PstEntry, PstRecord, with_mode};
 use std::alloc::Global;
 
-/// The entry of a disk.
-fn entry_of(status: &PstRecord, number: u8) -> Option<PstEntry>
-    ensures { result ≡ entry_of status.now.entries number }
+/// The entry of a disk among these.
+#[tactic(auto, unfolding(asm_formats::specs::Status::entry_of))]
+fn entry_among(entries: &[PstEntry], number: u8) -> Option<PstEntry>
+    ensures { result ≡ entry_of entries.now number }
 {
-    for entry in status.entries() {
+    for entry in entries {
         if entry.number == number {
             return Some(*entry);
         }
     }
     None
+}
+
+/// The entry of a disk.
+fn entry_of(status: &PstRecord, number: u8) -> Option<PstEntry>
+    ensures { result ≡ entry_of status.now.entries number }
+{
+    entry_among(status.entries(), number)
 }
 
 /// Whether the disk, where it is one of these, is Offline.

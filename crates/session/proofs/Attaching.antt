@@ -1,9 +1,11 @@
 -- Images that are attached to one group of the session.
 use Rattle.std.proofs.Common.{◌≡◌, ◌⊎◌, ⊎_elim, inl, inr, ℕ, zero, suc, Bool, true, false, List, [], ◌∷◌, map, Option, Some, None, Result, refl, sym, ◌∙◌, ap, subst, ◌||◌, ◌==◌}
-use Rattle.std.specs.Prelude.{IfErr, OnOk, if◌then◌else◌}
+use Rattle.std.specs.Prelude.{⊤, IfErr, OnOk, if◌then◌else◌}
 use Rattle.std.specs.List.{list_any}
 use Rattle.std.specs.Map.{lookup, set_value}
 use Rattle.std.proofs.lemmas.Bool.{eqb-true, false≢true}
+use Rattle.bay.specs.Image.{Image}
+use Rattle.bay.specs.Moments.{Runs}
 use Rattle.bay.specs.State.{BayState}
 use Rattle.bay.proofs.Calls.{started}
 use Rattle.asm_base.specs.declared.refusal.Refusal.{Refusal}
@@ -12,10 +14,9 @@ use Rattle.asm_placement.specs.Among.{IsAmong}
 use Rattle.asm_world.specs.World.{SessionEntry}
 use Rattle.catalog.proofs.TableItems.{from_map}
 use Rattle.disk_joining.specs.Taking.{IsApart, TakesIn}
-use Rattle.group_disks.specs.Holding.{IsHeldSlot}
+use Rattle.group_disks.specs.Holding.{IsHeldSlot, SameHeld}
 use Rattle.group_engine.specs.Mounts.{IsMounted, IsOwn, IsWhole, MountedGroup, Takes, slot_at}
 use Rattle.group_engine.specs.declared.attached.Attached.{Attached}
-use Rattle.status_register.specs.declared.member.Member.{Member}
 use Rattle.session.specs.declared.entry.Entry.{Entry}
 use Rattle.session.specs.Entries.{entry_view, group_view}
 use Rattle.session.specs.Joining.{JoinsIn, others_of, without_own}
@@ -75,12 +76,22 @@ slot_found (Some a ∷ disks) slot held = ⊎_elim
 listed_own : (m : MountedGroup) (slot : ℕ) → IsWhole m → IsHeldSlot (slots_in m.disks) slot → IsOwn m slot
 listed_own m slot whole held =
     let d = slot_found m.disks slot held in
-    let k = from_map (λ (x : Member). x.slot) _ slot (sym (whole.disks d.0) ∙ d.1) in
+    let k = from_map _ _ slot (sym (whole.disks d.0) ∙ d.1) in
     (d.0, k.0, k.1, sym k.2)
 
 -- no attached disk of the group is in the slots of the others
 pub apart_from : (m : MountedGroup) (slots : List ℕ) → IsWhole m → IsApart (others_of m.disks slots) m
 apart_from m slots whole slot own held = not_others (slots_in m.disks) slots slot held (own_listed m slot whole own)
+
+pub apart_so : (m : MountedGroup) (disks : List (Option Attached)) (slots held : List ℕ) → disks ≡ m.disks → held ≡ others_of disks slots → IsWhole m → IsApart held m
+apart_so m disks slots held same is whole =
+    subst (λ (h : List ℕ). IsApart h m) (sym (is ∙ ap (λ (ds : List (Option Attached)). others_of ds slots) same)) (apart_from m slots whole)
+
+same_held : (held : List ℕ) (x : Image) → SameHeld held x x
+same_held held x slot is = record { size = refl; byte = λ k. refl }
+
+no_calls : (held : List ℕ) (s : BayState) → Runs (λ slot. ⊤) (SameHeld held) s s
+no_calls held s = started (same_held held)
 
 -- nothing is attached
 pub takes_none : (held : List ℕ) (m : MountedGroup) (s : BayState) → Takes m s → IsApart held m → TakesIn held m m s s
@@ -90,7 +101,7 @@ takes_none held m s takes apart = record {
   shape = refl;
   own = apart;
   attached = record { stays = λ slot size at. at };
-  spares = started (λ x slot is. record { size = refl; byte = λ k. refl });
+  spares = no_calls held s;
   whole = λ mounted. (takes mounted).0;
   ready = λ mounted. (takes mounted).1;
 }
