@@ -3,13 +3,12 @@
 
 #[cfg(test)]
 mod formats_reader;
-mod program;
 #[cfg(test)]
 mod tests;
 
+use asm_run::run;
 use bay_file::{FileBay, FileHost, StdSink, StdSource, SystemClock, hold_streams};
 use command_line::Notice;
-use program::run;
 use std::alloc::{AllocError, Global};
 use std::io::ErrorKind;
 use std::process::ExitCode;

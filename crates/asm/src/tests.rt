@@ -1,6 +1,6 @@
 // What no clause says: worked scripts with their texts, and that calls succeed where memory is had.
 use crate::formats_reader::{Stands, what_stands};
-use crate::program::{Report, run};
+use asm_run::{Report, run};
 use bay::Bay;
 use bay_mem::{MemBay, MemClock, MemHost, MemSink, MemSource};
 use std::alloc::{AllocError, Global};

@@ -22,7 +22,7 @@ use Rattle.session.specs.Acts.{Holding}
 use Rattle.session.proofs.Creation.{same_sound, same_members, same_member, all_stand}
 use Rattle.session.specs.Claims.{held_outside, untouched, StandsFor, IsProvedApart}
 use Rattle.session.specs.Meaning.{meaning}
-use Rattle.asm.specs.Crash.{StartsAs, AreHeld, IsCrashSafe}
+use Rattle.asm_run.specs.Crash.{StartsAs, AreHeld, IsCrashSafe}
 
 -- an image that stands for some groups stands for more
 allows-more : (paths : List Bytes) (leaves : ℕ → Image → Type 0) → Grows (held_outside paths leaves)

@@ -17,9 +17,9 @@ use Rattle.session.specs.declared.stop.Stop.TheVariants.{ReadFault, WriteFault, 
 use Rattle.session.specs.Acts.{Scene, scene, Acts}
 use Rattle.session.specs.Quiet.{quiet}
 use Rattle.session.specs.Serves.{limit, IsFront, IsAnswered, Serves, is_whole}
-use Rattle.asm.specs.Crash.{StartsAs}
-use Rattle.asm.specs.Headline.{first_state, status_number, Outcome, Transcript}
-use Rattle.asm.proofs.Crashes.{starts-stands, held-before, crash-safe}
+use Rattle.asm_run.specs.Crash.{StartsAs}
+use Rattle.asm_run.specs.Headline.{first_state, status_number, Outcome, Transcript}
+use Rattle.asm_run.proofs.Crashes.{starts-stands, held-before, crash-safe}
 use Rattle.asm_world.specs.Below.{GroupBelow}
 
 cut-from_printed : (h : List (Entry Counts)) → IsPrinted h → IsPrintedToCut h

@@ -5,7 +5,7 @@ ghost use Rattle.bay.specs.Counts.{Rose};
 ghost use Rattle.asm_world.specs.World.{World};
 ghost use Rattle.command_line.specs.Command.{IsRead, images_in};
 ghost use Rattle.command_line.specs.Paths.{Text};
-ghost use Rattle.asm.specs.Headline.{IsFirst, status_number, Transcript};
+ghost use Rattle.asm_run.specs.Headline.{IsFirst, status_number, Transcript};
 
 use bay::{Bay, Clock, Host, Sink, Source};
 use command_line::{Words, WordsError, read_words};

@@ -16,7 +16,7 @@ use Rattle.session.specs.Effects.{Past}
 use Rattle.session.specs.Proved.{IsProved}
 use Rattle.session.specs.Quiet.{quiet}
 use Rattle.session.specs.Serves.{limit, IsFront}
-use Rattle.asm.specs.Crash.{StartsAs, AreHeld, IsCrashSafe}
+use Rattle.asm_run.specs.Crash.{StartsAs, AreHeld, IsCrashSafe}
 
 -- the status of a script that was read
 abbrev pub status_number : Result (Unit {0}) Stop → Bool → ℕ

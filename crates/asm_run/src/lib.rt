@@ -1,0 +1,7 @@
+//! The call that `main` makes: words and a script are read, the commands are run on images of disks, and their replies are printed.
+//! It stands in a library of its own, so that scripts can be played by it over disks in memory.
+#![tactic(auto)]
+
+mod program;
+
+pub use program::{Report, run};
