@@ -2,7 +2,8 @@ pub mod Takings
 pub mod Attached
 pub mod Onlines
 pub mod Numbers
-pub mod Asked
+pub mod Unfit
 pub mod Shutting
-pub mod Joined
+pub mod Headers
+pub mod Joiners
 pub mod Adds

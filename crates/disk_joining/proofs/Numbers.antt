@@ -1,7 +1,6 @@
--- The least number that no entry has, and the room of a group.
-use Rattle.std.proofs.Common.{◌≡◌, tt, ℕ, suc, ◌+◌, ◌-◌, ◌<◌, ◌≤◌, Bool, true, false, leb, List, sym, ap, ◌∙◌, arith}
-use Rattle.std.specs.Bool.{OnFalse}
-use Rattle.std.proofs.lemmas.Bool.{cond-false, cond-true, leb-false}
+-- The least number that no entry has.
+use Rattle.std.proofs.Common.{◌≡◌, ℕ, suc, ◌+◌, ◌-◌, ◌<◌, ◌≤◌, true, false, List, sym, ap, ◌∙◌, arith}
+use Rattle.std.proofs.lemmas.Bool.{cond-false, cond-true}
 use Rattle.asm_formats.specs.Status.{Entry, has_entry}
 use Rattle.disk_joining.specs.Asking.{first_without}
 
@@ -21,7 +20,3 @@ found_free es many n least lt free so_far =
 
 pub none_free : (es : List Entry) (many n least : ℕ) → many ≤ n → first_without (many - n) n es ≡ least → 64 ≡ least
 none_free es many n least past so_far = sym (ap (λ (k : ℕ). first_without k n es) (none_left many n past)) ∙ so_far
-
-pub no_room : (b : Bool) (have more : ℕ) → have ≤ 64 → b ≡ leb more (64 - have) → OnFalse b (64 < have + more)
-no_room true have more few is = tt
-no_room false have more few is = omega (arith, leb-false more (64 - have) (sym is))

@@ -1,5 +1,6 @@
 -- Disks that are to join a group, and what is so of them before the first write.
 use Rattle.std.specs.Prelude.{◌≡◌, ℕ, ◌*◌, ◌≤◌, Bool, true, false, ◌&&◌, ◌||◌, ◌==◌, not, is_some, nat_le, List, [], ◌∷◌, length, Some, None, IsTrue, IfErr, OnOk, Result}
+use Rattle.bay.specs.Moments.{NowOnly}
 use Rattle.bay.specs.State.{BayState}
 use Rattle.asm_base.specs.declared.refusal.Refusal.{Refusal}
 use Rattle.asm_formats.specs.Bytes.{block_size}
@@ -9,6 +10,7 @@ use Rattle.asm_formats.specs.Regions.{region_end}
 use Rattle.asm_formats.specs.Status.{Entry, Status, entry_of}
 use Rattle.asm_group.specs.Names.{is_same_name}
 use Rattle.asm_group.specs.Shape.{Shape}
+use Rattle.asm_images.specs.Kept.{header_in}
 use Rattle.asm_placement.specs.Among.{IsAmong}
 use Rattle.asm_world.specs.NewDisks.{PlannedDisk}
 use Rattle.catalog.specs.Disks.{Disk, info_at}
@@ -17,7 +19,8 @@ use Rattle.disk_images.specs.declared.looking.Looked.{Looked}
 use Rattle.group_disks.specs.Holding.{IsHeldSlot}
 use Rattle.group_engine.specs.Mounts.{IsMounted, IsOwn, MountedGroup}
 use Rattle.group_mount.specs.declared.finding.Headed.{Headed}
-use Rattle.new_groups.specs.Tests.{is_there}
+use Rattle.new_groups.specs.Drafts.{AreApart}
+use Rattle.new_groups.specs.Tests.{are_apart, is_there}
 use Rattle.disk_joining.specs.Attaching.{has_slot}
 use Rattle.disk_joining.specs.AddCauses.{JoinCause}
 use Rattle.disk_joining.specs.Taking.{TakesIn}
@@ -39,9 +42,10 @@ pub record IsJoiner (held : List ℕ) (m : MountedGroup) (h : Headed) (state : B
 abbrev pub AreJoiners : List ℕ → MountedGroup → List Headed → BayState → Type 0
 AreJoiners held m hs state = (h : Headed) → IsAmong hs h → IsJoiner held m h state
 
--- What joins: the disks may be written, and their records may be put together.
+-- What joins: the disks may be written, no two of them have one slot or one number, and their records may be put together.
 pub record CanJoin (held : List ℕ) (m : MountedGroup) (j : Joining) (state : BayState) : Type 0 where
   pub disks : AreJoiners held m j.disks.items state
+  pub apart : AreApart j.disks.items
   pub records : MayAdd m.catalog.tables j.records.items
 
 -- ---- the tests
@@ -64,7 +68,7 @@ are_unrecorded disks [] = true
 are_unrecorded disks (x ∷ xs) = is_item (disk_item x.0 x.1) && (not (is_some (info_at disks x.0)) && (not (records_disk xs x.0) && are_unrecorded disks xs))
 
 abbrev pub may_join : MountedGroup → List Looked → List ℕ → Joining → Bool
-may_join m looked held j = nat_le (length j.records.items) 64 && (are_free m looked held j.disks.items && are_unrecorded m.catalog.tables.disks j.records.items)
+may_join m looked held j = nat_le (length j.records.items) 64 && (are_free m looked held j.disks.items && (are_apart j.disks.items && are_unrecorded m.catalog.tables.disks j.records.items))
 
 -- the disks are those that are asked for, in their order, by their names
 abbrev pub are_named : List Headed → List PlannedDisk → Bool
@@ -92,10 +96,18 @@ pub record IsEntered (r : Status) (h : Headed) : Type 0 where
 abbrev pub AreEntered : Status → List Headed → Type 0
 AreEntered r hs = (h : Headed) → IsAmong hs h → IsEntered r h
 
--- The disks that were asked for have joined: each has an entry of its number and birth.
-pub record HaveJoined (asked : List PlannedDisk) (m : MountedGroup) : Type 0 where
+-- each image that a stop now may leave has the disk's header
+abbrev pub ShowsHeader : Headed → BayState → Type 0
+ShowsHeader h state = NowOnly state (λ image. header_in image h.slot ≡ Some h.header)
+
+abbrev pub ShowHeaders : List Headed → BayState → Type 0
+ShowHeaders hs state = (h : Headed) → IsAmong hs h → ShowsHeader h state
+
+-- The disks that were asked for have joined: each has its header, and an entry of its number and birth.
+pub record HaveJoined (asked : List PlannedDisk) (m : MountedGroup) (state : BayState) : Type 0 where
   pub disks : List Headed
   pub named : are_named disks asked ≡ true
+  pub headers : ShowHeaders disks state
   pub entries : AreEntered m.register.value disks
 
 -- ---- steps

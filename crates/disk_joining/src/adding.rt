@@ -4,9 +4,10 @@ ghost use Rattle.std.specs.String.{string_bytes};
 ghost use Rattle.catalog.specs.Plans.{MayAdd};
 ghost use Rattle.group_engine.specs.Mounts.{IsMounted, Takes};
 ghost use Rattle.group_engine.specs.Pending.{GoesOn};
+ghost use Rattle.new_groups.specs.Drafts.{AreApart};
 ghost use Rattle.disk_joining.specs.AddCauses.{AddCause};
 ghost use Rattle.disk_joining.specs.Asking.{asked_disks};
-ghost use Rattle.disk_joining.specs.Joiners.{AreJoiners, AreEntered, HaveJoined, JoinStep, CanJoin};
+ghost use Rattle.disk_joining.specs.Joiners.{AreJoiners, AreEntered, HaveJoined, JoinStep, CanJoin, ShowHeaders};
 ghost use Rattle.disk_joining.specs.Taking.{IsApart, TakesIn};
 
 use crate::checking::are_entered;
@@ -152,7 +153,9 @@ fn head_or_return<B: Bay>(
     requires takes { Takes m.old (B.state bay.old) }
     requires apart { IsApart held.now m.old }
     requires joiners { AreJoiners held.now m.old disks.now (B.state bay.old) }
+    requires apart_disks { AreApart disks.now }
     ensures joins { JoinStep held.now m.old result m.new (B.state bay.old) (B.state bay.new) }
+    ensures show { OnOk result (ShowHeaders disks.now (B.state bay.new)) }
     ensures joiners { OnOk result (AreJoiners held.now m.new disks.now (B.state bay.new)) }
 {
     let shape = m.catalog().shape();
@@ -193,7 +196,9 @@ fn join_headed<B: Bay>(
     requires takes { Takes m.old (B.state bay.old) }
     requires apart { IsApart held.now m.old }
     requires joiners { AreJoiners held.now m.old joining.now.disks.items (B.state bay.old) }
+    requires show { ShowHeaders joining.now.disks.items (B.state bay.old) }
     ensures joins { JoinStep held.now m.old result m.new (B.state bay.old) (B.state bay.new) }
+    ensures show { OnOk result (ShowHeaders joining.now.disks.items (B.state bay.new)) }
     ensures entries { OnOk result (AreEntered m.new.register.value joining.now.disks.items) }
 {
     match enter(m, alloc, bay, joining, power) {
@@ -218,7 +223,9 @@ fn join_recorded<B: Bay>(
     requires takes { Takes m.old (B.state bay.old) }
     requires apart { IsApart held.now m.old }
     requires joiners { AreJoiners held.now m.old joining.now.disks.items (B.state bay.old) }
+    requires apart_disks { AreApart joining.now.disks.items }
     ensures joins { JoinStep held.now m.old result m.new (B.state bay.old) (B.state bay.new) }
+    ensures show { OnOk result (ShowHeaders joining.now.disks.items (B.state bay.new)) }
     ensures entries { OnOk result (AreEntered m.new.register.value joining.now.disks.items) }
 {
     match head_or_return(m, alloc, bay, held, &joining.disks) {
@@ -241,6 +248,7 @@ fn join_born<B: Bay>(
     requires apart { IsApart held.now m.old }
     requires may { CanJoin held.now m.old joining.now (B.state bay.old) }
     ensures joins { JoinStep held.now m.old result m.new (B.state bay.old) (B.state bay.new) }
+    ensures show { OnOk result (ShowHeaders joining.now.disks.items (B.state bay.new)) }
     ensures entries { OnOk result (AreEntered m.new.register.value joining.now.disks.items) }
 {
     match put_records(m, alloc, bay, &joining.records) {
@@ -263,6 +271,7 @@ fn join_all<B: Bay>(
     requires apart { IsApart held.now m.old }
     requires may { CanJoin held.now m.old joining.now (B.state bay.old) }
     ensures joins { JoinStep held.now m.old result m.new (B.state bay.old) (B.state bay.new) }
+    ensures show { OnOk result (ShowHeaders joining.now.disks.items (B.state bay.new)) }
     ensures entries { OnOk result (AreEntered m.new.register.value joining.now.disks.items) }
 {
     match give_births(m, alloc, bay, joining.disks.len() as u64) {
@@ -288,6 +297,7 @@ fn join<B: Bay>(
     requires apart { IsApart held.now m.old }
     requires may { CanJoin held.now m.old joining.now (B.state bay.old) }
     ensures joins { JoinStep held.now m.old result m.new (B.state bay.old) (B.state bay.new) }
+    ensures show { OnOk result (ShowHeaders joining.now.disks.items (B.state bay.new)) }
     ensures entries { OnOk result (AreEntered m.new.register.value joining.now.disks.items) }
 {
     m.set_flight(None);
@@ -315,8 +325,8 @@ pub fn add_disks<B: Bay>(
     // The group's parts agree, it takes the next call, and the disks of others stay.
     ensures taken { TakesIn known.now.held.items m.old m.new (B.state bay.old) (B.state bay.new) }
     ensures mounted { OnOk result (IsMounted m.new) }
-    // Each disk that is named has its entry then, with the least number that was free.
-    ensures joined { OnOk result (HaveJoined (asked_disks m.old groups.now) m.new) }
+    // Each disk that is named has its header then, and its entry, with the least number that was free.
+    ensures joined { OnOk result (HaveJoined (asked_disks m.old groups.now) m.new (B.state bay.new)) }
     ensures cause { IfErr result (AddCause (map string_bytes paths.now) groups.now known.now m.old m.new (B.state bay.old) (B.state bay.new)) }
 {
     match m.takes_calls() {

@@ -1,7 +1,7 @@
 //! What new disks become is tried before the first write.
 ghost use Rattle.std.specs.Prelude.{◌≡◌, ◌&&◌, is_some, not};
 ghost use Rattle.catalog.specs.Disks.{info_at};
-ghost use Rattle.new_groups.specs.Tests.{is_there};
+ghost use Rattle.new_groups.specs.Tests.{are_apart, is_apart, is_there};
 ghost use Rattle.disk_joining.specs.Attaching.{has_slot};
 ghost use Rattle.disk_joining.specs.Joiners.{are_free, are_named, are_unrecorded, is_entered, records_disk, are_entered, fits_shape, may_join};
 
@@ -85,12 +85,36 @@ fn are_unrecorded(catalog: &Catalog, records: &[(u8, DiskInfo)]) -> bool
     }
 }
 
+/// Whether none of the others has the disk's slot or number.
+fn is_apart(disk: &Headed, others: &[Headed]) -> bool
+    ensures { result ≡ is_apart disk.now others.now }
+{
+    match others {
+        [] => true,
+        [first, rest @ ..] => {
+            first.slot != disk.slot
+                && (first.header.number != disk.header.number && is_apart(disk, rest))
+        }
+    }
+}
+
+/// Whether no two of the disks have one slot or one number.
+fn are_apart(disks: &[Headed]) -> bool
+    ensures { result ≡ are_apart disks.now }
+{
+    match disks {
+        [] => true,
+        [first, rest @ ..] => is_apart(first, rest) && are_apart(rest),
+    }
+}
+
 /// Whether the disks may join the group, whose images were looked at so.
 pub fn may_join(m: &Mounted, looked: &[Looked], held: &[u32], joining: &Joining) -> bool
     ensures { result ≡ may_join m.now looked.now held.now joining.now }
 {
     joining.records.len() <= 64
-        && (are_free(m, looked, held, &joining.disks) && are_unrecorded(m.catalog(), &joining.records))
+        && (are_free(m, looked, held, &joining.disks)
+            && (are_apart(&joining.disks) && are_unrecorded(m.catalog(), &joining.records)))
 }
 
 /// Whether the disks are those that are asked for, in their order, by their names.

@@ -12,7 +12,7 @@ ghost use Rattle.disk_joining.specs.Joiners.{CanJoin, are_named, may_join};
 
 use crate::asked::{Asked, asked_disks};
 use crate::checking::{are_named, may_join};
-use crate::looking::{Fitting, fitting, known_with};
+use crate::looking::{Fitting, fit_disks, known_with};
 use asm_base::{NoMemory, Refusal};
 use bay::Bay;
 use catalog::DiskInfo;
@@ -171,7 +171,7 @@ fn planned(
         Ok(all) => all,
         Err(NoMemory) => return Err(Refusal::NoMemory),
     };
-    match fitting(alloc, m, paths, &all, asked, looked) {
+    match fit_disks(alloc, m, paths, &all, asked, looked) {
         Ok(fitting) => checked(alloc, m, &known.held, asked, &fitting, looked),
         Err(refusal) => Err(refusal),
     }

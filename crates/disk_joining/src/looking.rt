@@ -162,7 +162,7 @@ fn right_units(
 
 /// Where the disks are and how many units they have. The refusals in order: NoDisk, DiskTaken or WriteFault, NameTaken,
 /// TooSmall, DirectoryFull. `all` is what is known of all groups of the session, this one among them.
-pub fn fitting(
+pub fn fit_disks(
     alloc: Global,
     m: &Mounted,
     paths: &[String],

@@ -15,7 +15,7 @@ returns-in-Err-clause-taken g c = nothing_taken c.args.known.now.held.items c.ar
 pub returns-in-Err-clause-cause : goal.returns-in-Err-clause-cause
 returns-in-Err-clause-cause g c =
     let s = g.B.Bay.state c.args.bay.now in
-    by_step (step_joins c.in-Err.refusal (shut_cause c.args.m.now c.args.m.now s s c.in-Err.refusal c.in-Err.ensures.cause))
+    by_step (step_joins c.args.m.now c.args.m.now s s c.in-Err.refusal (shut_cause c.args.m.now c.args.m.now s s c.in-Err.refusal c.in-Err.ensures.cause))
 
 pub prepare-requires-clause-whole : goal.prepare-requires-clause-whole
 prepare-requires-clause-whole g c = (c.requires.takes c.in-Ok.ensures.ok).0
@@ -40,11 +40,11 @@ returns-in-Ok-prepare-clause-mounted g c = c.join.ensures.joins.mounted
 
 pub returns-in-Ok-prepare-clause-joined : goal.returns-in-Ok-prepare-clause-joined
 returns-in-Ok-prepare-clause-joined g c =
-    joined_all (asked_disks c.args.m.now c.args.groups.now) c.in-Ok-prepare.joining.disks.items c.join.new.m c.join.result c.in-Ok-prepare.ensures.named c.join.ensures.entries
+    joined_all (asked_disks c.args.m.now c.args.groups.now) c.in-Ok-prepare.joining.disks.items c.join.new.m (g.B.Bay.state c.join.new.bay) c.join.result c.in-Ok-prepare.ensures.named c.join.ensures.show c.join.ensures.entries
 
 pub returns-in-Ok-prepare-clause-cause : goal.returns-in-Ok-prepare-clause-cause
 returns-in-Ok-prepare-clause-cause g c =
-    join_adds (map string_bytes c.args.paths.now) c.args.groups.now c.args.known.now (g.B.Bay.state c.join.new.bay) c.prepare.ensures.looks.runs c.in-Ok.ensures.ok c.join.result c.join.ensures.joins.cause
+    join_adds (map string_bytes c.args.paths.now) c.args.groups.now c.args.known.now c.args.m.now c.join.new.m (g.B.Bay.state c.join.new.bay) c.prepare.ensures.looks.runs c.in-Ok.ensures.ok c.join.result c.join.ensures.joins.cause
 
 pub returns-in-Err-prepare-clause-taken : goal.returns-in-Err-prepare-clause-taken
 returns-in-Err-prepare-clause-taken g c = looks_taken c.args.known.now.held.items c.args.m.now c.requires.takes c.requires.apart c.prepare.ensures.looks

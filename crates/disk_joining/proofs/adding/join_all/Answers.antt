@@ -3,7 +3,7 @@ use Rattle.std.specs.Prelude.{OnOk}
 use Rattle.asm_base.specs.declared.refusal.Refusal.{Refusal}
 use Rattle.file_extents.specs.Closing.{or_shut}
 use Rattle.group_engine.specs.Mounts.{MountedGroup}
-use Rattle.disk_joining.specs.Joiners.{AreEntered, JoinStep}
+use Rattle.disk_joining.specs.Joiners.{AreEntered, JoinStep, ShowHeaders}
 use Rattle.disk_joining.proofs.Adds.{goes_may, joins_goes, joins_on, joins_shut, shut_entries}
 use Rattle.disk_joining.proofs.Takings.{goes_takes, keeps_taken, nothing_taken}
 use Rattle.disk_joining.proofs.adding.join_all.Goals as goal
@@ -39,3 +39,7 @@ returns-in-Ok-clause-entries g c =
 pub returns-in-Err-clause-joins : goal.returns-in-Err-clause-joins
 returns-in-Err-clause-joins g c =
     joins_goes c.args.held.now (Err c.in-Err.refusal) (nothing_taken c.args.held.now c.args.m.now (g.B.Bay.state c.args.bay.now) c.requires.takes c.requires.apart) c.requires.mounted c.in-Err.ensures.goes
+
+pub returns-in-Ok-clause-show : goal.returns-in-Ok-clause-show
+returns-in-Ok-clause-show g c =
+    subst (λ (r : Result (Unit {0}) Refusal). OnOk r (ShowHeaders c.args.joining.now.disks.items (g.B.Bay.state c.join_born-answer.new.bay))) (sym c.or_shut.ensures.0) c.join_born-answer.ensures.show

@@ -1,4 +1,6 @@
-use Rattle.std.proofs.Common.{Err}
+use Rattle.std.proofs.Common.{Err, List, sym, subst}
+use Rattle.catalog.specs.Disks.{Disk}
+use Rattle.catalog.specs.Plans.{MayAdd}
 use Rattle.disk_joining.proofs.Adds.{goes_joiners, joins_goes, joins_on}
 use Rattle.disk_joining.proofs.Takings.{goes_takes, keeps_taken, nothing_taken}
 use Rattle.disk_joining.proofs.adding.join_born.Goals as goal
@@ -22,3 +24,6 @@ returns-in-Ok-clause-joins g c =
 pub returns-in-Err-clause-joins : goal.returns-in-Err-clause-joins
 returns-in-Err-clause-joins g c =
     joins_goes c.args.held.now (Err c.in-Err.refusal) (nothing_taken c.args.held.now c.args.m.now (g.B.Bay.state c.args.bay.now) c.requires.takes c.requires.apart) c.requires.mounted c.in-Err.ensures.goes
+
+pub put_records-requires-clause-records : goal.put_records-requires-clause-records
+put_records-requires-clause-records g c = subst (λ (l : List Disk). MayAdd c.args.m.now.catalog.tables l) (sym c.deref.ensures.value) c.requires.may.records

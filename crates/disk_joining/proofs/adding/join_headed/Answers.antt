@@ -4,7 +4,8 @@ use Rattle.group_mount.specs.declared.finding.Headed.{Headed}
 use Rattle.group_disks.proofs.Staying.{stays_keeps}
 use Rattle.disk_joining.specs.Joiners.{AreJoiners, AreEntered}
 use Rattle.disk_joining.proofs.Adds.{joins_goes}
-use Rattle.disk_joining.proofs.Joined.{joiners_attached}
+use Rattle.disk_joining.proofs.Headers.{show_over}
+use Rattle.disk_joining.proofs.Joiners.{joiners_attached}
 use Rattle.disk_joining.proofs.Takings.{goes_takes, keeps_taken, nothing_taken, taken_on}
 use Rattle.disk_joining.proofs.adding.join_headed.Goals as goal
 
@@ -32,3 +33,6 @@ returns-in-Ok-clause-entries g c = subst (λ (r : Status). AreEntered r c.args.j
 pub returns-in-Err-clause-joins : goal.returns-in-Err-clause-joins
 returns-in-Err-clause-joins g c =
     joins_goes c.args.held.now (Err c.in-Err.refusal) (nothing_taken c.args.held.now c.args.m.now (g.B.Bay.state c.args.bay.now) c.requires.takes c.requires.apart) c.requires.mounted c.in-Err.ensures.goes
+
+pub returns-in-Ok-clause-show : goal.returns-in-Ok-clause-show
+returns-in-Ok-clause-show g c = show_over c.args.held.now c.args.joining.now.disks.items c.requires.joiners c.enter.ensures.goes.keeps c.requires.show

@@ -1,7 +1,7 @@
 use Rattle.std.proofs.Common.{List, sym, subst, ◌∙◌, ◌≡◌, true}
 use Rattle.group_mount.specs.declared.finding.Headed.{Headed}
 use Rattle.disk_joining.specs.Joiners.{are_entered}
-use Rattle.disk_joining.proofs.Joined.{entries_written}
+use Rattle.disk_joining.proofs.Joiners.{entries_written}
 use Rattle.disk_joining.proofs.Takings.{nothing_goes}
 use Rattle.disk_joining.proofs.adding.put_entries.Goals as goal
 

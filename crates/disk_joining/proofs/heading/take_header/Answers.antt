@@ -1,14 +1,12 @@
-use Rattle.new_groups.proofs.DiskLists.{item_among}
-use Rattle.disk_joining.proofs.Joined.{long_header, taking_works}
+use Rattle.std.proofs.Common.{inl, refl, [], ◌∷◌}
+use Rattle.disk_joining.proofs.Joiners.{long_header, taking_works}
 use Rattle.disk_joining.proofs.heading.take_header.Goals as goal
 
 pub close_header-requires : goal.close_header-requires
-close_header-requires g c =
-    let h = c.index-disks-i.result in
-    long_header h.slot c.args.shape.sector c.args.shape.dir_blocks (g.B.Bay.state c.args.bay.now) (c.requires.long h (item_among c.args.disks.now c.args.i h c.requires.inside c.index-disks-i.is))
+close_header-requires g c = long_header c.args.disk.now.slot c.args.shape.sector c.args.shape.dir_blocks (g.B.Bay.state c.args.bay.now) c.requires
 
 pub returns : goal.returns
 returns g c =
-    let h = c.index-disks-i.result in
+    let h = c.args.disk.now in
     let call = c.close_header.ensures.call.calls in
-    record { works = taking_works h c.args.disks.now (item_among c.args.disks.now c.args.i h c.requires.inside c.index-disks-i.is) _ call.attached call.runs }
+    taking_works h (h ∷ []) (inl refl) _ call.attached call.runs

@@ -7,8 +7,8 @@ use Rattle.asm_world.specs.NewDisks.{PlannedDisk}
 use Rattle.new_groups.proofs.Formed.{looks_none}
 use Rattle.disk_joining.specs.AddCauses.IsNotPrepared.{by_count, by_memory}
 use Rattle.disk_joining.specs.Joiners.{are_named}
-use Rattle.disk_joining.proofs.Asked.{look_refused}
-use Rattle.disk_joining.proofs.Joined.{joining_may}
+use Rattle.disk_joining.proofs.Unfit.{look_refused}
+use Rattle.disk_joining.proofs.Joiners.{joining_may}
 use Rattle.disk_joining.proofs.joining.prepare.Goals as goal
 
 pub returns-in-Err-clause-looks : goal.returns-in-Err-clause-looks
@@ -37,6 +37,6 @@ returns-in-Ok-look_at_images-clause-refused g c =
     c.in-Ok.ensures.disks c.in-Ok.ensures.terms c.deref.ensures.value (c.in-Ok-look_at_images.ensures.count ∙ sym (length-map c.args.paths.now string_bytes)) c.in-Ok-look_at_images.ensures.each is)
     c.planned.ensures.refused
 
-pub returns-in-Err-look_at_images-clause-refused : goal.returns-in-Err-look_at_images-clause-refused
+pub returns-clause-refused : goal.returns-clause-refused
 unfolding said
-returns-in-Err-look_at_images-clause-refused g c = by_memory refl
+returns-clause-refused g c = by_memory refl

@@ -1,6 +1,6 @@
 use Rattle.std.proofs.Common.{inl, sym, ◌∙◌}
 use Rattle.asm_base.specs.Refusals.{said}
-use Rattle.disk_joining.proofs.Asked.{names_clash}
+use Rattle.disk_joining.proofs.Unfit.{names_clash}
 use Rattle.disk_joining.proofs.naming.check_clash.Goals as goal
 
 pub returns-then-is_name_taken-clause-refused : goal.returns-then-is_name_taken-clause-refused

@@ -1,20 +1,16 @@
-use Rattle.std.proofs.Common.{◌≡◌, inl, inr, sym, ap, subst, true, ◌∙◌}
-use Rattle.asm_group.specs.Shape.{Shape, is_shape}
+use Rattle.std.proofs.Common.{inl, inr, sym, ap, subst, ◌∙◌}
+use Rattle.asm_group.specs.Shape.{Shape}
 use Rattle.catalog.specs.Tables.{Catalogued}
 use Rattle.new_groups.specs.Forming.{AreLong}
-use Rattle.disk_joining.proofs.Joined.{joiners_long, works_taken}
+use Rattle.disk_joining.proofs.Joiners.{joiners_long, works_taken}
 use Rattle.disk_joining.proofs.Onlines.{recorded}
 use Rattle.disk_joining.proofs.Takings.{step_cause, takes_then}
 use Rattle.disk_joining.proofs.returning.give_back.Goals as goal
 
-pub take_headers-requires-clause-shape : goal.take_headers-requires-clause-shape
-take_headers-requires-clause-shape g c =
-    subst (λ (s : Shape). is_shape s ≡ true) (sym (c.shape.ensures.shape ∙ ap (λ (k : Catalogued). k.shape) c.catalog.ensures)) (c.requires.takes c.requires.mounted).0.shape
-
 pub take_headers-requires-clause-long : goal.take_headers-requires-clause-long
 take_headers-requires-clause-long g c =
     let s = g.B.Bay.state c.args.bay.now in
-    subst (λ (k : Shape). AreLong k c.args.disks.now s) (sym (c.shape.ensures.shape ∙ ap (λ (k : Catalogued). k.shape) c.catalog.ensures))
+    subst (λ (k : Shape). AreLong k c.args.disks.now s) (sym (c.shape-shape.ensures.shape ∙ ap (λ (k : Catalogued). k.shape) c.catalog.ensures))
     (joiners_long c.args.held.now c.args.m.now (c.requires.takes c.requires.mounted).0.shape c.args.disks.now s c.requires.joiners)
 
 pub drop_records-requires-clause-takes : goal.drop_records-requires-clause-takes

@@ -1,5 +1,5 @@
 -- Disks that join a group: how they are tried, written and attached.
-use Rattle.std.proofs.Common.{◌≡◌, ◌⊎◌, ⊎_elim, tt, inl, inr, ℕ, ◌*◌, ◌<◌, ◌≤◌, Bool, true, false, ◌&&◌, ◌==◌, not, List, [], ◌∷◌, length, get_or, Option, Some, None, refl, sym, ap, subst, ◌∙◌, arith, IsSome, unwrap_or, Result, Ok, Err}
+use Rattle.std.proofs.Common.{◌≡◌, ◌⊎◌, ⊎_elim, inl, inr, ℕ, ◌*◌, ◌<◌, ◌≤◌, Bool, true, false, ◌&&◌, ◌==◌, not, List, [], ◌∷◌, length, get_or, Option, Some, None, refl, sym, ap, subst, ◌∙◌, arith, IsSome, unwrap_or, Result, Ok, Err}
 use Rattle.std.specs.Prelude.{◌||◌, IsTrue, OnOk, is_some, nat_le, slice_get}
 use Rattle.std.specs.BTreeMap.{is_at}
 use Rattle.std.specs.FinMap.{nat_cmp-IsAntisymmetric}
@@ -44,13 +44,14 @@ use Rattle.status_register.specs.Holders.{numbered}
 use Rattle.status_register.specs.Registered.{Registered}
 use Rattle.status_register.specs.declared.member.Member.{Member}
 use Rattle.new_groups.specs.Forming.{AreHeadable, AreLong, Works}
-use Rattle.new_groups.specs.Tests.{is_held, is_there, shows_size}
+use Rattle.new_groups.specs.Tests.{are_apart, is_held, is_there, shows_size}
 use Rattle.new_groups.proofs.DiskLists.{pages_of}
 use Rattle.disk_joining.specs.Attaching.{has_slot}
 use Rattle.disk_joining.specs.Joiners.{AreJoiners, IsEntered, AreEntered, IsJoiner, CanJoin, are_free, are_unrecorded, is_entered, records_disk, are_entered, fits_shape, may_join}
 use Rattle.disk_joining.specs.Taking.{IsApart, TakesIn}
 use Rattle.disk_joining.specs.declared.joining.Joining.{Joining}
 use Rattle.disk_joining.proofs.Attached.{not_own}
+use Rattle.disk_joining.proofs.Headers.{disks_apart}
 use Rattle.disk_joining.proofs.Takings.{elsewhere_taken}
 
 -- ---- what is tried
@@ -129,11 +130,13 @@ pub joining_may : (m : MountedGroup) → IsWhole m → (found looked : List Look
 joining_may m whole found looked held j s t same are passes =
     let p = and_parts (nat_le (length j.records.items) 64) _ passes in
     let q = and_parts (are_free m looked held j.disks.items) _ p.1 in
+    let r = and_parts (are_apart j.disks.items) _ q.1 in
     record {
+      apart = disks_apart j.disks.items r.0;
       disks = joiners_are m whole looked held s t (subst (λ (l : List Looked). AreLooked l s t) (sym same) are) j.disks.items q.0;
       records = record {
-        items = All-from_recursion (λ (x : Disk). is_item (disk_item x.0 x.1) ≡ true) j.records.items (items_all m.catalog.tables.disks j.records.items q.1);
-        new = new_by m.catalog.tables.disks m.catalog.tables.disks j.records.items q.1 (λ n among. refl);
+        items = All-from_recursion (λ (x : Disk). is_item (disk_item x.0 x.1) ≡ true) j.records.items (items_all m.catalog.tables.disks j.records.items r.1);
+        new = new_by m.catalog.tables.disks m.catalog.tables.disks j.records.items r.1 (λ n among. refl);
         few = leb-true (length j.records.items) 64 p.0;
       };
     }
