@@ -17,7 +17,7 @@ use Rattle.file_extents.specs.Closing.{or_shut}
 use Rattle.group_disks.proofs.Told.{rose_before, rose_later}
 use Rattle.group_disks.proofs.Staying.{stays_keeps}
 use Rattle.group_engine.specs.Commits.{StatusCause}
-use Rattle.group_engine.specs.Mounts.{IsMounted, MountedGroup, Takes}
+use Rattle.group_engine.specs.Mounts.{IsMounted, MountedGroup}
 use Rattle.group_engine.specs.Pending.{GoesOn}
 use Rattle.group_engine.proofs.Causes.{not_mounted}
 use Rattle.group_mount.specs.declared.finding.Headed.{Headed}
@@ -27,12 +27,12 @@ use Rattle.disk_joining.specs.AddCauses.AddCause.{by_step}
 use Rattle.disk_joining.specs.Causes.{IsLostBy, StepCause}
 use Rattle.disk_joining.specs.Causes.IsLostBy.{has_failed, was_lost}
 use Rattle.disk_joining.specs.Joiners.{AreJoiners, AreEntered, HaveJoined, JoinStep, CanJoin, ShowHeaders, are_named}
-use Rattle.disk_joining.specs.Taking.{IsApart, TakesIn}
+use Rattle.disk_joining.specs.Taking.{TakesIn}
 use Rattle.disk_joining.specs.declared.joining.Joining.{Joining}
 use Rattle.disk_joining.proofs.Joiners.{joiners_stay}
 use Rattle.disk_joining.proofs.Onlines.{recorded, step_before}
 use Rattle.disk_joining.proofs.Shutting.{or_shut_taken}
-use Rattle.disk_joining.proofs.Takings.{keeps_taken, step_cause, taken_on}
+use Rattle.disk_joining.proofs.Takings.{step_cause, taken_on}
 
 -- ---- disks that failed
 

@@ -1,20 +1,17 @@
 -- New disks get their headers, and keep them over calls on other disks.
-use Rattle.std.proofs.Common.{◌≡◌, ◌≢◌, ◌⊎◌, ⊎_elim, inl, inr, ℕ, zero, suc, ◌+◌, ◌<◌, ◌≤◌, true, ◌&&◌, ◌==◌, List, [], ◌∷◌, length, get_or, sym, ap, subst, ◌∙◌, arith, Result, Ok, Err}
-use Rattle.std.specs.Prelude.{OnErr, OnOk, not}
-use Rattle.std.proofs.lemmas.Bool.{and_parts, cases_eq, cases_lt, eqb-false, not-true}
-use Rattle.bay.specs.Counts.{Rose}
+use Rattle.std.proofs.Common.{◌≡◌, ◌≢◌, ⊎_elim, inl, inr, ℕ, zero, suc, ◌+◌, ◌<◌, ◌≤◌, true, ◌==◌, List, [], ◌∷◌, length, get_or, sym, ap, subst, ◌∙◌, arith}
+use Rattle.std.specs.Prelude.{not}
+use Rattle.std.proofs.lemmas.Bool.{and_parts, cases_lt, eqb-false, not-true}
 use Rattle.bay.specs.Image.{Image, window}
-use Rattle.bay.specs.Moments.{NowOnly, Runs}
+use Rattle.bay.specs.Moments.{Runs}
 use Rattle.bay.specs.State.{BayState}
 use Rattle.bay.proofs.Calls.{leaves_only, now_of, on_more, widened}
 use Rattle.bay.proofs.Images.{changes-within, window-same}
-use Rattle.asm_formats.specs.Header.{Header}
 use Rattle.asm_formats.specs.Metadata.{header_of}
-use Rattle.asm_images.specs.Bridge.{disk_bytes}
 use Rattle.asm_images.specs.Kept.{header_in}
 use Rattle.asm_placement.specs.Among.{IsAmong}
 use Rattle.group_engine.specs.Frames.{SameDisk}
-use Rattle.group_engine.specs.Mounts.{IsOwn, MountedGroup}
+use Rattle.group_engine.specs.Mounts.{MountedGroup}
 use Rattle.group_engine.specs.Own.{KeepsGroup}
 use Rattle.group_mount.specs.Verdicts.{IsSlotIn}
 use Rattle.group_mount.specs.declared.finding.Headed.{Headed}

@@ -1,14 +1,13 @@
 -- Disks that join a group: how they are tried, written and attached.
-use Rattle.std.proofs.Common.{◌≡◌, ◌⊎◌, ⊎_elim, inl, inr, ℕ, ◌*◌, ◌<◌, ◌≤◌, Bool, true, false, ◌&&◌, ◌==◌, not, List, [], ◌∷◌, length, get_or, Option, Some, None, refl, sym, ap, subst, ◌∙◌, arith, IsSome, unwrap_or, Result, Ok, Err}
-use Rattle.std.specs.Prelude.{◌||◌, IsTrue, OnOk, is_some, nat_le, slice_get}
+use Rattle.std.proofs.Common.{◌≡◌, ⊎_elim, inl, inr, ℕ, ◌*◌, ◌<◌, true, false, ◌&&◌, ◌==◌, not, List, [], ◌∷◌, length, get_or, Option, Some, None, refl, sym, ap, subst, ◌∙◌, arith, IsSome, unwrap_or, Result, Ok, Err}
+use Rattle.std.specs.Prelude.{OnOk, is_some, nat_le, slice_get}
 use Rattle.std.specs.BTreeMap.{is_at}
 use Rattle.std.specs.FinMap.{nat_cmp-IsAntisymmetric}
-use Rattle.std.specs.List.{All, AllByRecursion}
+use Rattle.std.specs.List.{AllByRecursion}
 use Rattle.std.specs.Ordering.{nat_cmp}
 use Rattle.std.proofs.lemmas.Bool.{and_from, and_parts, eq-eqb, eqb-true, false≢true, leb-true, not-true, or_left, or_right}
 use Rattle.std.proofs.lemmas.List.Elements.{All-from_recursion}
-use Rattle.std.proofs.lemmas.Option.{none-some, same_Some, slice_get_cases, slice_get-get_or}
-use Rattle.bay.specs.Image.{Image}
+use Rattle.std.proofs.lemmas.Option.{same_Some, slice_get_cases, slice_get-get_or}
 use Rattle.bay.specs.State.{BayState, IsSlot, KeepsAttached}
 use Rattle.bay.specs.Moments.{Runs}
 use Rattle.bay.proofs.Calls.{on_more, widened}
@@ -212,7 +211,7 @@ taking_works h hs among place {s} {t} attached run = record {
 
 -- ---- their entries
 
-entry_there : (e : Option Entry) (r : Status) (h : Headed) → entry_of r.entries h.header.number ≡ e → (elim e [ | None ↦ false | Some x ↦ x.birth == h.header.birth ]) ≡ true → IsEntered r h
+entry_there : (e : Option Entry) (r : Status) (h : Headed) → entry_of r.entries h.header.number ≡ e → (elim e [ None ↦ false | Some x ↦ x.birth == h.header.birth ]) ≡ true → IsEntered r h
 entry_there None r h is passes = absurd (false≢true passes)
 entry_there (Some e) r h is passes = record { entry = e; there = is; birth = eqb-true e.birth h.header.birth passes }
 

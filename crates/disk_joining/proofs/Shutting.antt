@@ -1,10 +1,10 @@
 -- Memory was wanted behind the first write: the group takes no more calls.
-use Rattle.std.proofs.Common.{◌≡◌, List, ℕ, Result, Ok, Err}
+use Rattle.std.proofs.Common.{List, ℕ, Result, Ok, Err}
 use Rattle.bay.specs.State.{BayState}
 use Rattle.asm_base.specs.declared.refusal.Refusal.{Refusal}
 use Rattle.asm_base.specs.declared.refusal.Refusal.TheVariants as refusal
 use Rattle.file_extents.specs.Closing.{or_shut, shut}
-use Rattle.group_engine.specs.Mounts.{IsMounted, MountedGroup}
+use Rattle.group_engine.specs.Mounts.{MountedGroup}
 use Rattle.group_engine.proofs.Endings.{closed_takes_none}
 use Rattle.disk_joining.specs.Taking.{TakesIn}
 

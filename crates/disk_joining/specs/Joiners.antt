@@ -79,7 +79,7 @@ are_named (h ∷ hs) (d ∷ ds) = is_same_name h.header.disk d.name && are_named
 
 -- the disk has an entry of its birth
 abbrev pub is_entered : Status → Headed → Bool
-is_entered r h = elim (entry_of r.entries h.header.number) [ | None ↦ false | Some e ↦ e.birth == h.header.birth ]
+is_entered r h = elim (entry_of r.entries h.header.number) [ None ↦ false | Some e ↦ e.birth == h.header.birth ]
 
 abbrev pub are_entered : Status → List Headed → Bool
 are_entered r [] = true

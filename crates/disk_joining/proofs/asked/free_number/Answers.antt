@@ -1,4 +1,4 @@
-use Rattle.std.proofs.Common.{◌-◌, sym, ◌∙◌}
+use Rattle.std.proofs.Common.{sym, ◌∙◌}
 use Rattle.disk_joining.specs.Asking.{free_number}
 use Rattle.disk_joining.proofs.Numbers.{found_free, none_free, tried_more}
 use Rattle.disk_joining.proofs.asked.free_number.Goals as goal
