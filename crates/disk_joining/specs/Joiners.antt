@@ -87,7 +87,7 @@ are_entered r (h ∷ hs) = is_entered r h && are_entered r hs
 
 -- ---- once they are joined
 
--- The record has an entry of the disk's number with its birth.
+-- The status record has an entry of the disk's number with its birth.
 pub record IsEntered (r : Status) (h : Headed) : Type 0 where
   pub entry : Entry
   pub there : entry_of r.entries h.header.number ≡ Some entry
@@ -103,7 +103,7 @@ ShowsHeader h state = NowOnly state (λ image. header_in image h.slot ≡ Some h
 abbrev pub ShowHeaders : List Headed → BayState → Type 0
 ShowHeaders hs state = (h : Headed) → IsAmong hs h → ShowsHeader h state
 
--- The disks that were asked for have joined: each has its header, and an entry of its number and birth.
+-- The disks that were asked for have joined: each shows its header, and has an entry of the header's number and birth.
 pub record HaveJoined (asked : List PlannedDisk) (m : MountedGroup) (state : BayState) : Type 0 where
   pub disks : List Headed
   pub named : are_named disks asked ≡ true

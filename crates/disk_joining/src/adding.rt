@@ -29,7 +29,7 @@ use partnership::partners;
 use status_table::{PstEntry, PstRecord, with_births, with_entry, with_partners};
 use std::alloc::Global;
 
-/// Writes the record by which so many births more were given.
+/// Writes the status record by which so many births more were given.
 fn give_births<B: Bay>(
     m: &mut Mounted,
     alloc: Global,
@@ -45,7 +45,7 @@ fn give_births<B: Bay>(
     write_next(m, alloc, bay, &next)
 }
 
-/// Commits the records of the disks.
+/// Commits the directory records of the disks.
 fn put_records<B: Bay>(
     m: &mut Mounted,
     alloc: Global,
@@ -62,7 +62,7 @@ fn put_records<B: Bay>(
     }
 }
 
-/// Commits the rebalance of a power.
+/// Commits the record of a rebalance of this power.
 fn put_rebalance<B: Bay>(
     m: &mut Mounted,
     alloc: Global,
@@ -93,7 +93,7 @@ fn entry_of(disk: &Headed, failgroup: u8, units: u32) -> PstEntry {
     }
 }
 
-/// The record with the entry of a disk more, where there is room.
+/// The status record with the entry of a disk more, where there is room.
 fn with_disk(m: &Mounted, status: &PstRecord, disk: &Headed, units: u32) -> PstRecord {
     if status.entries().len() >= 64 {
         return status.copy();
@@ -102,7 +102,7 @@ fn with_disk(m: &Mounted, status: &PstRecord, disk: &Headed, units: u32) -> PstR
     with_entry(status, entry_of(disk, failgroup, units))
 }
 
-/// The record with the entries of the disks.
+/// The status record with the entries of the disks.
 fn with_disks(m: &Mounted, joining: &Joining) -> PstRecord {
     let mut next = m.status().copy();
     for (i, disk) in joining.disks.iter().enumerate() {
@@ -113,14 +113,15 @@ fn with_disks(m: &Mounted, joining: &Joining) -> PstRecord {
     next
 }
 
-/// The record with the entries of the disks, and the partners of all.
+/// The same, with the partners of all disks.
 fn joined_record(alloc: Global, m: &Mounted, joining: &Joining) -> Result<PstRecord, NoMemory> {
     let next = with_disks(m, joining);
     let sets = partners(alloc, next.entries())?;
     Ok(with_partners(&next, &sets))
 }
 
-/// Writes the record with the entries of the disks. That one would lack its entry is answered as want of memory, and doesn't come.
+/// Writes the status record with the entries of the disks. That one would lack its entry is answered as want of memory, and
+/// doesn't come.
 fn put_entries<B: Bay>(
     m: &mut Mounted,
     alloc: Global,
@@ -165,7 +166,7 @@ fn head_or_return<B: Bay>(
     }
 }
 
-/// The rebalance record, and then the record with the entries of the disks.
+/// The rebalance record, and then the status record with the entries of the disks.
 fn enter<B: Bay>(
     m: &mut Mounted,
     alloc: Global,
@@ -210,7 +211,7 @@ fn join_headed<B: Bay>(
     }
 }
 
-/// What comes behind the records of the disks: their headers, and the rest.
+/// What comes behind the directory records of the disks: their headers, and the rest.
 fn join_recorded<B: Bay>(
     m: &mut Mounted,
     alloc: Global,
@@ -234,7 +235,7 @@ fn join_recorded<B: Bay>(
     }
 }
 
-/// What comes behind the record with the births: the records of the disks, and the rest.
+/// What comes behind the status record with the births: the directory records of the disks, and the rest.
 fn join_born<B: Bay>(
     m: &mut Mounted,
     alloc: Global,
@@ -257,7 +258,7 @@ fn join_born<B: Bay>(
     }
 }
 
-/// The record with the births, and the rest.
+/// The status record with the births, and the rest.
 fn join_all<B: Bay>(
     m: &mut Mounted,
     alloc: Global,
@@ -325,7 +326,7 @@ pub fn add_disks<B: Bay>(
     // The group's parts agree, it takes the next call, and the disks of others stay.
     ensures taken { TakesIn known.now.held.items m.old m.new (B.state bay.old) (B.state bay.new) }
     ensures mounted { OnOk result (IsMounted m.new) }
-    // Each disk that is named has its header then, and its entry, with the least number that was free.
+    // Each disk that is named shows its header then, and has an entry of its number and birth.
     ensures joined { OnOk result (HaveJoined (asked_disks m.old groups.now) m.new (B.state bay.new)) }
     ensures cause { IfErr result (AddCause (map string_bytes paths.now) groups.now known.now m.old m.new (B.state bay.old) (B.state bay.new)) }
 {

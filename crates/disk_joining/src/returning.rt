@@ -1,4 +1,4 @@
-//! What an ADD that is refused gives back: the headers of the disks, and their records.
+//! What an ADD that is refused gives back: the headers of the disks, and their directory records.
 ghost use Rattle.std.specs.Prelude.{◌⊎◌, ◌<◌, length};
 ghost use Rattle.group_engine.specs.Mounts.{IsMounted, Takes};
 ghost use Rattle.group_engine.specs.Pending.{GoesOn};
@@ -15,7 +15,7 @@ use group_engine::Mounted;
 use group_mount::Headed;
 use std::alloc::Global;
 
-/// Takes away the record of a disk that didn't join.
+/// Takes away the directory record of a disk that didn't join.
 fn drop_record<B: Bay>(
     m: &mut Mounted,
     alloc: Global,
@@ -31,7 +31,7 @@ fn drop_record<B: Bay>(
     }
 }
 
-/// Takes away the records of disks that didn't join.
+/// Takes away the directory records of disks that didn't join.
 fn drop_records<B: Bay>(
     m: &mut Mounted,
     alloc: Global,
@@ -64,7 +64,7 @@ fn write_fault(alloc: Global, disk: &Headed) -> Refusal
 }
 
 /// Gives back what was done for new disks, of which the one at a place failed: closes the headers of those that were reached,
-/// and takes all their records away. Births that were given stay so. Gives the refusal: WriteFault with that disk's name, or
+/// and takes all their directory records away. Births that were given stay so. Gives the refusal: WriteFault with that disk's name, or
 /// Dismounted or NoMemory where that comes meanwhile.
 pub fn give_back<B: Bay>(
     m: &mut Mounted,
