@@ -1,3 +1,9 @@
 pub mod Takings
 pub mod Attached
 pub mod Onlines
+pub mod Numbers
+pub mod Unfit
+pub mod Shutting
+pub mod Headers
+pub mod Joiners
+pub mod Adds

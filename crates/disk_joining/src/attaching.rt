@@ -51,6 +51,7 @@ pub fn attach_image<B: Bay>(m: &mut Mounted, bay: &B, held: &[u32], image: DiskI
     requires attached { (B.state bay.now).attached image.slot ≡ Some image.size }
     ensures taken { TakesIn held.now m.old m.new (B.state bay.now) (B.state bay.now) }
     ensures same { m.new.access ≡ m.old.access }
+    ensures value { m.new.register.value ≡ m.old.register.value }
 {
     if may_attach(m, held, image) {
         let member = member_of(m, image);

@@ -1,9 +1,19 @@
-//! Disks that come back to a mounted group by ONLINE, which attaches their images.
+//! Disks that come to a mounted group: new ones by ADD, and those that come back by ONLINE. Both attach images.
 #![tactic(auto)]
 
+mod adding;
+mod asked;
 mod attaching;
+mod checking;
+mod heading;
+mod joined;
+mod joining;
+mod looking;
+mod naming;
 mod onlining;
 mod recording;
+mod returning;
 mod slots;
 
+pub use adding::add_disks;
 pub use onlining::online_disks;

@@ -7,7 +7,7 @@ ghost use Rattle.disk_joining.specs.Returning.{AreShown, IsShownAs, IsSize};
 ghost use Rattle.disk_joining.specs.Taking.{IsApart, TakesIn};
 
 use crate::attaching::{DiskImage, attach_image};
-use crate::recording::write_next;
+use crate::recording::{entry_of, write_next};
 use crate::slots::{is_held, is_own};
 use asm_base::{DiskRef, DiskSet, Mode, NoMemory, Refusal};
 use bay::Bay;
@@ -16,26 +16,6 @@ use disk_images::{Looked, look_at_images};
 use group_engine::Mounted;
 use status_table::{PstEntry, PstRecord, with_mode};
 use std::alloc::Global;
-
-/// The entry of a disk among these.
-#[tactic(auto, unfolding(asm_formats::specs::Status::entry_of))]
-fn entry_among(entries: &[PstEntry], number: u8) -> Option<PstEntry>
-    ensures { result ≡ entry_of entries.now number }
-{
-    for entry in entries {
-        if entry.number == number {
-            return Some(*entry);
-        }
-    }
-    None
-}
-
-/// The entry of a disk.
-fn entry_of(status: &PstRecord, number: u8) -> Option<PstEntry>
-    ensures { result ≡ entry_of status.now.entries number }
-{
-    entry_among(status.entries(), number)
-}
 
 /// Whether the disk, where it is one of these, is Offline.
 fn check_state(m: &Mounted, disks: DiskSet, number: u8) -> Result<(), Refusal>

@@ -1,13 +1,35 @@
 //! Status records of an ADD or ONLINE.
-ghost use Rattle.std.specs.Prelude.{◌≡◌};
+ghost use Rattle.std.specs.Prelude.{◌≡◌, OnOk};
+ghost use Rattle.asm_formats.specs.Status.{entry_of};
 ghost use Rattle.group_engine.specs.Mounts.{Takes};
 ghost use Rattle.group_engine.specs.Pending.{GoesOn};
+ghost use Rattle.status_register.specs.Holders.{numbered};
 
 use asm_base::{NoMemory, Refusal};
 use bay::Bay;
 use group_engine::Mounted;
-use status_table::PstRecord;
+use status_table::{PstEntry, PstRecord};
 use std::alloc::Global;
+
+/// The entry of a disk among these.
+#[tactic(auto, unfolding(asm_formats::specs::Status::entry_of))]
+fn entry_among(entries: &[PstEntry], number: u8) -> Option<PstEntry>
+    ensures { result ≡ entry_of entries.now number }
+{
+    for entry in entries {
+        if entry.number == number {
+            return Some(*entry);
+        }
+    }
+    None
+}
+
+/// The entry of a disk.
+pub fn entry_of(status: &PstRecord, number: u8) -> Option<PstEntry>
+    ensures { result ≡ entry_of status.now.entries number }
+{
+    entry_among(status.entries(), number)
+}
 
 /// Writes a status record. One that may not come next is answered as want of memory: no call makes such a record. Refusals:
 /// Dismounted, NoMemory; NoMemory leaves the value as before.
@@ -20,6 +42,7 @@ pub fn write_next<B: Bay>(
     requires takes { Takes m.old (B.state bay.old) }
     ensures goes { GoesOn m.old result m.new (B.state bay.old) (B.state bay.new) }
     ensures tables { m.new.catalog.tables ≡ m.old.catalog.tables }
+    ensures recorded { OnOk result (m.new.register.value ≡ numbered m.old.register next.now) }
 {
     match m.may_get(alloc, next) {
         Ok(true) => m.set_status(alloc, bay, next),

@@ -7,13 +7,13 @@ ghost use Rattle.group_engine.specs.Members.{LetsGo};
 use crate::naming::GroupWork;
 use asm_base::{DiskSet, Name, NoMemory, Refusal};
 use bay::Bay;
-use disk_joining::online_disks;
+use disk_joining::{add_disks, online_disks};
 use disk_modes::{
     DropDisk, GroupSort, disk_named, disks_in_group, drop_disks, offline_disks, offline_set,
     resize_disks, serving_disks, set_rebalance, undrop_disks,
 };
 use group_engine::Mounted;
-use group_sql::{DroppedDisk, FailgroupKind, Rebalance};
+use group_sql::{DroppedDisk, FailgroupKind, NewFailgroup, Rebalance};
 use new_groups::Known;
 use std::alloc::Global;
 
@@ -365,8 +365,55 @@ impl GroupWork for ChangeDisks<'_> {
 /// Images that are attached to a group as its disks.
 #[derive(Clone, Copy)]
 pub enum Joining<'a> {
+    /// New ones, with a rebalance of this power.
+    Add {
+        groups: &'a [NewFailgroup],
+        power: u64,
+    },
     /// Those of disks that were Offline.
     Online(Chosen<'a>),
+}
+
+/// Adds new disks, with a rebalance of this power. None of them waits for a resync then.
+fn add_these<B: Bay>(
+    m: &mut Mounted,
+    alloc: Global,
+    bay: &mut B,
+    paths: &[String],
+    known: &Known,
+    groups: &[NewFailgroup],
+    power: u16,
+) -> Result<DiskSet, Refusal>
+    requires few { length paths.now ≤ 512 }
+    requires takes { Takes m.old (B.state bay.old) }
+    requires apart { IsApart known.now.held.items m.old }
+    ensures keeps { TakesIn known.now.held.items m.old m.new (B.state bay.old) (B.state bay.new) }
+{
+    match add_disks(m, alloc, bay, paths, known, groups, power) {
+        Ok(()) => Ok(DiskSet::empty()),
+        Err(refusal) => Err(refusal),
+    }
+}
+
+/// Adds new disks. Its refusals begin with BadPower.
+fn add<B: Bay>(
+    m: &mut Mounted,
+    alloc: Global,
+    bay: &mut B,
+    paths: &[String],
+    known: &Known,
+    groups: &[NewFailgroup],
+    power: u64,
+) -> Result<DiskSet, Refusal>
+    requires few { length paths.now ≤ 512 }
+    requires takes { Takes m.old (B.state bay.old) }
+    requires apart { IsApart known.now.held.items m.old }
+    ensures keeps { TakesIn known.now.held.items m.old m.new (B.state bay.old) (B.state bay.new) }
+{
+    match checked_power(power) {
+        Ok(power) => add_these(m, alloc, bay, paths, known, groups, power),
+        Err(refusal) => Err(refusal),
+    }
 }
 
 fn online_these<B: Bay>(
@@ -424,6 +471,7 @@ impl Joining<'_> {
         ensures keeps { TakesIn known.now.held.items m.old m.new (B.state bay.old) (B.state bay.new) }
     {
         match self {
+            Joining::Add { groups, power } => add(m, alloc, bay, paths, known, groups, power),
             Joining::Online(chosen) => online(m, alloc, bay, paths, &known.held, chosen),
         }
     }

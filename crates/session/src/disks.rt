@@ -12,9 +12,9 @@ ghost use Rattle.session.specs.Sessions.{AreReady};
 use crate::answer::Answer;
 use crate::desk::Desk;
 use crate::disk_works::{Chosen, DiskChange, said_of};
-use crate::refusing::{no_memory, refuse, refused};
+use crate::refusing::{no_memory, refused};
 use crate::reply::Reply;
-use asm_base::{List, Name, Refusal, Text};
+use asm_base::{List, Name, Text};
 use bay::{Bay, Host};
 use group_disks::create_disk as make_disk;
 use group_sql::{Disks, DroppedDisk, FailgroupKind, NewFailgroup, Rebalance};
@@ -88,19 +88,29 @@ fn bring_back<B: Bay, H: Host>(
     Answer::plain(desk.alloc, reply)
 }
 
-/// ADD DISK, which isn't served yet.
+/// ADD DISK. Its refusals in order: NoGroup, Dismounted, BadPower, TooMany, NoDisk, DiskTaken, NameTaken, TooSmall, DirectoryFull, WriteFault.
 pub fn add_disks<B: Bay, H: Host>(
     desk: &mut Desk<B, H>,
     text: &[u8],
-    _group: Name,
-    _groups: List<NewFailgroup>,
-    _rebalance: Option<Rebalance>,
+    group: Name,
+    groups: List<NewFailgroup>,
+    rebalance: Option<Rebalance>,
 ) -> Answer
-    requires asked { command_of text.now ≡ Said (Alter _group (AddDisks _groups _rebalance)) }
+    requires asked { command_of text.now ≡ Said (Alter group (AddDisks groups rebalance)) }
     requires ready { AreReady desk.old.session.groups (B.state desk.old.bay) }
     ensures answers { IsAnswered text.now result desk.old desk.new }
 {
-    refuse(desk, text, Refusal::Syntax { at: 0 })
+    let (power, wait) = said_of(rebalance);
+    let reply = desk.session.add_disks(
+        desk.alloc,
+        &mut desk.bay,
+        &desk.paths,
+        &group,
+        groups.as_slice(),
+        power,
+        wait,
+    );
+    Answer::plain(desk.alloc, reply)
 }
 
 /// DROP DISK. Its refusals in order: NoGroup, Dismounted, BadPower, NoName, DiskState, HoldsDirectories, WouldLose, TooFewGroups.

@@ -16,6 +16,7 @@ use asm_base::{DiskSet, List, Name, NoMemory, Refusal, Text};
 use bay::Bay;
 use event_lines::Event;
 use group_engine::Mounted;
+use group_sql::NewFailgroup;
 use line_buffer::LineBuffer;
 use relocation::{Slice, run_to_end};
 use resync::{Resynced, sync_slice};
@@ -351,6 +352,28 @@ impl Session {
     {
         match self.work(alloc, bay, name, ChangeDisks { change, power }) {
             Ok(()) => self.reply_after(alloc, bay, name, power, wait),
+            Err(refusal) => Reply::Refused(refusal),
+        }
+    }
+
+    /// Adds disks to the mounted group of a name. Its refusals in order: NoGroup, Dismounted, BadPower, those of the disks, and under
+    /// WAIT that by which the rebalance ends.
+    pub(crate) fn add_disks<B: Bay>(
+        &mut self,
+        alloc: Global,
+        bay: &mut B,
+        paths: &[String],
+        name: &Name,
+        groups: &[NewFailgroup],
+        power: u64,
+        wait: bool,
+    ) -> Reply
+        requires few { length paths.now ≤ 512 }
+        requires ready { AreReady self.old.groups (B.state bay.old) }
+        ensures carries { CarriesOn self.old self.new (B.state bay.old) (B.state bay.new) }
+    {
+        match self.join(alloc, bay, paths, name, Joining::Add { groups, power }) {
+            Ok(_) => self.reply_after(alloc, bay, name, power, wait),
             Err(refusal) => Reply::Refused(refusal),
         }
     }

@@ -21,3 +21,6 @@ returns-then-may_attach-clause-taken g c =
     let eq : c.attach.new.self ≡ with_disk m (member_of m c.args.image) size = c.attach.ensures.group ∙ ap (λ (x : Member). with_disk m x size) c.member_of-member.ensures in
     subst (λ (n : MountedGroup). TakesIn c.args.held.now m n s s) (sym eq)
     (attach_taken c.args.held.now m s c.args.image c.if-may_attach.ensures c.requires.apart (subst (λ (n : MountedGroup). Takes n s) eq (c.attach.ensures.takes c.requires.takes)))
+
+pub returns-then-may_attach-clause-value : goal.returns-then-may_attach-clause-value
+returns-then-may_attach-clause-value g c = ap (λ (n : MountedGroup). n.register.value) c.attach.ensures.group

@@ -1,6 +1,6 @@
 use Rattle.std.proofs.Common.{◌≡◌, drop}
 use Rattle.asm_formats.specs.Status.{entry_of}
-use Rattle.disk_joining.proofs.onlining.entry_among.Given as goal
+use Rattle.disk_joining.proofs.recording.entry_among.Given as goal
 
 abbrev pub invariant-loop-entry : goal.invariant-loop-entry
 invariant-loop-entry l = entry_of (drop l.entry-index l.entries) l.number ≡ entry_of l.entries l.number

@@ -1,0 +1,7 @@
+use Rattle.new_groups.specs.Forming.{Works}
+use Rattle.disk_joining.proofs.heading.take_headers.Given as goal
+
+abbrev pub invariant-loop-i : goal.invariant-loop-i
+invariant-loop-i g l = record {
+  works : Works l.disks (g.B.Bay.state l.fn.bay) (g.B.Bay.state l.bay);
+}

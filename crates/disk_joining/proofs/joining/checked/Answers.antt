@@ -1,0 +1,15 @@
+use Rattle.std.proofs.Common.{refl}
+use Rattle.asm_base.specs.Refusals.{said}
+use Rattle.disk_joining.proofs.joining.checked.Goals as goal
+
+pub returns-in-Err-clause-refused : goal.returns-in-Err-clause-refused
+unfolding said
+returns-in-Err-clause-refused c = refl
+
+pub returns-then-not-may_join-clause-refused : goal.returns-then-not-may_join-clause-refused
+unfolding said
+returns-then-not-may_join-clause-refused c = refl
+
+pub returns-then-not-are_named-clause-refused : goal.returns-then-not-are_named-clause-refused
+unfolding said
+returns-then-not-are_named-clause-refused c = refl

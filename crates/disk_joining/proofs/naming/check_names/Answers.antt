@@ -1,0 +1,7 @@
+use Rattle.std.proofs.Common.{inr, refl}
+use Rattle.asm_base.specs.Refusals.{said}
+use Rattle.disk_joining.proofs.naming.check_names.Goals as goal
+
+pub returns-in-Err-clause-refused : goal.returns-in-Err-clause-refused
+unfolding said
+returns-in-Err-clause-refused c = inr refl
