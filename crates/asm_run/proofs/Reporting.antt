@@ -24,6 +24,8 @@ use Rattle.session.specs.Serves.{limit, IsFront, IsAnswered, Serves, is_whole}
 use Rattle.asm_run.specs.Crash.{StartsAs}
 use Rattle.asm_run.specs.Headline.{first_state, status_number, GeneratedRun, Outcome, Transcript}
 use Rattle.asm_run.proofs.Counting.{count-generated}
+use Rattle.asm_run.proofs.Cuts.{commands-are}
+use Rattle.command_line.specs.Paths.{has_quote}
 use Rattle.asm_run.proofs.Crashes.{starts-stands, held-before, crash-safe}
 use Rattle.asm_run.proofs.Manners.{all-generated}
 use Rattle.asm_world.specs.Below.{GroupBelow}
@@ -229,23 +231,30 @@ transcript-none gives paths Told status marks left taken clock bay w first is no
 
 -- ---- the generator's script
 
+-- where the script was read to its end, all commands were answered
+answers-all : {C : Type 0} (gives : C → ℕ → C → Type 0) (number : ℕ) (paths : List Bytes) (Told : List (Entry Counts) → Type 0) (status : ℕ) (marks : List ℕ) (rest : Bytes) (taken taken' : Option Bytes) (clock clock' : C) (old new : BayState) (w : World)
+    (t : Transcript gives paths Told status marks (Some (generated_script number paths)) (Some rest) taken taken' clock clock' old new w) → has_quote paths ≡ false → status ≤ 1 → answered t.history ≡ generated number paths
+answers-all gives number paths Told status marks rest taken taken' clock clock' old new w t unquoted small =
+    let at_end : rest ≡ [] = t.outcome.to_end small in
+    let whole : generated_script number paths ≡ t.script = t.consumed ∙ ap (λ bytes. t.script ++ bytes) at_end ∙ append-nil t.script in
+    t.outcome.all_answered small ∙ ap commands_of (sym whole) ∙ commands-are number paths unquoted
+
 pub generated-of : {C : Type 0} (gives : C → ℕ → C → Type 0) (number : ℕ) (paths : List Bytes) (served : Result (Unit {0}) Stop) (status : ℕ) (marks : List ℕ) (text rest : Bytes) (taken taken' : Option Bytes)
     (clock clock' : C) (old new : BayState) (given' time' : ℕ) (phase : Phase) (w w' : World) (below' : ℕ → GroupBelow) (marks' : List ℕ) (refused : Bool) (manner' : Manner) →
-    w.session ≡ [] → status ≡ status_number served refused → marks ≡ marks' → (is_whole served ≡ true → phase ≡ Resting) → length paths ≡ 4 → text ≡ generated_script number paths →
+    w.session ≡ [] → status ≡ status_number served refused → marks ≡ marks' → (is_whole served ≡ true → phase ≡ Resting) → length paths ≡ 4 → has_quote paths ≡ false → text ≡ generated_script number paths →
     Serves gives paths served (Some text) (Some rest) (scene w quiet Resting 0 0 old taken clock [] false (InShort 1023)) (scene w' below' phase time' given' new taken' clock' marks' refused manner') →
     GeneratedRun gives number paths status marks taken taken' clock clock' old new w
-generated-of gives number paths served status marks text rest taken taken' clock clock' old new given' time' phase w w' below' marks' refused manner' none is_status is_marks rests four is s =
+generated-of gives number paths served status marks text rest taken taken' clock clock' old new given' time' phase w w' below' marks' refused manner' none is_status is_marks rests four unquoted is s =
     let Told : List (Entry Counts) → Type 0 = IsGenerated (length (generated number paths)) in
     let T : Bytes → Type 0 = λ bytes. Transcript gives paths Told status marks (Some bytes) (Some rest) taken taken' clock clock' old new w in
-    record {
-      rest = rest;
-      transcript = subst T is (transcript-of gives paths Told served status marks (Some text) (Some rest) taken taken' clock clock' old new given' time' phase w w' below' marks' refused (InShort 1023) manner'
-          none is_status is_marks rests (λ history told. let G : ℕ → Type 0 = λ n. IsGenerated n history in subst G (sym (count-generated number paths four)) (all-generated 1023 history told)) s);
-    }
+    let all = subst T is (transcript-of gives paths Told served status marks (Some text) (Some rest) taken taken' clock clock' old new given' time' phase w w' below' marks' refused (InShort 1023) manner'
+    none is_status is_marks rests (λ history told. let G : ℕ → Type 0 = λ n. IsGenerated n history in subst G (sym (count-generated number paths four)) (all-generated 1023 history told)) s) in
+    record { rest = rest; transcript = all; all_answered = answers-all gives number paths Told status marks rest taken taken' clock clock' old new w all unquoted }
 
 pub generated-none : {C : Type 0} (gives : C → ℕ → C → Type 0) (number : ℕ) (paths : List Bytes) (status : ℕ) (marks : List ℕ) (taken : Option Bytes) (clock : C) (bay : BayState) (w : World) →
     w.session ≡ [] → (status ≡ 2) ⊎ (status ≡ 5) → marks ≡ [] → GeneratedRun gives number paths status marks taken taken clock clock bay bay w
 generated-none gives number paths status marks taken clock bay w first is none = record {
   rest = generated_script number paths;
   transcript = transcript-none gives paths (IsGenerated (length (generated number paths))) status marks (Some (generated_script number paths)) taken clock bay w first is none tt;
+  all_answered = λ small. absurd (elim is [ inl e ↦ omega (arith, e, small) | inr e ↦ omega (arith, e, small) ]);
 }

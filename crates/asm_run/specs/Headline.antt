@@ -103,3 +103,5 @@ pub record GeneratedRun {C : Type 0} (gives : C → ℕ → C → Type 0) (numbe
   pub rest : Bytes
   pub transcript : Transcript gives paths (IsGenerated (length (generated number paths))) status marks (Some (generated_script number paths)) (Some rest)
       taken taken' clock clock' old new w
+  -- 0 and 1: all the generator's commands were answered
+  pub all_answered : status ≤ 1 → answered transcript.history ≡ generated number paths

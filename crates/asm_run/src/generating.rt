@@ -1,9 +1,10 @@
 // The run of the generator's script.
-ghost use Rattle.std.specs.Prelude.{◌≡◌, ◌≢◌, ◌≤◌, IfOk, length, map};
+ghost use Rattle.std.specs.Prelude.{◌≡◌, ◌≢◌, ◌≤◌, false, IfOk, length, map};
 ghost use Rattle.std.specs.String.{string_bytes};
 ghost use Rattle.bay.specs.Counts.{Rose};
 ghost use Rattle.asm_world.specs.Generator.{generated_script};
 ghost use Rattle.asm_world.specs.World.{World};
+ghost use Rattle.command_line.specs.Paths.{has_quote};
 ghost use Rattle.generated_script.specs.Source.{left_in};
 ghost use Rattle.asm_run.specs.Headline.{IsFirst, GeneratedRun};
 
@@ -29,6 +30,7 @@ pub fn generate<B: Bay, H: Host, K: Sink, C: Clock>(
     clock: C,
 ) -> Report<B, H, K, C>
     requires four { length images.items ≡ 4 }
+    requires unquoted { has_quote (map string_bytes images.items) ≡ false }
     ensures transcript { (w : World) → IsFirst w → GeneratedRun C.gives number (map string_bytes images.items) result.status result.marks.items
         (K.taken sink) (K.taken result.sink) clock result.clock (B.state bay) (B.state result.bay) w }
     ensures replies { result.replies ≡ length result.marks.items }

@@ -15,7 +15,7 @@ returns-in-Ok-clause-transcript g c = λ w first.
     let s = c.serve-outcome.ensures.serves w quiet 0 knows in
     let served = rw (new.session.1, new.marks, new.refused, new.manner, new.bay, new.sink, new.clock, new.paths) at s.serves in
     rw (c.ended.ensures.outside.0, c.ended.ensures.outside.1, c.ended.ensures.outside.2) (generated-of _ c.args.number _ c.serve-outcome.result _ _ _ _ _ _ _ _ _ _ _ _ _ _ _ _ _ c.serve-outcome.new.self.refused _ first.no_entries
-    c.ended.ensures.status c.ended.ensures.marks s.rests (length-map _ string_bytes ∙ c.requires.four)
+    c.ended.ensures.status c.ended.ensures.marks s.rests (length-map _ string_bytes ∙ c.requires.four) c.requires.unquoted
     (c.in-Ok.ensures ∙ ap (λ images. generated_script c.args.number (map string_bytes images)) c.deref.ensures.value) served)
 
 pub returns-in-Ok-clause-taken : goal.returns-in-Ok-clause-taken
