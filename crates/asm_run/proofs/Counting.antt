@@ -16,11 +16,16 @@ count-numbers (suc n) = length-append (from_zero n) (n ∷ []) ∙ omega (arith,
 count-parts : (images files early late : List Bytes) (group drop list : Bytes)
     → length (images ++ group ∷ files ++ early ++ drop ∷ late ++ list ∷ []) ≡ length images + length files + length early + length late + 3
 count-parts images files early late group drop list =
-    omega (arith, length-append (images ++ group ∷ files ++ early ++ drop ∷ late) (list ∷ []), length-append (images ++ group ∷ files ++ early) (drop ∷ late),
-      length-append (images ++ group ∷ files) early, length-append images (group ∷ files))
+    omega (
+      arith,
+      length-append (images ++ group ∷ files ++ early ++ drop ∷ late) (list ∷ []),
+      length-append (images ++ group ∷ files ++ early) (drop ∷ late),
+      length-append (images ++ group ∷ files) early,
+      length-append images (group ∷ files),
+    )
 
 pub count-generated : (number : ℕ) (paths : List Bytes) → length paths ≡ 4 → length (generated number paths) ≡ 1023
 count-generated number paths four =
     count-parts (map create_image paths) (map create_file (from_zero 16)) (fills 500 (next_choice number)) (fills 500 (after_choices 501 number)) (create_group paths)
-      (codes "ALTER DISKGROUP DATA DROP DISK DATA_0003 REBALANCE POWER 4;") (codes "lsdg")
+    (codes "ALTER DISKGROUP DATA DROP DISK DATA_0003 REBALANCE POWER 4;") (codes "lsdg")
     ∙ omega (arith, four, length-map paths create_image, length-map (from_zero 16) create_file, count-numbers 16, count-fills 500 (next_choice number), count-fills 500 (after_choices 501 number))

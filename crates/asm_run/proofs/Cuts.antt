@@ -134,7 +134,7 @@ image-cut : (path : Bytes) → Lacks 39 path → IsCut (create_image path)
 unfolding opens_statement
 image-cut path lacks =
     let front = front-append (codes "REATE DISK " ++ quoted path) (codes " SIZE 64M") (front-append (codes "REATE DISK ") (quoted path) (front-plain (codes "REATE DISK ") refl refl) (front-quoted path lacks))
-        (front-plain (codes " SIZE 64M") refl refl) in
+    (front-plain (codes " SIZE 64M") refl refl) in
     subst IsCut (append_assoc (codes "CREATE DISK " ++ quoted path) (codes " SIZE 64M") (59 ∷ [])) (statement-cut 67 (codes "REATE DISK " ++ quoted path ++ codes " SIZE 64M") front (λ rest. refl))
 
 front-commas : (paths : List Bytes) → list_any (λ path. list_any (λ byte. byte == 39) path) paths ≡ false → IsFront (with_commas (map quoted paths))

@@ -68,8 +68,12 @@ impl<B: Bay, H: Host, K: Sink, C: Clock> Program<B, H, K, C> {
         ensures cause { StopsByOutput result (K.faults self.old.sink) (K.faults self.new.sink) }
     {
         let answer = run_text(&mut self.desk, text);
-        let (reply, printed) =
-            tell_reply(self.desk.alloc, &mut self.sink, self.manner, answer.reply);
+        let (reply, printed) = tell_reply(
+            self.desk.alloc,
+            &mut self.sink,
+            self.manner,
+            answer.reply,
+        );
         self.manner = self.manner.after_reply();
         self.refused |= is_refusal(&reply);
         let mark = self.desk.bay.calls();
