@@ -32,7 +32,7 @@ status_number (Err WriteFault) refused = 4
 status_number (Err NoMemory) refused = 5
 status_number (Err TooLong) refused = 6
 
--- the number of `--generate` among words, where it is given
+-- the number of `--generate` among words, where it is given; what isn't a number has some value too, and such words are refused
 abbrev pub number_given : List Text → Option ℕ
 number_given words = option_map (digits_value 10) (number_in words)
 
@@ -96,8 +96,8 @@ pub record Transcript {C : Type 0} (gives : C → ℕ → C → Type 0) (paths :
   pub crash : (known : ℕ → Bool) → StartsAs known old w → AllMoves (IsProvedApart known) history → IsCrashSafe paths new.leaves (first_state w old) history
   pub outcome : Outcome status script history left' end
 
--- Under --generate the generator's text stands for the bytes that a source has left, a rest of it for those left at the end. Texts
--- are short, but of the last command.
+-- Under --generate the generator's text stands for the bytes that a source has left, and a rest of it for those that are left at the
+-- end. Each text is short, but the reply to the last command.
 pub record GeneratedRun {C : Type 0} (gives : C → ℕ → C → Type 0) (number : ℕ) (paths : List Bytes) (status : ℕ) (marks : List ℕ) (taken taken' : Option Bytes)
     (clock clock' : C) (old new : BayState) (w : World) : Type 0 where
   pub rest : Bytes
