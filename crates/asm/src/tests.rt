@@ -60,7 +60,8 @@ fn words_that_name_no_images_are_refused(rt: HostRuntime) -> Result<(), Fail> {
         "",
         "--images /d0",
         "/d0 /d0",
-        "--generate 7 a b c d",
+        "--generate 7 a b c",
+        "--generate x a b c d",
         "--help",
     ] {
         let bay = bay_of(alloc, 25 * MB)?;

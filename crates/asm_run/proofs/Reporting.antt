@@ -6,7 +6,8 @@ use Rattle.std.specs.Io.KnownBytes.{Consumes, IsAtEnd}
 use Rattle.bay.proofs.Known.{Appends-none}
 use Rattle.bay.specs.State.{BayState}
 use Rattle.asm_group.specs.Names.{Bytes}
-use Rattle.asm_world.specs.Run.{State, Phase, Resting, Entry, Move, Starts, Expires, Answers, Slices, Rests, IsPrinted, IsPrintedToCut, end_of, entry_text, answered, marks_at, marks_of, has_refusal}
+use Rattle.asm_world.specs.Generator.{generated, generated_script}
+use Rattle.asm_world.specs.Run.{State, Phase, Resting, Entry, Move, Starts, Expires, Answers, Slices, Rests, IsGenerated, IsPrinted, IsPrintedToCut, end_of, entry_text, answered, marks_at, marks_of, has_refusal}
 use Rattle.asm_world.proofs.Histories.{marks_rise_by}
 use Rattle.asm_world.specs.RunLaws.{RisesFrom}
 use Rattle.asm_world.specs.World.{World}
@@ -14,12 +15,19 @@ use Rattle.group_disks.specs.Found.{Counts, counts_of}
 use Rattle.script.specs.Script.{cut, commands_of, ended_commands}
 use Rattle.session.specs.declared.stop.Stop.{Stop}
 use Rattle.session.specs.declared.stop.Stop.TheVariants.{ReadFault, WriteFault, NoMemory, TooLong}
+use Rattle.session.specs.declared.manner.Manner.{Manner}
+use Rattle.session.specs.declared.manner.Manner.TheVariants.{InShort}
 use Rattle.session.specs.Acts.{Scene, scene, Acts}
+use Rattle.session.specs.Manners.{AreTold}
 use Rattle.session.specs.Quiet.{quiet}
 use Rattle.session.specs.Serves.{limit, IsFront, IsAnswered, Serves, is_whole}
 use Rattle.asm_run.specs.Crash.{StartsAs}
-use Rattle.asm_run.specs.Headline.{first_state, status_number, Outcome, Transcript}
+use Rattle.asm_run.specs.Headline.{first_state, status_number, GeneratedRun, Outcome, Transcript}
+use Rattle.asm_run.proofs.Counting.{count-generated}
+use Rattle.asm_run.proofs.Cuts.{commands-are}
+use Rattle.command_line.specs.Paths.{has_quote}
 use Rattle.asm_run.proofs.Crashes.{starts-stands, held-before, crash-safe}
+use Rattle.asm_run.proofs.Manners.{all-generated}
 use Rattle.asm_world.specs.Below.{GroupBelow}
 
 cut-from_printed : (h : List (Entry Counts)) → IsPrinted h → IsPrintedToCut h
@@ -139,12 +147,12 @@ outcome-of (Err NoMemory) refused script commands history left end a e printed r
 
 -- ---- the transcript
 
-pub transcript-of : {C : Type 0} (gives : C → ℕ → C → Type 0) (paths : List Bytes) (served : Result (Unit {0}) Stop) (status : ℕ) (marks : List ℕ) (left left' taken taken' : Option Bytes)
-    (clock clock' : C) (old new : BayState) (given' time' : ℕ) (phase : Phase) (w w' : World) (below' : ℕ → GroupBelow) (marks' : List ℕ) (refused : Bool) →
-    w.session ≡ [] → status ≡ status_number served refused → marks ≡ marks' → (is_whole served ≡ true → phase ≡ Resting) →
-    Serves gives paths served left left' (scene w quiet Resting 0 0 old taken clock [] false) (scene w' below' phase time' given' new taken' clock' marks' refused) →
-    Transcript gives paths status marks left left' taken taken' clock clock' old new w
-transcript-of gives paths served status marks left left' taken taken' clock clock' old new given' time' phase w w' below' marks' refused none is_status is_marks rest s =
+pub transcript-of : {C : Type 0} (gives : C → ℕ → C → Type 0) (paths : List Bytes) (Told : List (Entry Counts) → Type 0) (served : Result (Unit {0}) Stop) (status : ℕ) (marks : List ℕ) (left left' taken taken' : Option Bytes)
+    (clock clock' : C) (old new : BayState) (given' time' : ℕ) (phase : Phase) (w w' : World) (below' : ℕ → GroupBelow) (marks' : List ℕ) (refused : Bool) (manner manner' : Manner) →
+    w.session ≡ [] → status ≡ status_number served refused → marks ≡ marks' → (is_whole served ≡ true → phase ≡ Resting) → ((history : List (Entry Counts)) → AreTold manner history → Told history) →
+    Serves gives paths served left left' (scene w quiet Resting 0 0 old taken clock [] false manner) (scene w' below' phase time' given' new taken' clock' marks' refused manner') →
+    Transcript gives paths Told status marks left left' taken taken' clock clock' old new w
+transcript-of gives paths Told served status marks left left' taken taken' clock clock' old new given' time' phase w w' below' marks' refused manner manner' none is_status is_marks rest tells s =
     let p = s.acts in
     let end : State Counts = record { world = w'; below = below'; phase = phase; time = time'; calls = new.calls; counts = counts_of new } in
     let all : marks ≡ marks_of p.history = is_marks ∙ p.marks_grow in
@@ -156,7 +164,7 @@ transcript-of gives paths served status marks left left' taken taken' clock cloc
       end = end;
       consumed = s.consumed;
       written = p.written;
-      full = p.full;
+      told = tells p.history p.told;
       printed = either-cut (is_whole served) p.history p.printed;
       run = p.run;
       ends = p.ends;
@@ -174,10 +182,10 @@ transcript-of gives paths served status marks left left' taken taken' clock cloc
     }
 
 -- nothing was read and nothing done, for the words or for want of memory
-pub transcript-none : {C : Type 0} (gives : C → ℕ → C → Type 0) (paths : List Bytes) (status : ℕ) (marks : List ℕ) (left taken : Option Bytes) (clock : C) (bay : BayState) (w : World) →
-    w.session ≡ [] → (status ≡ 2) ⊎ (status ≡ 5) → marks ≡ [] → Transcript gives paths status marks left left taken taken clock clock bay bay w
+pub transcript-none : {C : Type 0} (gives : C → ℕ → C → Type 0) (paths : List Bytes) (Told : List (Entry Counts) → Type 0) (status : ℕ) (marks : List ℕ) (left taken : Option Bytes) (clock : C) (bay : BayState) (w : World) →
+    w.session ≡ [] → (status ≡ 2) ⊎ (status ≡ 5) → marks ≡ [] → Told [] → Transcript gives paths Told status marks left left taken taken clock clock bay bay w
 unfolding cut
-transcript-none gives paths status marks left taken clock bay w first is none =
+transcript-none gives paths Told status marks left taken clock bay w first is none told =
     let P : List ℕ → Type 0 = λ ms. RisesFrom bay.calls ms in
     let big : 2 ≤ status = elim is [ inl e ↦ omega (arith, e) | inr e ↦ omega (arith, e) ] in
     let other : (status ≡ 3) ⊎ (status ≡ 6) → ⊥ = λ e. elim is [
@@ -190,7 +198,7 @@ transcript-none gives paths status marks left taken clock bay w first is none =
       end = first_state w bay;
       consumed = consumes-none left;
       written = Appends-none taken;
-      full = tt;
+      told = told;
       printed = tt;
       run = tt;
       ends = refl;
@@ -220,3 +228,33 @@ transcript-none gives paths status marks left taken clock bay w first is none =
         rests = λ _ _. refl;
       };
     }
+
+-- ---- the generator's script
+
+-- where the script was read to its end, all commands were answered
+answers-all : {C : Type 0} (gives : C → ℕ → C → Type 0) (number : ℕ) (paths : List Bytes) (Told : List (Entry Counts) → Type 0) (status : ℕ) (marks : List ℕ) (rest : Bytes) (taken taken' : Option Bytes) (clock clock' : C) (old new : BayState) (w : World)
+    (t : Transcript gives paths Told status marks (Some (generated_script number paths)) (Some rest) taken taken' clock clock' old new w) → has_quote paths ≡ false → status ≤ 1 → answered t.history ≡ generated number paths
+answers-all gives number paths Told status marks rest taken taken' clock clock' old new w t unquoted small =
+    let at_end : rest ≡ [] = t.outcome.to_end small in
+    let whole : generated_script number paths ≡ t.script = t.consumed ∙ ap (λ bytes. t.script ++ bytes) at_end ∙ append-nil t.script in
+    t.outcome.all_answered small ∙ ap commands_of (sym whole) ∙ commands-are number paths unquoted
+
+pub generated-of : {C : Type 0} (gives : C → ℕ → C → Type 0) (number : ℕ) (paths : List Bytes) (served : Result (Unit {0}) Stop) (status : ℕ) (marks : List ℕ) (text rest : Bytes) (taken taken' : Option Bytes)
+    (clock clock' : C) (old new : BayState) (given' time' : ℕ) (phase : Phase) (w w' : World) (below' : ℕ → GroupBelow) (marks' : List ℕ) (refused : Bool) (manner' : Manner) →
+    w.session ≡ [] → status ≡ status_number served refused → marks ≡ marks' → (is_whole served ≡ true → phase ≡ Resting) → length paths ≡ 4 → has_quote paths ≡ false → text ≡ generated_script number paths →
+    Serves gives paths served (Some text) (Some rest) (scene w quiet Resting 0 0 old taken clock [] false (InShort 1023)) (scene w' below' phase time' given' new taken' clock' marks' refused manner') →
+    GeneratedRun gives number paths status marks taken taken' clock clock' old new w
+generated-of gives number paths served status marks text rest taken taken' clock clock' old new given' time' phase w w' below' marks' refused manner' none is_status is_marks rests four unquoted is s =
+    let Told : List (Entry Counts) → Type 0 = IsGenerated (length (generated number paths)) in
+    let T : Bytes → Type 0 = λ bytes. Transcript gives paths Told status marks (Some bytes) (Some rest) taken taken' clock clock' old new w in
+    let all = subst T is (transcript-of gives paths Told served status marks (Some text) (Some rest) taken taken' clock clock' old new given' time' phase w w' below' marks' refused (InShort 1023) manner'
+    none is_status is_marks rests (λ history told. let G : ℕ → Type 0 = λ n. IsGenerated n history in subst G (sym (count-generated number paths four)) (all-generated 1023 history told)) s) in
+    record { rest = rest; transcript = all; all_answered = answers-all gives number paths Told status marks rest taken taken' clock clock' old new w all unquoted }
+
+pub generated-none : {C : Type 0} (gives : C → ℕ → C → Type 0) (number : ℕ) (paths : List Bytes) (status : ℕ) (marks : List ℕ) (taken : Option Bytes) (clock : C) (bay : BayState) (w : World) →
+    w.session ≡ [] → (status ≡ 2) ⊎ (status ≡ 5) → marks ≡ [] → GeneratedRun gives number paths status marks taken taken clock clock bay bay w
+generated-none gives number paths status marks taken clock bay w first is none = record {
+  rest = generated_script number paths;
+  transcript = transcript-none gives paths (IsGenerated (length (generated number paths))) status marks (Some (generated_script number paths)) taken clock bay w first is none tt;
+  all_answered = λ small. absurd (elim is [ inl e ↦ omega (arith, e, small) | inr e ↦ omega (arith, e, small) ]);
+}

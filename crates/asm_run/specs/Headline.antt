@@ -1,12 +1,17 @@
 -- What a whole run of the program did.
-use Rattle.std.specs.Prelude.{◌≡◌, ◌≢◌, ℕ, ◌+◌, ◌≤◌, Bool, true, false, List, [], ◌++◌, length, take, Option, Result, Ok, Err}
+use Rattle.std.specs.Prelude.{◌≡◌, ◌≢◌, ℕ, ◌+◌, ◌≤◌, Bool, true, false, List, [], ◌++◌, length, take, Option, Some, Result, Ok, Err}
+use Rattle.std.specs.Option.{option_map}
+use Rattle.std.specs.Str.Parse.{digits_value}
 use Rattle.std.specs.Io.KnownBytes.{Appends, Consumes, IsAtEnd}
 use Rattle.bay.specs.Readings.{Readings}
 use Rattle.bay.specs.State.{BayState}
 use Rattle.asm_group.specs.Names.{Bytes}
-use Rattle.asm_world.specs.Run.{State, Resting, Entry, AllMoves, IsRunWhile, IsFull, IsPrinted, IsPrintedToCut, end_of, output_of, answered, times_of, marks_of, has_refusal}
+use Rattle.asm_world.specs.Generator.{generated, generated_script}
+use Rattle.asm_world.specs.Run.{State, Resting, Entry, AllMoves, IsRunWhile, IsGenerated, IsPrinted, IsPrintedToCut, end_of, output_of, answered, times_of, marks_of, has_refusal}
 use Rattle.asm_world.specs.RunLaws.{RisesFrom}
 use Rattle.asm_world.specs.World.{World}
+use Rattle.command_line.specs.Command.{number_in}
+use Rattle.command_line.specs.Paths.{Text}
 use Rattle.group_disks.specs.Found.{Counts, counts_of}
 use Rattle.script.specs.Script.{commands_of, ended_commands}
 use Rattle.session.specs.declared.stop.Stop.{Stop}
@@ -26,6 +31,10 @@ status_number (Err ReadFault) refused = 3
 status_number (Err WriteFault) refused = 4
 status_number (Err NoMemory) refused = 5
 status_number (Err TooLong) refused = 6
+
+-- the number of `--generate` among words, where it is given; what isn't a number has some value too, and such words are refused
+abbrev pub number_given : List Text → Option ℕ
+number_given words = option_map (digits_value 10) (number_in words)
 
 -- no group is in the session, and its place is `+`
 pub record IsFirst (w : World) : Type 0 where
@@ -59,16 +68,16 @@ pub record Outcome (status : ℕ) (script : Bytes) (history : List (Entry Counts
   pub rests : status ≢ 4 → status ≢ 5 → end.phase ≡ Resting
 
 -- The bytes that were taken from the source, and the moves of the session with what was printed of each. The fields tie them to the
--- source, the sink, the clock, the disks and the report, each as it was before the run and after it.
-pub record Transcript {C : Type 0} (gives : C → ℕ → C → Type 0) (paths : List Bytes) (status : ℕ) (marks : List ℕ) (left left' taken taken' : Option Bytes)
+-- source, the sink, the clock, the disks and the report, each as it was before the run and after it. `Told` says how texts are told.
+pub record Transcript {C : Type 0} (gives : C → ℕ → C → Type 0) (paths : List Bytes) (Told : List (Entry Counts) → Type 0) (status : ℕ) (marks : List ℕ) (left left' taken taken' : Option Bytes)
     (clock clock' : C) (old new : BayState) (w : World) : Type 0 where
   pub script : Bytes
   pub history : List (Entry Counts)
   pub end : State Counts
   pub consumed : Consumes left left' script
-  -- each text is in full, up to a cut
+  -- each text is told so, up to a cut
   pub written : Appends taken taken' (output_of history)
-  pub full : IsFull history
+  pub told : Told history
   pub printed : IsPrintedToCut history
   -- Up to the first that isn't proved, each move is one that the world may make, and each reply has its cause.
   pub run : IsRunWhile (outside paths new.leaves) IsProved (first_state w old) history
@@ -86,3 +95,13 @@ pub record Transcript {C : Type 0} (gives : C → ℕ → C → Type 0) (paths :
   -- the same of all moves, and of what a stop now leaves
   pub crash : (known : ℕ → Bool) → StartsAs known old w → AllMoves (IsProvedApart known) history → IsCrashSafe paths new.leaves (first_state w old) history
   pub outcome : Outcome status script history left' end
+
+-- Under --generate the generator's text stands for the bytes that a source has left, and a rest of it for those that are left at the
+-- end. Each text is short, but the reply to the last command.
+pub record GeneratedRun {C : Type 0} (gives : C → ℕ → C → Type 0) (number : ℕ) (paths : List Bytes) (status : ℕ) (marks : List ℕ) (taken taken' : Option Bytes)
+    (clock clock' : C) (old new : BayState) (w : World) : Type 0 where
+  pub rest : Bytes
+  pub transcript : Transcript gives paths (IsGenerated (length (generated number paths))) status marks (Some (generated_script number paths)) (Some rest)
+      taken taken' clock clock' old new w
+  -- 0 and 1: all the generator's commands were answered
+  pub all_answered : status ≤ 1 → answered transcript.history ≡ generated number paths

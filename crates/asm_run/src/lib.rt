@@ -2,6 +2,9 @@
 //! It stands in a library of its own, so that scripts can be played by it over disks in memory.
 #![tactic(auto)]
 
+mod generating;
 mod program;
+mod report;
 
-pub use program::{Report, run};
+pub use program::run;
+pub use report::Report;

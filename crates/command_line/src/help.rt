@@ -19,8 +19,8 @@ usage: asm [--generate N] IMAGE...
 
   IMAGE...       the images of disks, each a file or a device that is named once, at most 512.
                  Statements name it by this path. It is made beforehand, or by CREATE DISK.
-  --generate N   reads no script and runs one made from the number N, over four images.
-                 It isn't served yet: words with it get status 2.
+  --generate N   reads no script and runs one made from the number N, below 2^64, over four images, whose
+                 paths have no single quote. Each reply is a . for ok or a ! for an error, the last in full.
   --             what follows is an image, also where it begins with a hyphen.
 
 The script is read on standard input. A statement ends with ; and any other command with its line.

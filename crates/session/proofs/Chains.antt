@@ -9,17 +9,23 @@ use Rattle.bay.specs.Image.{Image}
 use Rattle.bay.specs.Readings.{Readings}
 use Rattle.bay.proofs.Known.{Appends-none, Appends-more}
 use Rattle.asm_group.specs.Names.{Bytes}
-use Rattle.asm_world.specs.Run.{Outside, State, Entry, Move, Full, AllMoves, IsMove, end_of, entry_text, text_of, IsFull, IsPrinted, IsPrintedToCut, output_of, commands_at, answered, times_at, times_of, marks_at, marks_of, refuses, has_refusal}
+use Rattle.asm_world.specs.Run.{Outside, State, Entry, Move, AllMoves, IsMove, end_of, entry_text, text_of, IsPrinted, IsPrintedToCut, output_of, commands_at, answered, times_at, times_of, marks_at, marks_of, refuses, has_refusal}
 use Rattle.asm_world.proofs.Histories.{end_append, rise_calls, rise_joined, moves_split, while_joined, while_past}
 use Rattle.group_disks.specs.Found.{Counts}
 use Rattle.session.specs.Claims.{outside, held_outside, StandsFor, IsProvedApart}
+use Rattle.session.specs.declared.manner.Manner.{Manner}
 use Rattle.session.specs.Effects.{Past}
+use Rattle.session.specs.Manners.{AreTold, after_move, after_moves, style_of}
 use Rattle.session.specs.Proved.{IsProved, is_proved_move}
 use Rattle.session.specs.Acts.{Scene, state_of, Acts}
 
-full-append : (h k : List (Entry Counts)) → IsFull h → IsFull k → IsFull (h ++ k)
-full-append [] k p q = q
-full-append (e ∷ h) k p q = (p.0, full-append h k p.1 q)
+told-append : (manner : Manner) (h k : List (Entry Counts)) → AreTold manner h → AreTold (after_moves manner h) k → AreTold manner (h ++ k)
+told-append manner [] k p q = q
+told-append manner (e ∷ h) k p q = (p.0, told-append (after_move manner e.move) h k p.1 q)
+
+after-append : (manner : Manner) (h k : List (Entry Counts)) → after_moves manner (h ++ k) ≡ after_moves (after_moves manner h) k
+after-append manner [] k = refl
+after-append manner (e ∷ h) k = after-append (after_move manner e.move) h k
 
 printed-append : (h k : List (Entry Counts)) → IsPrinted h → IsPrinted k → IsPrinted (h ++ k)
 printed-append [] k p q = q
@@ -65,7 +71,8 @@ acts-none gives paths a = record {
   commands_are = refl;
   past = λ m image before left. left;
   holds = λ known stands. record { held = tt; now = λ all. stands };
-  full = tt;
+  told = tt;
+  manner_is = refl;
   printed = tt;
   written = Appends-none a.taken;
   readings = refl;
@@ -97,7 +104,8 @@ acts-then gives paths whole xs ys a b c p q =
                 let split = moves_split (IsProvedApart known) p.history q.history all in
                 (q.holds known (first.now split.0)).now split.1;
           };
-      full = full-append p.history q.history p.full q.full;
+      told = let T : Manner → Type 0 = λ manner. AreTold manner q.history in told-append a.manner p.history q.history p.told (subst T p.manner_is q.told);
+      manner_is = q.manner_is ∙ ap (λ manner. after_moves manner q.history) p.manner_is ∙ sym (after-append a.manner p.history q.history);
       printed = either-append whole p.history q.history p.printed q.printed;
       written = rw flat_map-append (Appends-more a.taken b.taken c.taken (output_of p.history) (output_of q.history) p.written q.written);
       readings = rw flat_map-append (readings-append gives a.clock b.clock c.clock (times_of p.history) (times_of q.history) p.readings q.readings);
@@ -116,7 +124,8 @@ acts-cut gives paths xs a b p = record {
   commands_are = p.commands_are;
   past = p.past;
   holds = p.holds;
-  full = p.full;
+  told = p.told;
+  manner_is = p.manner_is;
   printed = cut-from_printed p.history p.printed;
   written = p.written;
   readings = p.readings;
@@ -124,15 +133,15 @@ acts-cut gives paths xs a b p = record {
   refusal = p.refusal;
 }
 
-pub one-printed : (whole : Bool) (move : Move) (printed : List ℕ) (after : State Counts) →
-    let e : Entry Counts = record { move = move; style = Full; printed = printed; after = after } in
-    MatchBool whole (printed ≡ entry_text e) ((rest : List ℕ) × (entry_text e ≡ printed ++ rest)) → MatchBool whole (IsPrinted (e ∷ [])) (IsPrintedToCut (e ∷ []))
-one-printed true move printed after e = (e, tt)
-one-printed false move printed after e = inr (e.0, e.1, refl)
-
 -- the entry of a move
-abbrev pub entry : Move → List ℕ → State Counts → Entry Counts
-entry move printed after = record { move = move; style = Full; printed = printed; after = after }
+abbrev pub entry : Manner → Move → List ℕ → State Counts → Entry Counts
+entry manner move printed after = record { move = move; style = style_of manner move; printed = printed; after = after }
+
+pub one-printed : (whole : Bool) (manner : Manner) (move : Move) (printed : List ℕ) (after : State Counts) →
+    let e = entry manner move printed after in
+    MatchBool whole (printed ≡ entry_text e) ((rest : List ℕ) × (entry_text e ≡ printed ++ rest)) → MatchBool whole (IsPrinted (e ∷ [])) (IsPrintedToCut (e ∷ []))
+one-printed true manner move printed after e = (e, tt)
+one-printed false manner move printed after e = inr (e.0, e.1, refl)
 
 -- what one move needs to be one of a part of the program
 pub record OneMove {C : Type 0} (gives : C → ℕ → C → Type 0) (paths : List Bytes) (whole : Bool) (move : Move) (text : List ℕ) (old new : Scene C) : Type 0 where
@@ -141,58 +150,62 @@ pub record OneMove {C : Type 0} (gives : C → ℕ → C → Type 0) (paths : Li
   pub past : Past old.bay new.bay
   pub holds : (known : ℕ → Bool) → StandsFor (length paths) known old.given old.bay old.world → IsProvedApart known move
       → IsMove (held_outside paths new.bay.leaves) (state_of old) move (state_of new) × StandsFor (length paths) known new.given new.bay new.world
-  pub texts : MatchBool whole (text ≡ entry_text (entry move text (state_of new))) ((rest : List ℕ) × (entry_text (entry move text (state_of new)) ≡ text ++ rest))
+  pub texts : MatchBool whole (text ≡ entry_text (entry old.manner move text (state_of new))) ((rest : List ℕ) × (entry_text (entry old.manner move text (state_of new)) ≡ text ++ rest))
   pub written : Appends old.taken new.taken text
   pub readings : Readings gives old.clock (times_at move) new.clock
-  pub marks_grow : new.marks ≡ old.marks ++ marks_at move (bytes_eq text (entry_text (entry move text (state_of new)))) new.bay.calls
+  pub marks_grow : new.marks ≡ old.marks ++ marks_at move (bytes_eq text (entry_text (entry old.manner move text (state_of new)))) new.bay.calls
   pub refusal : new.refused ≡ (old.refused || refuses move)
+  pub manner_is : new.manner ≡ after_move old.manner move
 
 pub acts-one : {C : Type 0} (gives : C → ℕ → C → Type 0) (paths : List Bytes) (whole : Bool) (move : Move) (text : List ℕ) (old new : Scene C) →
     OneMove gives paths whole move text old new → Acts gives paths whole (commands_at move) old new
 acts-one gives paths whole move text old new one = record {
-  history = entry move text (state_of new) ∷ [];
+  history = entry old.manner move text (state_of new) ∷ [];
   run = λ proved. (one.does proved, tt);
   calls_rise = (one.calls, tt);
   ends = refl;
   commands_are = append-nil (commands_at move);
   past = one.past;
   holds = λ known stands. record { held = λ meets. ((one.holds known stands meets).0, tt); now = λ all. (one.holds known stands all.0).1 };
-  full = (refl, tt);
-  printed = one-printed whole move text (state_of new) one.texts;
+  told = (refl, tt);
+  manner_is = one.manner_is;
+  printed = one-printed whole old.manner move text (state_of new) one.texts;
   written = rw append-nil one.written;
   readings = rw append-nil one.readings;
-  marks_grow = one.marks_grow ∙ ap (λ ms. old.marks ++ ms) (sym (append-nil (marks_at move (bytes_eq text (entry_text (entry move text (state_of new)))) new.bay.calls)));
+  marks_grow = one.marks_grow ∙ ap (λ ms. old.marks ++ ms) (sym (append-nil (marks_at move (bytes_eq text (entry_text (entry old.manner move text (state_of new)))) new.bay.calls)));
   refusal = one.refusal ∙ ap (λ b. old.refused || b) (sym (or-false (refuses move)));
 }
 
 -- ---- moves of which nothing is proved
 
--- the move is no answer, gives no time and no mark, and nothing is proved of it
+-- the move is no answer, gives no time and no mark, leaves the manner, and nothing is proved of it
 pub record IsSilent (move : Move) : Type 0 where
   pub unproved : is_proved_move move ≡ false
   pub commands : commands_at move ≡ []
   pub times : times_at move ≡ []
   pub marks : (whole : Bool) (calls : ℕ) → marks_at move whole calls ≡ []
   pub refuses_none : refuses move ≡ false
+  pub stays : (manner : Manner) → after_move manner move ≡ manner
 
 pub acts-silent : {C : Type 0} (gives : C → ℕ → C → Type 0) (paths : List Bytes) (whole : Bool) (move : Move) (text : List ℕ) (old new : Scene C) → IsSilent move
-    → old.bay.calls ≤ new.bay.calls → Past old.bay new.bay → MatchBool whole (text ≡ text_of Full move) ((rest : List ℕ) × (text_of Full move ≡ text ++ rest)) → Appends old.taken new.taken text
-    → new.clock ≡ old.clock → new.marks ≡ old.marks → new.refused ≡ old.refused → Acts gives paths whole [] old new
-acts-silent gives paths whole move text old new is calls past texts written clock marks refused =
+    → old.bay.calls ≤ new.bay.calls → Past old.bay new.bay → MatchBool whole (text ≡ text_of (style_of old.manner move) move) ((rest : List ℕ) × (text_of (style_of old.manner move) move ≡ text ++ rest)) → Appends old.taken new.taken text
+    → new.clock ≡ old.clock → new.marks ≡ old.marks → new.refused ≡ old.refused → new.manner ≡ old.manner → Acts gives paths whole [] old new
+acts-silent gives paths whole move text old new is calls past texts written clock marks refused manner =
     let never : IsProved move → ⊥ = λ proved. false≢true (sym is.unproved ∙ proved) in
     record {
-      history = entry move text (state_of new) ∷ [];
+      history = entry old.manner move text (state_of new) ∷ [];
       run = λ proved. absurd (never proved);
       calls_rise = (calls, tt);
       ends = refl;
       commands_are = append-nil (commands_at move) ∙ is.commands;
       past = past;
       holds = λ known stands. record { held = λ meets. absurd (never meets.0); now = λ all. absurd (never all.0.0) };
-      full = (refl, tt);
-      printed = one-printed whole move text (state_of new) texts;
+      told = (refl, tt);
+      manner_is = manner ∙ sym (is.stays old.manner);
+      printed = one-printed whole old.manner move text (state_of new) texts;
       written = rw append-nil written;
       readings = rw (append-nil, is.times) clock;
-      marks_grow = marks ∙ sym (append-nil old.marks) ∙ ap (λ ms. old.marks ++ ms) (sym (append-nil (marks_at move (bytes_eq text (entry_text (entry move text (state_of new)))) new.bay.calls) ∙ is.marks _ _));
+      marks_grow = marks ∙ sym (append-nil old.marks) ∙ ap (λ ms. old.marks ++ ms) (sym (append-nil (marks_at move (bytes_eq text (entry_text (entry old.manner move text (state_of new)))) new.bay.calls) ∙ is.marks _ _));
       refusal = refused ∙ sym (or-false old.refused) ∙ ap (λ b. old.refused || b) (sym (or-false (refuses move) ∙ is.refuses_none));
     }
 
@@ -212,7 +225,7 @@ unfolding acts-then
 then-moves P gives paths whole xs ys a b c p q first rest = moves-append P p.history q.history first rest
 
 pub silent-moves : (P : Move → Type 0) {C : Type 0} (gives : C → ℕ → C → Type 0) (paths : List Bytes) (whole : Bool) (move : Move) (text : List ℕ) (old new : Scene C) (is : IsSilent move)
-    (calls : old.bay.calls ≤ new.bay.calls) (past : Past old.bay new.bay) (texts : MatchBool whole (text ≡ text_of Full move) ((rest : List ℕ) × (text_of Full move ≡ text ++ rest))) (written : Appends old.taken new.taken text)
-    (clock : new.clock ≡ old.clock) (marks : new.marks ≡ old.marks) (refused : new.refused ≡ old.refused) → P move → AllMoves P (acts-silent gives paths whole move text old new is calls past texts written clock marks refused).history
+    (calls : old.bay.calls ≤ new.bay.calls) (past : Past old.bay new.bay) (texts : MatchBool whole (text ≡ text_of (style_of old.manner move) move) ((rest : List ℕ) × (text_of (style_of old.manner move) move ≡ text ++ rest))) (written : Appends old.taken new.taken text)
+    (clock : new.clock ≡ old.clock) (marks : new.marks ≡ old.marks) (refused : new.refused ≡ old.refused) (manner : new.manner ≡ old.manner) → P move → AllMoves P (acts-silent gives paths whole move text old new is calls past texts written clock marks refused manner).history
 unfolding acts-silent
-silent-moves P gives paths whole move text old new is calls past texts written clock marks refused p = (p, tt)
+silent-moves P gives paths whole move text old new is calls past texts written clock marks refused manner p = (p, tt)

@@ -16,19 +16,20 @@ use Rattle.asm_group.specs.Names.{Bytes}
 use Rattle.asm_group.specs.Refusal as r
 use Rattle.asm_world.specs.Below.{Found, GroupBelow}
 use Rattle.asm_world.specs.Reply.{Reply, Refused}
-use Rattle.asm_world.specs.Text.{reply_text}
 use Rattle.asm_world.specs.World.{World, SessionEntry, entry_in, is_mounted}
-use Rattle.asm_world.specs.Run.{Phase, Resting, Expiring, Slicing, Starts, Answers, Rests, AnswersAt, next_expiry, next_slice, below_of_entry, expiring_of, due_resync, due_rebalance, slices_of, mounted_groups, phase_after, is_refusal, times_of}
+use Rattle.asm_world.specs.Run.{Phase, Resting, Expiring, Slicing, Starts, Answers, Rests, AnswersAt, next_expiry, next_slice, below_of_entry, expiring_of, due_resync, due_rebalance, slices_of, mounted_groups, phase_after, is_refusal, reply_in, times_of}
 use Rattle.session.specs.Acts.{scene, state_of, Acts}
 use Rattle.asm_world.specs.Waits.{HasLines}
 use Rattle.group_disks.specs.Found.{Counts, counts_of}
 use Rattle.session.specs.Meaning.{meaning}
 use Rattle.session.specs.Effects.{HasEffect, IsServed, below_with}
+use Rattle.session.specs.Manners.{after_reply, reply_style}
 use Rattle.session.specs.Quiet.{quiet}
 use Rattle.session.specs.Desks.{paths_on}
 use Rattle.session.specs.Programs.{scene_of, AnswersOne, RunsOne, TellsEvents}
 use Rattle.session.specs.Stops.{IsReplyOrNoMemory}
 use Rattle.session.specs.Turns.{AfterReply, BeforeText}
+use Rattle.session.specs.declared.manner.Manner.{Manner}
 use Rattle.session.specs.declared.program.Program.{Program}
 use Rattle.session.specs.declared.stop.Stop.{Stop}
 use Rattle.session.proofs.Chains.{acts-none, acts-one, acts-then, acts-cut, or-false}
@@ -83,10 +84,10 @@ pushed marks marks' x calls (Err y) e ok is = absurd cc
 
 -- ---- the moves
 
-pub acts-starts : {C : Type 0} (gives : C → ℕ → C → Type 0) (paths : List Bytes) (w : World) (below : ℕ → GroupBelow) (time time' given : ℕ) (bay : BayState) (taken : Option (List ℕ)) (clock clock' : C) (marks : List ℕ) (refused : Bool)
-    → gives clock time' clock' → Acts gives paths true [] (scene w below Resting time given bay taken clock marks refused) (scene w below (Expiring (mounted_groups w.session)) time' given bay taken clock' marks refused)
-acts-starts gives paths w below time time' given bay taken clock clock' marks refused g = acts-one gives paths true (Starts time') []
-    (scene w below Resting time given bay taken clock marks refused) (scene w below (Expiring (mounted_groups w.session)) time' given bay taken clock' marks refused) (record {
+pub acts-starts : {C : Type 0} (gives : C → ℕ → C → Type 0) (paths : List Bytes) (w : World) (below : ℕ → GroupBelow) (time time' given : ℕ) (bay : BayState) (taken : Option (List ℕ)) (clock clock' : C) (marks : List ℕ) (refused : Bool) (manner : Manner)
+    → gives clock time' clock' → Acts gives paths true [] (scene w below Resting time given bay taken clock marks refused manner) (scene w below (Expiring (mounted_groups w.session)) time' given bay taken clock' marks refused manner)
+acts-starts gives paths w below time time' given bay taken clock clock' marks refused manner g = acts-one gives paths true (Starts time') []
+    (scene w below Resting time given bay taken clock marks refused manner) (scene w below (Expiring (mounted_groups w.session)) time' given bay taken clock' marks refused manner) (record {
       does = λ _. record { does = record { before = refl; after = refl; world = refl; time_is = refl }; caused = tt; calls = omega arith; images = λ m image from before left id. tt; there = λ m image from before left id was is. tt };
       calls = omega arith;
       past = λ m image before left. left;
@@ -96,12 +97,13 @@ acts-starts gives paths w below time time' given bay taken clock clock' marks re
       readings = (clock', g, refl);
       marks_grow = sym (append-nil marks);
       refusal = sym (or-false refused);
+      manner_is = refl;
     })
 
-pub acts-rests : {C : Type 0} (gives : C → ℕ → C → Type 0) (paths : List Bytes) (w : World) (below : ℕ → GroupBelow) (time given : ℕ) (bay : BayState) (taken : Option (List ℕ)) (clock : C) (marks : List ℕ) (refused : Bool)
-    → next_slice w below (slices_of (mounted_groups w.session)) ≡ None → Acts gives paths true [] (scene w below (Slicing (slices_of (mounted_groups w.session))) time given bay taken clock marks refused) (scene w below Resting time given bay taken clock marks refused)
-acts-rests gives paths w below time given bay taken clock marks refused due = acts-one gives paths true Rests []
-    (scene w below (Slicing (slices_of (mounted_groups w.session))) time given bay taken clock marks refused) (scene w below Resting time given bay taken clock marks refused) (record {
+pub acts-rests : {C : Type 0} (gives : C → ℕ → C → Type 0) (paths : List Bytes) (w : World) (below : ℕ → GroupBelow) (time given : ℕ) (bay : BayState) (taken : Option (List ℕ)) (clock : C) (marks : List ℕ) (refused : Bool) (manner : Manner)
+    → next_slice w below (slices_of (mounted_groups w.session)) ≡ None → Acts gives paths true [] (scene w below (Slicing (slices_of (mounted_groups w.session))) time given bay taken clock marks refused manner) (scene w below Resting time given bay taken clock marks refused manner)
+acts-rests gives paths w below time given bay taken clock marks refused manner due = acts-one gives paths true Rests []
+    (scene w below (Slicing (slices_of (mounted_groups w.session))) time given bay taken clock marks refused manner) (scene w below Resting time given bay taken clock marks refused manner) (record {
       does = λ _. record { does = record { slices = slices_of (mounted_groups w.session); before = refl; none_due = due; after = refl; world = refl; time = refl }; caused = tt; calls = omega arith; images = λ m image from before left id. tt; there = λ m image from before left id was is. tt };
       calls = omega arith;
       past = λ m image before left. left;
@@ -111,17 +113,18 @@ acts-rests gives paths w below time given bay taken clock marks refused due = ac
       readings = refl;
       marks_grow = sym (append-nil marks);
       refusal = sym (or-false refused);
+      manner_is = refl;
     })
 
 pub acts-answers : {C : Type 0} (gives : C → ℕ → C → Type 0) (paths : List Bytes) (whole : Bool) (found : Found) (text : Bytes) (reply : Reply) (sent : Bytes) (w w' : World) (below below' : ℕ → GroupBelow) (time given given' : ℕ) (old new : BayState)
-    (taken taken' : Option (List ℕ)) (clock : C) (marks marks' : List ℕ) (refused refused' : Bool) → next_expiry w below (mounted_groups w.session) ≡ None → IsServed paths found text reply given given' old new below w w' → Appends taken taken' sent
-    → marks' ≡ marks ++ (if bytes_eq sent (reply_text reply) then new.calls ∷ [] else []) → refused' ≡ (refused || is_refusal reply)
-    → MatchBool whole (sent ≡ reply_text reply) ((rest : List ℕ) × (reply_text reply ≡ sent ++ rest))
-    → Acts gives paths whole (text ∷ []) (scene w below (Expiring (mounted_groups w.session)) time given old taken clock marks refused) (scene w' below' (phase_after reply w') time given' new taken' clock marks' refused')
-acts-answers gives paths whole found text reply sent w w' below below' time given given' old new taken taken' clock marks marks' refused refused' none served written marked refusal texts =
+    (taken taken' : Option (List ℕ)) (clock : C) (marks marks' : List ℕ) (refused refused' : Bool) (manner manner' : Manner) → next_expiry w below (mounted_groups w.session) ≡ None → IsServed paths found text reply given given' old new below w w' → Appends taken taken' sent
+    → marks' ≡ marks ++ (if bytes_eq sent (reply_in (reply_style manner) reply) then new.calls ∷ [] else []) → refused' ≡ (refused || is_refusal reply) → manner' ≡ after_reply manner
+    → MatchBool whole (sent ≡ reply_in (reply_style manner) reply) ((rest : List ℕ) × (reply_in (reply_style manner) reply ≡ sent ++ rest))
+    → Acts gives paths whole (text ∷ []) (scene w below (Expiring (mounted_groups w.session)) time given old taken clock marks refused manner) (scene w' below' (phase_after reply w') time given' new taken' clock marks' refused' manner')
+acts-answers gives paths whole found text reply sent w w' below below' time given given' old new taken taken' clock marks marks' refused refused' manner manner' none served written marked refusal told texts =
     let move = Answers found text reply in
-    let answers : HasEffect paths found text reply given given' old new below w w' → AnswersAt meaning found text reply (state_of (scene w below (Expiring (mounted_groups w.session)) time given old taken clock marks refused)) (state_of (scene w' below' (phase_after reply w') time given' new taken' clock marks' refused')) = λ effect. record { groups = mounted_groups w.session; before = refl; none_expires = none; step = effect.step; cause = effect.cause; lines = effect.lines; after = refl; time = refl } in
-    acts-one gives paths whole move sent (scene w below (Expiring (mounted_groups w.session)) time given old taken clock marks refused) (scene w' below' (phase_after reply w') time given' new taken' clock marks' refused') (record {
+    let answers : HasEffect paths found text reply given given' old new below w w' → AnswersAt meaning found text reply (state_of (scene w below (Expiring (mounted_groups w.session)) time given old taken clock marks refused manner)) (state_of (scene w' below' (phase_after reply w') time given' new taken' clock marks' refused' manner')) = λ effect. record { groups = mounted_groups w.session; before = refl; none_expires = none; step = effect.step; cause = effect.cause; lines = effect.lines; after = refl; time = refl } in
+    acts-one gives paths whole move sent (scene w below (Expiring (mounted_groups w.session)) time given old taken clock marks refused manner) (scene w' below' (phase_after reply w') time given' new taken' clock marks' refused' manner') (record {
       does = λ proved. let effect = served.effect proved in
           record { does = answers effect; caused = (effect.ids_read, effect.made, effect.counted, effect.worked); calls = served.calls; images = λ m image from before left id. tt; there = λ m image from before left id was is. tt };
       calls = served.calls;
@@ -133,6 +136,7 @@ acts-answers gives paths whole found text reply sent w w' below below' time give
       readings = refl;
       marks_grow = marked;
       refusal = refusal;
+      manner_is = told;
     })
 
 -- want of memory in place of a refusal
@@ -165,19 +169,19 @@ effect-printed paths found text reply printed given given' old new w w' (inr (re
 -- ---- a whole command
 
 -- nothing was done, and the marks are the same
-pub acts-unmarked : {C : Type 0} (gives : C → ℕ → C → Type 0) (paths : List Bytes) (w : World) (below : ℕ → GroupBelow) (phase : Phase) (time given : ℕ) (bay : BayState) (taken : Option (List ℕ)) (clock : C) (marks marks' : List ℕ) (refused : Bool)
-    → marks' ≡ marks → Acts gives paths false [] (scene w below phase time given bay taken clock marks refused) (scene w below phase time given bay taken clock marks' refused)
-acts-unmarked gives paths w below phase time given bay taken clock marks marks' refused same =
-    let P : List ℕ → Type 0 = λ ms. Acts gives paths false [] (scene w below phase time given bay taken clock marks refused) (scene w below phase time given bay taken clock ms refused) in
-    subst P (sym same) (acts-cut gives paths [] _ _ (acts-none gives paths (scene w below phase time given bay taken clock marks refused)))
+pub acts-unmarked : {C : Type 0} (gives : C → ℕ → C → Type 0) (paths : List Bytes) (w : World) (below : ℕ → GroupBelow) (phase : Phase) (time given : ℕ) (bay : BayState) (taken : Option (List ℕ)) (clock : C) (marks marks' : List ℕ) (refused : Bool) (manner : Manner)
+    → marks' ≡ marks → Acts gives paths false [] (scene w below phase time given bay taken clock marks refused manner) (scene w below phase time given bay taken clock marks' refused manner)
+acts-unmarked gives paths w below phase time given bay taken clock marks marks' refused manner same =
+    let P : List ℕ → Type 0 = λ ms. Acts gives paths false [] (scene w below phase time given bay taken clock marks refused manner) (scene w below phase time given bay taken clock ms refused manner) in
+    subst P (sym same) (acts-cut gives paths [] _ _ (acts-none gives paths (scene w below phase time given bay taken clock marks refused manner)))
 
 -- A command and the moves around it. The clock was read, which leads from the program as it was to the one that begins.
 module _ {B H K C : Type 0} {bay : Bay.Ghosts B} {host : Host.Ghosts H} {sink : Sink.Ghosts K} {clock : Clock.Ghosts C} (text : Bytes) (w : World) (below : ℕ → GroupBelow) (time time' : ℕ) (old start : Program B H K C bay host sink clock)
     (g : clock.gives old.clock time' start.clock) (paths : paths_on start.desk ≡ paths_on old.desk) (given : start.desk.session.given ≡ old.desk.session.given) (at_bay : bay.state start.desk.bay ≡ bay.state old.desk.bay)
-    (at_sink : sink.taken start.sink ≡ sink.taken old.sink) (marks : start.marks.items ≡ old.marks.items) (refused : start.refused ≡ old.refused) where
+    (at_sink : sink.taken start.sink ≡ sink.taken old.sink) (marks : start.marks.items ≡ old.marks.items) (refused : start.refused ≡ old.refused) (manner : start.manner ≡ old.manner) where
   started : Acts clock.gives (paths_on old.desk) true [] (scene_of w below Resting time old) (scene_of w below (Expiring (mounted_groups w.session)) time' start)
-  started = rw (given, at_bay, at_sink, marks, refused)
-      (acts-starts clock.gives (paths_on old.desk) w below time time' old.desk.session.given (bay.state old.desk.bay) (sink.taken old.sink) old.clock start.clock old.marks.items old.refused g)
+  started = rw (given, at_bay, at_sink, marks, refused, manner)
+      (acts-starts clock.gives (paths_on old.desk) w below time time' old.desk.session.given (bay.state old.desk.bay) (sink.taken old.sink) old.clock start.clock old.marks.items old.refused old.manner g)
 
   -- the program stopped before the text
   pub ends-expiring : (stop : Stop) (new : Program B H K C bay host sink clock) → TellsEvents {T = Unit {0}} (Err stop) BeforeText start new w below time' → RunsOne (Err stop) text old new w below time
@@ -196,7 +200,7 @@ module _ {B H K C : Type 0} {bay : Bay.Ghosts B} {host : Host.Ghosts H} {sink : 
   -- expired disks were dropped before the text
   module _ (mid : Program B H K C bay host sink clock) (e : TellsEvents {T = Unit {0}} (Ok tt) BeforeText start mid w below time') (mid_paths : paths_on mid.desk ≡ paths_on start.desk) where
     expired : Acts clock.gives (paths_on old.desk) true [] (scene_of w below Resting time old) (scene_of e.w' e.below' (Expiring (mounted_groups e.w'.session)) time' mid)
-    expired = acts-then clock.gives (paths_on old.desk) true [] [] _ _ _ started (at-paths clock.gives _ _ true [] _ _ paths (at-phase clock.gives _ true [] _ _ _ _ _ _ _ _ _ _ _ _ e.rests e.acts))
+    expired = acts-then clock.gives (paths_on old.desk) true [] [] _ _ _ started (at-paths clock.gives _ _ true [] _ _ paths (at-phase clock.gives _ true [] _ _ _ _ _ _ _ _ _ _ _ _ _ e.rests e.acts))
 
     -- the program stopped at the reply
     pub ends-answering : (stop : Stop) (new : Program B H K C bay host sink clock) → AnswersOne (Err stop) text mid new e.w' e.below' time' → RunsOne (Err stop) text old new w below time
@@ -216,14 +220,14 @@ module _ {B H K C : Type 0} {bay : Bay.Ghosts B} {host : Host.Ghosts H} {sink : 
     module _ (late : Program B H K C bay host sink clock) (a : AnswersOne (Ok tt) text mid late e.w' e.below' time') (late_paths : paths_on late.desk ≡ paths_on mid.desk) where
       answered : Acts clock.gives (paths_on old.desk) true (text ∷ []) (scene_of w below Resting time old) (scene_of a.w' a.below' (Slicing (slices_of (mounted_groups a.w'.session))) time' late)
       answered = acts-then clock.gives (paths_on old.desk) true [] (text ∷ []) _ _ _ expired
-          (at-paths clock.gives _ _ true (text ∷ []) _ _ (mid_paths ∙ paths) (at-phase clock.gives _ true (text ∷ []) _ _ _ _ _ _ _ _ _ _ _ _ a.rests a.acts))
+          (at-paths clock.gives _ _ true (text ∷ []) _ _ (mid_paths ∙ paths) (at-phase clock.gives _ true (text ∷ []) _ _ _ _ _ _ _ _ _ _ _ _ _ a.rests a.acts))
 
       -- slices ran behind the reply, and nothing more is due, or the program stopped there
       pub ends-slicing : (result : Result (Unit {0}) Stop) (new : Program B H K C bay host sink clock) → TellsEvents result AfterReply late new a.w' a.below' time' → RunsOne result text old new w below time
       ends-slicing (Ok done) new s =
           let all = acts-then clock.gives (paths_on old.desk) true (text ∷ []) [] _ _ _ answered
-          (at-paths clock.gives _ _ true [] _ _ (late_paths ∙ mid_paths ∙ paths) (at-phase clock.gives _ true [] _ _ _ _ _ _ _ _ _ _ _ _ s.rests s.acts)) in
-          let rest = acts-rests clock.gives (paths_on old.desk) s.w' s.below' time' new.desk.session.given (bay.state new.desk.bay) (sink.taken new.sink) new.clock new.marks.items new.refused (rw s.knows.still (none_due s.w' (mounted_groups s.w'.session))) in
+          (at-paths clock.gives _ _ true [] _ _ (late_paths ∙ mid_paths ∙ paths) (at-phase clock.gives _ true [] _ _ _ _ _ _ _ _ _ _ _ _ _ s.rests s.acts)) in
+          let rest = acts-rests clock.gives (paths_on old.desk) s.w' s.below' time' new.desk.session.given (bay.state new.desk.bay) (sink.taken new.sink) new.clock new.marks.items new.refused new.manner (rw s.knows.still (none_due s.w' (mounted_groups s.w'.session))) in
           record {
             w' = s.w';
             below' = s.below';

@@ -11,16 +11,19 @@ use Rattle.bay.proofs.Known.{Appends-none}
 use Rattle.asm_group.specs.Names.{Bytes}
 use Rattle.asm_world.specs.Below.{GroupBelow}
 use Rattle.asm_world.specs.Reply.{Event}
-use Rattle.asm_world.specs.Run.{Full, Move, Phase, Stops, AllMoves, text_of}
+use Rattle.asm_world.specs.Run.{Move, Phase, Stops, AllMoves, text_of}
 use Rattle.asm_world.specs.Text.{event_text}
 use Rattle.asm_world.specs.World.{World}
 use Rattle.session.specs.Acts.{Acts, Scene, scene}
 use Rattle.session.specs.Desks.{paths_on}
+use Rattle.session.specs.Manners.{line_in, style_of}
 use Rattle.session.specs.Naming.{CarriesOn}
 use Rattle.session.specs.Programs.{Tells, scene_of}
 use Rattle.session.specs.Sessions.{AreReady, Knows}
 use Rattle.session.specs.Stops.{IsOutputStop, StopsByOutput}
 use Rattle.session.specs.Turns.{AfterReply, BeforeText, HasLine, IsTurnMove, When, move_at, phase_at}
+use Rattle.session.specs.declared.manner.Manner.{Manner}
+use Rattle.session.specs.declared.manner.Manner.TheVariants.{InFull, InShort}
 use Rattle.session.specs.declared.program.Program.{Program}
 use Rattle.session.specs.declared.stop.Stop.{Stop}
 use Rattle.session.specs.declared.stop.Stop.TheVariants.{ReadFault, WriteFault, NoMemory, TooLong}
@@ -29,11 +32,11 @@ use Rattle.session.proofs.Chains.{IsSilent, acts-none, acts-silent, acts-then, n
 -- ---- the moves
 
 event_silent : (when : When) (event : Event) → IsSilent (move_at when event)
-event_silent BeforeText event = record { unproved = refl; commands = refl; times = refl; marks = λ whole calls. refl; refuses_none = refl }
-event_silent AfterReply event = record { unproved = refl; commands = refl; times = refl; marks = λ whole calls. refl; refuses_none = refl }
+event_silent BeforeText event = record { unproved = refl; commands = refl; times = refl; marks = λ whole calls. refl; refuses_none = refl; stays = λ manner. refl }
+event_silent AfterReply event = record { unproved = refl; commands = refl; times = refl; marks = λ whole calls. refl; refuses_none = refl; stays = λ manner. refl }
 
 stop_silent : IsSilent Stops
-stop_silent = record { unproved = refl; commands = refl; times = refl; marks = λ whole calls. refl; refuses_none = refl }
+stop_silent = record { unproved = refl; commands = refl; times = refl; marks = λ whole calls. refl; refuses_none = refl; stays = λ manner. refl }
 
 event_move : (when : When) (event : Event) → IsTurnMove when (move_at when event)
 event_move BeforeText event = tt
@@ -43,9 +46,11 @@ stop_move : (when : When) → IsTurnMove when Stops
 stop_move BeforeText = tt
 stop_move AfterReply = tt
 
-event_says : (when : When) (event : Event) → event_text event ≡ text_of Full (move_at when event)
-event_says BeforeText event = refl
-event_says AfterReply event = refl
+event_says : (manner : Manner) (when : When) (event : Event) (line : Bytes) → line ≡ event_text event → line_in manner line ≡ text_of (style_of manner (move_at when event)) (move_at when event)
+event_says InFull BeforeText event line is = is
+event_says InFull AfterReply event line is = is
+event_says (InShort left) BeforeText event line is = refl
+event_says (InShort left) AfterReply event line is = refl
 
 -- what was done in turns, by these moves alone
 abbrev Story : {C : Type 0} → (C → ℕ → C → Type 0) → List Bytes → Bool → When → Scene C → Scene C → Type 0
@@ -58,10 +63,10 @@ story_paths : {C : Type 0} (gives : C → ℕ → C → Type 0) (paths paths' : 
 story_paths gives paths paths' whole when a b e story = let P : List Bytes → Type 0 = λ ps. Story gives ps whole when a b in subst P e story
 
 story_phase : {C : Type 0} (gives : C → ℕ → C → Type 0) (paths : List Bytes) (whole : Bool) (when : When) (old : Scene C) (world : World) (below : ℕ → GroupBelow) (phase phase' : Phase) (time given : ℕ) (bay : BayState)
-    (taken : Option (List ℕ)) (clock : C) (marks : List ℕ) (refused : Bool) → phase ≡ phase' → Story gives paths whole when old (scene world below phase time given bay taken clock marks refused)
-    → Story gives paths whole when old (scene world below phase' time given bay taken clock marks refused)
-story_phase gives paths whole when old world below phase phase' time given bay taken clock marks refused e story =
-    let P : Phase → Type 0 = λ p. Story gives paths whole when old (scene world below p time given bay taken clock marks refused) in subst P e story
+    (taken : Option (List ℕ)) (clock : C) (marks : List ℕ) (refused : Bool) (manner : Manner) → phase ≡ phase' → Story gives paths whole when old (scene world below phase time given bay taken clock marks refused manner)
+    → Story gives paths whole when old (scene world below phase' time given bay taken clock marks refused manner)
+story_phase gives paths whole when old world below phase phase' time given bay taken clock marks refused manner e story =
+    let P : Phase → Type 0 = λ p. Story gives paths whole when old (scene world below p time given bay taken clock marks refused manner) in subst P e story
 
 on_ok : {T P : Type 0} (result : Result T Stop) → P → OnOk result P
 on_ok (Ok given) p = p
@@ -104,8 +109,8 @@ module _ {B H K C : Type 0} {bay : Bay.Ghosts B} {host : Host.Ghosts H} {sink : 
 
   -- the same where the program is made of the same parts
   pub tells_idle : {T : Type 0} (given : T) (old new : Program B H K C bay host sink clock) → (new.desk.session ≡ old.desk.session) × (new.desk.bay ≡ old.desk.bay) → paths_on new.desk ≡ paths_on old.desk → new.desk.host ≡ old.desk.host
-      → new.sink ≡ old.sink → new.clock ≡ old.clock → new.marks ≡ old.marks → new.refused ≡ old.refused → AreReady old.desk.session.groups (bay.state old.desk.bay) → Tells (Ok given) when old new
-  tells_idle given old new same paths host_is sinks clocks marks refused ready = record {
+      → new.sink ≡ old.sink → new.clock ≡ old.clock → new.marks ≡ old.marks → new.refused ≡ old.refused → new.manner ≡ old.manner → AreReady old.desk.session.groups (bay.state old.desk.bay) → Tells (Ok given) when old new
+  tells_idle given old new same paths host_is sinks clocks marks refused manner ready = record {
     ready = rw (same.0, same.1) ready;
     paths = paths;
     host_stays = host_is;
@@ -113,7 +118,7 @@ module _ {B H K C : Type 0} {bay : Bay.Ghosts B} {host : Host.Ghosts H} {sink : 
     tells = λ w below time knows.
         let a = scene_of w below (phase_at when w.session) time old in
         let story : Story clock.gives (paths_on old.desk) true when a (scene_of w below (phase_at when w.session) time new) =
-        rw (same.0, same.1, sinks, clocks, marks, refused) (acts-none clock.gives (paths_on old.desk) a, none-moves (IsTurnMove when) clock.gives (paths_on old.desk) a) in
+        rw (same.0, same.1, sinks, clocks, marks, refused, manner) (acts-none clock.gives (paths_on old.desk) a, none-moves (IsTurnMove when) clock.gives (paths_on old.desk) a) in
         record { w' = w; below' = below; phase = phase_at when w.session; knows = rw same.0 knows; rests = refl; acts = story.0; events = story.1 };
     cause = record { later = rw sinks (omega arith); failed = tt };
   }
@@ -121,7 +126,7 @@ module _ {B H K C : Type 0} {bay : Bay.Ghosts B} {host : Host.Ghosts H} {sink : 
   -- ---- a turn was taken
 
   module _ (old new : Program B H K C bay host sink clock) (carries : CarriesOn old.desk.session new.desk.session (bay.state old.desk.bay) (bay.state new.desk.bay))
-      (paths : paths_on new.desk ≡ paths_on old.desk) (host_is : new.desk.host ≡ old.desk.host) (clock_is : new.clock ≡ old.clock) (marks : new.marks ≡ old.marks) (refused : new.refused ≡ old.refused) where
+      (paths : paths_on new.desk ≡ paths_on old.desk) (host_is : new.desk.host ≡ old.desk.host) (clock_is : new.clock ≡ old.clock) (marks : new.marks ≡ old.marks) (refused : new.refused ≡ old.refused) (manner : new.manner ≡ old.manner) where
     -- the world with the groups as they are then
     abbrev after : World → World
     after w = record w { session = new.desk.session.entries }
@@ -130,7 +135,7 @@ module _ {B H K C : Type 0} {bay : Bay.Ghosts B} {host : Host.Ghosts H} {sink : 
     known w below knows = record { entries_are = refl; place_is = knows.place_is ∙ sym carries.place; still = knows.still }
 
     -- by a move of which nothing is proved, and this text
-    tells_move : {T : Type 0} (result : Result T Stop) (move : Move) (sent : Bytes) → IsSilent move → IsTurnMove when move → MatchBool (is_ok result) (sent ≡ text_of Full move) ((rest : List ℕ) × (text_of Full move ≡ sent ++ rest))
+    tells_move : {T : Type 0} (result : Result T Stop) (move : Move) (sent : Bytes) → IsSilent move → IsTurnMove when move → MatchBool (is_ok result) (sent ≡ text_of (style_of old.manner move) move) ((rest : List ℕ) × (text_of (style_of old.manner move) move ≡ sent ++ rest))
         → Appends (sink.taken old.sink) (sink.taken new.sink) sent → StopsByOutput result (sink.faults old.sink) (sink.faults new.sink) → Tells result when old new
     tells_move result move sent silent turns texts written cause = record {
       ready = carries.ready;
@@ -146,19 +151,20 @@ module _ {B H K C : Type 0} {bay : Bay.Ghosts B} {host : Host.Ghosts H} {sink : 
             phase = phase_at when new.desk.session.entries;
             knows = known w below knows;
             rests = on_ok result refl;
-            acts = acts-silent clock.gives (paths_on old.desk) (is_ok result) move sent a b silent carries.calls carries.past texts written clock_is (ap (λ (v : Vec ℕ Global). v.items) marks) refused;
-            events = silent-moves (IsTurnMove when) clock.gives (paths_on old.desk) (is_ok result) move sent a b silent carries.calls carries.past texts written clock_is (ap (λ (v : Vec ℕ Global). v.items) marks) refused turns;
+            acts = acts-silent clock.gives (paths_on old.desk) (is_ok result) move sent a b silent carries.calls carries.past texts written clock_is (ap (λ (v : Vec ℕ Global). v.items) marks) refused manner;
+            events = silent-moves (IsTurnMove when) clock.gives (paths_on old.desk) (is_ok result) move sent a b silent carries.calls carries.past texts written clock_is (ap (λ (v : Vec ℕ Global). v.items) marks) refused manner turns;
           };
       cause = cause;
     }
 
     -- an event came, and its line was printed, or a front of it
-    pub tells_line : {T : Type 0} (result : Result T Stop) (line sent : Bytes) → HasLine old.desk.session.groups when line → MatchBool (is_ok result) (sent ≡ line) ((rest : List ℕ) × (line ≡ sent ++ rest))
+    pub tells_line : {T : Type 0} (result : Result T Stop) (line sent : Bytes) → HasLine old.desk.session.groups when line → MatchBool (is_ok result) (sent ≡ line_in old.manner line) ((rest : List ℕ) × (line_in old.manner line ≡ sent ++ rest))
         → Appends (sink.taken old.sink) (sink.taken new.sink) sent → StopsByOutput result (sink.faults old.sink) (sink.faults new.sink) → Tells result when old new
     tells_line result line sent has sends written cause =
         let event = has.is_line.event in
-        tells_move result (move_at when event) sent (event_silent when event) (event_move when event)
-        (sent_of (is_ok result) (text_of Full (move_at when event)) line sent (has.is_line.text ∙ event_says when event) sends) written cause
+        let move = move_at when event in
+        tells_move result move sent (event_silent when event) (event_move when event)
+        (sent_of (is_ok result) (text_of (style_of old.manner move) move) (line_in old.manner line) sent (event_says old.manner when event line has.is_line.text) sends) written cause
 
     -- memory was short
     pub tells_stop : {T : Type 0} → sink.taken new.sink ≡ sink.taken old.sink → sink.faults new.sink ≡ sink.faults old.sink → Tells {T = T} (Err NoMemory) when old new
@@ -176,7 +182,7 @@ module _ {B H K C : Type 0} {bay : Bay.Ghosts B} {host : Host.Ghosts H} {sink : 
     tells = λ w below time knows.
         let x = p.tells w below time knows in
         let y = q.tells x.w' x.below' time x.knows in
-        let first = story_phase clock.gives (paths_on a.desk) true when (scene_of w below (phase_at when w.session) time a) x.w' x.below' x.phase (phase_at when x.w'.session) time b.desk.session.given (bay.state b.desk.bay) (sink.taken b.sink) b.clock b.marks.items b.refused x.rests (x.acts, x.events) in
+        let first = story_phase clock.gives (paths_on a.desk) true when (scene_of w below (phase_at when w.session) time a) x.w' x.below' x.phase (phase_at when x.w'.session) time b.desk.session.given (bay.state b.desk.bay) (sink.taken b.sink) b.clock b.marks.items b.refused b.manner x.rests (x.acts, x.events) in
         let rest = story_paths clock.gives (paths_on b.desk) (paths_on a.desk) (is_ok result) when (scene_of x.w' x.below' (phase_at when x.w'.session) time b) (scene_of y.w' y.below' y.phase time c) p.paths (y.acts, y.events) in
         let all = story_then clock.gives (paths_on a.desk) (is_ok result) when (scene_of w below (phase_at when w.session) time a) (scene_of x.w' x.below' (phase_at when x.w'.session) time b) (scene_of y.w' y.below' y.phase time c) first rest in
         record { w' = y.w'; below' = y.below'; phase = y.phase; knows = y.knows; rests = y.rests; acts = all.0; events = all.1 };

@@ -5,15 +5,17 @@ use Rattle.bay.specs.State.{BayState}
 use Rattle.bay.specs.Readings.{Readings}
 use Rattle.asm_group.specs.Names.{Bytes}
 use Rattle.asm_world.specs.World.{World}
-use Rattle.asm_world.specs.Run.{State, Phase, Entry, AllMoves, IsRunWhile, CallsRise, end_of, IsPrinted, IsPrintedToCut, IsFull, output_of, answered, times_of, marks_of, has_refusal}
+use Rattle.asm_world.specs.Run.{State, Phase, Entry, AllMoves, IsRunWhile, CallsRise, end_of, IsPrinted, IsPrintedToCut, output_of, answered, times_of, marks_of, has_refusal}
 use Rattle.group_disks.specs.Found.{Counts, counts_of}
 use Rattle.session.specs.Claims.{outside, held_outside, StandsFor, IsProvedApart}
+use Rattle.session.specs.declared.manner.Manner.{Manner}
 use Rattle.session.specs.Effects.{Past}
+use Rattle.session.specs.Manners.{AreTold, after_moves}
 use Rattle.session.specs.Proved.{IsProved}
 use Rattle.asm_world.specs.Below.{GroupBelow}
 
 -- All that a part of the program may change: the session, the least id that it hasn't given, the disks, what the sink has taken,
--- the clock, the marks, and whether a reply was a refusal.
+-- the clock, the marks, whether a reply was a refusal, and how texts are told.
 pub record Scene (C : Type 0) : Type 1 where
   pub world : World
   -- of the groups that are mounted, by their ids
@@ -26,10 +28,11 @@ pub record Scene (C : Type 0) : Type 1 where
   pub clock : C
   pub marks : List ℕ
   pub refused : Bool
+  pub manner : Manner
 
-abbrev pub scene : {C : Type 0} → World → (ℕ → GroupBelow) → Phase → ℕ → ℕ → BayState → Option (List ℕ) → C → List ℕ → Bool → Scene C
-scene world below phase time given bay taken clock marks refused =
-    record { world = world; below = below; phase = phase; time = time; given = given; bay = bay; taken = taken; clock = clock; marks = marks; refused = refused }
+abbrev pub scene : {C : Type 0} → World → (ℕ → GroupBelow) → Phase → ℕ → ℕ → BayState → Option (List ℕ) → C → List ℕ → Bool → Manner → Scene C
+scene world below phase time given bay taken clock marks refused manner =
+    record { world = world; below = below; phase = phase; time = time; given = given; bay = bay; taken = taken; clock = clock; marks = marks; refused = refused; manner = manner }
 
 -- the session's state in a scene
 abbrev pub state_of : {C : Type 0} → Scene C → State Counts
@@ -42,7 +45,7 @@ pub record Holding (known : ℕ → Bool) (paths : List Bytes) (s : State Counts
   pub now : AllMoves (IsProvedApart known) history → StandsFor (length paths) known given new world
 
 -- Moves that answer these commands lead from old to new, and those before the first that isn't proved are a run. Their texts were
--- printed whole, or up to a cut.
+-- told in the manner of the program, whole or up to a cut.
 pub record Acts {C : Type 0} (gives : C → ℕ → C → Type 0) (paths : List Bytes) (whole : Bool) (commands : List Bytes) (old new : Scene C) : Type 0 where
   pub history : List (Entry Counts)
   pub run : IsRunWhile (outside paths new.bay.leaves) IsProved (state_of old) history
@@ -51,7 +54,8 @@ pub record Acts {C : Type 0} (gives : C → ℕ → C → Type 0) (paths : List 
   pub commands_are : answered history ≡ commands
   pub past : Past old.bay new.bay
   pub holds : (known : ℕ → Bool) → StandsFor (length paths) known old.given old.bay old.world → Holding known paths (state_of old) history new.given new.bay new.world
-  pub full : IsFull history
+  pub told : AreTold old.manner history
+  pub manner_is : new.manner ≡ after_moves old.manner history
   pub printed : MatchBool whole (IsPrinted history) (IsPrintedToCut history)
   pub written : Appends old.taken new.taken (output_of history)
   pub readings : Readings gives old.clock (times_of history) new.clock

@@ -8,6 +8,7 @@ pub mod Names
 pub mod Settings
 pub mod Reports
 pub mod Families
+pub mod Manners
 pub mod Meaning
 pub mod MeaningLaws
 pub mod Views

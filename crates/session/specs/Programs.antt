@@ -20,7 +20,7 @@ use Rattle.asm_world.specs.Below.{GroupBelow}
 
 -- the program with the world that it works on
 abbrev pub scene_of : {B H K C : Type 0} {bay : Bay.Ghosts B} {host : Host.Ghosts H} {sink : Sink.Ghosts K} {clock : Clock.Ghosts C} → World → (ℕ → GroupBelow) → Phase → ℕ → Program B H K C bay host sink clock → Scene C
-scene_of {bay = bay} {sink = sink} w below phase time p = scene w below phase time p.desk.session.given (bay.state p.desk.bay) (sink.taken p.sink) p.clock p.marks.items p.refused
+scene_of {bay = bay} {sink = sink} w below phase time p = scene w below phase time p.desk.session.given (bay.state p.desk.bay) (sink.taken p.sink) p.clock p.marks.items p.refused p.manner
 
 -- for whatever world the program knows, with what is below its groups, and whatever time
 abbrev pub EachWorld : {B H K C : Type 0} {bay : Bay.Ghosts B} {host : Host.Ghosts H} {sink : Sink.Ghosts K} {clock : Clock.Ghosts C} → Program B H K C bay host sink clock → (World → (ℕ → GroupBelow) → ℕ → Type 0) → Type 0

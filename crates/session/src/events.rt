@@ -4,10 +4,11 @@ ghost use Rattle.session.specs.Programs.{Tells};
 ghost use Rattle.session.specs.Sessions.{AreReady};
 ghost use Rattle.session.specs.Turns.{AfterReply, BeforeText, when_of};
 
+use crate::manner::tell_event;
 use crate::program::Program;
 use crate::stop::Stop;
 use crate::turn::{Turn, Turned};
-use bay::{Bay, Clock, Fault, Host, Sink, write_all};
+use bay::{Bay, Clock, Fault, Host, Sink};
 use line_buffer::LineBuffer;
 
 /// The most disks that a group has, so the most that expire in one.
@@ -23,7 +24,7 @@ impl<B: Bay, H: Host, K: Sink, C: Clock> Program<B, H, K, C> {
         let mut line = LineBuffer::new();
         match self.desk.session.turn(self.desk.alloc, &mut self.desk.bay, place, turn, &mut line) {
             Turned::Idle => Ok(false),
-            Turned::Happened => match write_all(&mut self.sink, line.as_bytes()) {
+            Turned::Happened => match tell_event(&mut self.sink, self.manner, line.as_bytes()) {
                 Ok(()) => Ok(true),
                 Err(Fault) => Err(Stop::WriteFault),
             },

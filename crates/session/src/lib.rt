@@ -21,6 +21,7 @@ mod joining;
 mod laws;
 mod lines;
 mod listing;
+mod manner;
 mod mounting;
 mod names;
 mod naming;
@@ -43,6 +44,7 @@ mod works;
 
 pub use desk::Desk;
 pub use laws::{disks_are_made, meaning_is_of_the_languages};
+pub use manner::Manner;
 pub use program::Program;
 pub use session::Session;
 pub use stop::Stop;

@@ -2,9 +2,10 @@
 ghost use Rattle.std.specs.Prelude.{◌≤◌, length};
 
 use crate::desk::Desk;
+use crate::manner::Manner;
 use bay::{Bay, Clock, Host, Sink};
 
-/// What commands work on, where replies go, the time, the marks of the replies, and whether one was a
+/// What commands work on, where replies go and how they are told, the time, the marks of the replies, and whether one was a
 /// refusal.
 #[derive(Drop)]
 pub struct Program<B: Bay, H: Host, K: Sink, C: Clock> {
@@ -13,5 +14,6 @@ pub struct Program<B: Bay, H: Host, K: Sink, C: Clock> {
     pub clock: C,
     pub marks: Vec<u64>,
     pub refused: bool,
+    pub manner: Manner,
     ghost few: { length desk.paths.items ≤ 512 },
 }

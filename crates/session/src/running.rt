@@ -9,15 +9,16 @@ ghost use Rattle.session.specs.Stops.{StopsByOutput};
 
 use crate::commands::run_text;
 use crate::desk::Desk;
+use crate::manner::{Manner, tell_reply};
 use crate::program::Program;
-use crate::reply::{is_no_memory, is_refusal, print_reply};
+use crate::reply::{is_no_memory, is_refusal};
 use crate::session::Session;
 use crate::stop::Stop;
 use bay::{Bay, Clock, Fault, Host, Sink};
 use std::alloc::Global;
 
 impl<B: Bay, H: Host, K: Sink, C: Clock> Program<B, H, K, C> {
-    /// No group is in the session, and nothing was answered.
+    /// No group is in the session, and nothing was answered. Texts will be told in this manner.
     pub fn new(
         alloc: Global,
         bay: B,
@@ -25,6 +26,7 @@ impl<B: Bay, H: Host, K: Sink, C: Clock> Program<B, H, K, C> {
         sink: K,
         clock: C,
         paths: Vec<String>,
+        manner: Manner,
     ) -> Program<B, H, K, C>
         requires few { length paths.items ≤ 512 }
         ensures session { (result.desk.session.entries ≡ []) × (result.desk.session.given ≡ 0) }
@@ -32,6 +34,7 @@ impl<B: Bay, H: Host, K: Sink, C: Clock> Program<B, H, K, C> {
         ensures ready { AreReady result.desk.session.groups (B.state result.desk.bay) }
         ensures marks { result.marks.items ≡ [] }
         ensures refused { result.refused ≡ false }
+        ensures manner { result.manner ≡ manner }
         ensures bay { result.desk.bay ≡ bay }
         ensures host { result.desk.host ≡ host }
         ensures sink { result.sink ≡ sink }
@@ -50,6 +53,7 @@ impl<B: Bay, H: Host, K: Sink, C: Clock> Program<B, H, K, C> {
             clock,
             marks: Vec::new(alloc),
             refused: false,
+            manner,
         }
     }
 
@@ -64,7 +68,13 @@ impl<B: Bay, H: Host, K: Sink, C: Clock> Program<B, H, K, C> {
         ensures cause { StopsByOutput result (K.faults self.old.sink) (K.faults self.new.sink) }
     {
         let answer = run_text(&mut self.desk, text);
-        let (reply, printed) = print_reply(self.desk.alloc, &mut self.sink, answer.reply);
+        let (reply, printed) = tell_reply(
+            self.desk.alloc,
+            &mut self.sink,
+            self.manner,
+            answer.reply,
+        );
+        self.manner = self.manner.after_reply();
         self.refused |= is_refusal(&reply);
         let mark = self.desk.bay.calls();
         match printed {
