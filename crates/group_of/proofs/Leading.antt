@@ -23,8 +23,8 @@ use Rattle.catalog.specs.Rules.{KeepsRules}
 use Rattle.catalog.specs.Tables.{Catalogued, Tables}
 use Rattle.catalog.proofs.HavingItems.{have_items}
 use Rattle.group_of.specs.Groups.{AreCellsButFor, HasCells, cells_of, file_of_head, files_by_number, group_of}
-use Rattle.group_of.specs.Describing.{HaveGroup, KeepsPlaces}
-use Rattle.group_of.specs.Edits.{AttributeLeadsOn, IsDescribed, LeadsOn, TemplateEditLeadsOn, TreeEditLeadsOn, attribute_meant, with_settings, with_templates, with_tree}
+use Rattle.group_of.specs.Describing.{DescribedIsOfCatalog, HaveGroup, IsDescribed, KeepsPlaces}
+use Rattle.group_of.specs.Edits.{AttributeLeadsOn, LeadsOn, TemplateEditLeadsOn, TreeEditLeadsOn, attribute_meant, with_settings, with_templates, with_tree}
 use Rattle.group_of.specs.Files.{NewNameLeadsOn, RemovalLeadsOn, SizeLeadsOn, head_planned}
 use Rattle.group_of.proofs.Describes.{described_has_cells, described_is_of_tables, next_describe}
 use Rattle.group_of.proofs.EditedGroups.{attribute_is_worlds, files_stay, templates_are_worlds, tree_is_worlds, tree_keeps_cells}
@@ -89,6 +89,9 @@ module _ (s : Status) (c : Catalogued) (g : Group) (d : IsDescribed s c g) where
       files = files;
       describes = have_group;
     }
+
+pub described_is_of_catalog : DescribedIsOfCatalog
+described_is_of_catalog s c g d = of_catalog s c g d
 
 -- ---- names, templates and attributes
 

@@ -1,13 +1,16 @@
 -- Files that come and change their size, by the tables.
-use Rattle.std.proofs.Common.{◌≡◌, ◌⊎◌, ℕ, Bool, true, false, cond, List, [], ◌∷◌, length, Some, refl, sym, ap, subst, ◌∙◌, inl, inr}
+use Rattle.std.proofs.Common.{◌≡◌, ◌⊎◌, ℕ, Bool, true, false, cond, List, [], ◌∷◌, ◌++◌, length, replicate, Option, Some, refl, sym, ap, subst, ◌∙◌, arith, inl, inr}
+use Rattle.std.specs.Prelude.{not, is_some}
+use Rattle.std.proofs.lemmas.List.{length-append, length-replicate, length-take}
 use Rattle.std.specs.FinMap as maps
 use Rattle.std.specs.Ordering.{nat_cmp, eq_by_cmp}
 use Rattle.std.specs.BTreeMap.{is_at}
 use Rattle.std.specs.Option.{option_map}
 use Rattle.std.proofs.lemmas.Cmp.{nat_cmp_total}
-use Rattle.asm_group.specs.Causes.{first_cause}
+use Rattle.asm_group.specs.Causes.{first_cause, unless_refused}
 use Rattle.asm_group.specs.Names.{Path}
-use Rattle.asm_group.specs.Group.{Cell, File, Group, System}
+use Rattle.asm_group.specs.Refusal as r
+use Rattle.asm_group.specs.Group.{Cell, File, Group, Known, System}
 use Rattle.asm_group.specs.TreeEdits as tree
 use Rattle.asm_formats.specs.Items.{FileHead}
 use Rattle.asm_world.specs.Edits as world
@@ -21,7 +24,7 @@ use Rattle.catalog.specs.NamePlans.{made_file, named}
 use Rattle.catalog.proofs.NumberedEntries.{number_other}
 use Rattle.catalog.proofs.NumberedLists.{either, number_is, number_itself, put_at}
 use Rattle.group_of.specs.Groups.{AreCellsButFor, file_of_head, files_by_number, group_of}
-use Rattle.group_of.specs.Files.{NewFileIsWorlds, NewNameIsWorlds, PutHasCells, SizeIsWorlds, head_planned}
+use Rattle.group_of.specs.Files.{NewFileIsWorlds, NewNameIsWorlds, PutHasCells, ResizedCellsAreLong, ResizedHasCells, SizeIsWorlds, head_planned}
 use Rattle.group_of.proofs.EditedGroups.{done, same_files, size_of}
 use Rattle.group_of.proofs.HeadedFiles as files
 use Rattle.group_of.proofs.HeadedFiles.{files_are}
@@ -54,6 +57,16 @@ unfolding group_of
 size_is_worlds name s t f size head pending cells new at others =
     let same = put_file t.files f (with_size head size) cells new others in
     λ i. record (group_of name s t cells) { files = same i }
+
+pub resized_has_cells : ResizedHasCells
+resized_has_cells g path f size file at there sectors =
+    ap (λ (o : Option ℕ). unless_refused (first_cause ((not (is_some o), r.NoName) ∷ (not (bytes.is_sectors g size), r.NotSectors) ∷ [])) (bytes.with_cells_of g o (bytes.file_of g o) (bytes.resized_cells size))) at
+    ∙ ap (λ (o : Option File). unless_refused (first_cause ((not (bytes.is_sectors g size), r.NotSectors) ∷ [])) (bytes.with_cells_of g (Some f) o (bytes.resized_cells size))) there
+    ∙ ap (λ (b : Bool). unless_refused (first_cause ((not b, r.NotSectors) ∷ [])) (bytes.with_file_cells g f file (bytes.resized_cells size file.cells))) sectors
+
+pub resized_cells_are_long : ResizedCellsAreLong
+resized_cells_are_long size cells =
+    omega (arith, length-take size (cells ++ replicate size (Known 0)), length-append cells (replicate size (Known 0)), length-replicate {A = Cell} size (Known 0))
 
 -- ---- a new file
 

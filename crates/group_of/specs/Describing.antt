@@ -39,17 +39,28 @@ CatalogDescribes =
     (r : Status) (content : List Entry) (items : List Item) (name : Bytes) (c : Catalogued) (cells : ℕ → List Cell) → IsCatalogOf content r.entries c → HasPartners r.entries → AreItemsIn content items
     → HasCells c.tables cells → DescribesGroup r items (group_of name c.shape c.tables cells)
 
+-- the items of the tables describe the group under the record
+abbrev pub HaveGroup : Status → Tables → Group → Type 0
+HaveGroup r t g = (items : List Item) → AreItemsOf t items → DescribesGroup r items g
+
+-- The catalog's tables describe the group under the record, and their homes have units.
+pub record IsDescribed (r : Status) (c : Catalogued) (g : Group) : Type 0 where
+  pub tables : AreTables c.tables
+  pub units : HasUnits c.shape r.entries c.tables c.units
+  pub shape : g.shape ≡ c.shape
+  pub describes : HaveGroup r c.tables g
+
 -- A group that the items of tables describe is the group of the tables, with its own cells.
 abbrev pub DescribedIsOfTables : Type 0
 DescribedIsOfTables = (r : Status) (items : List Item) (t : Tables) (g : Group) → AreTables t → AreItemsOf t items → DescribesGroup r items g → g ≡ group_of g.name g.shape t (cells_of g)
 
+-- The same of a catalog.
+abbrev pub DescribedIsOfCatalog : Type 0
+DescribedIsOfCatalog = (r : Status) (c : Catalogued) (g : Group) → IsDescribed r c g → g ≡ group_of g.name c.shape c.tables (cells_of g)
+
 -- Each of its files has as many cells as the tables say.
 abbrev pub DescribedHasCells : Type 0
 DescribedHasCells = (r : Status) (items : List Item) (t : Tables) (g : Group) → AreTables t → AreItemsOf t items → DescribesGroup r items g → HasCells t (cells_of g)
-
--- the items of the tables describe the group under the record
-abbrev pub HaveGroup : Status → Tables → Group → Type 0
-HaveGroup r t g = (items : List Item) → AreItemsOf t items → DescribesGroup r items g
 
 -- ---- the next tables
 

@@ -20,12 +20,11 @@ use Rattle.asm_world.specs.Statement.{Attribute}
 use Rattle.alias_tree.specs.Nodes.{Numbered}
 use Rattle.template_directory.specs.Meant.{IsRefusal}
 use Rattle.catalog.specs.FilePlans.{IsAttributePlan, IsAttributeRefusal}
-use Rattle.catalog.specs.Placing.{HasUnits}
 use Rattle.catalog.specs.Plans.{IsTemplatePlan}
-use Rattle.catalog.specs.Tables.{AreTables, Catalogued, Tables}
+use Rattle.catalog.specs.Tables.{Catalogued, Tables}
 use Rattle.catalog.specs.TreePlans.{IsTreePlan, IsTreeRefusal, files_after}
 use Rattle.group_of.specs.Groups.{HasCells, group_of}
-use Rattle.group_of.specs.Describing.{HaveGroup}
+use Rattle.group_of.specs.Describing.{HaveGroup, IsDescribed}
 
 -- ---- tables after an edit
 
@@ -67,13 +66,6 @@ AttributeIsWorlds =
     → settings.attribute_set (group_of name c.shape c.tables cells) (attribute_meant attribute value) ≡ Ok (group_of name c.shape (with_settings c.tables p.settings) cells)
 
 -- ---- of a group that the catalog's tables describe
-
--- The catalog's tables describe the group under the record.
-pub record IsDescribed (r : Status) (c : Catalogued) (g : Group) : Type 0 where
-  pub tables : AreTables c.tables
-  pub units : HasUnits c.shape r.entries c.tables c.units
-  pub shape : g.shape ≡ c.shape
-  pub describes : HaveGroup r c.tables g
 
 -- The world's edit of the group is done. The tables after its plan describe the group after it, whose files are those before it.
 pub record LeadsOn (s : Status) (u : Tables) (g : Group) (answer : Result Group r.Refusal) : Type 0 where

@@ -1,6 +1,6 @@
 -- Files that come, change their size and go: what the tables after a catalog's plan are in the world, the number of a new file, and what
 -- refuses it.
-use Rattle.std.specs.Prelude.{◌≡◌, ⊤, ℕ, List, length, Option, Some, None, is_some, IsTrue, Result}
+use Rattle.std.specs.Prelude.{◌≡◌, ⊤, ℕ, List, length, Option, Some, None, is_some, IsTrue, Result, Ok}
 use Rattle.std.specs.FinMap as maps
 use Rattle.asm_group.specs.declared.Stripe.{Stripe}
 use Rattle.asm_group.specs.Causes.{first_cause, unless_refused}
@@ -23,8 +23,8 @@ use Rattle.catalog.specs.Plans.{AreOwned}
 use Rattle.catalog.specs.Rules.{KeepsRules}
 use Rattle.catalog.specs.Tables.{Catalogued, Tables}
 use Rattle.group_of.specs.Groups.{AreCellsButFor, HasCells, file_of_head, group_of}
-use Rattle.group_of.specs.Describing.{HaveGroup}
-use Rattle.group_of.specs.Edits.{IsDescribed, IsRefusedBeside}
+use Rattle.group_of.specs.Describing.{HaveGroup, IsDescribed}
+use Rattle.group_of.specs.Edits.{IsRefusedBeside}
 
 -- ---- sizes
 
@@ -33,6 +33,16 @@ abbrev pub SizeIsWorlds : Type 0
 SizeIsWorlds =
     (name : Bytes) (s : Shape) (t : Tables) (f size : ℕ) (head : FileHead) (pending : Option Pending) (cells new : ℕ → List Cell) → head_at t.files f ≡ Some head → AreCellsButFor f cells new
     → group_of name s (sized t f head size pending) new ≡ bytes.with_file_cells (group_of name s t cells) f (file_of_head head (cells f)) (new f)
+
+-- The world's file of a path, cut or grown by zeros, has these other cells.
+abbrev pub ResizedHasCells : Type 0
+ResizedHasCells =
+    (g : Group) (path : Path) (f size : ℕ) (file : File) → world.file_at g path ≡ Some f → maps.get g.files f ≡ Some file → IsTrue (bytes.is_sectors g size)
+    → bytes.resized g path size ≡ Ok (bytes.with_file_cells g f file (bytes.resized_cells size file.cells))
+
+-- They are as many as the size says.
+abbrev pub ResizedCellsAreLong : Type 0
+ResizedCellsAreLong = (size : ℕ) (cells : List Cell) → length (bytes.resized_cells size cells) ≡ size
 
 -- ---- a file comes
 

@@ -1,5 +1,5 @@
 //! Which group a record and the records of a catalog's tables describe. Each function does nothing; its contract is the law.
-ghost use Rattle.group_of.specs.Describing.{CatalogDescribes, DescribedHasCells, DescribedIsOfTables, NamesAreGroup, NextTablesDescribe, SurplusDescribes, TablesDescribe};
+ghost use Rattle.group_of.specs.Describing.{CatalogDescribes, DescribedHasCells, DescribedIsOfCatalog, DescribedIsOfTables, NamesAreGroup, NextTablesDescribe, SurplusDescribes, TablesDescribe};
 
 /// Where tables may stand under a record, the record and their items describe the group that the tables are, with cells as many
 /// as the heads say. So do those of the records of which a catalog was read.
@@ -11,6 +11,7 @@ pub fn tables_describe()
 /// A group that the items of tables describe is the group that the tables are, with its own cells.
 pub fn described_groups_are_of_tables()
     ensures group { DescribedIsOfTables }
+    ensures catalog { DescribedIsOfCatalog }
     ensures cells { DescribedHasCells }
 {}
 

@@ -1,9 +1,15 @@
 //! Files that come, change their size and go, in the catalog and in the world. Each function does nothing; its contract is the law.
-ghost use Rattle.group_of.specs.Files.{CheckIsWorlds, MadeNumberIsWorlds, NameRefusalIsWorlds, NewFileIsWorlds, NewNameIsWorlds, NewNameLeadsOn, NextNumberIsWorlds, PutHasCells, RemovalIsWorlds, RemovalKeepsCells, RemovalLeadsOn, SizeIsWorlds, SizeLeadsOn};
+ghost use Rattle.group_of.specs.Files.{CheckIsWorlds, MadeNumberIsWorlds, NameRefusalIsWorlds, NewFileIsWorlds, NewNameIsWorlds, NewNameLeadsOn, NextNumberIsWorlds, PutHasCells, RemovalIsWorlds, RemovalKeepsCells, RemovalLeadsOn, ResizedCellsAreLong, ResizedHasCells, SizeIsWorlds, SizeLeadsOn};
 
 /// The tables with another size of a file are the world's group in which the file has other cells.
 pub fn sizes_are_the_worlds()
     ensures { SizeIsWorlds }
+{}
+
+/// A file that the world gives another size has other cells, as many as the size says.
+pub fn resized_files_have_cells()
+    ensures cells { ResizedHasCells }
+    ensures length { ResizedCellsAreLong }
 {}
 
 /// The tables to which the plan of a new file's name leads are the world's group with the file, which is the one that the world
