@@ -18,7 +18,7 @@ use Rattle.asm_world.specs.Edits as world
 use Rattle.asm_world.specs.Settings as settings
 use Rattle.alias_tree.specs.Trees.{tree_of}
 use Rattle.group_of.specs.Groups.{group_of}
-use Rattle.group_of.specs.Edits.{AttributeRefusalIsWorlds, TemplateRefusalIsWorlds, TreeRefusalIsWorlds, attribute_meant, full, no_memory, refused}
+use Rattle.group_of.specs.Edits.{AttributeRefusalIsWorlds, TemplateRefusalIsWorlds, TreeRefusalIsWorlds, attribute_meant, full, no_memory, refused, worlds}
 use Rattle.group_of.proofs.EditedGroups.{done}
 
 abbrev cause_of : {A : Type 0} → r.Refusal → Result A r.Refusal → r.Refusal
@@ -36,10 +36,9 @@ leaves_too o x u y is = ap (λ (p : Option r.Refusal). unless_refused p y) (done
 
 pub tree_refusals : TreeRefusalIsWorlds
 unfolding group_of
-tree_refusals name c edit refusal cells (inl memory) = no_memory memory
+tree_refusals name c edit refusal cells (inl memory) = worlds (no_memory memory)
 tree_refusals name c edit refusal cells (inr (inl same)) =
-    let t = tree_of c.tables.nodes in
-    refused (refuses_too (first_cause (tree.edit_causes (tree_of c.tables.nodes) edit)) (tree.changed (tree_of c.tables.nodes) edit) (world.changed (group_of name c.shape c.tables cells) edit) (said (λ n. []) refusal) same)
+    worlds (refused (refuses_too (first_cause (tree.edit_causes (tree_of c.tables.nodes) edit)) (tree.changed (tree_of c.tables.nodes) edit) (world.changed (group_of name c.shape c.tables cells) edit) (said (λ n. []) refusal) same))
 tree_refusals name c edit refusal cells (inr (inr (is, lacks))) =
     full 1 0 (world.changed (group_of name c.shape c.tables cells) edit) is (omega arith)
     (leaves_too (first_cause (tree.edit_causes (tree_of c.tables.nodes) edit)) (tree.changed (tree_of c.tables.nodes) edit) lacks.done.0 (world.changed (group_of name c.shape c.tables cells) edit) lacks.done.1)
@@ -48,7 +47,6 @@ pub template_refusals : TemplateRefusalIsWorlds
 unfolding group_of
 template_refusals name c edit refusal cells (inl memory) = no_memory memory
 template_refusals name c edit refusal cells (inr same) =
-    let old = templates_by_name c.tables.templates.templates in
     refused (refuses_too (first_cause (templates.template_causes c.shape.kind (templates_by_name c.tables.templates.templates) edit))
     (templates.with_template_edit c.shape.kind (templates_by_name c.tables.templates.templates) edit) (settings.with_template_edit (group_of name c.shape c.tables cells) edit) (said (λ n. []) refusal) same)
 

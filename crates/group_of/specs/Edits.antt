@@ -94,11 +94,15 @@ AttributeLeadsOn =
 -- ---- refusals
 
 -- Why a plan is refused, beside the world's answer to what was planned.
-pub data IsRefusedBeside {A : Type 0} (answer : Result A r.Refusal) (refusal : Refusal) : Type 0 where
+pub data IsWorldsRefusal {A : Type 0} (answer : Result A r.Refusal) (refusal : Refusal) : Type 0 where
   -- want of memory, which may come at any time
-  no_memory : said (λ n. []) refusal ≡ r.NoMemory → IsRefusedBeside answer refusal
+  no_memory : said (λ n. []) refusal ≡ r.NoMemory → IsWorldsRefusal answer refusal
   -- the world refuses it by the same
-  refused : answer ≡ Err (said (λ n. []) refusal) → IsRefusedBeside answer refusal
+  refused : answer ≡ Err (said (λ n. []) refusal) → IsWorldsRefusal answer refusal
+
+-- The same of a plan that may make records.
+pub data IsRefusedBeside {A : Type 0} (answer : Result A r.Refusal) (refusal : Refusal) : Type 0 where
+  worlds : IsWorldsRefusal answer refusal → IsRefusedBeside answer refusal
   -- the world does it, and its records want more blocks than are free
   full : (need free : ℕ) (done : A) → refusal ≡ cause.DirectoryFull need free → free < need → answer ≡ Ok done → IsRefusedBeside answer refusal
 
@@ -111,9 +115,9 @@ abbrev pub TemplateRefusalIsWorlds : Type 0
 TemplateRefusalIsWorlds =
     (name : Bytes) (c : Catalogued) (edit : TemplateEdit) (refusal : Refusal) (cells : ℕ → List Cell)
     → IsRefusal (by_name.templates_edited c.shape.kind (templates_by_name c.tables.templates.templates) edit) refusal
-    → IsRefusedBeside (settings.templates_edited (group_of name c.shape c.tables cells) edit) refusal
+    → IsWorldsRefusal (settings.templates_edited (group_of name c.shape c.tables cells) edit) refusal
 
 abbrev pub AttributeRefusalIsWorlds : Type 0
 AttributeRefusalIsWorlds =
     (name : Bytes) (c : Catalogued) (attribute value : Bytes) (refusal : Refusal) (cells : ℕ → List Cell) → IsAttributeRefusal c attribute value refusal
-    → IsRefusedBeside (settings.attribute_set (group_of name c.shape c.tables cells) (attribute_meant attribute value)) refusal
+    → IsWorldsRefusal (settings.attribute_set (group_of name c.shape c.tables cells) (attribute_meant attribute value)) refusal

@@ -24,7 +24,7 @@ use Rattle.catalog.specs.Rules.{KeepsRules}
 use Rattle.catalog.specs.Tables.{Catalogued, Tables}
 use Rattle.group_of.specs.Groups.{AreCellsButFor, HasCells, file_of_head, group_of}
 use Rattle.group_of.specs.Describing.{HaveGroup, IsDescribed}
-use Rattle.group_of.specs.Edits.{IsRefusedBeside}
+use Rattle.group_of.specs.Edits.{IsRefusedBeside, IsWorldsRefusal}
 
 -- ---- sizes
 
@@ -97,7 +97,7 @@ abbrev pub CheckIsWorlds : Type 0
 CheckIsWorlds =
     (name : Bytes) (c : Catalogued) (path : Path) (size : ℕ) (template : Option Bytes) (refusal : Refusal) (cells : ℕ → List Cell) → IsAtRest c.shape c.tables
     → HasTemplate (group_of name c.shape c.tables cells) (name_at path) template → IsCheckRefusal c path size refusal
-    → IsRefusedBeside (new_file_answer (group_of name c.shape c.tables cells) (name_at path) size template) refusal
+    → IsWorldsRefusal (new_file_answer (group_of name c.shape c.tables cells) (name_at path) size template) refusal
 
 -- What refuses the plan of the name, once the file is being made by the world's number.
 abbrev pub NameRefusalIsWorlds : Type 0

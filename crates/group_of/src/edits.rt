@@ -17,8 +17,8 @@ pub fn edits_lead_on()
     ensures attributes { AttributeLeadsOn }
 {}
 
-/// What refuses the plan of an edit is what the world refuses the edit by, or want of memory, or want of a block for an edit
-/// that the world does.
+/// What refuses the plan of an edit is what the world refuses the edit by, or want of memory, or want of a block for an edit of
+/// names that the world does.
 pub fn refusals_of_edits_are_the_worlds()
     ensures tree { TreeRefusalIsWorlds }
     ensures templates { TemplateRefusalIsWorlds }

@@ -25,7 +25,8 @@ pub fn numbers_are_the_worlds()
     ensures made { MadeNumberIsWorlds }
 {}
 
-/// What refuses the check or the plan of a new file's name is what the world refuses the file by, or want of memory or blocks.
+/// What refuses the check of a new file's name is what the world refuses the file by, or want of memory. So is what refuses the
+/// plan of the name, or it is want of blocks for a file that the world makes.
 pub fn refusals_of_names_are_the_worlds()
     ensures check { CheckIsWorlds }
     ensures name { NameRefusalIsWorlds }
