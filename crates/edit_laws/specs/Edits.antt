@@ -1,20 +1,26 @@
 -- An edit of a mounted group is one commit. Which group it leads to in the world, what the images stand for while it is on its way, and
 -- what refuses it.
-use Rattle.std.specs.Prelude.{◌≡◌, ℕ, ◌+◌, ◌<◌, ◌^◌, List, [], ◌∷◌, OnErr, OnOk, Result, Ok}
+use Rattle.std.specs.Prelude.{◌≡◌, ◌≢◌, ℕ, ◌+◌, ◌<◌, ◌^◌, List, [], ◌∷◌, OnErr, OnOk, Option, Result, Ok}
 use Rattle.bay.specs.State.{BayState}
-use Rattle.bay.specs.Moments.{LeavesOnly}
+use Rattle.bay.specs.Image.{Image}
+use Rattle.bay.specs.Moments.{LeavesOnly, Runs}
 use Rattle.asm_group.specs.Group.{Group}
 use Rattle.asm_group.specs.Refusal as r
 use Rattle.asm_formats.specs.Items.{Key}
 use Rattle.asm_base.specs.Records.{Entry}
 use Rattle.asm_base.specs.declared.refusal.Refusal.{Refusal}
+use Rattle.asm_formats.specs.Status.{Status}
+use Rattle.asm_images.specs.Bridge.{disks_in}
 use Rattle.asm_images.specs.Kept.{Kept}
+use Rattle.asm_images.specs.Sound.{SoundBy}
 use Rattle.asm_world.specs.Edits as world
 use Rattle.asm_world.specs.Settings as settings
 use Rattle.alias_tree.specs.Edits as names
 use Rattle.template_directory.specs.Meant as templates
 use Rattle.group_engine.specs.Commits.{LeadsTo, StandsIn}
-use Rattle.group_engine.specs.Mounts.{IsMounted, MountedGroup, Mounts}
+use Rattle.group_engine.specs.Frames.{SparesGroup}
+use Rattle.group_engine.specs.Mounts.{IsMounted, IsOwn, MountedGroup, Mounts}
+use Rattle.group_engine.specs.Own.{KeepsGroup}
 use Rattle.group_files.specs.Edits.{IsCommitted}
 use Rattle.group_files.specs.GroupEdits.{IsEditPlan, IsRefusedAs}
 use Rattle.group_files.specs.declared.edit.GroupEdit.{GroupEdit}
@@ -67,3 +73,26 @@ abbrev pub EditIsHeld : BayState → BayState → Type 0
 EditIsHeld s t =
     (c : EditCall) (edit : GroupEdit) → IsMounted c.old → TakesCommit c.n c.old s c.g c.kept → IsCommitted (IsEditPlan c.old.catalog edit) c.old c.answer c.new s t
     → (h : Group) × (edited_by c.g edit ≡ Ok h) × IsHeldOver c h s t
+
+-- ---- beside other groups
+
+-- the disks of the members of every other id stay
+abbrev pub SparesOthers : ℕ → Image → Image → Type 0
+SparesOthers own old new = (id : ℕ) → id ≢ own → SparesGroup id old new
+
+-- Each image of each moment of the call comes from one before it in which they are the same.
+abbrev pub OthersAreSpared : BayState → BayState → Type 0
+OthersAreSpared s t =
+    (c : EditCall) (h : Group) → Mounts c.n c.old s c.g c.kept → KeepsGroup c.old c.new s t → IsHeldOver c h s t → Runs (IsOwn c.old) (SparesOthers c.old.register.id) s t
+
+-- An image that is sound under an id by a history is so still where they are.
+abbrev pub SparedIsSound : Type 0
+SparedIsSound =
+    (slots id : ℕ) (groups : List Group) (completed : Option Status) (begun : List Status) (old new : Image) → SparesGroup id old new → SoundBy id (disks_in slots old) groups completed begun
+    → SoundBy id (disks_in slots new) groups completed begun
+
+-- Another mounted group stays so while it is committed.
+abbrev pub OthersStayMounted : BayState → BayState → Type 0
+OthersStayMounted s t =
+    (c : EditCall) (h : Group) (m : MountedGroup) (g : Group) (kept : Kept) → Mounts c.n c.old s c.g c.kept → KeepsGroup c.old c.new s t → IsHeldOver c h s t → Mounts c.n m s g kept
+    → m.register.id ≢ c.old.register.id → Mounts c.n m t g kept
