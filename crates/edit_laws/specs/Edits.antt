@@ -1,0 +1,98 @@
+-- An edit of a mounted group is one commit. Which group it leads to in the world, what the images stand for while it is on its way, and
+-- what refuses it.
+use Rattle.std.specs.Prelude.{◌≡◌, ◌≢◌, ℕ, ◌+◌, ◌<◌, ◌^◌, List, [], ◌∷◌, OnErr, OnOk, Option, Result, Ok}
+use Rattle.bay.specs.State.{BayState}
+use Rattle.bay.specs.Image.{Image}
+use Rattle.bay.specs.Moments.{LeavesOnly, Runs}
+use Rattle.asm_group.specs.Group.{Group}
+use Rattle.asm_group.specs.Refusal as r
+use Rattle.asm_formats.specs.Items.{Key}
+use Rattle.asm_base.specs.Records.{Entry}
+use Rattle.asm_base.specs.declared.refusal.Refusal.{Refusal}
+use Rattle.asm_formats.specs.Status.{Status}
+use Rattle.asm_images.specs.Bridge.{disks_in}
+use Rattle.asm_images.specs.Kept.{Kept}
+use Rattle.asm_images.specs.Sound.{SoundBy}
+use Rattle.asm_world.specs.Edits as world
+use Rattle.asm_world.specs.Settings as settings
+use Rattle.alias_tree.specs.Edits as names
+use Rattle.template_directory.specs.Meant as templates
+use Rattle.group_engine.specs.Commits.{LeadsTo, StandsIn}
+use Rattle.group_engine.specs.Frames.{SparesGroup}
+use Rattle.group_engine.specs.Mounts.{IsMounted, IsOwn, MountedGroup, Mounts}
+use Rattle.group_engine.specs.Own.{KeepsGroup}
+use Rattle.group_files.specs.Edits.{IsCommitted}
+use Rattle.group_files.specs.GroupEdits.{IsEditPlan, IsRefusedAs}
+use Rattle.group_files.specs.declared.edit.GroupEdit.{GroupEdit}
+use Rattle.group_files.specs.declared.edit.GroupEdit.TheVariants.{Tree, Templates, SetAttribute}
+use Rattle.group_of.specs.Edits.{IsRefusedBeside, attribute_meant}
+
+-- The world's group after the edit, or why it is refused.
+abbrev pub edited_by : Group → GroupEdit → Result Group r.Refusal
+edited_by g (Tree edit) = world.edited g (names.edit_meant edit)
+edited_by g (Templates edit) = settings.templates_edited g (templates.edit_meant edit)
+edited_by g (SetAttribute name value) = settings.attribute_set g (attribute_meant name value)
+
+-- What ties a mounted group to the disks of n slots, where its turns don't run out.
+pub record TakesCommit (n : ℕ) (m : MountedGroup) (s : BayState) (g : Group) (kept : Kept) : Type 0 where
+  pub mounts : Mounts n m s g kept
+  pub turns : m.register.turn + 1 < 2 ^ 64
+
+-- A change that is the edit leads to the world's group after it.
+abbrev pub EditLeadsTo : BayState → Type 0
+EditLeadsTo s =
+    (n : ℕ) (m : MountedGroup) (g : Group) (kept : Kept) (edit : GroupEdit) (put : List Entry) (gone : List Key) → TakesCommit n m s g kept → IsEditPlan m.catalog edit put gone
+    → (h : Group) × (edited_by g edit ≡ Ok h) × LeadsTo n m put gone s g h kept
+
+-- What refuses an edit, but for memory and blocks, is what the world refuses it by.
+abbrev pub EditIsRefused : BayState → Type 0
+EditIsRefused s =
+    (n : ℕ) (m : MountedGroup) (g : Group) (kept : Kept) (edit : GroupEdit) (refusal : Refusal) → Mounts n m s g kept → IsRefusedAs m.catalog edit refusal
+    → IsRefusedBeside (edited_by g edit) refusal
+
+-- ---- while it is committed
+
+-- A call on a mounted group of n slots, which the disks held as g: its answer, and what it left mounted.
+pub record EditCall : Type 0 where
+  pub n : ℕ
+  pub old : MountedGroup
+  pub new : MountedGroup
+  pub answer : Result (Unit {0}) Refusal
+  pub g : Group
+  pub kept : Kept
+
+-- Each image of each moment is held for the group before or for h. Once the call is done h is mounted, and where it is refused and the
+-- group takes calls still, the one before.
+pub record IsHeldOver (c : EditCall) (h : Group) (s t : BayState) : Type 0 where
+  pub moments : LeavesOnly s t (StandsIn c.n c.old.register.id (c.g ∷ h ∷ []) c.kept)
+  pub done : OnOk c.answer ((later : Kept) × (later.slots ≡ c.kept.slots) × Mounts c.n c.new t h later)
+  pub refused : IsMounted c.new → OnErr c.answer (Mounts c.n c.new t c.g c.kept)
+
+-- An edit that was committed, or whose commit was refused, was the world's.
+abbrev pub EditIsHeld : BayState → BayState → Type 0
+EditIsHeld s t =
+    (c : EditCall) (edit : GroupEdit) → IsMounted c.old → TakesCommit c.n c.old s c.g c.kept → IsCommitted (IsEditPlan c.old.catalog edit) c.old c.answer c.new s t
+    → (h : Group) × (edited_by c.g edit ≡ Ok h) × IsHeldOver c h s t
+
+-- ---- beside other groups
+
+-- the disks of the members of every other id stay
+abbrev pub SparesOthers : ℕ → Image → Image → Type 0
+SparesOthers own old new = (id : ℕ) → id ≢ own → SparesGroup id old new
+
+-- Each image of each moment of the call comes from one before it in which they are the same.
+abbrev pub OthersAreSpared : BayState → BayState → Type 0
+OthersAreSpared s t =
+    (c : EditCall) (h : Group) → Mounts c.n c.old s c.g c.kept → KeepsGroup c.old c.new s t → IsHeldOver c h s t → Runs (IsOwn c.old) (SparesOthers c.old.register.id) s t
+
+-- An image that is sound under an id by a history is so still where they are.
+abbrev pub SparedIsSound : Type 0
+SparedIsSound =
+    (slots id : ℕ) (groups : List Group) (completed : Option Status) (begun : List Status) (old new : Image) → SparesGroup id old new → SoundBy id (disks_in slots old) groups completed begun
+    → SoundBy id (disks_in slots new) groups completed begun
+
+-- Another mounted group stays so while it is committed.
+abbrev pub OthersStayMounted : BayState → BayState → Type 0
+OthersStayMounted s t =
+    (c : EditCall) (h : Group) (m : MountedGroup) (g : Group) (kept : Kept) → Mounts c.n c.old s c.g c.kept → KeepsGroup c.old c.new s t → IsHeldOver c h s t → Mounts c.n m s g kept
+    → m.register.id ≢ c.old.register.id → Mounts c.n m t g kept

@@ -1,0 +1,17 @@
+pub mod Says
+pub mod HeadedFiles
+pub mod Extents
+pub mod Counts
+pub mod Trees
+pub mod Runs
+pub mod Places
+pub mod Stale
+pub mod EditedGroups
+pub mod Describes
+pub mod Leading
+pub mod NewFiles
+pub mod Removals
+pub mod FreeNumbers
+pub mod NextNumbers
+pub mod Refusals
+pub mod NameRefusals

@@ -1,0 +1,4 @@
+pub mod Groups
+pub mod Describing
+pub mod Edits
+pub mod Files
