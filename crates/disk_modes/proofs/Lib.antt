@@ -2,3 +2,10 @@ pub mod Keeping
 pub mod Steps
 pub mod NextRecords
 pub mod Reasons
+pub mod Entries
+pub mod SameEntries
+pub mod Effects
+pub mod Naming
+pub mod Drops
+pub mod Found
+pub mod Resized

@@ -16,7 +16,7 @@ use Rattle.disk_modes.specs.Losing.{LosingCause}
 use Rattle.disk_modes.specs.Modes.{GroupsCause, StateCause}
 use Rattle.disk_modes.proofs.Steps.{on_err}
 
-of_record : (m : MountedGroup) (r : Status) (es : List Entry) → r ≡ m.register.value → es ≡ r.entries → es ≡ m.register.value.entries
+pub of_record : (m : MountedGroup) (r : Status) (es : List Entry) → r ≡ m.register.value → es ≡ r.entries → es ≡ m.register.value.entries
 of_record m r es held is = is ∙ ap (λ (x : Status). x.entries) held
 
 -- ---- OFFLINE

@@ -1,15 +1,20 @@
 // The two changes of which each statement on disks is made: the status record, and the record of the active rebalance.
-ghost use Rattle.std.specs.Prelude.{OnOk};
+ghost use Rattle.std.specs.Prelude.{OnOk, Some};
+ghost use Rattle.std.specs.Bool.{OnTrue};
 ghost use Rattle.catalog.specs.Changing.{IsAfter};
 ghost use Rattle.catalog.specs.Plans.{IsPlan};
 ghost use Rattle.catalog.specs.Tables.{Tables};
 ghost use Rattle.group_engine.specs.Mounts.{IsMounted, Takes};
 ghost use Rattle.group_engine.specs.Pending.{GoesOn};
+ghost use Rattle.disk_modes.specs.Effects.{KeepsEntries, Makes, PutsBoth, PutsModes, PutsRebalance};
 
+use crate::checking::{directories_of, is_within};
+use crate::comparing::same_entries;
 use crate::records::{NewModes, next_record};
 use asm_base::{Change, NoMemory, Refusal};
 use bay::Bay;
 use group_engine::Mounted;
+use status_table::PstRecord;
 use std::alloc::Global;
 
 /// The changes that a statement makes, in their order. The rebalance is of a power.
@@ -34,7 +39,8 @@ pub(crate) fn change_disks<B: Bay>(
 ) -> Result<(), Refusal>
     requires mounted { IsMounted m.old }
     requires takes { Takes m.old (B.state bay.old) }
-    ensures { GoesOn m.old result m.new (B.state bay.old) (B.state bay.new) }
+    ensures goes { GoesOn m.old result m.new (B.state bay.old) (B.state bay.new) }
+    ensures done { OnOk result (Makes changes.now new.now m.old m.new) }
 {
     m.set_flight(None);
     make_changes(m, alloc, bay, new, changes)
@@ -49,7 +55,8 @@ fn make_changes<B: Bay>(
 ) -> Result<(), Refusal>
     requires mounted { IsMounted m.old }
     requires takes { Takes m.old (B.state bay.old) }
-    ensures { GoesOn m.old result m.new (B.state bay.old) (B.state bay.new) }
+    ensures goes { GoesOn m.old result m.new (B.state bay.old) (B.state bay.new) }
+    ensures done { OnOk result (Makes changes.now new.now m.old m.new) }
 {
     match *changes {
         Changes::Modes => put_modes(m, alloc, bay, new),
@@ -68,7 +75,8 @@ fn rebalance_first<B: Bay>(
 ) -> Result<(), Refusal>
     requires mounted { IsMounted m.old }
     requires takes { Takes m.old (B.state bay.old) }
-    ensures { GoesOn m.old result m.new (B.state bay.old) (B.state bay.new) }
+    ensures goes { GoesOn m.old result m.new (B.state bay.old) (B.state bay.new) }
+    ensures done { OnOk result (PutsBoth power new.now m.old m.new) }
 {
     match put_rebalance(m, alloc, bay, Some(power)) {
         Ok(()) => modes_or_shut(m, alloc, bay, new),
@@ -85,7 +93,8 @@ fn modes_first<B: Bay>(
 ) -> Result<(), Refusal>
     requires mounted { IsMounted m.old }
     requires takes { Takes m.old (B.state bay.old) }
-    ensures { GoesOn m.old result m.new (B.state bay.old) (B.state bay.new) }
+    ensures goes { GoesOn m.old result m.new (B.state bay.old) (B.state bay.new) }
+    ensures done { OnOk result (PutsBoth power new.now m.old m.new) }
 {
     match put_modes(m, alloc, bay, new) {
         Ok(()) => rebalance_or_shut(m, alloc, bay, power),
@@ -102,7 +111,8 @@ fn modes_or_shut<B: Bay>(
 ) -> Result<(), Refusal>
     requires mounted { IsMounted m.old }
     requires takes { Takes m.old (B.state bay.old) }
-    ensures { GoesOn m.old result m.new (B.state bay.old) (B.state bay.new) }
+    ensures goes { GoesOn m.old result m.new (B.state bay.old) (B.state bay.new) }
+    ensures done { OnOk result (PutsModes new.now m.old m.new) }
 {
     match put_modes(m, alloc, bay, new) {
         Ok(()) => Ok(()),
@@ -123,7 +133,8 @@ fn rebalance_or_shut<B: Bay>(
 ) -> Result<(), Refusal>
     requires mounted { IsMounted m.old }
     requires takes { Takes m.old (B.state bay.old) }
-    ensures { GoesOn m.old result m.new (B.state bay.old) (B.state bay.new) }
+    ensures goes { GoesOn m.old result m.new (B.state bay.old) (B.state bay.new) }
+    ensures done { OnOk result (PutsRebalance (Some power) m.old m.new) }
 {
     match put_rebalance(m, alloc, bay, Some(power)) {
         Ok(()) => Ok(()),
@@ -144,7 +155,8 @@ fn put_modes<B: Bay>(
 ) -> Result<(), Refusal>
     requires mounted { IsMounted m.old }
     requires takes { Takes m.old (B.state bay.old) }
-    ensures { GoesOn m.old result m.new (B.state bay.old) (B.state bay.new) }
+    ensures goes { GoesOn m.old result m.new (B.state bay.old) (B.state bay.new) }
+    ensures done { OnOk result (PutsModes new.now m.old m.new) }
 {
     match next_record(alloc, m.status(), new) {
         Ok(next) => m.set_status(alloc, bay, &next),
@@ -161,12 +173,48 @@ pub(crate) fn put_rebalance<B: Bay>(
 ) -> Result<(), Refusal>
     requires mounted { IsMounted m.old }
     requires takes { Takes m.old (B.state bay.old) }
-    ensures { GoesOn m.old result m.new (B.state bay.old) (B.state bay.new) }
+    ensures goes { GoesOn m.old result m.new (B.state bay.old) (B.state bay.new) }
+    ensures done { OnOk result (PutsRebalance power m.old m.new) }
 {
     match m.catalog().plan_rebalance(alloc, power) {
-        Ok(change) => commit_plan(m, alloc, bay, &change),
+        Ok(change) => commit_keeping(m, alloc, bay, &change),
         Err(_) => Err(Refusal::NoMemory),
     }
+}
+
+/// Commits a change that a plan gave. The group takes no more calls where the entries of the disks weren't the same behind it, which
+/// doesn't come.
+fn commit_keeping<B: Bay>(
+    m: &mut Mounted,
+    alloc: Global,
+    bay: &mut B,
+    change: &Change,
+) -> Result<(), Refusal>
+    requires takes { Takes m.old (B.state bay.old) }
+    requires plan { (u : Tables) × IsPlan m.old.catalog change.now.put change.now.gone u }
+    ensures goes { GoesOn m.old result m.new (B.state bay.old) (B.state bay.new) }
+    ensures applied { OnOk result (IsAfter m.old.catalog.tables change.now.put change.now.gone m.new.catalog.tables) }
+    ensures kept { OnOk result (KeepsEntries m.old.register.value m.new.register.value) }
+{
+    let before = m.status().copy();
+    match commit_plan(m, alloc, bay, change) {
+        Ok(()) => {
+            if keeps_entries(&before, m.status()) {
+                return Ok(());
+            }
+            m.close();
+            Err(Refusal::NoMemory)
+        }
+        Err(refusal) => Err(refusal),
+    }
+}
+
+/// Whether a record has the entries of the one before, and no directory copy more.
+fn keeps_entries(before: &PstRecord, status: &PstRecord) -> bool
+    ensures { OnTrue result (KeepsEntries before.now status.now) }
+{
+    same_entries(before.entries(), status.entries())
+        && is_within(directories_of(status), directories_of(before))
 }
 
 /// Commits a change that a plan gave. The plan has counted the blocks, so that DirectoryFull doesn't come.

@@ -1,10 +1,14 @@
 //! DROP and UNDROP.
-ghost use Rattle.std.specs.Prelude.{◌≡◌, ◌⊎◌, IfErr, OnOk};
+ghost use Rattle.std.specs.Prelude.{◌≡◌, ◌⊎◌, ◌<◌, ◌==◌, ℕ, IfErr, OnOk, if◌then◌else◌, not};
+ghost use Rattle.asm_formats.specs.Sets.{has_bit};
+ghost use Rattle.asm_placement.specs.Modes.{is_dropping};
 ghost use Rattle.group_engine.specs.Commits.{StatusCause};
 ghost use Rattle.group_engine.specs.Mounts.{IsMounted, IsWhole, Takes};
 ghost use Rattle.group_engine.specs.Own.{KeepsGroup};
 ghost use Rattle.group_engine.specs.Pending.{GoesOn};
+ghost use Rattle.disk_modes.specs.declared.records.NewModes.TheVariants as modes;
 ghost use Rattle.disk_modes.specs.Causes.{DropRefused, drop_as};
+ghost use Rattle.disk_modes.specs.Effects.{AreNamed, Drops, PutsBoth, Undrops, changes_for, has_dropping, undropping};
 
 use crate::changing::{Changes, change_disks};
 use crate::checking::{
@@ -49,6 +53,8 @@ pub fn drop_disks<B: Bay>(
     requires takes { Takes m.old (B.state bay.old) }
     ensures keeps { KeepsGroup m.old m.new (B.state bay.old) (B.state bay.new) }
     ensures mounted { OnOk result (IsMounted m.new) }
+    // Each disk that the statement names has the mode of its last option, and those with FORCE no directory copy.
+    ensures done { OnOk result (Drops disks.now power m.old m.new) }
     ensures cause { IfErr result (λ refusal. DropRefused m.old refusal ⊎ StatusCause m.old m.new (B.state bay.old) (B.state bay.new) refusal) }
 {
     m.takes_calls()?;
@@ -60,7 +66,9 @@ pub fn drop_disks<B: Bay>(
 }
 
 /// The disks named without FORCE and with it, by the last option of each.
-fn named_by(disks: &[DropDisk]) -> Named {
+fn named_by(disks: &[DropDisk]) -> Named
+    ensures { AreNamed disks.now result.dropping result.forced }
+{
     let mut named = Named {
         dropping: DiskSet::empty(),
         forced: DiskSet::empty(),
@@ -72,7 +80,10 @@ fn named_by(disks: &[DropDisk]) -> Named {
 }
 
 /// One disk more.
-fn and_named(named: Named, disk: u8, force: bool) -> Named {
+fn and_named(named: Named, disk: u8, force: bool) -> Named
+    ensures dropping { (d : ℕ) → d < 64 → has_bit result.dropping d ≡ (if d == disk then not force else has_bit named.dropping d) }
+    ensures forced { (d : ℕ) → d < 64 → has_bit result.forced d ≡ (if d == disk then force else has_bit named.forced d) }
+{
     if disk >= 64 {
         return named;
     }
@@ -181,7 +192,9 @@ fn kind_of(m: &Mounted) -> GroupKind
     m.catalog().shape().kind
 }
 
-fn modes_of(named: &Named) -> NewModes {
+fn modes_of(named: &Named) -> NewModes
+    ensures { result ≡ modes.Dropped named.now.dropping named.now.forced }
+{
     NewModes::Dropped {
         dropping: named.dropping,
         forced: named.forced,
@@ -198,13 +211,16 @@ fn drop_named<B: Bay>(
 ) -> Result<(), Refusal>
     requires mounted { IsMounted m.old }
     requires takes { Takes m.old (B.state bay.old) }
-    ensures { GoesOn m.old result m.new (B.state bay.old) (B.state bay.new) }
+    ensures goes { GoesOn m.old result m.new (B.state bay.old) (B.state bay.new) }
+    ensures done { OnOk result (PutsBoth power (modes.Dropped named.now.dropping named.now.forced) m.old m.new) }
 {
     let changes = changes_for(named, power);
     change_disks(m, alloc, bay, &modes_of(named), &changes)
 }
 
-fn changes_for(named: &Named, power: u16) -> Changes {
+fn changes_for(named: &Named, power: u16) -> Changes
+    ensures { result ≡ changes_for named.now.forced power }
+{
     if named.forced.bits() == 0 {
         Changes::RebalanceThenModes { power }
     } else {
@@ -218,6 +234,7 @@ pub fn undrop_disks<B: Bay>(m: &mut Mounted, alloc: Global, bay: &mut B) -> Resu
     requires takes { Takes m.old (B.state bay.old) }
     ensures keeps { KeepsGroup m.old m.new (B.state bay.old) (B.state bay.new) }
     ensures mounted { OnOk result (IsMounted m.new) }
+    ensures done { OnOk result (Undrops m.old m.new) }
     ensures cause { IfErr result (StatusCause m.old m.new (B.state bay.old) (B.state bay.new)) }
 {
     m.takes_calls()?;
@@ -226,7 +243,9 @@ pub fn undrop_disks<B: Bay>(m: &mut Mounted, alloc: Global, bay: &mut B) -> Resu
 }
 
 /// The modes stay where no disk is being dropped.
-fn undropping(entries: &[PstEntry]) -> Changes {
+fn undropping(entries: &[PstEntry]) -> Changes
+    ensures { result ≡ undropping entries.now }
+{
     if has_dropping(entries) {
         Changes::RebalanceThenModes { power: 1 }
     } else {
@@ -235,8 +254,14 @@ fn undropping(entries: &[PstEntry]) -> Changes {
 }
 
 /// Whether a disk is being dropped.
-fn has_dropping(entries: &[PstEntry]) -> bool {
-    entries
-        .iter()
-        .any(|entry| matches!(entry.mode, Mode::Dropping))
+fn has_dropping(entries: &[PstEntry]) -> bool
+    ensures { result ≡ has_dropping entries.now }
+{
+    entries.iter().any(is_dropping)
+}
+
+fn is_dropping(entry: &PstEntry) -> bool
+    ensures { result ≡ is_dropping entry.now.mode }
+{
+    matches!(entry.mode, Mode::Dropping)
 }

@@ -1,8 +1,9 @@
 //! Expiry of disks, and REBALANCE.
-ghost use Rattle.std.specs.Prelude.{IfErr, IfOk, OnOk};
+ghost use Rattle.std.specs.Prelude.{◌≡◌, IfErr, IfOk, OnOk, Some};
 ghost use Rattle.group_engine.specs.Commits.{StatusCause};
 ghost use Rattle.group_engine.specs.Mounts.{IsMounted, Takes};
 ghost use Rattle.group_engine.specs.Own.{KeepsGroup};
+ghost use Rattle.disk_modes.specs.Effects.{DropsByForce, Expires, PutsRebalance};
 
 use crate::changing::{Changes, change_disks, put_rebalance};
 use crate::finding::with_number;
@@ -25,6 +26,8 @@ pub fn expire<B: Bay>(
     requires takes { Takes m.old (B.state bay.old) }
     ensures keeps { KeepsGroup m.old m.new (B.state bay.old) (B.state bay.new) }
     ensures mounted { IfOk result (λ disk. IsMounted m.new) }
+    // The disk was the one that expires, and is Forced now; where none expires the group stays.
+    ensures done { IfOk result (λ disk. Expires now m.old disk m.new) }
     ensures cause { IfErr result (StatusCause m.old m.new (B.state bay.old) (B.state bay.new)) }
 {
     m.takes_calls()?;
@@ -45,6 +48,7 @@ fn expire_disk<B: Bay>(
     requires takes { Takes m.old (B.state bay.old) }
     ensures keeps { KeepsGroup m.old m.new (B.state bay.old) (B.state bay.new) }
     ensures mounted { IfOk result (λ disk. IsMounted m.new) }
+    ensures done { IfOk result (λ said. (said ≡ Some disk) × DropsByForce disk m.old m.new) }
     ensures cause { IfErr result (StatusCause m.old m.new (B.state bay.old) (B.state bay.new)) }
 {
     let new = NewModes::Dropped {
@@ -73,6 +77,7 @@ pub fn set_rebalance<B: Bay>(
     requires takes { Takes m.old (B.state bay.old) }
     ensures keeps { KeepsGroup m.old m.new (B.state bay.old) (B.state bay.new) }
     ensures mounted { OnOk result (IsMounted m.new) }
+    ensures done { OnOk result (PutsRebalance power m.old m.new) }
     ensures cause { IfErr result (StatusCause m.old m.new (B.state bay.old) (B.state bay.new)) }
 {
     m.takes_calls()?;

@@ -1,4 +1,9 @@
 //! The disks that a statement names.
+ghost use Rattle.std.specs.Prelude.{◌≡◌, ◌≢◌, ◌<◌, ◌==◌, ◌&&◌, ◌||◌, ℕ, IfNone, IfSome, find};
+ghost use Rattle.asm_formats.specs.Sets.{has_bit};
+ghost use Rattle.asm_placement.specs.Modes.{serves};
+ghost use Rattle.group_reports.specs.Disks.{number_of};
+ghost use Rattle.disk_modes.specs.Finding.{IsSetOf, has_name, is_attached, is_in_group, is_offline, is_serving, lies_in, takes};
 
 use asm_base::{DiskSet, Mode, Name};
 use group_engine::Mounted;
@@ -14,7 +19,9 @@ pub enum GroupSort {
 
 impl GroupSort {
     /// Whether a disk of this sort may lie in such a failure group.
-    fn takes(self, quorum: bool) -> bool {
+    fn takes(self, quorum: bool) -> bool
+        ensures { result ≡ takes self quorum }
+    {
         match self {
             GroupSort::Any => true,
             GroupSort::Regular => !quorum,
@@ -24,8 +31,17 @@ impl GroupSort {
 }
 
 /// The number of the disk of a name, in any case of letters.
-pub fn disk_named(m: &Mounted, name: &Name) -> Option<u8> {
-    for entry in m.status().entries() {
+pub fn disk_named(m: &Mounted, name: &Name) -> Option<u8>
+    ensures { result ≡ number_of (find (has_name m.now.catalog name.now) m.now.register.value.entries) }
+{
+    first_named(m, m.status().entries(), name)
+}
+
+/// The number of the first of the disks that has the name.
+fn first_named(m: &Mounted, entries: &[PstEntry], name: &Name) -> Option<u8>
+    ensures { result ≡ number_of (find (has_name m.now.catalog name.now) entries.now) }
+{
+    for entry in entries {
         if has_name(m, entry, name) {
             return Some(entry.number);
         }
@@ -34,7 +50,9 @@ pub fn disk_named(m: &Mounted, name: &Name) -> Option<u8> {
 }
 
 /// Whether the disk's record has the name.
-fn has_name(m: &Mounted, entry: &PstEntry, name: &Name) -> bool {
+fn has_name(m: &Mounted, entry: &PstEntry, name: &Name) -> bool
+    ensures { result ≡ has_name m.now.catalog name.now entry.now }
+{
     match m.catalog().disk(entry.number) {
         Some(info) => info.name.is_same(name),
         None => false,
@@ -42,21 +60,38 @@ fn has_name(m: &Mounted, entry: &PstEntry, name: &Name) -> bool {
 }
 
 /// The disks of the failure group of a name, in any case of letters. None where there is none of that name and sort.
-pub fn disks_in_group(m: &Mounted, sort: GroupSort, name: &Name) -> Option<DiskSet> {
-    let mut disks = DiskSet::empty();
-    for entry in m.status().entries() {
-        if sort.takes(entry.quorum) && is_in_group(m, entry, name) {
-            disks = with_number(disks, entry.number);
-        }
-    }
+pub fn disks_in_group(m: &Mounted, sort: GroupSort, name: &Name) -> Option<DiskSet>
+    ensures some { IfSome result (λ disks. (disks ≢ 0) × IsSetOf (lies_in m.now.catalog sort name.now) m.now.register.value.entries disks) }
+    ensures none { IfNone result (IsSetOf (lies_in m.now.catalog sort name.now) m.now.register.value.entries 0) }
+{
+    let disks = all_in_group(m, m.status().entries(), sort, name);
     if disks.bits() == 0 {
         return None;
     }
     Some(disks)
 }
 
+fn all_in_group(m: &Mounted, entries: &[PstEntry], sort: GroupSort, name: &Name) -> DiskSet
+    ensures { IsSetOf (lies_in m.now.catalog sort name.now) entries.now result }
+{
+    let mut disks = DiskSet::empty();
+    for entry in entries {
+        disks = with_if(disks, entry.number, lies_in(m, sort, name, entry));
+    }
+    disks
+}
+
+/// Whether the disk lies in the failure group of a name and a sort.
+fn lies_in(m: &Mounted, sort: GroupSort, name: &Name, entry: &PstEntry) -> bool
+    ensures { result ≡ lies_in m.now.catalog sort name.now entry.now }
+{
+    sort.takes(entry.quorum) && is_in_group(m, entry, name)
+}
+
 /// Whether the disk's record names the failure group.
-fn is_in_group(m: &Mounted, entry: &PstEntry, name: &Name) -> bool {
+fn is_in_group(m: &Mounted, entry: &PstEntry, name: &Name) -> bool
+    ensures { result ≡ is_in_group m.now.catalog name.now entry.now }
+{
     match m.catalog().disk(entry.number) {
         Some(info) => info.failgroup.is_same(name),
         None => false,
@@ -64,47 +99,86 @@ fn is_in_group(m: &Mounted, entry: &PstEntry, name: &Name) -> bool {
 }
 
 /// The attached disks that are Online, Syncing or being dropped.
-pub fn serving_disks(m: &Mounted) -> DiskSet {
+pub fn serving_disks(m: &Mounted) -> DiskSet
+    ensures { IsSetOf (is_serving m.now) m.now.register.value.entries result }
+{
+    all_serving(m, m.status().entries())
+}
+
+fn all_serving(m: &Mounted, entries: &[PstEntry]) -> DiskSet
+    ensures { IsSetOf (is_serving m.now) entries.now result }
+{
     let mut disks = DiskSet::empty();
-    for entry in m.status().entries() {
-        if is_serving(entry.mode) && is_attached(m, entry.number) {
-            disks = with_number(disks, entry.number);
-        }
+    for entry in entries {
+        disks = with_if(disks, entry.number, is_serving(m, entry));
     }
     disks
 }
 
-fn is_serving(mode: Mode) -> bool {
+fn is_serving(m: &Mounted, entry: &PstEntry) -> bool
+    ensures { result ≡ is_serving m.now entry.now }
+{
+    serves(entry.mode) && is_attached(m, entry.number)
+}
+
+fn serves(mode: Mode) -> bool
+    ensures { result ≡ serves mode }
+{
     matches!(mode, Mode::Online | Mode::Syncing | Mode::Dropping)
 }
 
 /// The disks that are Offline.
-pub fn offline_set(m: &Mounted) -> DiskSet {
+pub fn offline_set(m: &Mounted) -> DiskSet
+    ensures { IsSetOf is_offline m.now.register.value.entries result }
+{
+    all_offline(m.status().entries())
+}
+
+fn all_offline(entries: &[PstEntry]) -> DiskSet
+    ensures { IsSetOf is_offline entries.now result }
+{
     let mut disks = DiskSet::empty();
-    for entry in m.status().entries() {
-        if matches!(entry.mode, Mode::Offline) {
-            disks = with_number(disks, entry.number);
-        }
+    for entry in entries {
+        disks = with_if(disks, entry.number, is_offline(entry));
     }
     disks
+}
+
+fn is_offline(entry: &PstEntry) -> bool
+    ensures { result ≡ is_offline entry.now }
+{
+    matches!(entry.mode, Mode::Offline)
 }
 
 /// The attached disks.
 pub(crate) fn attached_disks(m: &Mounted) -> DiskSet {
     let mut disks = DiskSet::empty();
     for disk in 0..64u8 {
-        if is_attached(m, disk) {
-            disks = with_number(disks, disk);
-        }
+        disks = with_if(disks, disk, is_attached(m, disk));
     }
     disks
 }
 
-fn is_attached(m: &Mounted, disk: u8) -> bool {
+fn is_attached(m: &Mounted, disk: u8) -> bool
+    ensures { result ≡ is_attached m.now disk }
+{
     disk < 64 && m.slot(disk).is_some()
 }
 
+/// The set with a disk more, or as it is.
+fn with_if(disks: DiskSet, disk: u8, more: bool) -> DiskSet
+    ensures { (k : ℕ) → k < 64 → has_bit result k ≡ (has_bit disks k || (k == disk && more)) }
+{
+    if more {
+        with_number(disks, disk)
+    } else {
+        disks
+    }
+}
+
 /// The set with a disk more. All numbers of disks are below 64.
-pub(crate) fn with_number(disks: DiskSet, disk: u8) -> DiskSet {
+pub(crate) fn with_number(disks: DiskSet, disk: u8) -> DiskSet
+    ensures { (k : ℕ) → k < 64 → has_bit result k ≡ (k == disk || has_bit disks k) }
+{
     if disk < 64 { disks.with(disk) } else { disks }
 }

@@ -3,6 +3,7 @@
 
 mod changing;
 mod checking;
+mod comparing;
 mod dropping;
 mod ending;
 mod finding;

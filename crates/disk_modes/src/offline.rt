@@ -1,10 +1,11 @@
 //! OFFLINE.
-ghost use Rattle.std.specs.Prelude.{◌⊎◌, IfErr, OnOk};
+ghost use Rattle.std.specs.Prelude.{◌≡◌, ◌⊎◌, IfErr, OnOk, unwrap_or};
 ghost use Rattle.group_engine.specs.Commits.{StatusCause};
 ghost use Rattle.group_engine.specs.Mounts.{IsMounted, Takes};
 ghost use Rattle.group_engine.specs.Own.{KeepsGroup};
 ghost use Rattle.group_engine.specs.Pending.{GoesOn};
 ghost use Rattle.disk_modes.specs.Causes.{OfflineRefused};
+ghost use Rattle.disk_modes.specs.Effects.{TakesOffline};
 
 use crate::changing::{Changes, change_disks};
 use crate::checking::{Statement, check_directories, check_extents, check_modes, directories_of};
@@ -30,6 +31,8 @@ pub fn offline_disks<B: Bay>(
     requires takes { Takes m.old (B.state bay.old) }
     ensures keeps { KeepsGroup m.old m.new (B.state bay.old) (B.state bay.new) }
     ensures mounted { OnOk result (IsMounted m.new) }
+    // The disks are Offline, and have no directory copy; all else of the record stays, and so do the tables.
+    ensures done { OnOk result (TakesOffline disks repair now m.old m.new) }
     ensures cause { IfErr result (λ refusal. OfflineRefused m.old disks refusal ⊎ StatusCause m.old m.new (B.state bay.old) (B.state bay.new) refusal) }
 {
     m.takes_calls()?;
@@ -50,7 +53,8 @@ fn put_offline<B: Bay>(
 ) -> Result<(), Refusal>
     requires mounted { IsMounted m.old }
     requires takes { Takes m.old (B.state bay.old) }
-    ensures { GoesOn m.old result m.new (B.state bay.old) (B.state bay.new) }
+    ensures goes { GoesOn m.old result m.new (B.state bay.old) (B.state bay.new) }
+    ensures done { OnOk result (TakesOffline disks repair now m.old m.new) }
 {
     let new = NewModes::Offline {
         disks,
@@ -92,7 +96,9 @@ fn check_usable(m: &Mounted, disks: DiskSet) -> Result<(), Refusal>
 }
 
 /// The seconds that are said, or those of the group's attribute.
-fn repair_of(m: &Mounted, said: Option<u64>) -> u64 {
+fn repair_of(m: &Mounted, said: Option<u64>) -> u64
+    ensures { result ≡ unwrap_or said m.now.catalog.tables.templates.settings.attributes.repair }
+{
     match said {
         Some(seconds) => seconds,
         None => m.catalog().settings().repair,

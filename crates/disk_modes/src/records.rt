@@ -1,9 +1,11 @@
 // The status records that statements on disks put.
-ghost use Rattle.std.specs.Prelude.{IfOk, IsTrue};
+ghost use Rattle.std.specs.Prelude.{◌≡◌, IfOk, IsTrue, map};
 ghost use Rattle.asm_formats.specs.Status.{is_status};
+ghost use Rattle.asm_placement.specs.Partners.{with_partners};
 ghost use Rattle.group_engine.specs.Dropping.{IsWithout};
 ghost use Rattle.group_engine.specs.NextRecords.{KeepsDisks};
-ghost use Rattle.disk_modes.specs.Records.{HasFewer, IsChanged};
+ghost use Rattle.disk_modes.specs.declared.records.NewModes.TheVariants as modes;
+ghost use Rattle.disk_modes.specs.Records.{HasFewer, IsChanged, IsUnder, change_of, entry_after, status_as, taken_off, with_partners_for};
 
 use asm_base::{DiskSet, Mode, NoMemory};
 use partnership::partners;
@@ -38,7 +40,7 @@ pub enum Becomes {
 
 /// The record with new modes. Disks that go Offline or by force have no directory copy then. Where disks come to the table of partners or
 /// leave it, that is made anew.
-#[tactic(auto, using(crate::proofs::Keeping::changed_by))]
+#[tactic(auto, using(crate::proofs::Keeping::changed_by, crate::proofs::Entries::under_by))]
 pub(crate) fn next_record(
     alloc: Global,
     status: &PstRecord,
@@ -47,6 +49,7 @@ pub(crate) fn next_record(
     requires { IsTrue (is_status status.now) }
     ensures status { IfOk result (λ next. IsTrue (is_status next)) }
     ensures changed { IfOk result (IsChanged status.now) }
+    ensures under { IfOk result (IsUnder new.now status.now) }
 {
     let modes = with_modes(status, new);
     let next = with_partners_for(alloc, &modes, new)?;
@@ -58,6 +61,7 @@ pub(crate) fn with_modes(status: &PstRecord, new: &NewModes) -> PstRecord
     requires { IsTrue (is_status status.now) }
     ensures status { IsTrue (is_status result) }
     ensures disks { KeepsDisks status.now result }
+    ensures modes { result ≡ record status.now { entries = map (entry_after new.now) status.now.entries } }
 {
     let mut next = status.copy();
     for entry in status.entries() {
@@ -67,7 +71,9 @@ pub(crate) fn with_modes(status: &PstRecord, new: &NewModes) -> PstRecord
 }
 
 /// What becomes of an entry.
-fn change_of(entry: &PstEntry, new: &NewModes) -> Becomes {
+fn change_of(entry: &PstEntry, new: &NewModes) -> Becomes
+    ensures { result ≡ change_of new.now entry.now }
+{
     match *new {
         NewModes::Offline {
             disks,
@@ -80,7 +86,7 @@ fn change_of(entry: &PstEntry, new: &NewModes) -> Becomes {
                 Becomes::Same
             }
         }
-        NewModes::Dropped { dropping, forced } => dropped(entry.number, dropping, forced),
+        NewModes::Dropped { dropping, forced } => dropped(entry, dropping, forced),
         NewModes::Undropped => {
             if matches!(entry.mode, Mode::Dropping) {
                 Becomes::InMode { mode: Mode::Online }
@@ -92,10 +98,12 @@ fn change_of(entry: &PstEntry, new: &NewModes) -> Becomes {
 }
 
 /// What becomes of the entry of a disk where some are being dropped, and some by force.
-fn dropped(disk: u8, dropping: DiskSet, forced: DiskSet) -> Becomes {
-    if forced.has(disk) {
+fn dropped(entry: &PstEntry, dropping: DiskSet, forced: DiskSet) -> Becomes
+    ensures { result ≡ change_of (modes.Dropped dropping forced) entry.now }
+{
+    if forced.has(entry.number) {
         Becomes::InMode { mode: Mode::Forced }
-    } else if dropping.has(disk) {
+    } else if dropping.has(entry.number) {
         Becomes::InMode {
             mode: Mode::Dropping,
         }
@@ -110,6 +118,7 @@ fn with_changed(status: &PstRecord, entry: &PstEntry, change: Becomes) -> PstRec
     requires { IsTrue (is_status status.now) }
     ensures status { IsTrue (is_status result) }
     ensures disks { KeepsDisks status.now result }
+    ensures value { result ≡ status_as change entry.now status.now }
 {
     match change {
         Becomes::Same => status.copy(),
@@ -127,6 +136,7 @@ fn with_partners_for(
     requires { IsTrue (is_status status.now) }
     ensures status { IfOk result (λ next. IsTrue (is_status next)) }
     ensures disks { IfOk result (KeepsDisks status.now) }
+    ensures partners { IfOk result (λ next. next.entries ≡ with_partners_for new.now status.now.entries) }
 {
     match *new {
         NewModes::Offline { .. } => Ok(status.copy()),
@@ -139,13 +149,16 @@ fn with_new_partners(alloc: Global, status: &PstRecord) -> Result<PstRecord, NoM
     requires { IsTrue (is_status status.now) }
     ensures status { IfOk result (λ next. IsTrue (is_status next)) }
     ensures disks { IfOk result (KeepsDisks status.now) }
+    ensures partners { IfOk result (λ next. next.entries ≡ with_partners status.now.entries) }
 {
     let sets = partners(alloc, status.entries())?;
     Ok(with_partners(status, &sets))
 }
 
 /// The disks that have no directory copy any more.
-fn taken_off(new: &NewModes) -> DiskSet {
+fn taken_off(new: &NewModes) -> DiskSet
+    ensures { result ≡ taken_off new.now }
+{
     match *new {
         NewModes::Offline { disks, .. } => disks,
         NewModes::Dropped { forced, .. } => forced,
@@ -158,6 +171,7 @@ fn without_copies(status: &PstRecord, gone: DiskSet) -> PstRecord
     requires { IsTrue (is_status status.now) }
     ensures status { IsTrue (is_status result) }
     ensures fewer { HasFewer status.now result }
+    ensures left { IsWithout result.directories status.now.directories gone }
 {
     let left = without(status.dirs, gone);
     with_dirs(status, left)

@@ -1,12 +1,15 @@
 //! RESIZE.
 ghost use Rattle.std.specs.Bool.{OnTrue};
-ghost use Rattle.std.specs.Prelude.{◌⊎◌, IfErr, OnOk};
+ghost use Rattle.std.specs.List.{list_any};
+ghost use Rattle.std.specs.Prelude.{◌≡◌, ◌⊎◌, IfErr, IsTrue, OnOk, map};
+ghost use Rattle.asm_formats.specs.Status.{is_status};
 ghost use Rattle.group_engine.specs.Commits.{StatusCause};
 ghost use Rattle.group_engine.specs.Mounts.{IsMounted, Takes};
 ghost use Rattle.group_engine.specs.Own.{KeepsGroup};
 ghost use Rattle.group_engine.specs.Pending.{GoesOn};
 ghost use Rattle.group_engine.specs.Statuses.{IsNextOf};
 ghost use Rattle.disk_modes.specs.Causes.{ResizeRefused};
+ghost use Rattle.disk_modes.specs.Sizes.{HasAsked, PutsUnits, Resizes, entry_capped, is_other, status_resized};
 
 use crate::changing::put_rebalance;
 use crate::checking::{Statement, check_modes};
@@ -31,6 +34,8 @@ pub fn resize_disks<B: Bay>(
     requires takes { Takes m.old (B.state bay.old) }
     ensures keeps { KeepsGroup m.old m.new (B.state bay.old) (B.state bay.new) }
     ensures mounted { OnOk result (IsMounted m.new) }
+    // The disks have the units of the size, or of their images, and a rebalance is active.
+    ensures done { OnOk result (Resizes disks size power m.old m.new) }
     ensures cause { IfErr result (λ refusal. ResizeRefused m.old disks refusal ⊎ StatusCause m.old m.new (B.state bay.old) (B.state bay.new) refusal) }
 {
     m.takes_calls()?;
@@ -62,7 +67,8 @@ fn resize<B: Bay>(
 ) -> Result<(), Refusal>
     requires mounted { IsMounted m.old }
     requires takes { Takes m.old (B.state bay.old) }
-    ensures { GoesOn m.old result m.new (B.state bay.old) (B.state bay.new) }
+    ensures goes { GoesOn m.old result m.new (B.state bay.old) (B.state bay.new) }
+    ensures done { OnOk result (Resizes asked.now.disks asked.now.size power m.old m.new) }
 {
     m.set_flight(None);
     rebalance_first(m, alloc, bay, asked, power)
@@ -78,7 +84,8 @@ fn rebalance_first<B: Bay>(
 ) -> Result<(), Refusal>
     requires mounted { IsMounted m.old }
     requires takes { Takes m.old (B.state bay.old) }
-    ensures { GoesOn m.old result m.new (B.state bay.old) (B.state bay.new) }
+    ensures goes { GoesOn m.old result m.new (B.state bay.old) (B.state bay.new) }
+    ensures done { OnOk result (Resizes asked.now.disks asked.now.size power m.old m.new) }
 {
     match put_rebalance(m, alloc, bay, Some(power)) {
         Ok(()) => units_or_shut(m, alloc, bay, asked),
@@ -95,7 +102,8 @@ fn units_or_shut<B: Bay>(
 ) -> Result<(), Refusal>
     requires mounted { IsMounted m.old }
     requires takes { Takes m.old (B.state bay.old) }
-    ensures { GoesOn m.old result m.new (B.state bay.old) (B.state bay.new) }
+    ensures goes { GoesOn m.old result m.new (B.state bay.old) (B.state bay.new) }
+    ensures done { OnOk result (PutsUnits asked.now m.old m.new) }
 {
     match put_units(m, alloc, bay, asked) {
         Ok(()) => Ok(()),
@@ -116,28 +124,32 @@ fn put_units<B: Bay>(
 ) -> Result<(), Refusal>
     requires mounted { IsMounted m.old }
     requires takes { Takes m.old (B.state bay.old) }
-    ensures { GoesOn m.old result m.new (B.state bay.old) (B.state bay.new) }
+    ensures goes { GoesOn m.old result m.new (B.state bay.old) (B.state bay.new) }
+    ensures done { OnOk result (PutsUnits asked.now m.old m.new) }
 {
-    if !has_others(m, asked) {
+    if !has_others(m, m.status().entries(), asked) {
         return Ok(());
     }
-    let next = with_asked(m, asked);
-    put_next(m, alloc, bay, &next)
+    let next = with_asked(m, m.status(), asked);
+    put_next(m, alloc, bay, &next, asked)
 }
 
-/// Puts a record, where it may come next. One with units that were checked may.
+/// Puts a record with the units that are asked for, where it may come next. One with units that were checked may.
 fn put_next<B: Bay>(
     m: &mut Mounted,
     alloc: Global,
     bay: &mut B,
     next: &PstRecord,
+    asked: &Asked,
 ) -> Result<(), Refusal>
     requires mounted { IsMounted m.old }
     requires takes { Takes m.old (B.state bay.old) }
-    ensures { GoesOn m.old result m.new (B.state bay.old) (B.state bay.new) }
+    requires asked { HasAsked asked.now m.old next.now }
+    ensures goes { GoesOn m.old result m.new (B.state bay.old) (B.state bay.new) }
+    ensures done { OnOk result (PutsUnits asked.now m.old m.new) }
 {
     match m.may_get(alloc, next) {
-        Ok(may) => put_if(m, alloc, bay, next, may),
+        Ok(may) => put_if(m, alloc, bay, next, asked, may),
         Err(NoMemory) => Err(Refusal::NoMemory),
     }
 }
@@ -147,13 +159,17 @@ fn put_if<B: Bay>(
     alloc: Global,
     bay: &mut B,
     next: &PstRecord,
+    asked: &Asked,
     may: bool,
 ) -> Result<(), Refusal>
     requires mounted { IsMounted m.old }
     requires takes { Takes m.old (B.state bay.old) }
+    requires asked { HasAsked asked.now m.old next.now }
     requires next { OnTrue may (IsNextOf m.old next.now) }
-    ensures { GoesOn m.old result m.new (B.state bay.old) (B.state bay.new) }
+    ensures goes { GoesOn m.old result m.new (B.state bay.old) (B.state bay.new) }
+    ensures done { OnOk result (PutsUnits asked.now m.old m.new) }
 {
+    let _asked = asked.disks;
     if !may {
         // It doesn't come.
         return Err(Refusal::NoMemory);
@@ -162,8 +178,10 @@ fn put_if<B: Bay>(
 }
 
 /// Whether one of the disks is to have other units than it has.
-fn has_others(m: &Mounted, asked: &Asked) -> bool {
-    for entry in m.status().entries() {
+fn has_others(m: &Mounted, entries: &[PstEntry], asked: &Asked) -> bool
+    ensures { result ≡ list_any (is_other m.now.catalog.shape m.now.disks asked.now) entries.now }
+{
+    for entry in entries {
         if is_other(m, entry, asked) {
             return true;
         }
@@ -171,18 +189,31 @@ fn has_others(m: &Mounted, asked: &Asked) -> bool {
     false
 }
 
-fn is_other(m: &Mounted, entry: &PstEntry, asked: &Asked) -> bool {
+fn is_other(m: &Mounted, entry: &PstEntry, asked: &Asked) -> bool
+    ensures { result ≡ is_other m.now.catalog.shape m.now.disks asked.now entry.now }
+{
     asked.disks.has(entry.number) && units_asked(m, entry.number, asked) != entry.units as u64
 }
 
 /// The record with the units that the disks are to have.
-fn with_asked(m: &Mounted, asked: &Asked) -> PstRecord {
-    let mut next = m.status().copy();
+fn with_asked(m: &Mounted, status: &PstRecord, asked: &Asked) -> PstRecord
+    requires { IsTrue (is_status status.now) }
+    ensures { result ≡ record status.now { entries = map (entry_capped m.now.catalog.shape m.now.disks asked.now) status.now.entries } }
+{
+    let mut next = status.copy();
     for disk in 0..64u8 {
-        if asked.disks.has(disk) {
-            let units = units_asked(m, disk, asked).min(u32::MAX as u64) as u32;
-            next = with_units(&next, disk, units);
-        }
+        next = with_disk_asked(m, &next, asked, disk);
     }
     next
+}
+
+/// The record with the units of one disk, where it is asked for.
+fn with_disk_asked(m: &Mounted, status: &PstRecord, asked: &Asked, disk: u8) -> PstRecord
+    ensures { result ≡ status_resized m.now asked.now disk status.now }
+{
+    if !asked.disks.has(disk) {
+        return status.copy();
+    }
+    let units = units_asked(m, disk, asked).min(u32::MAX as u64) as u32;
+    with_units(status, disk, units)
 }

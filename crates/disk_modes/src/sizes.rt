@@ -1,6 +1,7 @@
 // The units that disks have, need and are to have.
-ghost use Rattle.std.specs.Prelude.{IfErr};
+ghost use Rattle.std.specs.Prelude.{◌≡◌, IfErr};
 ghost use Rattle.disk_modes.specs.Causes.{ResizeRefused};
+ghost use Rattle.disk_modes.specs.Sizes.{image_units, units_asked, units_in};
 
 use asm_base::{DiskRef, DiskSet, Home, Homes, Refusal, Shape};
 use catalog::Catalog;
@@ -20,7 +21,9 @@ pub struct Asked {
 }
 
 /// The units that a disk is to have.
-pub(crate) fn units_asked(m: &Mounted, disk: u8, asked: &Asked) -> u64 {
+pub(crate) fn units_asked(m: &Mounted, disk: u8, asked: &Asked) -> u64
+    ensures { result ≡ units_asked m.now.catalog.shape m.now.disks asked.now.size disk }
+{
     match asked.size {
         Some(said) => units_in(&m.catalog().shape(), said),
         None => image_units(m, disk),
@@ -28,7 +31,9 @@ pub(crate) fn units_asked(m: &Mounted, disk: u8, asked: &Asked) -> u64 {
 }
 
 /// The units of a disk's image, and none where it isn't attached.
-fn image_units(m: &Mounted, disk: u8) -> u64 {
+fn image_units(m: &Mounted, disk: u8) -> u64
+    ensures { result ≡ image_units m.now.catalog.shape m.now.disks disk }
+{
     if disk >= 64 {
         return 0;
     }
@@ -39,7 +44,9 @@ fn image_units(m: &Mounted, disk: u8) -> u64 {
 }
 
 /// The whole units in so many bytes.
-fn units_in(shape: &Shape, bytes: u64) -> u64 {
+fn units_in(shape: &Shape, bytes: u64) -> u64
+    ensures { result ≡ units_in shape.now bytes }
+{
     if shape.au == 0 {
         return 0;
     }

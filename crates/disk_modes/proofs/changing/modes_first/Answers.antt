@@ -1,9 +1,20 @@
+use Rattle.std.proofs.Common.{Some}
 use Rattle.group_engine.proofs.Endings.{goes_on}
+use Rattle.disk_modes.specs.Effects.{PutsBoth, PutsRebalance}
+use Rattle.disk_modes.proofs.Effects.{modes_then_rebalance, on_ok}
 use Rattle.disk_modes.proofs.Steps.{takes_on}
 use Rattle.disk_modes.proofs.changing.modes_first.Goals as goal
 
 pub rebalance_or_shut-requires-clause-takes : goal.rebalance_or_shut-requires-clause-takes
-rebalance_or_shut-requires-clause-takes g c = takes_on c.in-Ok.ensures.keeps
+rebalance_or_shut-requires-clause-takes g c = takes_on c.in-Ok.ensures.goes.keeps
 
-pub returns-in-Ok : goal.returns-in-Ok
-returns-in-Ok g c = goes_on c.rebalance_or_shut.result c.in-Ok.ensures.keeps c.in-Ok.ensures.mounted c.rebalance_or_shut.ensures
+pub returns-in-Ok-clause-goes : goal.returns-in-Ok-clause-goes
+returns-in-Ok-clause-goes g c = goes_on c.rebalance_or_shut.result c.in-Ok.ensures.goes.keeps c.in-Ok.ensures.goes.mounted c.rebalance_or_shut.ensures.goes
+
+pub returns-in-Ok-clause-done : goal.returns-in-Ok-clause-done
+returns-in-Ok-clause-done g c =
+    let to = c.args.new.now in
+    let a = c.args.m.now in
+    let b = c.put_modes.new.m in
+    let d = c.rebalance_or_shut.new.m in
+    on_ok (PutsRebalance (Some c.args.power) b d) (PutsBoth c.args.power to a d) c.rebalance_or_shut.result (modes_then_rebalance c.args.power to a b d c.in-Ok.ensures.done) c.rebalance_or_shut.ensures.done

@@ -1,6 +1,7 @@
 use Rattle.std.proofs.Common.{IsTrue, sym, subst}
 use Rattle.asm_formats.specs.Status.{Status, is_status}
-use Rattle.disk_modes.specs.Records.{IsChanged}
+use Rattle.disk_modes.specs.Records.{IsChanged, IsUnder}
+use Rattle.disk_modes.proofs.Effects.{modes_put}
 use Rattle.disk_modes.proofs.NextRecords.{changed_is_next}
 use Rattle.disk_modes.proofs.Steps.{goes_short, kept}
 use Rattle.disk_modes.proofs.changing.put_modes.Goals as goal
@@ -18,8 +19,13 @@ pub set_status-requires-clause-next : goal.set_status-requires-clause-next
 set_status-requires-clause-next g c = λ mounted. changed_is_next c.args.m.now c.in-Ok.next (c.requires.takes mounted).0 c.in-Ok.ensures.status
     (subst (λ (r : Status). IsChanged r c.in-Ok.next) c.status.ensures c.in-Ok.ensures.changed)
 
-pub returns-in-Ok : goal.returns-in-Ok
-returns-in-Ok g c = record { keeps = c.set_status.ensures.keeps; mounted = c.set_status.ensures.mounted; cause = c.set_status.ensures.cause }
+pub returns-in-Ok-clause-goes : goal.returns-in-Ok-clause-goes
+returns-in-Ok-clause-goes g c = record { keeps = c.set_status.ensures.keeps; mounted = c.set_status.ensures.mounted; cause = c.set_status.ensures.cause }
 
-pub returns-in-Err : goal.returns-in-Err
-returns-in-Err g c = goes_short (kept c.args.m.now (g.B.Bay.state c.args.bay.now) c.requires.takes)
+pub returns-in-Ok-clause-done : goal.returns-in-Ok-clause-done
+returns-in-Ok-clause-done g c =
+    modes_put c.args.new.now c.args.m.now c.set_status.new.self c.in-Ok.next c.set_status.result c.set_status.ensures.tables c.set_status.ensures.recorded
+    (subst (λ (r : Status). IsUnder c.args.new.now r c.in-Ok.next) c.status.ensures c.in-Ok.ensures.under)
+
+pub returns-in-Err-clause-goes : goal.returns-in-Err-clause-goes
+returns-in-Err-clause-goes g c = goes_short (kept c.args.m.now (g.B.Bay.state c.args.bay.now) c.requires.takes)

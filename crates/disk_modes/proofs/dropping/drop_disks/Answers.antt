@@ -4,6 +4,7 @@ use Rattle.std.proofs.lemmas.Result.{err_from_is_err_and}
 use Rattle.asm_base.specs.declared.refusal.Refusal.{Refusal}
 use Rattle.group_engine.specs.Commits.{StatusCause}
 use Rattle.disk_modes.specs.Causes.{DropRefused}
+use Rattle.disk_modes.proofs.Drops.{drops_done}
 use Rattle.disk_modes.proofs.Steps.{kept, on_err, shut_cause}
 use Rattle.disk_modes.proofs.dropping.drop_disks.Goals as goal
 
@@ -19,7 +20,7 @@ pub returns-in-Ok-clause-cause : goal.returns-in-Ok-clause-cause
 returns-in-Ok-clause-cause g c =
     let s = g.B.Bay.state c.args.bay.now in
     let t = g.B.Bay.state c.drop_named.new.bay in
-    on_err (StatusCause c.args.m.now c.drop_named.new.m s t) (λ (refusal : Refusal). DropRefused c.args.m.now refusal ⊎ StatusCause c.args.m.now c.drop_named.new.m s t refusal) c.drop_named.result (λ refusal why. inr why) c.drop_named.ensures.cause
+    on_err (StatusCause c.args.m.now c.drop_named.new.m s t) (λ (refusal : Refusal). DropRefused c.args.m.now refusal ⊎ StatusCause c.args.m.now c.drop_named.new.m s t refusal) c.drop_named.result (λ refusal why. inr why) c.drop_named.ensures.goes.cause
 
 pub returns-in-Err-clause-keeps : goal.returns-in-Err-clause-keeps
 returns-in-Err-clause-keeps g c = kept c.args.m.now (g.B.Bay.state c.args.bay.now) c.requires.takes
@@ -29,3 +30,9 @@ returns-in-Err-clause-cause g c = inl c.in-Err.ensures
 
 pub check_drop-requires : goal.check_drop-requires
 check_drop-requires g c = (c.requires.takes c.in_ok-takes_calls.ensures.ok).0
+
+pub returns-in-Ok-clause-done : goal.returns-in-Ok-clause-done
+returns-in-Ok-clause-done g c =
+    let named = c.named_by-named.result in
+    drops_done c.args.disks.now named.dropping named.forced c.args.power c.args.m.now c.drop_named.new.m c.drop_named.result c.named_by-named.ensures
+    (c.requires.takes c.in_ok-takes_calls.ensures.ok).0.status c.drop_named.ensures.done

@@ -1,4 +1,5 @@
 use Rattle.std.proofs.lemmas.Result.{err_from_is_err_and}
+use Rattle.disk_modes.proofs.Drops.{undrops_done}
 use Rattle.disk_modes.proofs.Steps.{kept, shut_cause}
 use Rattle.disk_modes.proofs.dropping.undrop_disks.Goals as goal
 
@@ -9,3 +10,7 @@ pub returns-in_err-takes_calls-clause-cause : goal.returns-in_err-takes_calls-cl
 returns-in_err-takes_calls-clause-cause g c =
     let f = err_from_is_err_and c.from_residual.result c.from_residual.ensures.1 in
     rw (f.1, f.2) (shut_cause c.args.m.now (g.B.Bay.state c.args.bay.now) c.in_err-takes_calls.field-0.0 c.in_err-takes_calls.ensures.cause)
+
+pub returns-clause-done : goal.returns-clause-done
+returns-clause-done g c =
+    undrops_done c.args.m.now c.change_disks.new.m c.status.result.now c.entries.result.now c.undropping-changes.result c.change_disks.result c.status.ensures c.entries.ensures.entries c.undropping-changes.ensures c.change_disks.ensures.done

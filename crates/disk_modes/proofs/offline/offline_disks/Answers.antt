@@ -19,7 +19,7 @@ pub returns-in-Ok-clause-cause : goal.returns-in-Ok-clause-cause
 returns-in-Ok-clause-cause g c =
     let s = g.B.Bay.state c.args.bay.now in
     let t = g.B.Bay.state c.put_offline.new.bay in
-    on_err (StatusCause c.args.m.now c.put_offline.new.m s t) (λ (refusal : Refusal). OfflineRefused c.args.m.now c.args.disks refusal ⊎ StatusCause c.args.m.now c.put_offline.new.m s t refusal) c.put_offline.result (λ refusal why. inr why) c.put_offline.ensures.cause
+    on_err (StatusCause c.args.m.now c.put_offline.new.m s t) (λ (refusal : Refusal). OfflineRefused c.args.m.now c.args.disks refusal ⊎ StatusCause c.args.m.now c.put_offline.new.m s t refusal) c.put_offline.result (λ refusal why. inr why) c.put_offline.ensures.goes.cause
 
 pub returns-in-Err-clause-keeps : goal.returns-in-Err-clause-keeps
 returns-in-Err-clause-keeps g c = kept c.args.m.now (g.B.Bay.state c.args.bay.now) c.requires.takes

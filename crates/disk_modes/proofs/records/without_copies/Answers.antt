@@ -24,3 +24,10 @@ returns-clause-fewer c =
     let less : IsWithout left v.directories c.args.gone = subst (λ (n : ℕ). IsWithout left n c.args.gone) all c.without-left.ensures in
     subst (λ (s : Status). HasFewer v s) (sym c.with_dirs.ensures.value)
     (record { same = refl; fewer = λ d h. bit_element left v.directories d h (is_less left v.directories c.args.gone less d h).0 })
+
+pub returns-clause-left : goal.returns-clause-left
+returns-clause-left c =
+    let v = c.args.status.now in
+    let left = c.without-left.result in
+    let all : c.status.inside.dirs ≡ v.directories = ap (λ (s : Status). s.directories) c.status.view_is in
+    subst (λ (s : Status). IsWithout s.directories v.directories c.args.gone) (sym c.with_dirs.ensures.value) (subst (λ (n : ℕ). IsWithout left n c.args.gone) all c.without-left.ensures)

@@ -1,4 +1,5 @@
 use Rattle.group_engine.proofs.Endings.{on_true}
+use Rattle.disk_modes.proofs.Resized.{units_put}
 use Rattle.disk_modes.proofs.Steps.{goes_short, kept}
 use Rattle.disk_modes.proofs.resizing.put_if.Goals as goal
 
@@ -11,8 +12,13 @@ set_status-requires-clause-ready g c = λ mounted. (c.requires.takes mounted).1
 pub set_status-requires-clause-next : goal.set_status-requires-clause-next
 set_status-requires-clause-next g c = λ mounted. on_true c.args.may c.requires.next c.if-not-may.false
 
-pub returns-then-not-may : goal.returns-then-not-may
-returns-then-not-may g c = goes_short (kept c.args.m.now (g.B.Bay.state c.args.bay.now) c.requires.takes)
+pub returns-then-not-may-clause-goes : goal.returns-then-not-may-clause-goes
+returns-then-not-may-clause-goes g c = goes_short (kept c.args.m.now (g.B.Bay.state c.args.bay.now) c.requires.takes)
 
-pub returns : goal.returns
-returns g c = record { keeps = c.set_status.ensures.keeps; mounted = c.set_status.ensures.mounted; cause = c.set_status.ensures.cause }
+pub returns-clause-goes : goal.returns-clause-goes
+returns-clause-goes g c = record { keeps = c.set_status.ensures.keeps; mounted = c.set_status.ensures.mounted; cause = c.set_status.ensures.cause }
+
+pub returns-clause-done : goal.returns-clause-done
+returns-clause-done g c =
+    units_put c.args.asked.now c.args.m.now c.set_status.new.self c.args.next.now c.set_status.result c.set_status.ensures.tables c.set_status.ensures.recorded
+    (on_true c.args.may c.requires.next c.if-not-may.false).status c.requires.asked

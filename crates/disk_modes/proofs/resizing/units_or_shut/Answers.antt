@@ -5,9 +5,9 @@ use Rattle.group_engine.specs.Pending.{GoesOn}
 use Rattle.group_engine.proofs.Endings.{keeps_closed}
 use Rattle.disk_modes.proofs.resizing.units_or_shut.Goals as goal
 
-pub returns : goal.returns
-returns g c =
+pub returns-clause-goes : goal.returns-clause-goes
+returns-clause-goes g c =
     let s = g.B.Bay.state c.args.bay.now in
     let t = g.B.Bay.state c.put_units.new.bay in
     subst (λ (v : MountedGroup). GoesOn c.args.m.now (Err cause.NoMemory) v s t) (sym c.close.ensures)
-    (record { keeps = keeps_closed c.put_units.ensures.keeps; mounted = tt; cause = tt })
+    (record { keeps = keeps_closed c.put_units.ensures.goes.keeps; mounted = tt; cause = tt })
