@@ -1,11 +1,6 @@
 //! `asm IMAGE...` reads a script on standard input, runs its commands on images of disks, and answers each on standard output.
 #![tactic(auto)]
 
-#[cfg(test)]
-mod formats_reader;
-#[cfg(test)]
-mod tests;
-
 use asm_run::run;
 use bay_file::{FileBay, FileHost, StdSink, StdSource, SystemClock, hold_streams};
 use command_line::Notice;

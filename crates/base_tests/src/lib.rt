@@ -9,8 +9,6 @@ mod blocks;
 #[cfg(test)]
 mod headers;
 #[cfg(test)]
-mod layouts;
-#[cfg(test)]
 mod pages;
 #[cfg(test)]
 mod refusals;

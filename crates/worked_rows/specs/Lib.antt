@@ -1,0 +1,3 @@
+pub mod RuledBays
+pub mod RuledSound
+pub mod Untold

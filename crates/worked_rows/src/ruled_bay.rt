@@ -1,0 +1,148 @@
+// Disks in memory of which calls fail by what they are, and which keep a record of their calls.
+use crate::line::Kind;
+use crate::rules::{Call, Fate, Rule, fate_of};
+use bay::{Bay, BayError, Fault};
+use bay_mem::{MemBay, NoMemory};
+use std::alloc::Global;
+use std::cell::Cell;
+
+/// Disks in memory, the rules by which their calls fail, and the record of the calls of a run.
+#[derive(Drop)]
+pub struct RuledBay<'a> {
+    disks: MemBay,
+    rules: Vec<Rule>,
+    record: Vec<Call>,
+    stop: Option<u64>,
+    line: &'a Cell<u64>,
+}
+
+impl<'a> RuledBay<'a> {
+    ghost use Rattle.bay_mem.specs.MemState as mem;
+    ghost use Rattle.worked_rows.specs.Untold.{Stays};
+
+    /// Disks of zeros of these sizes by slot. The cell has the number of lines that were read of a script.
+    pub fn new(
+        alloc: Global,
+        sizes: &[Option<u64>],
+        line: &'a Cell<u64>,
+    ) -> Result<RuledBay<'a>, NoMemory> {
+        Ok(RuledBay {
+            disks: MemBay::new(alloc, sizes)?,
+            rules: Vec::new(alloc),
+            record: Vec::new(alloc),
+            stop: None,
+            line,
+        })
+    }
+
+    /// A run begins, with these rules.
+    pub fn begin_run(&mut self, rules: &[Rule]) -> Result<(), NoMemory> {
+        self.record.clear();
+        self.rules.clear();
+        self.rules.extend_from_slice(rules)?;
+        Ok(())
+    }
+
+    /// A run has ended: all is detached and there again, and no rule holds.
+    pub fn end_run(&mut self) {
+        self.rules.clear();
+        self.stop = None;
+        self.disks.restart();
+    }
+
+    pub fn set_absent(&mut self, slot: u32, absent: bool) {
+        self.disks.set_absent(slot, absent);
+    }
+
+    /// After so many calls more the run stops.
+    pub fn stop_after(&mut self, calls: u64)
+        ensures { Stays (mem.state_of self.old.disks) (mem.state_of self.new.disks) }
+    {
+        let last = self.disks.calls().saturating_add(calls);
+        self.stop = Some(last);
+        self.disks.stop_after(last);
+    }
+
+    /// The call of this number fails, counted from now.
+    pub fn fail_at(&mut self, call: u64) -> Result<(), NoMemory>
+        ensures { Stays (mem.state_of self.old.disks) (mem.state_of self.new.disks) }
+    {
+        let number = self.disks.calls().saturating_add(call);
+        self.disks.fail_at(number)
+    }
+
+    /// Whether the run was stopped.
+    pub fn is_stopped(&self) -> bool {
+        match self.stop {
+            Some(last) => self.disks.calls() > last,
+            None => false,
+        }
+    }
+
+    /// The calls of the run.
+    pub fn record(&self) -> &[Call] {
+        &self.record
+    }
+
+    // A call comes. Want of memory for the record or for a failure is not told: the row fails by what comes of it.
+    fn begin(&mut self, kind: Kind, slot: u32, bytes: u64)
+        ensures { Stays (mem.state_of self.old.disks) (mem.state_of self.new.disks) }
+    {
+        let call = Call {
+            line: self.line.get(),
+            slot,
+            kind,
+            bytes,
+        };
+        let _ = self.record.push(call);
+        match fate_of(&mut self.rules, call) {
+            Fate::IsDone => {}
+            Fate::Fails => {
+                let _ = self.fail_at(1);
+            }
+            Fate::Stops => self.stop_after(0),
+        }
+    }
+}
+
+impl Bay for RuledBay<'_> {
+    ghost use Rattle.worked_rows.specs.RuledBays.{state_of};
+    ghost use Rattle.worked_rows.specs.RuledSound.{sound};
+
+    ghost state = { state_of };
+
+    ghost sound = { sound };
+
+    fn attach(&mut self, slot: u32, path: &str) -> Result<u64, BayError> {
+        self.begin(Kind::Attach, slot, 0);
+        self.disks.attach(slot, path)
+    }
+
+    fn make(&mut self, slot: u32, path: &str, size: u64) -> Result<(), BayError> {
+        self.begin(Kind::Make, slot, 0);
+        self.disks.make(slot, path, size)
+    }
+
+    fn read(&mut self, slot: u32, at: u64, buf: &mut [u8]) -> Result<(), Fault> {
+        self.begin(Kind::Read, slot, 0);
+        self.disks.read(slot, at, buf)
+    }
+
+    fn write(&mut self, slot: u32, at: u64, bytes: &[u8]) -> Result<(), Fault> {
+        self.begin(Kind::Write, slot, bytes.len() as u64);
+        self.disks.write(slot, at, bytes)
+    }
+
+    fn sync(&mut self, slot: u32) -> Result<(), Fault> {
+        self.begin(Kind::Sync, slot, 0);
+        self.disks.sync(slot)
+    }
+
+    fn calls(&self) -> u64 {
+        self.disks.calls()
+    }
+
+    fn written(&self, slot: u32) -> u64 {
+        self.disks.written(slot)
+    }
+}
