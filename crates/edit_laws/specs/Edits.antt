@@ -25,7 +25,7 @@ use Rattle.group_files.specs.Edits.{IsCommitted}
 use Rattle.group_files.specs.GroupEdits.{IsEditPlan, IsRefusedAs}
 use Rattle.group_files.specs.declared.edit.GroupEdit.{GroupEdit}
 use Rattle.group_files.specs.declared.edit.GroupEdit.TheVariants.{Tree, Templates, SetAttribute}
-use Rattle.group_of.specs.Edits.{IsRefusedBeside, attribute_meant}
+use Rattle.group_of.specs.Edits.{IsRefusedBeside, IsWorldsRefusal, attribute_meant}
 
 -- The world's group after the edit, or why it is refused.
 abbrev pub edited_by : Group → GroupEdit → Result Group r.Refusal
@@ -44,11 +44,16 @@ EditLeadsTo s =
     (n : ℕ) (m : MountedGroup) (g : Group) (kept : Kept) (edit : GroupEdit) (put : List Entry) (gone : List Key) → TakesCommit n m s g kept → IsEditPlan m.catalog edit put gone
     → (h : Group) × (edited_by g edit ≡ Ok h) × LeadsTo n m put gone s g h kept
 
--- What refuses an edit, but for memory and blocks, is what the world refuses it by.
+-- Why an edit is refused, beside the world's answer: no other edit than one of names wants blocks.
+abbrev pub IsRefusedIn : Group → GroupEdit → Refusal → Type 0
+IsRefusedIn g (Tree edit) refusal = IsRefusedBeside (edited_by g (Tree edit)) refusal
+IsRefusedIn g (Templates edit) refusal = IsWorldsRefusal (edited_by g (Templates edit)) refusal
+IsRefusedIn g (SetAttribute name value) refusal = IsWorldsRefusal (edited_by g (SetAttribute name value)) refusal
+
+-- What refuses an edit of a mounted group is so in the world.
 abbrev pub EditIsRefused : BayState → Type 0
 EditIsRefused s =
-    (n : ℕ) (m : MountedGroup) (g : Group) (kept : Kept) (edit : GroupEdit) (refusal : Refusal) → Mounts n m s g kept → IsRefusedAs m.catalog edit refusal
-    → IsRefusedBeside (edited_by g edit) refusal
+    (n : ℕ) (m : MountedGroup) (g : Group) (kept : Kept) (edit : GroupEdit) (refusal : Refusal) → Mounts n m s g kept → IsRefusedAs m.catalog edit refusal → IsRefusedIn g edit refusal
 
 -- ---- while it is committed
 
