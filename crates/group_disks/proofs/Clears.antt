@@ -1,5 +1,5 @@
 -- What a mount ends of what a stop left undone, and by which faults it can't.
-use Rattle.std.proofs.Common.{◌≡◌, ◌⊎◌, ⊎_elim, ℕ, ◌≤◌, List, sym, ap, subst, ◌∙◌, Option, Some, arith}
+use Rattle.std.proofs.Common.{◌≡◌, ⊎_elim, ℕ, ◌≤◌, List, sym, ap, subst, ◌∙◌, Option, arith}
 use Rattle.std.proofs.lemmas.Option.{same_Some}
 use Rattle.bay.specs.Counts.{Rose}
 use Rattle.bay.specs.State.{BayState}

@@ -1,4 +1,4 @@
-use Rattle.group_disks.proofs.Brought.{brought_failed, brought_named, brought_nowhere, copy_clear}
+use Rattle.group_disks.proofs.Brought.{brought_named, brought_nowhere, copy_clear}
 use Rattle.group_disks.proofs.Drops.{nothing_done}
 use Rattle.group_disks.proofs.bringing.bring_up.Goals as goal
 
