@@ -34,13 +34,13 @@ loop-disk-preserved g c =
     let s = g.B.Bay.state c.args.bay.now in
     let m = g.B.Bay.state c.loop-disk.bay in
     elim c.if-has.branch [
-    | then-has+in_ok-bring_up w ↦ rw (w.bay-is, w.m-is) (record {
+      | then-has+in_ok-bring_up w ↦ rw (w.bay-is, w.m-is) (record {
         keeps = calls_keep before.keeps w.bring_up.ensures.keeps;
         mounted = w.in_ok-bring_up.ensures.mounted;
         brought = brought_more state c.args.m.now c.args.disks c.loop-disk.disk c.loop-disk.m w.bring_up.new.m s m (g.B.Bay.state w.bring_up.new.bay) w.bring_up.ensures.keeps before.brought
             (λ bit. brought_from state c.args.m.now c.loop-disk.m c.loop-disk.disk w.bring_up.new.m s m (g.B.Bay.state w.bring_up.new.bay) before.keeps w.in_ok-bring_up.ensures.brought);
       })
-    | else-has w ↦ rw (w.bay-is, w.m-is) (record {
+      | else-has w ↦ rw (w.bay-is, w.m-is) (record {
         keeps = before.keeps;
         mounted = before.mounted;
         brought = brought_more state c.args.m.now c.args.disks c.loop-disk.disk c.loop-disk.m c.loop-disk.m s m m (nothing_done c.loop-disk.m m (λ mounted. (before.keeps.whole mounted, before.keeps.ready mounted))) before.brought
