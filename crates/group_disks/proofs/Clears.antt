@@ -1,5 +1,5 @@
 -- What a mount ends of what a stop left undone, and by which faults it can't.
-use Rattle.std.proofs.Common.{◌≡◌, ◌⊎◌, ⊎_elim, ℕ, ◌≤◌, List, sym, ap, subst, ◌∙◌, Option, Some, arith}
+use Rattle.std.proofs.Common.{◌≡◌, ⊎_elim, ℕ, ◌≤◌, List, sym, ap, subst, ◌∙◌, Option, arith}
 use Rattle.std.proofs.lemmas.Option.{same_Some}
 use Rattle.bay.specs.Counts.{Rose}
 use Rattle.bay.specs.State.{BayState}
@@ -26,7 +26,7 @@ use Rattle.group_mount.specs.declared.error.MountError.TheVariants as error
 not_dismounted : (a : Access) (d : ℕ) → a ≡ access.Mounted → a ≡ access.Dismounted d → ⊥
 not_dismounted a d mounted dismounted = absurd cc
 
-dismount_clear : (old new : MountedGroup) (s t : BayState) (by : DiskRef) → IsMounted old → DismountCause old new s t by → IsClearCause old s t (refusal.Dismounted by)
+pub dismount_clear : (old new : MountedGroup) (s t : BayState) (by : DiskRef) → IsMounted old → DismountCause old new s t by → IsClearCause old s t (refusal.Dismounted by)
 dismount_clear old new s t (disk.Number d) mounted cause = ⊎_elim
     (λ before. absurd (not_dismounted old.access d mounted before))
     (λ now. (now.1.slot, now.1.at, now.1.rose)) cause

@@ -17,7 +17,7 @@ use Rattle.change_directory.specs.Places.{IsCopy}
 use Rattle.change_directory.specs.declared.copy.DirCopy.{DirCopy}
 use Rattle.directory_store.specs.Stores.{Stored}
 use Rattle.group_engine.specs.Making.{made}
-use Rattle.group_engine.specs.Mounts.{AreCopiesOf, IsCopyOf, IsOwn, IsReady, IsWhole, MountedGroup, slot_at}
+use Rattle.group_engine.specs.Mounts.{AreCopiesOf, IsCopyOf, IsOwn, IsWhole, MountedGroup, slot_at}
 use Rattle.group_engine.specs.declared.attached.Attached.{Attached}
 use Rattle.status_register.specs.Holders.{is_of}
 use Rattle.status_register.specs.Keeping as registers

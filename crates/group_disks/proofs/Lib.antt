@@ -25,6 +25,7 @@ pub mod Held
 pub mod MountedParts
 pub mod Spared
 pub mod Clears
+pub mod Brought
 pub mod Drops
 pub mod Makes
 pub mod Births

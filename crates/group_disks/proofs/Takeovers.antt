@@ -1,5 +1,5 @@
 -- How a group that was found is taken over, and what that leaves of other groups.
-use Rattle.std.proofs.Common.{◌≡◌, ℕ, ◌<◌, Bool, true, false, List, get_or, refl, sym, ap, subst, ◌∙◌, Option, None}
+use Rattle.std.proofs.Common.{◌≡◌, ℕ, ◌<◌, ◌≤◌, Bool, true, false, List, get_or, refl, sym, ap, subst, ◌∙◌, Option, None}
 use Rattle.bay.specs.Image.{Image, ChangesOnly, Same}
 use Rattle.bay.specs.State.{BayState}
 use Rattle.bay.specs.Moments.{Runs}
@@ -20,8 +20,11 @@ use Rattle.group_mount.specs.declared.quorum.MountOption.{MountOption}
 use Rattle.group_mount.specs.declared.quorum.Quorate.{Quorate}
 use Rattle.group_mount.specs.declared.recovering.Parts.{Parts}
 use Rattle.status_register.specs.declared.member.Member.{Member}
+use Rattle.status_register.specs.Registered.{AreNumbered}
+use Rattle.group_disks.specs.Bringing.{AreBrought, AreNamed, IsBrought}
 use Rattle.group_disks.specs.Holding.{IsHeldSlot, SameHeld, SparesHeld}
-use Rattle.group_disks.specs.Mounting.{IsMountCause, IsMountedBy, WasQuorate, free_disks, has_name, mounted_of, not_quorate, not_renewed, of_others}
+use Rattle.group_disks.specs.Mounting.{IsMountCause, IsMountedBy, IsRecovered, IsTakenOver, WasQuorate, free_disks, has_name, mounted_of, not_quorate, not_renewed, of_others}
+use Rattle.group_disks.proofs.Brought.{brought_since}
 use Rattle.group_disks.proofs.Held.{member_found, slots_free, slots_inside, there_left}
 use Rattle.group_disks.proofs.Spared.{change_held, same_held, spares_on, spares_some}
 
@@ -89,12 +92,36 @@ module _ (name : Bytes) (n : ℕ) (held : List ℕ) (option : MountOption) (foun
     pub was_quorate : (between later : B) (q : Quorate) → IsFound name n found s (state between) → IsQuorate option f q (state later) → WasQuorate state name n held option s
     was_quorate between later q was quorate = record { found = found; between = between; is = was; quorum = q; later = later; quorate = quorate_left q (state later) quorate }
 
+    pub taken_over : (between later : B) (q : Quorate) (now : ℕ) (parts : Parts) (m : MountedGroup) (set : ℕ) (t : BayState) → IsFound name n found s (state between)
+        → IsQuorate option f q (state later) → ArePartsOf q now parts t → m ≡ mounted_of parts → AreNamed q.survey.value q.survey.read set
+        → IsTakenOver state name n held option now m set s t
+    unfolding was_quorate
+    taken_over between later q now parts m set t was quorate are same named =
+        record { was = was_quorate between later q was quorate; parts = parts; are = are; group = same; named = named }
+
     pub renewed_cause : (between later : B) (q : Quorate) (t : BayState) (e : MountError) → IsFound name n found s (state between) → IsQuorate option f q (state later) → RecoverCause q e (state later) t
         → IsMountCause state name n held option s t e
     unfolding was_quorate
     renewed_cause between later q t e was quorate cause = not_renewed (record { was = was_quorate between later q was quorate; cause = cause })
 
+-- those that were read have numbers of disks
+pub read_numbered : (option : MountOption) (f : FoundDisks) (q : Quorate) (t : BayState) → IsQuorate option f q t → AreNumbered q.survey.read
+read_numbered option f q t quorate m h = quorate.quorum.survey.numbers m (quorate.quorum.survey.well.among m h)
+
 -- ---- what a stop left undone is ended
+
+module _ {B : Type 0} (state : B → BayState) (name : Bytes) (n : ℕ) (held : List ℕ) (option : MountOption) (now : ℕ) where
+  pub recovered : (old new : MountedGroup) (set : ℕ) (s : BayState) (at : B) (t : BayState) → IsTakenOver state name n held option now old set s (state at) → KeepsGroup old new (state at) t
+      → ((slot : ℕ) → s.faults slot ≤ (state at).faults slot) → AreBrought state old set 64 new (state at) t → IsRecovered state name n held option now new s t
+  recovered old new set s at t taken keeps later brought = record {
+    was = taken.was;
+    parts = taken.parts;
+    at = at;
+    are = taken.are;
+    keeps = subst (λ (k : MountedGroup). KeepsGroup k new (state at) t) taken.group keeps;
+    brought = λ d lt is. subst (λ (k : MountedGroup). IsBrought state k d new s t) taken.group
+        (brought_since state old d new s (state at) t later (brought d lt (taken.named d lt ∙ is)));
+  }
 
 module _ (name : Bytes) (n : ℕ) (held : List ℕ) (old new : MountedGroup) (s m t : BayState) (keeps : KeepsGroup old new m t) (mounted_by : IsMountedBy name held old m) where
   pub still_mounted : IsMounted new → IsMountedBy name held new t

@@ -1,6 +1,7 @@
 pub mod Holding
 pub mod FirstParts
 pub mod Clearing
+pub mod Bringing
 pub mod Mounting
 pub mod Dropping
 pub mod Making

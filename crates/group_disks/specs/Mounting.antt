@@ -6,11 +6,13 @@ use Rattle.asm_placement.specs.Among.{IsAmong}
 use Rattle.group_engine.specs.Making.{made}
 use Rattle.group_engine.specs.Mounts.{IsMounted, IsOwn, IsReady, IsWhole, MountedGroup}
 use Rattle.group_engine.specs.declared.attached.Attached.{Attached}
+use Rattle.group_engine.specs.Own.{KeepsGroup}
+use Rattle.group_disks.specs.Bringing.{AreNamed, IsBrought, is_named_in}
 use Rattle.group_disks.specs.Clearing.{IsLostCause}
 use Rattle.group_disks.specs.Holding.{IsHeldSlot}
 use Rattle.group_mount.specs.Founds.{FindCause, FoundDisks, IsFound, not_held}
 use Rattle.group_mount.specs.Quorum.{IsQuorate, QuorumCause}
-use Rattle.group_mount.specs.Recovering.{RecoverCause, is_named, name_in}
+use Rattle.group_mount.specs.Recovering.{ArePartsOf, RecoverCause, is_named, name_in}
 use Rattle.group_mount.specs.declared.error.MountError.{MountError}
 use Rattle.group_mount.specs.declared.error.MountError.TheVariants as error
 use Rattle.group_mount.specs.declared.quorum.MountOption.{MountOption}
@@ -49,11 +51,43 @@ pub record IsMountedBy (name : Bytes) (held : List ℕ) (m : MountedGroup) (stat
   pub whole : IsWhole m
   pub ready : IsReady m state
 
--- ---- causes
+-- ---- what is read
 
 -- the disks that were found, without those in slots that others hold
 abbrev pub free_disks : List ℕ → FoundDisks → FoundDisks
 free_disks held found = record found { headed = not_held held found.headed }
+
+-- The group was found, and is quorate in this state.
+pub record WasQuorate {B : Type 0} (state : B → BayState) (name : Bytes) (n : ℕ) (held : List ℕ) (option : MountOption) (s : BayState) : Type 0 where
+  pub found : FoundDisks
+  pub between : B
+  pub is : IsFound name n found s (state between)
+  pub quorum : Quorate
+  pub later : B
+  pub quorate : IsQuorate option (free_disks held found) quorum (state later)
+
+-- It is taken over, with this second: these are its parts in this state, and the set has the disks that were read whose directory copies
+-- the record that was read names.
+pub record IsTakenOver {B : Type 0} (state : B → BayState) (name : Bytes) (n : ℕ) (held : List ℕ) (option : MountOption) (now : ℕ) (m : MountedGroup) (set : ℕ)
+    (s t : BayState) : Type 0 where
+  pub was : WasQuorate state name n held option s
+  pub parts : Parts
+  pub are : ArePartsOf was.quorum now parts t
+  pub group : m ≡ mounted_of parts
+  pub named : AreNamed was.quorum.survey.value was.quorum.survey.read set
+
+-- The group that is mounted is the one that was taken over, in a state of the call. Of the directory copies that the record that was read
+-- names those on disks that were read are brought up.
+pub record IsRecovered {B : Type 0} (state : B → BayState) (name : Bytes) (n : ℕ) (held : List ℕ) (option : MountOption) (now : ℕ) (m : MountedGroup)
+    (s t : BayState) : Type 0 where
+  pub was : WasQuorate state name n held option s
+  pub parts : Parts
+  pub at : B
+  pub are : ArePartsOf was.quorum now parts (state at)
+  pub keeps : KeepsGroup (mounted_of parts) m (state at) t
+  pub brought : (d : ℕ) → d < 64 → is_named_in was.quorum.survey.value was.quorum.survey.read d ≡ true → IsBrought state (mounted_of parts) d m s t
+
+-- ---- causes
 
 -- the first of the disks of the id has the name
 abbrev pub has_name : FoundDisks → Bytes → Bool
@@ -71,15 +105,6 @@ pub record IsNotQuorate {B : Type 0} (state : B → BayState) (name : Bytes) (n 
   pub between : B
   pub is : IsFound name n found s (state between)
   pub cause : QuorumCause option (free_disks held found) e (state between) t
-
--- The group was found, and is quorate in this state.
-pub record WasQuorate {B : Type 0} (state : B → BayState) (name : Bytes) (n : ℕ) (held : List ℕ) (option : MountOption) (s : BayState) : Type 0 where
-  pub found : FoundDisks
-  pub between : B
-  pub is : IsFound name n found s (state between)
-  pub quorum : Quorate
-  pub later : B
-  pub quorate : IsQuorate option (free_disks held found) quorum (state later)
 
 -- Its record wasn't written anew.
 pub record IsNotRenewed {B : Type 0} (state : B → BayState) (name : Bytes) (n : ℕ) (held : List ℕ) (option : MountOption) (s t : BayState) (e : MountError) : Type 0 where

@@ -1,6 +1,7 @@
 //! The disks of a group: how a group comes to be on them, how it is mounted and goes, and how an image is made.
 #![tactic(auto)]
 
+mod bringing;
 mod choose;
 mod clearing;
 mod create;

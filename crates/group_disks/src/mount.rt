@@ -1,12 +1,16 @@
 //! A group is found by its name and mounted: its record is claimed and written anew, and what a stop left undone is ended.
-ghost use Rattle.std.specs.Prelude.{◌≡◌, ◌<◌, ◌≤◌, ℕ, None, length, IfErr, IfOk};
+ghost use Rattle.std.specs.Prelude.{◌≡◌, ◌<◌, ◌≤◌, ℕ, None, length, IfErr, IfOk, OnOk};
 ghost use Rattle.group_engine.specs.Frames.{StaysAttached};
-ghost use Rattle.group_engine.specs.Mounts.{IsOwn, IsWhole};
+ghost use Rattle.group_engine.specs.Mounts.{IsMounted, IsOwn, IsWhole, Takes};
+ghost use Rattle.group_engine.specs.Own.{KeepsGroup};
+ghost use Rattle.group_disks.specs.Bringing.{AreBrought};
+ghost use Rattle.group_disks.specs.Clearing.{IsClearCause};
 ghost use Rattle.group_disks.specs.Holding.{SparesHeld};
-ghost use Rattle.group_disks.specs.Mounting.{AreSmall, IsMountedBy, IsMountCause, WasQuorate, by_number, mounted_of};
+ghost use Rattle.group_disks.specs.Mounting.{AreSmall, IsMountedBy, IsMountCause, IsRecovered, IsTakenOver, WasQuorate, by_number, mounted_of};
 
+use crate::bringing::{bring_all, named_disks};
 use crate::clearing::{clean_up, refusal_of_commit};
-use asm_base::Name;
+use asm_base::{DiskSet, Name, Refusal};
 use bay::Bay;
 use group_engine::{Attached, Mounted};
 use group_mount::{Found, MountError, MountOption, Parts};
@@ -45,6 +49,14 @@ fn mounted_of(parts: Parts) -> Mounted
     Mounted::new(name, catalog, store, register, disks)
 }
 
+/// A group whose record is written anew, and the disks whose directory copies the record that was read named, as far as they were
+/// read.
+#[derive(Drop)]
+struct Taken {
+    group: Mounted,
+    named: DiskSet,
+}
+
 /// Finds the group of a name and writes its record anew. Images in the slots `held` are left out. What a stop left undone of
 /// it isn't ended yet.
 fn take_over<B: Bay>(
@@ -55,11 +67,12 @@ fn take_over<B: Bay>(
     option: MountOption,
     now: u64,
     held: &[u32],
-) -> Result<Mounted, MountError>
+) -> Result<Taken, MountError>
     requires few { length paths.now ≤ 512 }
-    ensures mounted { IfOk result (λ m. IsMountedBy name.now held.now m (B.state bay.new)) }
+    ensures mounted { IfOk result (λ taken. IsMountedBy name.now held.now taken.group (B.state bay.new)) }
     ensures cause { IfErr result (IsMountCause B.state name.now (length paths.now) held.now option (B.state bay.old) (B.state bay.new)) }
-    ensures inside { IfOk result (λ m. (slot : ℕ) → IsOwn m slot → slot < length paths.now) }
+    ensures inside { IfOk result (λ taken. (slot : ℕ) → IsOwn taken.group slot → slot < length paths.now) }
+    ensures taken { IfOk result (λ taken. IsTakenOver B.state name.now (length paths.now) held.now option now taken.group taken.named (B.state bay.old) (B.state bay.new)) }
     ensures was { IfOk result (λ _. WasQuorate B.state name.now (length paths.now) held.now option (B.state bay.old)) }
     ensures attached { StaysAttached (B.state bay.old) (B.state bay.new) }
     ensures spares { SparesHeld held.now (length paths.now) (B.state bay.old) (B.state bay.new) }
@@ -70,14 +83,38 @@ fn take_over<B: Bay>(
         return Err(MountError::NoGroup);
     }
     let quorate = found.quorate(alloc, bay, option)?;
+    let named = named_disks(quorate.survey.value(), quorate.survey.seen());
     let parts = quorate.recover(alloc, bay, now)?;
-    Ok(mounted_of(parts))
+    Ok(Taken {
+        group: mounted_of(parts),
+        named,
+    })
+}
+
+/// Brings the directory copies of these disks up, and then ends what a stop left undone.
+fn finish<B: Bay>(
+    alloc: Global,
+    bay: &mut B,
+    m: &mut Mounted,
+    named: DiskSet,
+) -> Result<(), Refusal>
+    requires mounted { IsMounted m.old }
+    requires takes { Takes m.old (B.state bay.old) }
+    ensures keeps { KeepsGroup m.old m.new (B.state bay.old) (B.state bay.new) }
+    ensures mounted { OnOk result (IsMounted m.new) }
+    ensures brought { OnOk result (AreBrought B.state m.old named 64 m.new (B.state bay.old) (B.state bay.new)) }
+    ensures ended { OnOk result (m.new.catalog.tables.operations.pending ≡ None) }
+    ensures cause { IfErr result (IsClearCause m.old (B.state bay.old) (B.state bay.new)) }
+{
+    bring_all(alloc, bay, m, named)?;
+    clean_up(alloc, bay, m)
 }
 
 /// Mounts the group of a name. Images in the slots `held` are attached to other groups, and are no members. The refusals are
 /// tried in this order: NoGroup, TwoGroups, NoMajority, Damaged in a claim or status body, DirectoriesLost, Damaged in the
 /// directories, MissingDisk where the mount isn't forced, NoMajority at the claim, Dead where too few disks took the record
-/// anew or no directory copy a commit. NoMemory comes at any point.
+/// anew or no directory copy a commit. NoMemory comes at any point. A directory copy that lags behind is brought up, where its
+/// disk was read and takes it.
 pub fn mount_group<B: Bay>(
     alloc: Global,
     bay: &mut B,
@@ -89,6 +126,8 @@ pub fn mount_group<B: Bay>(
 ) -> Result<Mounted, MountError>
     requires few { length paths.now ≤ 512 }
     ensures mounted { IfOk result (λ m. IsMountedBy name.now held.now m (B.state bay.new)) }
+    // The record that was read is written anew, and each directory copy that it named on a disk that was read is named again.
+    ensures taken { IfOk result (λ m. IsRecovered B.state name.now (length paths.now) held.now option now m (B.state bay.old) (B.state bay.new)) }
     // What a stop left undone is ended.
     ensures ended { IfOk result (λ m. m.catalog.tables.operations.pending ≡ None) }
     ensures cause { IfErr result (IsMountCause B.state name.now (length paths.now) held.now option (B.state bay.old) (B.state bay.new)) }
@@ -96,8 +135,10 @@ pub fn mount_group<B: Bay>(
     ensures attached { StaysAttached (B.state bay.old) (B.state bay.new) }
     ensures spares { SparesHeld held.now (length paths.now) (B.state bay.old) (B.state bay.new) }
 {
-    let mut m = take_over(alloc, bay, paths, name, option, now, held)?;
-    match clean_up(alloc, bay, &mut m) {
+    let taken = take_over(alloc, bay, paths, name, option, now, held)?;
+    let named = taken.named;
+    let mut m = taken.group;
+    match finish(alloc, bay, &mut m, named) {
         Ok(()) => Ok(m),
         Err(refusal) => Err(refusal_of_commit(&m, refusal)),
     }

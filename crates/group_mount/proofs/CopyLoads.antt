@@ -1,5 +1,5 @@
 -- The directory copies that a mount loads.
-use Rattle.std.proofs.Common.{◌≡◌, ◌≢◌, ◌⊎◌, inl, inr, ⊎_elim, ℕ, ◌*◌, ◌≤◌, Bool, true, ◌&&◌, List, [], ◌∷◌, refl, sym, ap, subst, ◌∙◌, Option, Some, None, IsSome, IsTrue, unwrap_or, arith, ◌==◌}
+use Rattle.std.proofs.Common.{◌≡◌, inl, inr, ⊎_elim, ℕ, ◌*◌, ◌≤◌, true, ◌&&◌, List, [], ◌∷◌, refl, sym, ap, subst, ◌∙◌, Option, None, unwrap_or, arith, ◌==◌}
 use Rattle.std.specs.Prelude.{nat_le}
 use Rattle.std.proofs.lemmas.Bool.{cond_both, and_parts, eqb-true, leb-true}
 use Rattle.std.proofs.lemmas.Option.{same_Some}
@@ -14,7 +14,7 @@ use Rattle.asm_formats.specs.Status.{Status, Entry, entry_of}
 use Rattle.asm_placement.specs.Among.{IsAmong}
 use Rattle.asm_images.proofs.Members.{member_shape}
 use Rattle.change_directory.specs.declared.copy.DirCopy.{DirCopy}
-use Rattle.directory_store.specs.Copies.{AreApart, AreNamed, IsApartFrom, IsNamed, IsSlotOf}
+use Rattle.directory_store.specs.Copies.{AreApart, AreNamed, IsNamed, IsSlotOf}
 use Rattle.directory_store.specs.Loading.{AreDurable as AreSettled}
 use Rattle.directory_store.specs.Stores.{HaveOneSize}
 use Rattle.status_register.specs.Holders.{is_of}
@@ -23,6 +23,7 @@ use Rattle.status_register.proofs.Holding.{entry_birth}
 use Rattle.status_register.proofs.Meeting.{found}
 use Rattle.group_mount.specs.Alike.{first_stranger}
 use Rattle.group_mount.specs.Finding.{AreApart as AreApartDisks, AreThere}
+use Rattle.group_mount.specs.Missing.{has_units}
 use Rattle.group_mount.specs.NamedCopies.{copy_of, has_slot, is_named_copy, named_copies}
 use Rattle.group_mount.specs.Syncing.{AreDurable}
 use Rattle.group_mount.specs.Verdicts.{IsSlotIn, member_of}
@@ -49,21 +50,24 @@ module _ (id : ℕ) (read : List Member) (r : Status) where
     pub seen : has_slot read disk.slot ≡ true
     pub named : has_bit r.directories disk.header.number ≡ true
     pub entry : is_of r.entries (member_of disk) ≡ true
+    pub units : has_units r.entries disk ≡ true
     pub long : has_region disk.header.shape.dir_blocks disk.size ≡ true
 
   parts : (h : Headed) (hs : List Headed) (c : DirCopy) → c ≡ copy_of h → IsAmong hs h → is_named_copy id read r h ≡ true → IsFrom hs c
   parts h hs c same among named =
-      let a = and_parts (h.header.id == id) (has_slot read h.slot && (has_bit r.directories h.header.number && (is_of r.entries (member_of h) && has_region h.header.shape.dir_blocks h.size))) named in
-      let b = and_parts (has_slot read h.slot) (has_bit r.directories h.header.number && (is_of r.entries (member_of h) && has_region h.header.shape.dir_blocks h.size)) a.1 in
-      let d = and_parts (has_bit r.directories h.header.number) (is_of r.entries (member_of h) && has_region h.header.shape.dir_blocks h.size) b.1 in
-      let e = and_parts (is_of r.entries (member_of h)) (has_region h.header.shape.dir_blocks h.size) d.1 in
-      record { disk = h; among = among; copy = same; own = eqb-true h.header.id id a.0; seen = b.0; named = d.0; entry = e.0; long = e.1 }
+      let region = has_region h.header.shape.dir_blocks h.size in
+      let a = and_parts (h.header.id == id) (has_slot read h.slot && (has_bit r.directories h.header.number && (is_of r.entries (member_of h) && (has_units r.entries h && region)))) named in
+      let b = and_parts (has_slot read h.slot) (has_bit r.directories h.header.number && (is_of r.entries (member_of h) && (has_units r.entries h && region))) a.1 in
+      let d = and_parts (has_bit r.directories h.header.number) (is_of r.entries (member_of h) && (has_units r.entries h && region)) b.1 in
+      let e = and_parts (is_of r.entries (member_of h)) (has_units r.entries h && region) d.1 in
+      let f = and_parts (has_units r.entries h) region e.1 in
+      record { disk = h; among = among; copy = same; own = eqb-true h.header.id id a.0; seen = b.0; named = d.0; entry = e.0; units = f.0; long = f.1 }
 
   pub copy_from : (hs : List Headed) (c : DirCopy) → IsAmong (named_copies id read r hs) c → IsFrom hs c
   copy_from [] c h = absurd h
   copy_from (x ∷ xs) c h =
       let later : IsAmong (named_copies id read r xs) c → IsFrom (x ∷ xs) c =
-      λ k. let f = copy_from xs c k in record { disk = f.disk; among = inr f.among; copy = f.copy; own = f.own; seen = f.seen; named = f.named; entry = f.entry; long = f.long } in
+      λ k. let f = copy_from xs c k in record { disk = f.disk; among = inr f.among; copy = f.copy; own = f.own; seen = f.seen; named = f.named; entry = f.entry; units = f.units; long = f.long } in
       cond_both (is_named_copy id read r x) (copy_of x ∷ named_copies id read r xs) (named_copies id read r xs) (λ (l : List DirCopy). IsAmong l c → IsFrom (x ∷ xs) c)
       (λ is a. ⊎_elim (λ same. parts x (x ∷ xs) c same (inl refl) is) later a) (λ no a. later a) h
 

@@ -1,5 +1,5 @@
 -- The entries of the record that a mount writes anew.
-use Rattle.std.proofs.Common.{◌≡◌, inl, inr, ⊎_elim, ℕ, ◌+◌, ◌<◌, ◌^◌, Bool, true, false, cond, ◌&&◌, not, List, [], ◌∷◌, length, map, take, set, get_or, refl, sym, ap, subst, ◌∙◌, arith, Option, Some, None}
+use Rattle.std.proofs.Common.{◌≡◌, ℕ, ◌+◌, ◌<◌, ◌^◌, Bool, true, false, cond, ◌&&◌, not, List, [], ◌∷◌, length, map, take, set, get_or, refl, sym, ap, subst, ◌∙◌, Option, Some, None}
 use Rattle.std.specs.Prelude.{is_some}
 use Rattle.std.specs.List.{list_all}
 use Rattle.std.specs.Option.{option_map}
@@ -8,16 +8,15 @@ use Rattle.std.proofs.lemmas.List.{map_more, take_more_set}
 use Rattle.asm_group.specs.declared.Mode.{Mode}
 use Rattle.asm_group.specs.declared.Mode.TheVariants.{Online, Offline, Syncing, Dropping, Forced}
 use Rattle.asm_formats.specs.Sets.{elements, has_bit}
-use Rattle.asm_formats.specs.Status.{Entry, Status, ascends_from, entry_of, has_entry, have_entries, is_entry, is_status}
+use Rattle.asm_formats.specs.Status.{Entry, Status, ascends_from, entry_of, has_entry, is_entry, is_status}
 use Rattle.asm_placement.specs.Modes.{is_forced, is_online, serves}
-use Rattle.asm_placement.specs.Partners.{partner_set, with_partners}
+use Rattle.asm_placement.specs.Partners.{partner_set}
 use Rattle.asm_images.specs.RecordLaws.{bare}
 use Rattle.status_table.specs.Rules.{number_of}
 use Rattle.status_table.proofs.Allowed.{entry_fits, entry_is, parts_of, parts_are}
 use Rattle.status_table.proofs.Kept.{kept_more}
 use Rattle.group_mount.specs.Missing.{has_disk, is_missing}
 use Rattle.group_mount.specs.NextRecord.{entry_after, moded}
-use Rattle.group_mount.specs.Renewing.{Renews}
 use Rattle.group_mount.specs.declared.quorum.Quorate.{Quorate}
 use Rattle.group_mount.proofs.Bare.{same_entry}
 

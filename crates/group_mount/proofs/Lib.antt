@@ -26,4 +26,5 @@ pub mod PartnersAnew
 pub mod NextRecords
 pub mod Catalogs
 pub mod Fronts
+pub mod Owns
 pub mod Recovered

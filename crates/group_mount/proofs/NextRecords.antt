@@ -1,5 +1,5 @@
 -- The record that a mount writes anew is made from what was read.
-use Rattle.std.proofs.Common.{◌≡◌, inl, inr, ⊎_elim, ℕ, zero, suc, ◌+◌, ◌<◌, ◌≤◌, ◌^◌, Bool, true, false, cond, ◌||◌, ◌&&◌, ◌==◌, ◌-◌, List, [], ◌∷◌, length, get_or, take, drop, map, refl, sym, ap, subst, ◌∙◌, Option, Some, None, arith}
+use Rattle.std.proofs.Common.{◌≡◌, inl, inr, ⊎_elim, ℕ, zero, suc, ◌+◌, ◌<◌, ◌≤◌, Bool, true, false, cond, ◌||◌, ◌&&◌, ◌==◌, ◌-◌, List, [], ◌∷◌, length, get_or, take, drop, map, refl, sym, ap, subst, ◌∙◌, Some, arith}
 use Rattle.std.specs.Prelude.{is_some}
 use Rattle.std.specs.List.{list_all, range_with_len}
 use Rattle.std.specs.Option.{option_map}
@@ -9,13 +9,12 @@ use Rattle.asm_base.proofs.Sets.{no_bit}
 use Rattle.asm_formats.specs.Sets.{elements, has_bit, most_disks}
 use Rattle.asm_formats.specs.Status.{Entry, Status, entry_of, has_entry, have_entries, is_entry}
 use Rattle.asm_placement.specs.Among.{IsAmong}
-use Rattle.asm_placement.specs.Partners.{HasPartners, partner_set, with_partners}
+use Rattle.asm_placement.specs.Partners.{HasPartners, partner_set}
 use Rattle.asm_placement.proofs.Bits.{set_of_is}
 use Rattle.asm_placement.proofs.Membership.{among_filter, among_filtered, filter_out, map_among}
-use Rattle.asm_images.specs.RecordLaws.{bare}
 use Rattle.change_directory.specs.declared.copy.DirCopy.{DirCopy}
 use Rattle.directory_store.specs.Stores.{has_disk}
-use Rattle.directory_store.proofs.Present.{disk_has, has_of_disk}
+use Rattle.directory_store.proofs.Present.{has_of_disk}
 use Rattle.directory_store.proofs.ReadingCopies.{part_among}
 use Rattle.status_register.specs.Holders.{is_of}
 use Rattle.status_register.specs.Registered.{is_birth}

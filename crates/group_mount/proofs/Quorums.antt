@@ -1,17 +1,16 @@
 -- What was surveyed and loaded lasts over calls that leave the disks.
-use Rattle.std.proofs.Common.{◌≡◌, ◌⊎◌, inl, inr, ⊎_elim, ℕ, ◌<◌, List, length, sym, ap, subst, ◌∙◌, Some, None, Result, Ok, Err, IfOk, IfErr, IsTrue}
+use Rattle.std.proofs.Common.{◌≡◌, inl, inr, ⊎_elim, ℕ, ◌<◌, List, length, sym, ap, subst, ◌∙◌, Some, None, Result, Ok, Err, IfOk, IfErr, IsTrue}
 use Rattle.std.specs.Prelude.{MatchResult}
 use Rattle.std.specs.List.{list_all}
 use Rattle.std.proofs.lemmas.Option.{same_Some}
 use Rattle.bay.specs.Image.{Image, Same}
 use Rattle.bay.specs.State.{BayState, KeepsAttached}
-use Rattle.bay.specs.Counts.{Rose}
 use Rattle.bay.specs.Moments.{Runs, NowOnly}
 use Rattle.bay.proofs.Calls.{stops}
 use Rattle.asm_placement.specs.Among.{IsAmong}
 use Rattle.change_directory.specs.declared.copy.DirCopy.{DirCopy}
 use Rattle.directory_store.specs.Loading.{HasBehind, HasNumber, HasTakenTwins, HasTwins, IsLeastOf, LoadCause}
-use Rattle.directory_store.specs.Reading.{AreUndamaged, HasDamage, IsFirstDamaged, IsUndamaged, IsUnread, RoseOn}
+use Rattle.directory_store.specs.Reading.{HasDamage, IsFirstDamaged, IsUndamaged, IsUnread, RoseOn}
 use Rattle.directory_store.specs.declared.error.LoadError.{LoadError}
 use Rattle.directory_store.specs.declared.error.LoadError.TheVariants.{DirectoriesLost, Damaged, NoMemory}
 use Rattle.change_directory.specs.Formatting.{AreShut}

@@ -1,5 +1,5 @@
 -- Attached disks of a record's sets are members that were claimed on.
-use Rattle.std.proofs.Common.{ℕ, zero, suc, ◌≤◌, ◌+◌, ◌&&◌, ◌||◌, ◌==◌, List, [], ◌∷◌, ◌++◌, length, get_or, Option, Some, replicate, None, subst, sym, arith}
+use Rattle.std.proofs.Common.{ℕ, zero, suc, ◌≤◌, ◌&&◌, ◌||◌, ◌==◌, List, [], ◌∷◌, length, get_or, Option, Some, replicate, None, arith}
 use Rattle.std.proofs.lemmas.Bool.{cond_both}
 use Rattle.std.proofs.lemmas.List.{length-append}
 use Rattle.asm_formats.specs.Status.{Status}

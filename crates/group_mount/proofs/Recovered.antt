@@ -1,7 +1,7 @@
 -- The parts of a mounted group say the same.
-use Rattle.std.proofs.Common.{◌≡◌, inl, inr, ⊎_elim, ℕ, ◌<◌, Bool, true, false, cond, ◌&&◌, ◌==◌, List, [], ◌∷◌, get_or, map, replicate, refl, sym, ap, subst, ◌∙◌, Option, Some, None, arith, IsTrue}
+use Rattle.std.proofs.Common.{◌≡◌, inl, inr, ⊎_elim, ℕ, ◌<◌, true, ◌==◌, List, [], ◌∷◌, get_or, replicate, refl, sym, ap, subst, ◌∙◌, Option, Some, None, arith, IsTrue}
 use Rattle.std.specs.Option.{option_map}
-use Rattle.std.proofs.lemmas.Bool.{and_parts, cond_both, cond-true, eq-eqb, eqb-true}
+use Rattle.std.proofs.lemmas.Bool.{cond_both, cond-true, eq-eqb, eqb-true}
 use Rattle.std.proofs.lemmas.Option.{same_Some}
 use Rattle.bay.specs.Image.{ChangesOnly}
 use Rattle.bay.specs.State.{BayState, KeepsAttached}
@@ -12,29 +12,23 @@ use Rattle.asm_formats.specs.Status.{Entry, Status, entry_of, is_status}
 use Rattle.asm_group.specs.Shape.{Shape, is_shape}
 use Rattle.asm_placement.specs.Among.{IsAmong}
 use Rattle.asm_images.specs.Copies.{is_kept}
-use Rattle.asm_images.specs.RecordLaws.{bare}
 use Rattle.asm_images.proofs.Members.{member_shape}
 use Rattle.change_directory.specs.declared.copy.DirCopy.{DirCopy}
-use Rattle.directory_store.specs.Stores.{Keeps, has_disk}
+use Rattle.directory_store.specs.Stores.{Keeps}
 use Rattle.directory_store.proofs.Present.{disk_has, has_of_disk}
 use Rattle.directory_store.proofs.Storing.{keeps_elsewhere}
-use Rattle.status_register.specs.Answers.{Surveyed}
-use Rattle.status_register.specs.Holders.{attached_to, is_of, numbered}
-use Rattle.status_register.specs.Reaching.{Reaches}
-use Rattle.status_register.specs.Registered.{AreNumbered, Registered, all_placed, is_birth, registered}
-use Rattle.status_register.specs.Surveys.{missing}
+use Rattle.status_register.specs.Holders.{is_of, numbered}
+use Rattle.status_register.specs.Registered.{AreNumbered, Registered, all_placed, registered}
+use Rattle.status_register.specs.Surveys.{missing, shortfall}
 use Rattle.status_register.specs.Tallies.{HaveSlots, IsSlotOf}
 use Rattle.status_register.specs.Writes.{first_register}
 use Rattle.status_register.specs.declared.member.Member.{Member}
 use Rattle.status_register.proofs.Filling.{still_slots}
 use Rattle.status_register.proofs.Holding.{apart_list, entry_birth}
 use Rattle.status_register.proofs.Placing.{placed_good, placed_is, placed_of}
-use Rattle.status_register.proofs.Reaching.{more_reach}
-use Rattle.group_mount.specs.Alike.{first_stranger, shape_in}
-use Rattle.group_mount.specs.Finding.{AreThere}
 use Rattle.group_mount.specs.NextRecord.{IsNextRecord}
 use Rattle.group_mount.specs.Quorum.{IsCatalogIn, IsQuorum}
-use Rattle.group_mount.specs.Recovering.{AreAttachedCopies, AreDisksOf, ArePartsOf, DeadCause, IsAnew, IsAttachedCopy, IsPlaced, IsRegisterAnew, MayRenew, RecoverCause, RefusesAnew, StandsAnew, disks_with, is_own}
+use Rattle.group_mount.specs.Recovering.{AnewCause, AreAttachedCopies, AreDisksOf, ArePartsOf, DeadCause, IsAnew, IsAttachedCopy, IsPlaced, IsRegisterAnew, IsShortRefusal, MayRenew, RecoverCause, RefusesAnew, StandsAnew, disks_with, is_own, own_members}
 use Rattle.group_mount.specs.Renewing.{Renews}
 use Rattle.group_mount.specs.Verdicts.{IsSlotIn, member_of, members_with}
 use Rattle.group_mount.specs.Writing.{FrontOf, RenewCause}
@@ -43,18 +37,20 @@ use Rattle.group_mount.specs.declared.error.MountError.TheVariants as error
 use Rattle.group_mount.specs.declared.finding.Headed.{Headed}
 use Rattle.group_mount.specs.declared.quorum.Quorate.{Quorate}
 use Rattle.group_mount.specs.declared.recovering.Anew.{Anew}
-use Rattle.group_mount.specs.declared.recovering.Parts.{Parts}
 use Rattle.group_mount.specs.declared.writing.RenewError.{RenewError}
 use Rattle.group_mount.specs.declared.writing.RenewError.TheVariants as renew
 use Rattle.group_mount.proofs.Alikes.{once, one_shape, shape_from}
-use Rattle.group_mount.proofs.Bare.{same_entry}
 use Rattle.group_mount.proofs.Catalogs.{catalog_under}
 use Rattle.group_mount.proofs.Choices.{members_attached}
 use Rattle.group_mount.proofs.Fronts.{front_region, front_runs}
 use Rattle.group_mount.proofs.NextRecords.{element_bit, element_small, from, in_elements, next_renews}
-use Rattle.group_mount.proofs.Reaching.{attached_among}
+use Rattle.group_mount.proofs.Owns.{is_owned, own_from, own_with, owned, owns_apart, same_members, same_own}
+use Rattle.group_mount.proofs.Renewing.{renewed_follows}
 use Rattle.group_mount.proofs.Searches.{there_attached}
-use Rattle.group_mount.proofs.Surveyed.{header_number, members_apart}
+use Rattle.group_mount.proofs.Surveyed.{header_number}
+
+fewer_slots : (state : BayState) (some more : List Member) → ((m : Member) → IsAmong some m → IsAmong more m) → HaveSlots state more → HaveSlots state some
+fewer_slots state some more among have m h = have m (among m h)
 
 -- ---- the members of an id
 
@@ -77,50 +73,37 @@ own_among id (x ∷ xs) k (inr h) own =
     let later = own_among id xs k h own in
     cond_both (x.header.id == id) (member_of x ∷ members_with id xs) (members_with id xs) (λ (l : List Member). IsAmong l (member_of k)) (λ is. inr later) (λ no. later)
 
--- those that are disks of entries, with their sizes
+-- those that are attached, with their sizes
 record IsOwnDisk (id : ℕ) (entries : List Entry) (hs : List Headed) (x : Member × ℕ) : Type 0 where
   disk : Headed
   among : IsAmong hs disk
-  own : disk.header.id ≡ id
-  entry : is_of entries (member_of disk) ≡ true
+  own : is_own id entries disk ≡ true
   is : x ≡ (member_of disk, disk.size)
 
 disk_from : (id : ℕ) (entries : List Entry) (hs : List Headed) (x : Member × ℕ) → IsAmong (disks_with id entries hs) x → IsOwnDisk id entries hs x
 disk_from id entries [] x h = absurd h
 disk_from id entries (k ∷ hs) x h =
     let later : IsAmong (disks_with id entries hs) x → IsOwnDisk id entries (k ∷ hs) x =
-    λ a. let d = disk_from id entries hs x a in record { disk = d.disk; among = inr d.among; own = d.own; entry = d.entry; is = d.is } in
+    λ a. let d = disk_from id entries hs x a in record { disk = d.disk; among = inr d.among; own = d.own; is = d.is } in
     cond_both (is_own id entries k) ((member_of k, k.size) ∷ disks_with id entries hs) (disks_with id entries hs)
     (λ (l : List (Member × ℕ)). IsAmong l x → IsOwnDisk id entries (k ∷ hs) x)
-    (λ is a. ⊎_elim
-    (λ same. let p = and_parts (k.header.id == id) (is_of entries (member_of k)) is in
-    record { disk = k; among = inl refl; own = eqb-true k.header.id id p.0; entry = p.1; is = same })
-    later a)
+    (λ is a. ⊎_elim (λ same. record { disk = k; among = inl refl; own = is; is = same }) later a)
     (λ no. later) h
 
-disk_among : (id : ℕ) (entries : List Entry) (hs : List Headed) (k : Headed) → IsAmong hs k → k.header.id ≡ id → is_of entries (member_of k) ≡ true
+disk_among : (id : ℕ) (entries : List Entry) (hs : List Headed) (k : Headed) → IsAmong hs k → is_own id entries k ≡ true
     → IsAmong (disks_with id entries hs) (member_of k, k.size)
-disk_among id entries [] k h own entry = absurd h
-disk_among id entries (x ∷ hs) k (inl same) own entry =
+disk_among id entries [] k h own = absurd h
+disk_among id entries (x ∷ hs) k (inl same) own =
     subst (λ (l : List (Member × ℕ)). IsAmong l (member_of k, k.size))
     (sym (cond-true (is_own id entries x) ((member_of x, x.size) ∷ disks_with id entries hs) (disks_with id entries hs)
-    (ap (is_own id entries) (sym same) ∙ (λ i. eq-eqb k.header.id id own i && entry i))))
+    (ap (is_own id entries) (sym same) ∙ own)))
     (inl (ap (λ (y : Headed). (member_of y, y.size)) same))
-disk_among id entries (x ∷ hs) k (inr h) own entry =
-    let later = disk_among id entries hs k h own entry in
+disk_among id entries (x ∷ hs) k (inr h) own =
+    let later = disk_among id entries hs k h own in
     cond_both (is_own id entries x) ((member_of x, x.size) ∷ disks_with id entries hs) (disks_with id entries hs)
     (λ (l : List (Member × ℕ)). IsAmong l (member_of k, k.size)) (λ is. inr later) (λ no. later)
 
--- ---- entries of the same disks
-
-same_birth : (o p : Option Entry) → option_map bare o ≡ option_map bare p → option_map (λ (e : Entry). e.birth) o ≡ option_map (λ (e : Entry). e.birth) p
-same_birth None None e = refl
-same_birth None (Some y) e = absurd cc
-same_birth (Some x) None e = absurd cc
-same_birth (Some x) (Some y) e = ap (λ (b : ℕ × ℕ × ℕ × Bool). Some b.1) (same_Some (bare x) (bare y) e)
-
-same_is_of : (xs ys : List Entry) (m : Member) → map bare xs ≡ map bare ys → is_of xs m ≡ is_of ys m
-same_is_of xs ys m e = ap (λ (o : Option ℕ). is_birth o m.birth) (same_birth (entry_of xs m.number) (entry_of ys m.number) (same_entry xs ys m.number e))
+-- ---- what is written
 
 -- a record as it is written renews what the record does
 numbered_renews : (r next : Status) (epoch turn : ℕ) → Renews r next → Renews r (record next { epoch = epoch; turn = turn })
@@ -136,8 +119,6 @@ numbered_renews r next epoch turn n = record {
   fewer = n.fewer;
 }
 
--- ---- what is written
-
 module _ (q : Quorate) (s : BayState) (quorum : IsQuorum q s) where
   abbrev hs : List Headed
   hs = q.headed.items
@@ -145,18 +126,29 @@ module _ (q : Quorate) (s : BayState) (quorum : IsQuorum q s) where
   abbrev ms : List Member
   ms = members_with q.id q.headed.items
 
-  pub numbers : AreNumbered ms
-  numbers m h =
-      let k = own_of q.id hs m h in
+  -- those that are attached by a record
+  abbrev own : Status → List Member
+  own r = own_members q.id r.entries q.headed.items
+
+  own_in : (r : Status) (m : Member) → IsAmong (own r) m → IsAmong ms m
+  own_in r m h =
+      let k = own_from q.id r.entries hs m h in
+      subst (λ (x : Member). IsAmong ms x) (sym k.2) (own_among q.id hs k.0 k.1 (owned q.id r.entries k.0 k.3).id_is)
+
+  numbers : (r : Status) → AreNumbered (own r)
+  numbers r m h =
+      let k = own_of q.id hs m (own_in r m h) in
       omega (arith, ap (λ (x : Member). x.number) k.2, header_number k.0.header (quorum.there.allowed k.0 k.1).header)
 
-  pub may_renew : (next : Status) → IsTrue (is_status next) → Renews q.survey.value next → next.id ≡ q.survey.value.id → MayRenew q.survey next ms s
-  may_renew next ok renews group = record {
-    slots = members_attached q.id hs s (there_attached q.slots hs s quorum.there);
-    apart = apart_list ms (members_apart q.id hs quorum.there.apart);
-    numbers = numbers;
-    among = quorum.among;
+  pub may_renew : (next : Status) → IsTrue (is_status next) → Renews q.survey.value next → next.id ≡ q.survey.value.id → missing (own next) (Some next) ≡ None → MayRenew q.survey next (own next) s
+  may_renew next ok renews group enough = record {
+    slots = fewer_slots s (own next) ms (own_in next) (members_attached q.id hs s (there_attached q.slots hs s quorum.there));
+    apart = apart_list (own next) (owns_apart q.id next.entries hs quorum.there.apart);
+    numbers = numbers next;
+    enough = enough;
+    surveyed = quorum.survey.slots;
     own = quorum.survey.apart;
+    small = quorum.survey.numbers;
     status = ok;
     group = group;
     renews = renews;
@@ -181,33 +173,32 @@ module _ (q : Quorate) (s : BayState) (quorum : IsQuorum q s) where
     v = numbered (registered q.survey) next
 
     abbrev places : List (Option Member)
-    places = all_placed next.entries (replicate 64 None) ms
+    places = all_placed next.entries (replicate 64 None) (own next)
 
     renews : Renews q.survey.value next
     renews = next_renews q s quorum now next made
 
-    own_entry : (m : Member) → is_of q.survey.value.entries m ≡ true → is_of next.entries m ≡ true
-    own_entry m is = same_is_of next.entries q.survey.value.entries m renews.entries ∙ is
-
-    -- a disk of an entry is in the place of its number
-    at_place : (h : Headed) → IsAmong hs h → h.header.id ≡ q.id → is_of next.entries (member_of h) ≡ true → get_or places h.header.number None ≡ Some (member_of h)
-    at_place h among own entry =
-        let good = placed_good next.entries ms (member_of h) numbers (own_among q.id hs h among own) entry in
-        let k = own_of q.id hs good.0 (placed_is next.entries ms h.header.number good.0 numbers good.1).0 in
+    -- a disk that is attached is in the place of its number
+    at_place : (h : Headed) → IsAmong hs h → is_own q.id next.entries h ≡ true → get_or places h.header.number None ≡ Some (member_of h)
+    at_place h among own_is =
+        let mine = owned q.id next.entries h own_is in
+        let entry : is_of next.entries (member_of h) ≡ true = mine.entry in
+        let good = placed_good next.entries (own next) (member_of h) (numbers next) (own_with q.id next.entries hs h among own_is) entry in
+        let k = own_of q.id hs good.0 (own_in next good.0 (placed_is next.entries (own next) h.header.number good.0 (numbers next) good.1).0) in
         let number : k.0.header.number ≡ h.header.number = ap (λ (x : Member). x.number) (sym k.2) ∙ good.2 in
         let of : is_of next.entries (member_of k.0) ≡ true = subst (λ (x : Member). is_of next.entries x ≡ true) k.2 good.3 in
         let birth : k.0.header.birth ≡ h.header.birth = same_Some k.0.header.birth h.header.birth
         (sym (entry_birth next.entries (member_of k.0) of) ∙ ap (λ (d : ℕ). option_map (λ (e : Entry). e.birth) (entry_of next.entries d)) number
         ∙ entry_birth next.entries (member_of h) entry) in
-        good.1 ∙ ap (λ (x : Member). Some x) (k.2 ∙ ap member_of (once q.id hs quorum.alike k.0 h k.1 among k.3 own number birth))
+        good.1 ∙ ap (λ (x : Member). Some x) (k.2 ∙ ap member_of (once q.id hs quorum.alike k.0 h k.1 among k.3 mine.id_is number birth))
 
     abbrev register : Registered
-    register = first_register v ms
+    register = first_register v (own next)
 
     placed : (i : ℕ) (m : Member) → get_or places i None ≡ Some m → IsPlaced q next.entries i m
     placed i m there =
-        let is = placed_is next.entries ms i m numbers there in
-        record { number = is.1; entry = placed_of next.entries ms i m numbers there; among = is.0 }
+        let is = placed_is next.entries (own next) i m (numbers next) there in
+        record { number = is.1; entry = placed_of next.entries (own next) i m (numbers next) there; among = own_in next m is.0 }
 
     same_id : next.id ≡ q.id
     same_id = ap (λ (x : Status). x.id) made.next_is ∙ quorum.survey.well.group ∙ quorum.survey.id_is
@@ -239,13 +230,13 @@ module _ (q : Quorate) (s : BayState) (quorum : IsQuorum q s) where
         let bit : has_bit next.directories c.number ≡ true = named_bit c.number ∙ made.copies c.number small ∙ disk_has c.number q.store.copies c among refl in
         let shape = shape_from q.id hs q.shape quorum.shape in
         let same : k.disk.header.shape ≡ q.shape = one_shape q.id hs quorum.alike k.disk shape.0 k.among shape.1 k.own shape.2 ∙ shape.3 in
-        let entry = own_entry (member_of k.disk) k.entry in
+        let own_is : is_own q.id next.entries k.disk ≡ true = same_own q.id next.entries q.survey.value.entries k.disk renews.entries ∙ is_owned q.id q.survey.value.entries k.disk k.own k.entry k.units in
         record {
           named = in_elements next.directories c.number small bit;
           member = member_of k.disk;
-          attached = ap (λ (d : ℕ). get_or places d None) number ∙ at_place k.disk k.among k.own entry;
+          attached = ap (λ (d : ℕ). get_or places d None) number ∙ at_place k.disk k.among own_is;
           slot = sym (ap (λ (x : DirCopy). x.slot) k.copy);
-          entry = entry;
+          entry = (owned q.id next.entries k.disk own_is).entry;
           pages = ap (λ (x : DirCopy). x.dir_blocks) k.copy ∙ ap (λ (x : Shape). x.dir_blocks) same;
           sector = ap (λ (x : DirCopy). x.sector) k.copy ∙ ap (λ (x : Shape). x.sector) same;
         }
@@ -261,16 +252,14 @@ module _ (q : Quorate) (s : BayState) (quorum : IsQuorum q s) where
     disks_are : (t : BayState) → KeepsAttached s t → AreDisksOf register (disks_with q.id next.entries hs) t
     disks_are t attached = record {
       each = λ x h. let d = disk_from q.id next.entries hs x h in
-          subst (λ (y : Member × ℕ). get_or places y.0.number None ≡ Some y.0) (sym d.is) (at_place d.disk d.among d.own d.entry);
+          subst (λ (y : Member × ℕ). get_or places y.0.number None ≡ Some y.0) (sym d.is) (at_place d.disk d.among d.own);
       small = λ x h. let d = disk_from q.id next.entries hs x h in
           subst (λ (y : Member × ℕ). y.0.number < 64) (sym d.is) (header_number d.disk.header (quorum.there.allowed d.disk d.among).header);
       sizes = λ x h. let d = disk_from q.id next.entries hs x h in
           subst (λ (y : Member × ℕ). t.attached y.0.slot ≡ Some y.1) (sym d.is) (attached.same d.disk.slot ∙ quorum.there.attached d.disk d.among);
       all = λ i m there.
-          let is = placed i m there in
-          let k = own_of q.id hs m is.among in
-          let entry : is_of next.entries (member_of k.0) ≡ true = subst (λ (x : Member). is_of next.entries x ≡ true) k.2 is.entry in
-          (k.0.size, subst (λ (x : Member). IsAmong (disks_with q.id next.entries hs) (x, k.0.size)) (sym k.2) (disk_among q.id next.entries hs k.0 k.1 k.3 entry));
+          let k = own_from q.id next.entries hs m (placed_is next.entries (own next) i m (numbers next) there).0 in
+          (k.0.size, subst (λ (x : Member). IsAmong (disks_with q.id next.entries hs) (x, k.0.size)) (sym k.2) (disk_among q.id next.entries hs k.0 k.1 k.3));
     }
 
     -- ---- the store and the catalog
@@ -286,7 +275,7 @@ module _ (q : Quorate) (s : BayState) (quorum : IsQuorum q s) where
 
   -- ---- all of it
 
-  pub parts_are : (now : ℕ) (a : Anew) → IsAnew q now a → (register : Registered) → register ≡ first_register (numbered (registered q.survey) a.next) ms → (t : BayState)
+  pub parts_are : (now : ℕ) (a : Anew) → IsAnew q now a → (register : Registered) → register ≡ first_register (numbered (registered q.survey) a.next) (own a.next) → (t : BayState)
       → StandsAnew register t → KeepsAttached s t → Runs (IsSlotOf q.survey.members) (ChangesOnly (FrontOf q.survey.members)) s t
       → ArePartsOf q now (record { name = a.name; id = q.id; shape = q.shape; catalog = q.catalog; store = q.store; register = register; disks = a.disks }) t
   parts_are now a is register same t stands attached run = record {
@@ -303,7 +292,8 @@ module _ (q : Quorate) (s : BayState) (quorum : IsQuorum q s) where
     catalog = subst (λ (x : Registered). IsCatalogIn q.store x.value q.shape q.catalog) (sym same) (catalog_is now a.next is.next);
     copies = subst (λ (x : Registered). AreAttachedCopies x q.shape q.store.copies) (sym same) (copies_are now a.next is.next);
     disks = subst (λ (x : Registered). AreDisksOf x a.disks.items t) (sym same)
-        (subst (λ (l : List (Member × ℕ)). AreDisksOf (first_register (numbered (registered q.survey) a.next) ms) l t) (sym is.disks) (disks_are now a.next is.next t attached));
+        (subst (λ (l : List (Member × ℕ)). AreDisksOf (first_register (numbered (registered q.survey) a.next) (own a.next)) l t) (sym is.disks) (disks_are now a.next is.next t attached));
+    attached = is.disks ∙ ap (λ (x : Registered). disks_with q.id x.value.entries hs) (sym same);
     keeps = keeps now a.next is.next t attached run;
   }
 
@@ -311,7 +301,7 @@ module _ (q : Quorate) (s : BayState) (quorum : IsQuorum q s) where
 
 pub refused : (q : Quorate) (s t : BayState) → IsQuorum q s → (next : Status) (failed : RenewError) (e : MountError) → RefusesAnew q.headed.items failed e
     → RenewCause q.survey next failed s t → RecoverCause q e s t
-refused q s t quorum next (renew.NoMajority seen need) e is cause = subst (λ (x : MountError). RecoverCause q x s t) (sym is) cause
+refused q s t quorum next (renew.NoMajority seen need) e is cause = subst (λ (x : MountError). RecoverCause q x s t) (sym is) (inl cause)
 refused q s t quorum next (renew.Dead slot) (error.Dead other name) is cause =
     subst (λ (k : ℕ). IsSlotIn q.headed.items k × Rose (s.faults k) (t.faults k) × DeadCause q.headed.items k (error.Dead k name)) (sym is.0)
     (surveyed_in q s quorum slot cause.0, cause.1, (refl, is.1, is.2, is.3, is.4))
@@ -323,19 +313,20 @@ refused q s t quorum next (renew.Dead slot) (error.Damaged other block) is cause
 refused q s t quorum next (renew.Dead slot) error.DirectoriesLost is cause = absurd is
 refused q s t quorum next (renew.Dead slot) (error.MissingDisk number name) is cause = absurd is
 
+-- so few disks of a set are there
+pub short_cause : (q : Quorate) (next : Status) (numbers : Option (ℕ × ℕ)) (e : MountError) → Renews q.survey.value next
+    → numbers ≡ missing (own_members q.id next.entries q.headed.items) (Some next) → IsShortRefusal numbers e → AnewCause q e
+short_cause q next numbers (error.NoMajority seen need) renews are is =
+    (λ i. shortfall (same_members q.id q.survey.value.entries next.entries q.headed.items (sym renews.entries) i) (sym (renewed_follows q.survey.value next renews) i)) ∙ sym are ∙ is
+short_cause q next numbers other renews are is = absurd is
+
+-- there was nothing to write
+pub anew_refused : (q : Quorate) (s t : BayState) (e : MountError) → AnewCause q e → RecoverCause q e s t
+anew_refused q s t (error.NoMajority seen need) cause = inr cause
+anew_refused q s t error.NoMemory cause = tt
+anew_refused q s t other cause = absurd cause
+
 -- ---- the register
-
--- members that are enough, with more
-pub all_reach : (survey : Surveyed) (next : Status) (ms : List Member) → AreNumbered survey.members → ((m : Member) → IsAmong survey.members m → IsAmong ms m)
-    → Reaches (all_placed survey.value.entries (replicate 64 None) survey.members) (numbered (registered survey) next)
-    → missing ms (Some (numbered (registered survey) next)) ≡ None
-all_reach survey next ms small among reached =
-    let v = numbered (registered survey) next in
-    more_reach (attached_to (all_placed survey.value.entries (replicate 64 None) survey.members) v) ms v
-    (λ m h. among m (attached_among survey.value v survey.members small m h)) reached
-
-pub fewer_slots : (state : BayState) (some more : List Member) → ((m : Member) → IsAmong some m → IsAmong more m) → HaveSlots state more → HaveSlots state some
-fewer_slots state some more among have m h = have m (among m h)
 
 pub slots_stay : (s t : BayState) (ms : List Member) → KeepsAttached s t → HaveSlots s ms → HaveSlots t ms
 slots_stay s t ms keeps have m h = still_slots (have m h) keeps

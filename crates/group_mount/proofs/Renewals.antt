@@ -15,7 +15,7 @@ use Rattle.status_register.proofs.Placing.{placed_is}
 use Rattle.status_register.specs.Registered.{Registered, AreNumbered, IsClaimAnswer, claim_of, registered}
 use Rattle.status_register.specs.Rows.{HasBody, HaveBody, PutsRow, no_put, one_put}
 use Rattle.status_register.specs.Slots.{claim_gate, status_gate}
-use Rattle.status_register.specs.Surveys.{missing, shortfall}
+use Rattle.status_register.specs.Surveys.{missing}
 use Rattle.status_register.specs.Tallies.{IsSlotOf}
 use Rattle.status_register.specs.declared.member.Member.{Member}
 use Rattle.status_register.proofs.Taking.{kept_among}

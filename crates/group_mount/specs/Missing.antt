@@ -1,5 +1,5 @@
 -- Which disks of a record are missing.
-use Rattle.std.specs.Prelude.{◌≡◌, ℕ, ◌*◌, ◌==◌, ◌&&◌, not, nat_le, Bool, List, find, Option}
+use Rattle.std.specs.Prelude.{ℕ, ◌*◌, ◌==◌, ◌&&◌, not, nat_le, Bool, List, find, Option}
 use Rattle.std.specs.List.{list_any}
 use Rattle.asm_formats.specs.Status.{Entry}
 use Rattle.asm_placement.specs.Modes.{serves}
@@ -9,6 +9,14 @@ use Rattle.group_mount.specs.declared.finding.Headed.{Headed}
 abbrev pub is_disk_of : ℕ → Entry → Headed → Bool
 is_disk_of id e h =
     (h.header.id == id) && ((h.header.number == e.number) && ((h.header.birth == e.birth) && nat_le (e.units * h.header.shape.au) h.size))
+
+-- the image has the number of the entry, and at least its units
+abbrev pub has_units_of : Headed → Entry → Bool
+has_units_of h e = (h.header.number == e.number) && nat_le (e.units * h.header.shape.au) h.size
+
+-- it has at least the units that the entry of its number has
+abbrev pub has_units : List Entry → Headed → Bool
+has_units entries h = list_any (has_units_of h) entries
 
 abbrev pub has_disk : ℕ → List Headed → Entry → Bool
 has_disk id hs e = list_any (is_disk_of id e) hs

@@ -1,5 +1,5 @@
 -- What a mount gives once its record is written anew, and why it isn't.
-use Rattle.std.specs.Prelude.{◌≡◌, ⊤, ℕ, ◌<◌, ◌==◌, ◌&&◌, true, false, List, [], ◌∷◌, get_or, if◌then◌else◌, Option, Some, None, IsTrue, Bool}
+use Rattle.std.specs.Prelude.{◌≡◌, ◌⊎◌, ⊤, ℕ, ◌<◌, ◌==◌, ◌&&◌, true, false, List, [], ◌∷◌, get_or, if◌then◌else◌, Option, Some, None, IsTrue, Bool}
 use Rattle.bay.specs.State.{BayState}
 use Rattle.bay.specs.Counts.{Rose}
 use Rattle.asm_group.specs.Names.{Bytes, is_same_name}
@@ -18,6 +18,7 @@ use Rattle.status_register.specs.Rows.{AreApart}
 use Rattle.status_register.specs.Surveys.{AreRead, missing}
 use Rattle.status_register.specs.Tallies.{HaveSlots}
 use Rattle.status_register.specs.declared.member.Member.{Member}
+use Rattle.group_mount.specs.Missing.{has_units}
 use Rattle.group_mount.specs.NextRecord.{IsNextRecord}
 use Rattle.group_mount.specs.Quorum.{IsCatalogIn}
 use Rattle.group_mount.specs.Renewing.{Renews}
@@ -41,30 +42,39 @@ abbrev pub is_named : Option Bytes → Bytes → Bool
 is_named None name = false
 is_named (Some group) name = is_same_name group name
 
--- the disk is one of the id and of an entry
+-- the disk is one of the id and of an entry, with at least its units
 abbrev pub is_own : ℕ → List Entry → Headed → Bool
-is_own id entries h = (h.header.id == id) && is_of entries (member_of h)
+is_own id entries h = (h.header.id == id) && (is_of entries (member_of h) && has_units entries h)
 
 -- those, each with the size of its image
 abbrev pub disks_with : ℕ → List Entry → List Headed → List (Member × ℕ)
 disks_with id entries [] = []
 disks_with id entries (h ∷ hs) = if is_own id entries h then (member_of h, h.size) ∷ disks_with id entries hs else disks_with id entries hs
 
--- what a mount is to write and to give: all of it is made before the first write
+-- those, as the register sees them
+abbrev pub own_members : ℕ → List Entry → List Headed → List Member
+own_members id entries [] = []
+own_members id entries (h ∷ hs) = if is_own id entries h then member_of h ∷ own_members id entries hs else own_members id entries hs
+
+-- what a mount is to write and to give: all of it is made before the first write; a majority of each set is to be attached
 pub record IsAnew (q : Quorate) (now : ℕ) (a : Anew) : Type 0 where
   pub next : IsNextRecord q now a.next
   pub status : IsTrue (is_status a.next)
   pub name : name_in q.id q.headed.items ≡ Some a.name
-  pub members : a.members.items ≡ members_with q.id q.headed.items
+  pub members : a.members.items ≡ own_members q.id a.next.entries q.headed.items
+  pub enough : missing a.members.items (Some a.next) ≡ None
   pub disks : a.disks.items ≡ disks_with q.id a.next.entries q.headed.items
 
--- what the record of a survey is written anew from: these members, of which those were surveyed, have slots of their own
+-- what the record of a survey is written anew from: these members, which are enough for it, and those that were surveyed have slots of
+-- their own
 pub record MayRenew (survey : Surveyed) (next : Status) (ms : List Member) (state : BayState) : Type 0 where
   pub slots : HaveSlots state ms
   pub apart : AreApart ms
   pub numbers : AreNumbered ms
-  pub among : (m : Member) → IsAmong survey.members m → IsAmong ms m
+  pub enough : missing ms (Some next) ≡ None
+  pub surveyed : HaveSlots state survey.members
   pub own : AreApart survey.members
+  pub small : AreNumbered survey.members
   pub status : IsTrue (is_status next)
   pub group : next.id ≡ survey.value.id
   pub renews : Renews survey.value next
@@ -77,7 +87,7 @@ pub record StandsAnew (register : Registered) (state : BayState) : Type 0 where
 
 -- ---- the parts
 
--- the member in the place of number i: it has this number, is the disk of its entry, and is one of the disks that were read
+-- the member in the place of number i: it has this number, is the disk of its entry, and is one of the disks that were found
 pub record IsPlaced (q : Quorate) (entries : List Entry) (i : ℕ) (m : Member) : Type 0 where
   pub number : m.number ≡ i
   pub entry : is_of entries m ≡ true
@@ -134,6 +144,8 @@ pub record ArePartsOf (q : Quorate) (now : ℕ) (parts : Parts) (state : BayStat
   pub catalog : IsCatalogIn parts.store parts.register.value parts.shape parts.catalog
   pub copies : AreAttachedCopies parts.register parts.shape parts.store.copies
   pub disks : AreDisksOf parts.register parts.disks.items state
+  -- these are the found images of entries that have at least their units, and no others
+  pub attached : parts.disks.items ≡ disks_with q.id parts.register.value.entries q.headed.items
   pub keeps : Keeps parts.store state
 
 -- ---- refusals
@@ -149,11 +161,23 @@ abbrev pub RefusesAnew : List Headed → RenewError → MountError → Type 0
 RefusesAnew headed (renew.NoMajority seen need) e = e ≡ error.NoMajority seen need
 RefusesAnew headed (renew.Dead slot) e = DeadCause headed slot e
 
--- So few members took the claim; or a member's slot failed while the record was written, and its disk is named.
+-- the refusal is that of a set of which so many disks are there, and so many are needed
+abbrev pub IsShortRefusal : Option (ℕ × ℕ) → MountError → Type 0
+IsShortRefusal numbers (error.NoMajority seen need) = numbers ≡ Some (seen, need)
+IsShortRefusal numbers other = ⊥
+
+-- why there is nothing to write: so few disks of a set are there with all their units, or memory is wanting
+abbrev pub AnewCause : Quorate → MountError → Type 0
+AnewCause q (error.NoMajority seen need) = missing (own_members q.id q.survey.value.entries q.headed.items) (Some q.survey.value) ≡ Some (seen, need)
+AnewCause q error.NoMemory = ⊤
+AnewCause q other = ⊥
+
+-- So few members took the claim, or so few disks of a set are there with all their units; or a member's slot failed while the record was
+-- written, and its disk is named.
 abbrev pub RecoverCause : Quorate → MountError → BayState → BayState → Type 0
 RecoverCause q (error.NoMajority seen need) s t =
-    (took : List Member) × AreRead (λ slot. Rose (s.faults slot) (t.faults slot)) q.survey.members took
-    × (missing took (Some q.survey.value) ≡ Some (seen, need))
+    ((took : List Member) × AreRead (λ slot. Rose (s.faults slot) (t.faults slot)) q.survey.members took
+    × (missing took (Some q.survey.value) ≡ Some (seen, need))) ⊎ AnewCause q (error.NoMajority seen need)
 RecoverCause q (error.Dead slot name) s t = IsSlotIn q.headed.items slot × Rose (s.faults slot) (t.faults slot) × DeadCause q.headed.items slot (error.Dead slot name)
 RecoverCause q error.NoMemory s t = ⊤
 RecoverCause q other s t = ⊥

@@ -1,4 +1,4 @@
-// The directory copies that are read: those that a record names on disks of its entries that were read.
+// The directory copies that are read: those that a record names on disks of its entries that were read and have all their units.
 ghost use Rattle.std.specs.Prelude.{◌≡◌, ◌++◌, ◌==◌, [], IfOk, OnOk};
 ghost use Rattle.std.specs.List.{list_any};
 ghost use Rattle.asm_formats.specs.Regions.{has_region};
@@ -8,6 +8,7 @@ ghost use Rattle.group_mount.specs.NamedCopies.{copy_of, has_slot, is_named_copy
 
 use crate::choosing::member_of;
 use crate::finding::Headed;
+use crate::missing::has_units;
 use asm_base::NoMemory;
 use change_directory::DirCopy;
 use status_register::{Member, is_of_entry};
@@ -43,7 +44,7 @@ fn has_slot(members: &[Member], slot: u32) -> bool
     members.iter().any(|member| member.slot == slot)
 }
 
-/// Whether a member of an id was read, has a whole directory region, and a copy there that the record names.
+/// Whether a member of an id was read, has all its units and a whole directory region, and a copy there that the record names.
 fn is_named_copy(id: u64, read: &[Member], status: &PstRecord, headed: &Headed) -> bool
     ensures { result ≡ is_named_copy id read.now status.now headed.now }
 {
@@ -51,7 +52,8 @@ fn is_named_copy(id: u64, read: &[Member], status: &PstRecord, headed: &Headed) 
         && (has_slot(read, headed.slot)
             && (status.dirs.has(headed.header.number)
                 && (is_of_entry(status.entries(), member_of(headed))
-                    && has_region(headed.header.dir_blocks, headed.size))))
+                    && (has_units(status.entries(), headed)
+                        && has_region(headed.header.dir_blocks, headed.size)))))
 }
 
 /// Puts the copies behind others.

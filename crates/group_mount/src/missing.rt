@@ -2,7 +2,7 @@
 ghost use Rattle.std.specs.Prelude.{◌≡◌, find};
 ghost use Rattle.std.specs.List.{list_any};
 ghost use Rattle.asm_placement.specs.Modes.{serves};
-ghost use Rattle.group_mount.specs.Missing.{first_missing, has_disk, is_disk_of, is_missing};
+ghost use Rattle.group_mount.specs.Missing.{first_missing, has_disk, has_units, has_units_of, is_disk_of, is_missing};
 
 use crate::finding::Headed;
 use asm_base::Mode;
@@ -23,6 +23,21 @@ fn is_disk_of(id: u64, entry: PstEntry, headed: &Headed) -> bool
         && (headed.header.number == entry.number
             && (headed.header.birth == entry.birth
                 && entry.units as u64 * headed.header.au_size as u64 <= headed.size))
+}
+
+/// Whether an image has the number of an entry, and at least its units.
+fn has_units_of(entry: PstEntry, headed: &Headed) -> bool
+    ensures { result ≡ has_units_of headed.now entry }
+{
+    headed.header.number == entry.number
+        && entry.units as u64 * headed.header.au_size as u64 <= headed.size
+}
+
+/// Whether an image has at least the units that the entry of its number has.
+pub fn has_units(entries: &[PstEntry], headed: &Headed) -> bool
+    ensures { result ≡ has_units entries.now headed.now }
+{
+    entries.iter().any(|entry| has_units_of(*entry, headed))
 }
 
 /// Whether the disk of an entry is among these.

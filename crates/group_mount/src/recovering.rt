@@ -1,22 +1,27 @@
 //! The group that is mounted: its record is written anew, and its parts are given.
 
-ghost use Rattle.std.specs.Prelude.{◌≡◌, ◌++◌, ℕ, Some, IfErr, IfOk, OnOk};
+ghost use Rattle.std.specs.Prelude.{◌≡◌, ◌++◌, ℕ, None, Some, IfErr, IfOk, OnOk};
 ghost use Rattle.bay.specs.Image.{ChangesOnly};
 ghost use Rattle.bay.specs.State.{KeepsAttached};
 ghost use Rattle.bay.specs.Moments.{Runs};
+ghost use Rattle.asm_formats.specs.Status.{Status};
 ghost use Rattle.status_register.specs.Holders.{numbered};
 ghost use Rattle.status_register.specs.Registered.{registered};
+ghost use Rattle.status_register.specs.Surveys.{missing};
 ghost use Rattle.status_register.specs.Tallies.{IsSlotOf};
 ghost use Rattle.status_register.specs.Writes.{first_register};
-ghost use Rattle.group_mount.specs.NextRecord.{MakesRecord};
+ghost use Rattle.group_mount.specs.NextRecord.{IsNextRecord, MakesRecord};
 ghost use Rattle.group_mount.specs.Quorum.{IsQuorum};
-ghost use Rattle.group_mount.specs.Recovering.{ArePartsOf, DeadCause, IsAnew, MayRenew, RecoverCause, RefusesAnew, StandsAnew, disks_with, is_own, name_in};
+ghost use Rattle.group_mount.specs.Recovering.{AnewCause, ArePartsOf, DeadCause, IsAnew, IsShortRefusal, MayRenew, RecoverCause, RefusesAnew, StandsAnew, disks_with, is_own, name_in, own_members};
+ghost use Rattle.group_mount.specs.Renewing.{Renews};
 ghost use Rattle.group_mount.specs.Verdicts.{IsSlotIn, members_with};
 ghost use Rattle.group_mount.specs.Writing.{FrontOf, RenewCause};
 
-use crate::choosing::{member_of, members_of};
+use crate::choosing::member_of;
 use crate::error::MountError;
 use crate::finding::Headed;
+use crate::majorities::missing;
+use crate::missing::has_units;
 use crate::quorum::Quorate;
 use crate::record::next_record;
 use crate::writing::{RenewError, renew};
@@ -41,8 +46,8 @@ pub struct Parts {
     pub disks: Vec<(Member, u64)>,
 }
 
-/// What a mount is to write and to give beside what it has read: the record, the group's name, all its disks, and those that
-/// have an entry, with the sizes of their images.
+/// What a mount is to write and to give beside what it has read: the record, the group's name, and the disks that are those of
+/// its entries, also with the sizes of their images.
 #[derive(Drop)]
 struct Anew {
     next: PstRecord,
@@ -64,11 +69,12 @@ fn name_of(headed: &[Headed], id: u64) -> Result<Name, NoMemory>
     name_of(rest, id)
 }
 
-/// Whether a disk is one of the id and of an entry.
+/// Whether a disk is one of the id and of an entry, with at least its units.
 fn is_own(id: u64, entries: &[PstEntry], headed: &Headed) -> bool
     ensures { result ≡ is_own id entries.now headed.now }
 {
-    headed.header.id == id && is_of_entry(entries, member_of(headed))
+    headed.header.id == id
+        && (is_of_entry(entries, member_of(headed)) && has_units(entries, headed))
 }
 
 /// Puts the disks of an id that are disks of entries behind others, each with the size of its image.
@@ -89,6 +95,49 @@ fn put_disks(
             .map_err(|_| NoMemory)?;
     }
     put_disks(id, entries, rest, disks)
+}
+
+/// Puts those disks behind others as the register sees them.
+fn put_own(
+    id: u64,
+    entries: &[PstEntry],
+    headed: &[Headed],
+    members: &mut Vec<Member>,
+) -> Result<(), NoMemory>
+    ensures { OnOk result (members.new.items ≡ members.old.items ++ own_members id entries.now headed.now) }
+{
+    let [first, rest @ ..] = headed else {
+        return Ok(());
+    };
+    if is_own(id, entries, first) {
+        members.push(member_of(first)).map_err(|_| NoMemory)?;
+    }
+    put_own(id, entries, rest, members)
+}
+
+/// The disks of an id that are disks of entries, as the register sees them.
+fn own_members(
+    alloc: Global,
+    id: u64,
+    entries: &[PstEntry],
+    headed: &[Headed],
+) -> Result<Vec<Member>, NoMemory>
+    ensures { IfOk result (λ members. members.items ≡ own_members id entries.now headed.now) }
+{
+    let mut members = Vec::new(alloc);
+    put_own(id, entries, headed, &mut members)?;
+    Ok(members)
+}
+
+/// Refuses a record of which too few disks of a set are attached.
+fn check_attached(members: &[Member], next: &PstRecord) -> Result<(), MountError>
+    ensures enough { OnOk result (missing members.now (Some next.now) ≡ None) }
+    ensures cause { IfErr result (IsShortRefusal (missing members.now (Some next.now))) }
+{
+    match missing(members, next) {
+        Some((seen, need)) => Err(MountError::NoMajority { seen, need }),
+        None => Ok(()),
+    }
 }
 
 /// The disks of an id that are disks of entries, with the sizes of their images.
@@ -131,14 +180,17 @@ fn refusal_of_renew(headed: &[Headed], error: RenewError) -> MountError
     }
 }
 
-/// What a mount at this second is to write and to give.
-fn make_anew(alloc: Global, quorate: &Quorate, now: u64) -> Result<Anew, NoMemory>
-    requires { MakesRecord quorate.now }
-    ensures { IfOk result (IsAnew quorate.now now) }
+/// What a mount at this second is to write and to give. NoMajority, where too few disks of a set are there with all their units.
+fn make_anew(alloc: Global, quorate: &Quorate, now: u64) -> Result<Anew, MountError>
+    requires makes { MakesRecord quorate.now }
+    requires renews { (next : Status) → IsNextRecord quorate.now now next → Renews quorate.now.survey.value next }
+    ensures anew { IfOk result (IsAnew quorate.now now) }
+    ensures cause { IfErr result (AnewCause quorate.now) }
 {
     let next = next_record(alloc, quorate, now)?;
     let name = name_of(&quorate.headed, quorate.id)?;
-    let members = members_of(alloc, &quorate.headed, quorate.id)?;
+    let members = own_members(alloc, quorate.id, next.entries(), &quorate.headed)?;
+    check_attached(&members, &next)?;
     let disks = disks_of(alloc, quorate.id, next.entries(), &quorate.headed)?;
     Ok(Anew {
         next,
@@ -212,9 +264,10 @@ fn write_parts<B: Bay>(bay: &mut B, quorate: Quorate, anew: Anew) -> Result<Part
 
 impl Quorate {
     /// Claims the next epoch, and writes the group's record anew: missing disks are Offline since now, Online ones with a stale
-    /// copy Syncing, and only directory copies that have the content are named. Gives what the group is mounted to. Refusals:
-    /// NoMajority, where so few members took the claim; Dead, where too few took the record; NoMemory, before the first write
-    /// or where a name in a refusal wants it.
+    /// copy Syncing, and only directory copies that have the content are named. Gives what the group is mounted to: a disk is
+    /// attached where its image is the one of an entry and has at least its units. Refusals: NoMajority, where so few disks of a
+    /// set are attached, or so few members took the claim; Dead, where too few took the record; NoMemory, before the first
+    /// write or where a name in a refusal wants it.
     pub fn recover<B: Bay>(self, alloc: Global, bay: &mut B, now: u64) -> Result<Parts, MountError>
         requires { IsQuorum self (B.state bay.old) }
         ensures parts { IfOk result (λ parts. ArePartsOf self now parts (B.state bay.new)) }
@@ -225,9 +278,9 @@ impl Quorate {
     {
         match make_anew(alloc, &self, now) {
             Ok(anew) => write_parts(bay, self, anew),
-            Err(NoMemory) => {
+            Err(error) => {
                 drop(self);
-                Err(MountError::NoMemory)
+                Err(error)
             }
         }
     }

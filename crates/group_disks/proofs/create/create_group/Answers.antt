@@ -1,4 +1,4 @@
-use Rattle.std.proofs.Common.{[], length, map, true, false, ap, sym, ◌∙◌}
+use Rattle.std.proofs.Common.{[], length, map, ap, sym, ◌∙◌}
 use Rattle.std.specs.Prelude.{is_ok}
 use Rattle.std.specs.String.{string_bytes}
 use Rattle.std.proofs.lemmas.Bool.{false≢true}

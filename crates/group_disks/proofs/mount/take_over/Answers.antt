@@ -1,18 +1,26 @@
-use Rattle.std.proofs.Common.{length, true, false, sym, subst}
+use Rattle.std.proofs.Common.{◌∙◌, List, length, true, false, sym, subst}
 use Rattle.std.proofs.lemmas.Result.{err_from_is_err_and}
 use Rattle.group_engine.specs.Mounts.{IsOwn, MountedGroup}
+use Rattle.status_register.specs.Registered.{AreNumbered}
+use Rattle.status_register.specs.declared.member.Member.{Member}
+use Rattle.group_disks.specs.Bringing.{is_named_in}
 use Rattle.group_disks.specs.Mounting.{IsMountedBy, not_found}
 use Rattle.group_disks.proofs.Held.{there_left}
 use Rattle.group_disks.proofs.MountedParts.{parts_mounted, parts_small, parts_whole}
 use Rattle.group_disks.proofs.Spared.{looks_held}
 use Rattle.group_disks.proofs.Staying.{stays_keeps, stays_trans}
-use Rattle.group_disks.proofs.Takeovers.{found_stays, others_cause, parts_inside, quorate_left, quorum_cause, reads_spare, renewed_cause, was_named, was_quorate, writes_spare}
+use Rattle.group_disks.proofs.Takeovers.{found_stays, others_cause, parts_inside, quorate_left, quorum_cause, read_numbered, reads_spare, renewed_cause, taken_over, was_named, was_quorate, writes_spare}
 use Rattle.group_disks.proofs.mount.take_over.Goals as goal
 
 pub quorate-requires : goal.quorate-requires
 quorate-requires g c = record {
   there = there_left c.args.held.now (length c.args.paths.now) c.in_ok-searched.searched c.without-found.result (g.B.Bay.state c.find.new.bay) c.without-found.ensures c.in_ok-searched.ensures.slots c.in_ok-searched.ensures.there;
 }
+
+pub named_disks-named-requires : goal.named_disks-named-requires
+named_disks-named-requires g c =
+    subst (λ (l : List Member). AreNumbered l) (sym c.seen.ensures)
+    (read_numbered c.args.option c.without-found.result c.in_ok-quorate.quorate (g.B.Bay.state c.quorate.new.bay) c.in_ok-quorate.ensures.answer)
 
 pub mounted_of-requires-clause-small : goal.mounted_of-requires-clause-small
 mounted_of-requires-clause-small g c = parts_small c.in_ok-quorate.quorate c.args.now c.in_ok-parts.parts (g.B.Bay.state c.recover.new.bay) c.in_ok-parts.ensures.parts
@@ -129,6 +137,14 @@ returns-clause-inside g c = λ slot own.
     parts_inside c.args.name.now (length c.args.paths.now) c.args.held.now c.args.option c.in_ok-searched.searched c.without-found.result c.without-found.ensures c.in_ok-searched.ensures.slots
     (g.B.Bay.state c.find.new.bay) c.in_ok-searched.ensures.there c.in_ok-quorate.quorate c.in_ok-quorate.ensures.answer.headed_are c.args.now c.in_ok-parts.parts
     (g.B.Bay.state c.recover.new.bay) c.in_ok-parts.ensures.parts slot (subst (λ (k : MountedGroup). IsOwn k slot) c.mounted_of.ensures own)
+
+pub returns-clause-taken : goal.returns-clause-taken
+returns-clause-taken g c =
+    let q = c.in_ok-quorate.quorate in
+    taken_over c.args.name.now (length c.args.paths.now) c.args.held.now c.args.option c.in_ok-searched.searched c.without-found.result c.without-found.ensures c.in_ok-searched.ensures.slots
+    g.B.Bay.state (g.B.Bay.state c.args.bay.now) c.find.new.bay c.quorate.new.bay q c.args.now c.in_ok-parts.parts c.mounted_of.result c.named_disks-named.result (g.B.Bay.state c.recover.new.bay)
+    c.in_ok-searched.ensures.answer c.in_ok-quorate.ensures.answer c.in_ok-parts.ensures.parts c.mounted_of.ensures
+    (λ d lt. c.named_disks-named.ensures d lt ∙ (λ i. is_named_in (c.value.ensures i) (c.seen.ensures i) d))
 
 pub returns-clause-was : goal.returns-clause-was
 returns-clause-was g c =

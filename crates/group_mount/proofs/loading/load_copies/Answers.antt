@@ -1,11 +1,10 @@
-use Rattle.std.proofs.Common.{◌∙◌, [], List, inl, inr, refl, sym, ap, subst}
+use Rattle.std.proofs.Common.{◌∙◌, [], List, inl, sym, subst}
 use Rattle.bay.proofs.Calls.{on_more}
 use Rattle.change_directory.specs.declared.copy.DirCopy.{DirCopy}
 use Rattle.directory_store.specs.Copies.{AreApart, AreNamed, IsSlotOf}
 use Rattle.directory_store.specs.Loading.{AreDurable as AreSettled, LoadCause}
 use Rattle.directory_store.specs.Reading.{ArePartOf}
 use Rattle.directory_store.specs.Stores.{HaveOneSize}
-use Rattle.group_mount.specs.Loads.{LoadRefusal, copies_read}
 use Rattle.group_mount.specs.NamedCopies.{named_copies}
 use Rattle.group_mount.proofs.CopyLoads.{copies_apart, copies_in, copies_named, one_size}
 use Rattle.group_mount.proofs.loading.load_copies.Goals as goal

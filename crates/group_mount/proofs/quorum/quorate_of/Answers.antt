@@ -1,4 +1,4 @@
-use Rattle.std.proofs.Common.{List, sym, subst, ap}
+use Rattle.std.proofs.Common.{List, subst}
 use Rattle.group_mount.specs.Quorum.{IsReadOf}
 use Rattle.group_mount.specs.declared.finding.Headed.{Headed}
 use Rattle.group_mount.proofs.Quorums.{answered, entries_allowed, shape_allowed}

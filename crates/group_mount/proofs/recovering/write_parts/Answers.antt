@@ -1,7 +1,8 @@
-use Rattle.std.proofs.Common.{◌∙◌, List, sym, ap, subst}
+use Rattle.std.proofs.Common.{◌≡◌, ◌∙◌, List, Some, None, sym, ap, subst}
 use Rattle.asm_formats.specs.Status.{Status}
 use Rattle.status_register.specs.Holders.{numbered}
 use Rattle.status_register.specs.Registered.{registered}
+use Rattle.status_register.specs.Surveys.{missing}
 use Rattle.status_register.specs.Writes.{first_register}
 use Rattle.status_register.specs.declared.member.Member.{Member}
 use Rattle.group_mount.specs.Recovering.{MayRenew, RefusesAnew}
@@ -17,7 +18,8 @@ write_register-requires g c =
     let next = c.args.anew.next in
     let a = c.requires.anew in
     subst (λ (l : List Member). MayRenew q.survey next l s) (sym (c.deref.ensures.value ∙ a.1.members))
-    (may_renew q s c.requires.quorum next a.1.status (next_renews q s c.requires.quorum a.0 next a.1.next) (ap (λ (x : Status). x.id) a.1.next.next_is))
+    (may_renew q s c.requires.quorum next a.1.status (next_renews q s c.requires.quorum a.0 next a.1.next) (ap (λ (x : Status). x.id) a.1.next.next_is)
+    (subst (λ (l : List Member). missing l (Some next) ≡ None) a.1.members a.1.enough))
 
 pub returns-in-Ok-clause-parts : goal.returns-in-Ok-clause-parts
 returns-in-Ok-clause-parts g c = λ now is.

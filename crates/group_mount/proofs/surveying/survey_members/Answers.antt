@@ -1,9 +1,8 @@
-use Rattle.std.proofs.Common.{◌≡◌, List, length, Ok, Err, Result, IfOk, IfErr, sym, subst, ap, arith}
+use Rattle.std.proofs.Common.{◌≡◌, List, length, Result, IfOk, IfErr, sym, subst, ap, arith}
 use Rattle.bay.proofs.Calls.{goes_on, stops, on_more}
 use Rattle.bay.proofs.Images.{same-trans}
 use Rattle.asm_placement.specs.Among.{IsAmong}
 use Rattle.status_register.specs.Answers.{Surveyed, IsSurveyed}
-use Rattle.status_register.specs.declared.error.SurveyError.{SurveyError}
 use Rattle.status_register.specs.declared.member.Member.{Member}
 use Rattle.status_register.proofs.Filling.{still_slots}
 use Rattle.status_register.proofs.Taking.{kept_among, kept_few}

@@ -1,5 +1,4 @@
 use Rattle.std.proofs.Common.{length, ap, arith}
-use Rattle.group_mount.specs.declared.finding.Headed.{Headed}
 use Rattle.group_mount.proofs.Looks.{left_few}
 use Rattle.group_mount.proofs.found.Found.without.Goals as goal
 

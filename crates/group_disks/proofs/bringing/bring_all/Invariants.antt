@@ -1,0 +1,11 @@
+use Rattle.group_engine.specs.Mounts.{IsMounted}
+use Rattle.group_engine.specs.Own.{KeepsGroup}
+use Rattle.group_disks.specs.Bringing.{AreBrought}
+use Rattle.group_disks.proofs.bringing.bring_all.Given as goal
+
+abbrev pub invariant-loop-disk : goal.invariant-loop-disk
+invariant-loop-disk g l = record {
+  keeps : KeepsGroup l.fn.m l.m (g.B.Bay.state l.fn.bay) (g.B.Bay.state l.bay);
+  mounted : IsMounted l.m;
+  brought : AreBrought g.B.Bay.state l.fn.m l.disks l.disk l.m (g.B.Bay.state l.fn.bay) (g.B.Bay.state l.bay);
+}
