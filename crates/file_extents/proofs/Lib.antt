@@ -1,4 +1,5 @@
 pub mod Appends
+pub mod Begins
 pub mod Chains
 pub mod Choices
 pub mod Commits

@@ -1,5 +1,5 @@
 -- Homes that are chosen for new extents of a file of a mounted group.
-use Rattle.std.specs.Prelude.{◌≡◌, ⊤, ℕ, ◌+◌, ◌<◌, List, length, None, Result, Ok, Err}
+use Rattle.std.specs.Prelude.{◌≡◌, ⊤, ◌+◌, ◌<◌, List, length, None}
 use Rattle.allocator.specs.UnitMaps.{UnitMap}
 use Rattle.asm_formats.specs.Items.{Homes}
 use Rattle.asm_base.specs.declared.kinds.ExtentId.{ExtentId}
@@ -13,24 +13,22 @@ use Rattle.file_extents.specs.declared.rows.NewExtents.{NewExtents}
 abbrev pub choosing : MountedGroup → NewExtents → Choosing
 choosing m new = record { entries = m.register.value.entries; copies = new.copies; step = m.catalog.shape.step }
 
--- Those from one on have homes by these maps, up to an extent for which there is no choice; its number is below this one.
-pub record HasNoSpace (m : MountedGroup) (new : NewExtents) (first end : ℕ) (units : List UnitMap) (x : ExtentId) : Type 0 where
+-- Those before an extent have homes by these maps, and there is no choice for that one.
+pub record HasNoSpace (m : MountedGroup) (new : NewExtents) (units : List UnitMap) (x : ExtentId) : Type 0 where
   pub row : List Homes
   pub last : List UnitMap
-  pub homes : IsRow (choosing m new) first units row last
+  pub homes : IsRow (choosing m new) new.first units row last
   pub file : x.file ≡ new.file
-  pub index : x.index ≡ first + length row
-  pub wanted : x.index < end
+  pub index : x.index ≡ new.first + length row
+  pub wanted : x.index < new.first + new.count
   pub none : homes_at (choosing m new) last x.index ≡ None
 
--- what a choice of a row of homes gave: the row, or the first extent for which there is none
-abbrev pub IsChoice : MountedGroup → NewExtents → ℕ → List UnitMap → List Homes → Result (Unit {0}) Refusal → List UnitMap → Type 0
-IsChoice m new first units row (Ok done) last = IsRow (choosing m new) first units row last
-IsChoice m new first units row (Err (cause.NoSpace x)) last = HasNoSpace m new first (first + length row) units x
-IsChoice m new first units row (Err _) last = ⊥
+-- why the extents have no homes by these maps: there is no choice for one once those before it have theirs. Want of memory is free.
+abbrev pub ChoiceCause : MountedGroup → NewExtents → List UnitMap → Refusal → Type 0
+ChoiceCause m new units (cause.NoSpace x) = HasNoSpace m new units x
+ChoiceCause m new units cause.NoMemory = ⊤
+ChoiceCause m new units _ = ⊥
 
--- why the extents have no homes: there is no choice for one once those before it have theirs. Want of memory is free.
+-- why they have none by the group's maps
 abbrev pub SpaceCause : MountedGroup → NewExtents → Refusal → Type 0
-SpaceCause m new (cause.NoSpace x) = HasNoSpace m new new.first (new.first + new.count) m.catalog.units x
-SpaceCause m new cause.NoMemory = ⊤
-SpaceCause m new _ = ⊥
+SpaceCause m new refusal = ChoiceCause m new m.catalog.units refusal

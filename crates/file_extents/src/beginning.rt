@@ -1,19 +1,22 @@
-// A file's operation begins, before its new extents are filled.
-ghost use Rattle.std.specs.Prelude.{◌≡◌};
+// A file's operation begins, and its new extents get their homes.
+ghost use Rattle.std.specs.Prelude.{◌≡◌, IfErr, OnOk};
 ghost use Rattle.group_engine.specs.Mounts.{IsMounted, Takes};
+ghost use Rattle.group_engine.specs.Own.{KeepsGroup};
 ghost use Rattle.group_engine.specs.Pending.{GoesOn};
+ghost use Rattle.file_extents.specs.Beginning.{Begins, HomesCause};
 
-use crate::committing::{commit_plan, is_at_rest, shut};
-use crate::filling::{Filling, open_part};
+use crate::committing::{commit_plan, give_back, is_at_rest, shut};
+use crate::filling::{Filling, choose_all, open_part};
 use crate::rows::NewExtents;
-use asm_base::{NoMemory, Refusal};
+use asm_base::Refusal;
 use bay::Bay;
 use group_engine::Mounted;
 use operations_directory::{Pending, PendingKind};
 use std::alloc::Global;
 
-/// Begins an operation on a file. The move that is on its way is given up.
-fn begin<B: Bay>(
+/// Begins an operation on a file: it is committed as the pending one. The move that is on its way is given up. Refusals: Dismounted, and
+/// NoMemory.
+pub fn begin_operation<B: Bay>(
     m: &mut Mounted,
     alloc: Global,
     bay: &mut B,
@@ -22,7 +25,8 @@ fn begin<B: Bay>(
 ) -> Result<(), Refusal>
     requires mounted { IsMounted m.old }
     requires takes { Takes m.old (B.state bay.old) }
-    ensures { GoesOn m.old result m.new (B.state bay.old) (B.state bay.new) }
+    ensures goes { GoesOn m.old result m.new (B.state bay.old) (B.state bay.new) }
+    ensures begins { OnOk result (Begins m.old kind new m.new) }
 {
     m.set_flight(None);
     if !is_at_rest(m) {
@@ -42,42 +46,32 @@ fn begin<B: Bay>(
     }
 }
 
-/// Opens the first part of a file that was begun. After want of memory the group takes no more calls.
-fn open_first<B: Bay>(
-    m: &mut Mounted,
-    alloc: Global,
-    bay: &B,
-    filling: &mut Filling,
-) -> Result<(), Refusal>
-    requires mounted { IsMounted m.old }
-    requires takes { Takes m.old (B.state bay.now) }
-    ensures goes { GoesOn m.old result m.new (B.state bay.now) (B.state bay.now) }
-    ensures end { filling.new.end ≡ filling.old.end }
-    ensures failed { filling.new.failed ≡ filling.old.failed }
-{
-    match open_part(m, alloc, filling) {
-        Ok(()) => Ok(()),
-        Err(NoMemory) => Err(shut(m)),
-    }
-}
-
-/// Begins a creation or a growth, and gives the extents of its first chunk homes. The move that is on its way is given up. Refusals:
-/// Dismounted, and NoMemory.
-pub fn begin_filling<B: Bay>(
+/// Gives all extents of an operation that has begun homes, by the modes and the units of the group as they are now. NoSpace: the first
+/// of them for which there is no choice once those before it have theirs; the operation is given back. After want of memory the group
+/// takes no more calls. Dismounted: it couldn't be given back.
+pub fn give_homes<B: Bay>(
     m: &mut Mounted,
     alloc: Global,
     bay: &mut B,
-    kind: PendingKind,
     filling: &mut Filling,
 ) -> Result<(), Refusal>
     requires mounted { IsMounted m.old }
     requires takes { Takes m.old (B.state bay.old) }
-    ensures goes { GoesOn m.old result m.new (B.state bay.old) (B.state bay.new) }
+    ensures keeps { KeepsGroup m.old m.new (B.state bay.old) (B.state bay.new) }
+    ensures mounted { OnOk result (IsMounted m.new) }
+    ensures cause { IfErr result (HomesCause m.old filling.old.extents m.new (B.state bay.old) (B.state bay.new)) }
+    ensures extents { filling.new.extents ≡ filling.old.extents }
     ensures end { filling.new.end ≡ filling.old.end }
     ensures failed { filling.new.failed ≡ filling.old.failed }
 {
-    match begin(m, alloc, bay, kind, filling.extents) {
-        Ok(()) => open_first(m, alloc, bay, filling),
-        Err(refusal) => Err(refusal),
+    match choose_all(m, alloc, filling) {
+        Ok(()) => {
+            open_part(m, filling);
+            Ok(())
+        }
+        Err(Refusal::NoSpace { extent }) => {
+            Err(give_back(m, alloc, bay, Refusal::NoSpace { extent }))
+        }
+        Err(_) => Err(shut(m)),
     }
 }

@@ -1,4 +1,5 @@
-//! New extents of a file, which are chosen, filled and committed chunk by chunk. Whoever fills them hands over their bytes in order.
+//! New extents of a file, which all get homes, and then are filled and committed chunk by chunk. Whoever fills them hands over their
+//! bytes in order.
 ghost use Rattle.std.specs.Prelude.{◌≡◌, ◌<◌, ◌≤◌, ◌+◌, IfErr, IfOk, IfSome, OnOk, vec_len};
 ghost use Rattle.striping.specs.Pieces.{IsLayout};
 ghost use Rattle.group_engine.specs.Mounts.{IsMounted, IsWhole, Takes};
@@ -10,7 +11,7 @@ ghost use Rattle.file_extents.specs.Rows.{SpaceCause};
 use crate::appending::{Part, append};
 use crate::committing::{give_back, or_shut};
 use crate::layout::{LONGEST_PIECE, Piece, bytes_before, first_piece, layout_of};
-use crate::rows::{ABSENT, CHUNK, MOST_EXTENTS, NewExtents, check_space, choose_part};
+use crate::rows::{ABSENT, CHUNK, MOST_EXTENTS, NewExtents, choose_row_of};
 use crate::sparing::{Filled, are_all_marked, fill_copies};
 use asm_base::{DiskRef, DiskSet, Homes, NoMemory, Refusal, Stripe};
 use bay::Bay;
@@ -27,8 +28,8 @@ pub enum Contents {
     Bytes,
 }
 
-/// New extents of a file on their way: those of one chunk at a time have homes, and as soon as all their bytes are written they are
-/// committed.
+/// New extents of a file on their way: all of them have homes before the first byte is written, and those of one chunk at a time are
+/// filled and committed.
 #[derive(Drop)]
 pub struct Filling {
     pub extents: NewExtents,
@@ -37,10 +38,11 @@ pub struct Filling {
     pub at: u64,
     /// The first that isn't written any more.
     pub end: u64,
-    /// The first extent of the part that has homes, how many it has, and the file's byte behind them.
+    /// The first extent of the part that is filled, how many it has, and the file's byte behind them.
     first: u64,
     len: usize,
     stop: u64,
+    /// The homes of all the extents, and their marks.
     row: Vec<Homes>,
     marks: Vec<u8>,
     /// The disks that failed since the filling began.
@@ -59,19 +61,18 @@ impl Filling {
 
 // ---- its parts
 
-/// The row of a part, and its marks.
-fn blank_row(alloc: Global) -> Result<(Vec<Homes>, Vec<u8>), NoMemory> {
-    let mut row = Vec::with_capacity(alloc, CHUNK as usize).map_err(|_| NoMemory)?;
-    let mut marks = Vec::with_capacity(alloc, CHUNK as usize).map_err(|_| NoMemory)?;
-    for _ in 0..CHUNK {
+/// A row for the homes of so many extents, and their marks.
+fn blank_row(alloc: Global, count: u64) -> Result<(Vec<Homes>, Vec<u8>), NoMemory> {
+    let mut row = Vec::new(alloc);
+    let mut marks = Vec::new(alloc);
+    for _ in 0..count {
         row.push(ABSENT).map_err(|_| NoMemory)?;
         marks.push(0).map_err(|_| NoMemory)?;
     }
     Ok((row, marks))
 }
 
-/// Makes all ready for new extents of a file, which will have this size, and changes nothing. NoSpace: the first of them for which
-/// there is no choice of homes.
+/// Makes all ready for new extents of a file, which will have this size, and changes nothing.
 pub fn prepare(
     m: &Mounted,
     alloc: Global,
@@ -79,20 +80,15 @@ pub fn prepare(
     stripe: Stripe,
     contents: Contents,
     size: u64,
-) -> Result<Filling, Refusal>
-    requires whole { IsWhole m.now }
-    ensures cause { IfErr result (SpaceCause m.now new) }
+) -> Result<Filling, NoMemory>
     ensures new { IfOk result (λ filling. filling.extents ≡ new) }
     ensures end { IfOk result (λ filling. end_by contents size filling.end) }
     ensures failed { IfOk result (λ filling. filling.failed ≡ 0) }
 {
     if new.first > MOST_EXTENTS || new.count > MOST_EXTENTS - new.first {
-        return Err(Refusal::NoMemory);
+        return Err(NoMemory);
     }
-    let Ok((mut row, marks)) = blank_row(alloc) else {
-        return Err(Refusal::NoMemory);
-    };
-    check_space(m, alloc, new, &mut row)?;
+    let (row, marks) = blank_row(alloc, new.count)?;
     let shape = m.catalog().shape();
     let at = bytes_before(shape, new.first);
     let end = match contents {
@@ -113,44 +109,47 @@ pub fn prepare(
     })
 }
 
-/// Chooses the homes of the next part: the extents up to the end of the chunk, where any are left.
-fn choose_next(m: &Mounted, alloc: Global, filling: &mut Filling) -> Result<(), Refusal>
+/// Chooses the homes of all the extents. NoSpace: the first of them for which there is no choice once those before it have theirs.
+pub(crate) fn choose_all(m: &Mounted, alloc: Global, filling: &mut Filling) -> Result<(), Refusal>
     requires whole { IsWhole m.now }
+    ensures cause { IfErr result (SpaceCause m.now filling.old.extents) }
+    ensures extents { filling.new.extents ≡ filling.old.extents }
+    ensures end { filling.new.end ≡ filling.old.end }
+    ensures failed { filling.new.failed ≡ filling.old.failed }
+{
+    let new = filling.extents;
+    if new.first > MOST_EXTENTS || new.count > MOST_EXTENTS - new.first {
+        return Err(Refusal::NoMemory);
+    }
+    if filling.row.len() as u64 != new.count {
+        return Err(Refusal::NoMemory);
+    }
+    choose_row_of(m, alloc, new, &mut filling.row)
+}
+
+/// Opens the next part: the extents up to the end of the chunk, where any are left.
+pub(crate) fn open_part(m: &Mounted, filling: &mut Filling)
+    ensures extents { filling.new.extents ≡ filling.old.extents }
     ensures end { filling.new.end ≡ filling.old.end }
     ensures failed { filling.new.failed ≡ filling.old.failed }
 {
     let end = filling.extents.first.saturating_add(filling.extents.count);
-    if end > MOST_EXTENTS || filling.first > end {
-        return Err(Refusal::NoMemory);
-    }
     let room = CHUNK - filling.first % CHUNK;
-    let len = (end - filling.first).min(room) as usize;
-    if len > filling.row.len() || len > filling.marks.len() {
-        return Err(Refusal::NoMemory);
-    }
-    choose_part(
-        m,
-        alloc,
-        filling.extents,
-        filling.first,
-        &mut filling.row[..len],
-    )?;
-    filling.marks[..len].fill(0);
-    filling.stop = bytes_before(m.catalog().shape(), filling.first + len as u64);
-    filling.len = len;
-    Ok(())
+    let len = end.saturating_sub(filling.first).min(room);
+    filling.stop = bytes_before(m.catalog().shape(), filling.first.saturating_add(len));
+    filling.len = len as usize;
 }
 
-/// Chooses the homes of the next part. There is space for all, so that none is wanting but memory.
-pub(crate) fn open_part(m: &Mounted, alloc: Global, filling: &mut Filling) -> Result<(), NoMemory>
-    requires whole { IsWhole m.now }
-    ensures end { filling.new.end ≡ filling.old.end }
-    ensures failed { filling.new.failed ≡ filling.old.failed }
+/// The places in the row of the part at hand: the first, and the one behind its last.
+fn part_of(filling: &Filling) -> Option<(usize, usize)>
+    ensures { IfSome result (λ part. (part.0 ≤ part.1) × ((part.1 ≤ vec_len filling.now.row) × (part.1 ≤ vec_len filling.now.marks))) }
 {
-    match choose_next(m, alloc, filling) {
-        Ok(()) => Ok(()),
-        Err(_) => Err(NoMemory),
+    let from = filling.first.checked_sub(filling.extents.first)? as usize;
+    let to = from.checked_add(filling.len)?;
+    if to > filling.row.len() || to > filling.marks.len() {
+        return None;
     }
+    Some((from, to))
 }
 
 /// Commits the part, all of whose bytes are written.
@@ -166,10 +165,9 @@ fn close_part<B: Bay>(
     ensures end { filling.new.end ≡ filling.old.end }
     ensures failed { filling.new.failed ≡ filling.old.failed }
 {
-    let len = filling.len;
-    if len > filling.row.len() || len > filling.marks.len() {
+    let Some((from, to)) = part_of(filling) else {
         return Err(Refusal::NoMemory);
-    }
+    };
     let part = Part {
         file: filling.extents.file,
         copies: filling.extents.copies,
@@ -180,11 +178,11 @@ fn close_part<B: Bay>(
         alloc,
         bay,
         part,
-        &filling.row[..len],
-        &filling.marks[..len],
+        &filling.row[from..to],
+        &filling.marks[from..to],
     ) {
         Ok(()) => {
-            filling.first = filling.first.saturating_add(len as u64);
+            filling.first = filling.first.saturating_add(filling.len as u64);
             filling.len = 0;
             Ok(())
         }
@@ -207,10 +205,8 @@ fn next_part<B: Bay>(
 {
     match close_part(m, alloc, bay, filling) {
         Ok(()) => {
-            match open_part(m, alloc, filling) {
-                Ok(()) => Ok(()),
-                Err(NoMemory) => Err(Refusal::NoMemory),
-            }
+            open_part(m, filling);
+            Ok(())
         }
         Err(refusal) => Err(refusal),
     }
@@ -236,16 +232,13 @@ fn all_failed(homes: &Homes, failed: DiskSet) -> Refusal
     }
 }
 
-/// The place of an extent in the part at hand.
+/// The place in the row of an extent of the part at hand.
 fn place_of(filling: &Filling, index: u32) -> Option<usize>
     ensures { IfSome result (λ place. (place < vec_len filling.now.row) × (place < vec_len filling.now.marks)) }
 {
-    let index = index as u64;
-    if index < filling.first || index - filling.first >= filling.len as u64 {
-        return None;
-    }
-    let place = (index - filling.first) as usize;
-    if place >= filling.row.len() || place >= filling.marks.len() {
+    let (from, to) = part_of(filling)?;
+    let place = (index as u64).checked_sub(filling.extents.first)? as usize;
+    if place < from || place >= to {
         return None;
     }
     Some(place)
@@ -355,8 +348,8 @@ fn end_part<B: Bay>(
     or_shut(m, answer)
 }
 
-/// Writes the file's next bytes, at most as many as are wanted. Where they are the last of a chunk its extents are committed, and those
-/// of the next chunk get homes. A refusal gives all back: WriteFault, where all copies of an extent failed; Dismounted and NoMemory,
+/// Writes the file's next bytes, at most as many as are wanted. Where they are the last of a chunk its extents are committed. A refusal
+/// gives all back: WriteFault, where all copies of an extent failed; Dismounted and NoMemory,
 /// after which nothing more is written, and the next mount gives it back.
 pub fn put_next<B: Bay>(
     m: &mut Mounted,

@@ -1,7 +1,7 @@
 // The homes of new extents are chosen.
-ghost use Rattle.std.specs.Prelude.{◌≡◌, ◌+◌, ◌<◌, ◌≤◌, ◌^◌, IfErr, length};
+ghost use Rattle.std.specs.Prelude.{◌≡◌, ◌+◌, ◌<◌, ◌^◌, IfErr, length};
 ghost use Rattle.group_engine.specs.Mounts.{IsWhole};
-ghost use Rattle.file_extents.specs.Rows.{IsChoice, SpaceCause};
+ghost use Rattle.file_extents.specs.Rows.{ChoiceCause, SpaceCause};
 
 use crate::placing::copy_units;
 use allocator::Units;
@@ -32,92 +32,56 @@ pub struct NewExtents {
     pub count: u64,
 }
 
-/// Chooses homes for as many extents from one on as the row has places, by these maps, which have their units used then. NoSpace: the
-/// first of them for which there is no choice once those before it have theirs.
-#[tactic(auto, using(crate::proofs::Extents::entries_ascend, crate::proofs::Choices::all_chosen, crate::proofs::Choices::not_all))]
+/// Chooses homes for as many extents as the row has places, by these maps, which have their units used then. NoSpace: the first of them
+/// for which there is no choice once those before it have theirs.
+#[tactic(auto, using(crate::proofs::Extents::entries_ascend, crate::proofs::Choices::not_all))]
 fn choose_in(
     m: &Mounted,
     units: &mut [Units],
     new: NewExtents,
-    first: u64,
     row: &mut [Homes],
 ) -> Result<(), Refusal>
     requires whole { IsWhole m.now }
-    requires few { first + length row.old < 2 ^ 32 }
+    requires few { new.first + length row.old < 2 ^ 32 }
+    requires all { length row.old ≡ new.count }
     ensures places { length row.new ≡ length row.old }
-    ensures chosen { IsChoice m.now new first units.old row.new result units.new }
+    ensures cause { IfErr result (ChoiceCause m.now new units.old) }
 {
     let step = m.catalog().shape().step;
-    let chosen = choose_row(m.status().entries(), units, new.copies, step, first, row);
+    let chosen = choose_row(
+        m.status().entries(),
+        units,
+        new.copies,
+        step,
+        new.first,
+        row,
+    );
     if chosen < row.len() {
         let extent = ExtentId {
             file: new.file,
-            index: (first + chosen as u64) as u32,
+            index: (new.first + chosen as u64) as u32,
         };
         return Err(Refusal::NoSpace { extent });
     }
     Ok(())
 }
 
-/// Chooses homes for as many extents from one on as the row has places, by the units of the group as they are.
-pub(crate) fn choose_part(
-    m: &Mounted,
-    alloc: Global,
-    new: NewExtents,
-    first: u64,
-    row: &mut [Homes],
-) -> Result<(), Refusal>
-    requires whole { IsWhole m.now }
-    requires few { first + length row.old < 2 ^ 32 }
-    ensures places { length row.new ≡ length row.old }
-{
-    match copy_units(alloc, m.catalog().units()) {
-        Ok(mut units) => choose_in(m, &mut units, new, first, row),
-        Err(_) => Err(Refusal::NoMemory),
-    }
-}
-
-/// Whether there are homes for all the extents. NoSpace: the first for which there is no choice once those before it have theirs. The
-/// row is used up.
-pub(crate) fn check_space(
+/// Chooses homes for all the extents, for which the row has places, by the modes and the units of the group as they are. NoSpace: the
+/// first for which there is no choice once those before it have theirs.
+pub(crate) fn choose_row_of(
     m: &Mounted,
     alloc: Global,
     new: NewExtents,
     row: &mut [Homes],
 ) -> Result<(), Refusal>
     requires whole { IsWhole m.now }
-    requires few { new.first + new.count < 2 ^ 32 }
+    requires few { new.first + length row.old < 2 ^ 32 }
+    requires all { length row.old ≡ new.count }
     ensures places { length row.new ≡ length row.old }
     ensures cause { IfErr result (SpaceCause m.now new) }
 {
     match copy_units(alloc, m.catalog().units()) {
-        Ok(mut units) => check_in(m, &mut units, new, row),
+        Ok(mut units) => choose_in(m, &mut units, new, row),
         Err(_) => Err(Refusal::NoMemory),
     }
-}
-
-/// The same by these maps, which are those of the group.
-#[tactic(auto, using(crate::proofs::Choices::none_yet, crate::proofs::Choices::more_homes, crate::proofs::Choices::no_space))]
-fn check_in(
-    m: &Mounted,
-    units: &mut [Units],
-    new: NewExtents,
-    row: &mut [Homes],
-) -> Result<(), Refusal>
-    requires whole { IsWhole m.now }
-    requires few { new.first + new.count < 2 ^ 32 }
-    requires units { units.old ≡ m.now.catalog.units }
-    ensures places { length row.new ≡ length row.old }
-    ensures cause { IfErr result (SpaceCause m.now new) }
-{
-    let mut done = 0;
-    while done < new.count {
-        let n = (new.count - done).min(row.len() as u64) as usize;
-        if n == 0 {
-            return Err(Refusal::NoMemory);
-        }
-        choose_in(m, units, new, new.first + done, &mut row[..n])?;
-        done += n as u64;
-    }
-    Ok(())
 }

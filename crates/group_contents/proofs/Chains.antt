@@ -1,5 +1,5 @@
 -- Calls on the files of a group one after the other: why they are refused.
-use Rattle.std.proofs.Common.{◌≡◌, ◌⊎◌, ⊎_elim, inl, inr, ℕ, ◌<◌, true, Result, Ok, Err}
+use Rattle.std.proofs.Common.{◌≡◌, ◌⊎◌, ⊎_elim, inl, inr, ℕ, ◌<◌, true, Result, Ok, Err, sym, subst}
 use Rattle.std.specs.Prelude.{IfErr}
 use Rattle.bay.specs.State.{BayState}
 use Rattle.asm_group.specs.Names.{Path}
@@ -57,6 +57,11 @@ fills_put a b x s t _ why = absurd why
 pub piece_fails : (m : MountedGroup) (x : ExtentId) (inner before : ℕ) (s t : BayState) (by : DiskRef) → PieceFault m x inner s t by → FailedIn m before s t by
 piece_fails m x inner before s t (Number d) fault = inr fault.rose
 piece_fails m x inner before s t (Spelt text) fault = absurd fault
+
+-- by a disk of the set, or by this one
+pub fault_puts : (a b : MountedGroup) (x : ℕ) (s t : BayState) (by : DiskRef) (e : Refusal) → FailedIn a x s t by → FillCause x e ⊎ (e ≡ cause.WriteFault by) → PutCause a x b s t e
+fault_puts a b x s t by e failed why =
+    ⊎_elim (λ of. fills_put a b x s t e of) (λ same. subst (λ (v : Refusal). PutCause a x b s t v) (sym same) failed) why
 
 -- the disks that failed in one write more
 pub more_failed : (m : MountedGroup) (before failed after : ℕ) (s t : BayState)

@@ -1,11 +1,14 @@
 -- Steps on the files of a group, one after the other: what they leave, and what they committed.
-use Rattle.std.proofs.Common.{◌≡◌, ◌⊎◌, ⊎_elim, inl, inr, ℕ, ◌<◌, Bool, true, false, List, None, Result, Ok, Err, refl, sym, ap, subst, arith}
+use Rattle.std.proofs.Common.{◌≡◌, ◌⊎◌, ⊎_elim, inl, inr, ℕ, ◌<◌, Bool, true, false, List, None, Result, Ok, Err, refl, sym, ap, subst, ◌∙◌, arith}
 use Rattle.std.specs.Prelude.{IfErr, IfOk, OnOk}
 use Rattle.bay.specs.State.{BayState}
 use Rattle.asm_group.specs.Names.{Path}
 use Rattle.asm_group.specs.TreeEdits as e
+use Rattle.asm_group.specs.declared.PendingKind.TheVariants.{Create, Grow}
 use Rattle.asm_group.specs.declared.Stripe.{Stripe}
 use Rattle.asm_base.specs.Records.{Entry}
+use Rattle.asm_base.specs.declared.refusal.DiskRef.{DiskRef}
+use Rattle.asm_base.specs.declared.refusal.DiskRef.TheVariants.{Number, Spelt}
 use Rattle.asm_base.specs.declared.refusal.Refusal.{Refusal}
 use Rattle.asm_base.specs.declared.refusal.Refusal.TheVariants as cause
 use Rattle.asm_formats.specs.Items.{Key}
@@ -17,17 +20,20 @@ use Rattle.catalog.specs.Tables.{Catalogued, Tables}
 use Rattle.catalog.specs.TreePlans.{IsTreePlan, IsTreeRefusal}
 use Rattle.catalog.specs.declared.new_file.NewFile.{NewFile}
 use Rattle.group_engine.specs.Commits.{StatusCause}
-use Rattle.group_engine.specs.Mounts.{IsMounted, MountedGroup}
-use Rattle.group_engine.specs.Own.{KeepsGroup}
+use Rattle.group_engine.specs.Mounts.{IsMounted, MountedGroup, Takes}
+use Rattle.group_engine.specs.Own.{IsSameGroup, KeepsGroup}
 use Rattle.group_engine.proofs.Causes.{cause_on}
+use Rattle.group_engine.proofs.Endings.{keeps_closed}
+use Rattle.file_extents.specs.Beginning.{Begins, HomesCause}
 use Rattle.file_extents.specs.Closing.{IsOrShut, or_shut}
-use Rattle.file_extents.specs.Rows.{SpaceCause}
+use Rattle.file_extents.specs.Filling.{FaultOn}
+use Rattle.file_extents.proofs.Chains.{kept, rose_before}
 use Rattle.file_extents.specs.declared.rows.NewExtents.{NewExtents}
-use Rattle.group_contents.specs.Creating.{AreNext, BeginCause, CreateCause, IsChosen, NamesFile, NewCause, RoomCause}
+use Rattle.group_contents.specs.Creating.{AreOfNew, BeginCause, BegunCause, CreateCause, NamesFile, RoomCause}
 use Rattle.group_contents.specs.Files.{IsOpened, OpenCause, WriteCause}
 use Rattle.group_contents.specs.Removing.{DropsDirectory, Goes, IsRemoved, RemoveCause, Removes, RemovesFile, StaysCause, leads_to_directory}
 use Rattle.group_contents.specs.declared.opening.OpenFile.{OpenFile}
-use Rattle.group_contents.specs.Sizes.{AreMore, GrowCause, IsCut, IsSized, ResizeCause, Resizes, SetsSize}
+use Rattle.group_contents.specs.Sizes.{AreMore, GrowCause, GrowthCause, IsCut, IsFaultBack, IsSized, LaterCause, MoreCause, ResizeCause, Resizes, SetsSize}
 use Rattle.group_contents.proofs.Chains.{status_writes, write_on}
 
 -- ---- answers
@@ -153,22 +159,56 @@ module _ (a : MountedGroup) (path : Path) (b : MountedGroup) (r : Result (Unit {
 
 -- for want of blocks
 pub room_grows : (m : MountedGroup) (file : OpenFile) (e : Refusal) → RoomCause m.catalog e → GrowCause m file e
-room_grows m file (cause.DirectoryFull need free) why = inl why
-room_grows m file cause.NoMemory why = inl tt
+room_grows m file (cause.DirectoryFull need free) why = why
+room_grows m file cause.NoMemory why = tt
 room_grows m file _ why = absurd why
 
--- for want of space
-space_grows : (m : MountedGroup) (file : OpenFile) (new : NewExtents) → AreMore m.catalog file new → (e : Refusal) → SpaceCause m new e → GrowCause m file e
-space_grows m file new more (cause.NoSpace x) why = inr (new, more, why)
-space_grows m file new more cause.NoMemory why = inl tt
-space_grows m file new more _ why = absurd why
+same_joins : {a b c : MountedGroup} → IsSameGroup a b → IsSameGroup b c → IsSameGroup a c
+same_joins one two = record {
+  name = two.name ∙ one.name;
+  id = two.id ∙ one.id;
+  shape = two.shape ∙ one.shape;
+  members = two.members ∙ one.members;
+  disks = two.disks ∙ one.disks;
+  flight = ⊎_elim (λ goes. ⊎_elim (λ went. inl (goes ∙ went)) (λ gone. inr (goes ∙ gone)) one.flight) (λ gone. inr gone) two.flight;
+}
 
-pub lacks_more : {A : Type 0} (m : MountedGroup) (file : OpenFile) (new : NewExtents) (r : Result A Refusal) → AreMore m.catalog file new → IfErr r (SpaceCause m new) → IfErr r (GrowCause m file)
-lacks_more m file new r more = on_err (SpaceCause m new) (GrowCause m file) r (space_grows m file new more)
+-- for want of space once the growth had begun
+pub lacks_later : (m : MountedGroup) (extents : NewExtents) (new : MountedGroup) (s t : BayState) (e : Refusal) → IsMounted m → Takes m s → HomesCause m extents new s t e
+    → LaterCause m extents new s t e
+lacks_later m extents new s t e mounted takes why =
+    ⊎_elim
+    (λ lacks. inl (record { between = m; same = (kept m s takes).same; whole = (takes mounted).0; space = lacks.0; given_back = lacks.1 }))
+    (λ because. inr (status_writes m new s t e because))
+    why
 
-pub grows : (m : MountedGroup) (file : OpenFile) (b : MountedGroup) (s t : BayState) (r : Result (Unit {0}) Refusal) → IfErr r (WriteCause m b s t)
-    → IfErr r (λ e. GrowCause m file e ⊎ WriteCause m b s t e)
-grows m file b s t r = on_err (WriteCause m b s t) (λ e. GrowCause m file e ⊎ WriteCause m b s t e) r (λ e why. inr why)
+pub writes_more : {A : Type 0} (m : MountedGroup) (extents : NewExtents) (new : MountedGroup) (s t : BayState) (r : Result A Refusal)
+    → IfErr r (WriteCause m new s t) → IfErr r (MoreCause m extents new s t)
+writes_more m extents new s t r = on_err (WriteCause m new s t) (MoreCause m extents new s t) r (λ e why. inr why)
+
+-- why the second of two steps of a growth is refused
+module _ (extents : NewExtents) {a b : MountedGroup} {s t : BayState} (keeps : KeepsGroup a b s t) (mounted : IsMounted b) (c : MountedGroup) (u : BayState) {A : Type 0} where
+  pub later_next : (r : Result A Refusal) → IfErr r (LaterCause b extents c t u) → IfErr r (LaterCause a extents c s u)
+  later_next r = on_err (LaterCause b extents c t u) (LaterCause a extents c s u) r
+      (λ e why. ⊎_elim
+      (λ lacks. inl (record { between = lacks.between; same = same_joins keeps.same lacks.same; whole = lacks.whole; space = lacks.space; given_back = lacks.given_back }))
+      (λ writes. inr (write_on keeps mounted u c e writes))
+      why)
+
+  pub writes_later : (r : Result A Refusal) → IfErr r (WriteCause b c t u) → IfErr r (LaterCause a extents c s u)
+  writes_later r = on_err (WriteCause b c t u) (LaterCause a extents c s u) r (λ e why. inr (write_on keeps mounted u c e why))
+
+  -- the first of which was its begin
+  pub begun_later : Begins a Grow extents b → (r : Result A Refusal) → IfErr r (LaterCause b extents c t u) → IfErr r (MoreCause a extents c s u)
+  begun_later begins r = on_err (LaterCause b extents c t u) (MoreCause a extents c s u) r
+      (λ e why. ⊎_elim
+      (λ lacks. inl (record { begun = b; begins = begins; same = keeps.same; later = lacks }))
+      (λ writes. inr (write_on keeps mounted u c e writes))
+      why)
+
+pub grows : (m : MountedGroup) (file : OpenFile) (extents : NewExtents) (b : MountedGroup) (s t : BayState) (r : Result (Unit {0}) Refusal) → AreMore m.catalog file extents
+    → IfErr r (MoreCause m extents b s t) → IfErr r (GrowthCause m file b s t)
+grows m file extents b s t r more = on_err (MoreCause m extents b s t) (GrowthCause m file b s t) r (λ e why. inr (extents, more, why))
 
 pub size_set : (a : MountedGroup) (file size : ℕ) (b : MountedGroup) (r : Result (Unit {0}) Refusal) → OnOk r (SetsSize a file size b) → OnOk r (IsSized file size b)
 size_set a file size b r = on_ok r (λ (is : SetsSize a file size b). (a, is))
@@ -178,9 +218,8 @@ module _ (a : MountedGroup) (path : Path) (size : ℕ) (b : MountedGroup) (s t :
   pub shrinking_refused : IfErr r (StatusCause a b s t) → IfErr r (ResizeCause a path size b s t)
   shrinking_refused = on_err (StatusCause a b s t) (ResizeCause a path size b s t) r (λ e why. inr (status_writes a b s t e why))
 
-  pub growth_refused : (file : OpenFile) → IsOpened a.catalog.tables path file → IfErr r (λ e. GrowCause a file e ⊎ WriteCause a b s t e) → IfErr r (ResizeCause a path size b s t)
-  growth_refused file opened = on_err (λ e. GrowCause a file e ⊎ WriteCause a b s t e) (ResizeCause a path size b s t) r
-      (λ e why. ⊎_elim (λ grown. inl (inr (file, opened, inr grown))) (λ writes. inr writes) why)
+  pub growth_refused : (file : OpenFile) → IsOpened a.catalog.tables path file → IfErr r (GrowthCause a file b s t) → IfErr r (ResizeCause a path size b s t)
+  growth_refused file opened = on_err (GrowthCause a file b s t) (ResizeCause a path size b s t) r (λ e why. inl (inr (file, opened, inr why)))
 
 -- where the move that was on its way is given up before
 pub size_cut : (a new : MountedGroup) (file size : ℕ) (b : MountedGroup) (r : Result (Unit {0}) Refusal) → new ≡ record a { flight = None } → SetsSize new file size b → OnOk r (IsCut a file size)
@@ -229,12 +268,51 @@ or_shut_ok P b c r q had is = subst (λ (x : Result (Unit {0}) Refusal). OnOk x 
     go (Ok done) was = was
     go (Err _) was = tt
 
+-- for a disk that failed
+fault_before : (a : MountedGroup) {b c : MountedGroup} (s : BayState) {t u : BayState} → KeepsGroup b c t u → (by : DiskRef) → FaultOn a s t by → FaultOn a s u by
+fault_before a s keeps (Number d) rose = rose_before a s keeps d rose
+fault_before a s keeps (Spelt text) none = absurd none
+
+pub fault_given_back : {a b c : MountedGroup} {s t u : BayState} (by : DiskRef) (r : Refusal) → KeepsGroup a b s t → KeepsGroup b c t u → FaultOn a s t by → IsFaultBack b by c t u r
+    → WriteCause a c s u r
+fault_given_back {a} {b} {c} {s} {t} {u} by r one two fault why =
+    ⊎_elim
+    (λ same. subst (λ (v : Refusal). WriteCause a c s u v) (sym same) (fault_before a s two by fault))
+    (λ because. status_writes a c s u r (cause_on one u c because.0 r because.1))
+    why
+
+pub or_shut_keeps : (a b c : MountedGroup) (s t : BayState) (r q : Result (Unit {0}) Refusal) → KeepsGroup a b s t → IsOrShut r b q c → KeepsGroup a c s t
+or_shut_keeps a b c s t r q keeps is = subst (λ (x : MountedGroup). KeepsGroup a x s t) (sym is.1) (go r)
+  where
+    go : (x : Result (Unit {0}) Refusal) → KeepsGroup a (or_shut x b) s t
+    go (Err cause.NoMemory) = keeps_closed keeps
+    go (Ok done) = keeps
+    go (Err _) = keeps
+
+pub or_shut_writes : (a b c : MountedGroup) (s t : BayState) (r q : Result (Unit {0}) Refusal) → IfErr r (WriteCause a b s t) → IsOrShut r b q c → IfErr q (WriteCause a c s t)
+or_shut_writes a b c s t r q why is =
+    subst (λ (x : Result (Unit {0}) Refusal). IfErr x (WriteCause a c s t)) (sym is.0) (subst (λ (x : MountedGroup). IfErr r (WriteCause a x s t)) (sym is.1) (go r why))
+  where
+    go : (x : Result (Unit {0}) Refusal) → IfErr x (WriteCause a b s t) → IfErr x (WriteCause a (or_shut x b) s t)
+    go (Err cause.NoMemory) was = tt
+    go (Ok done) was = tt
+    go (Err _) was = was
+
 -- ---- new files
 
-pub lacks_space : {A : Type 0} (m : MountedGroup) (new : NewFile) (copies : ℕ) (stripe : Stripe) (extents : NewExtents) (r : Result A Refusal) → IsChosen m new new.by copies stripe
-    → AreNext m.catalog copies stripe new.size extents → IfErr r (SpaceCause m extents) → IfErr r (NewCause m new)
-lacks_space m new copies stripe extents r chosen next = on_err (SpaceCause m extents) (NewCause m new) r
-    (λ e why. inr (inr (inr (record { copies = copies; stripe = stripe; chosen = chosen; extents = extents; next = next; space = why }))))
+-- why the homes of a creation that has begun are refused
+module _ (extents : NewExtents) {a b : MountedGroup} {s t : BayState} (keeps : KeepsGroup a b s t) (mounted : IsMounted b) (begins : Begins a Create extents b) (c : MountedGroup)
+    (u : BayState) {A : Type 0} where
+  pub homes_next : (r : Result A Refusal) → IfErr r (HomesCause b extents c t u) → IfErr r (BegunCause a extents c s u)
+  homes_next r = on_err (HomesCause b extents c t u) (BegunCause a extents c s u) r
+      (λ e why. ⊎_elim
+      (λ lacks. inl (record { between = b; begins = begins; same = keeps.same; whole = keeps.whole mounted; space = lacks.0; given_back = lacks.1 }))
+      (λ because. inr (cause_on keeps u c mounted e because))
+      why)
+
+pub begun_refused : (a : MountedGroup) (new : NewFile) (extents : NewExtents) (b : MountedGroup) (s t : BayState) (e : Refusal) → AreOfNew a new extents → BegunCause a extents b s t e
+    → BeginCause a new b s t e
+begun_refused a new extents b s t e of why = ⊎_elim (λ lacks. inr (inl (extents, of, lacks))) (λ because. inr (inr because)) why
 
 pub named_before : (a : MountedGroup) (new : NewFile) (b : MountedGroup) (r : Result ℕ Refusal) → IfOk r (λ file. NamesFile a new file b)
     → IfOk r (λ file. (before : MountedGroup) × NamesFile before new file b)
@@ -242,9 +320,9 @@ named_before a new b (Ok file) is = (a, is)
 named_before a new b (Err e) is = tt
 
 pub begin_creates : (a : MountedGroup) (new : NewFile) (b : MountedGroup) (s t : BayState) (e : Refusal) → BeginCause a new b s t e → CreateCause a new b s t e
-begin_creates a new b s t e why = ⊎_elim (λ is. inl is) (λ is. inr (status_writes a b s t e is)) why
+begin_creates a new b s t e why = ⊎_elim (λ is. inl is) (λ more. ⊎_elim (λ lacks. inr (inl lacks)) (λ because. inr (inr (status_writes a b s t e because))) more) why
 
 module _ (new : NewFile) {a b : MountedGroup} {s t : BayState} (keeps : KeepsGroup a b s t) (mounted : IsMounted b) (c : MountedGroup) (u : BayState) {A : Type 0} where
   pub create_next : (r : Result A Refusal) → IfErr r (WriteCause b c t u) → IfErr r (CreateCause a new c s u)
   create_next (Ok done) why = tt
-  create_next (Err e) why = inr (write_on keeps mounted u c e why)
+  create_next (Err e) why = inr (inr (write_on keeps mounted u c e why))

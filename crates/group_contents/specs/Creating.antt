@@ -24,7 +24,9 @@ use Rattle.catalog.specs.declared.new_file.FileBy.TheVariants as by
 use Rattle.catalog.specs.declared.new_file.NewFile.{NewFile}
 use Rattle.extent_copies.specs.NewFiles.{serving_groups, template_by}
 use Rattle.group_engine.specs.Commits.{StatusCause}
-use Rattle.group_engine.specs.Mounts.{MountedGroup}
+use Rattle.group_engine.specs.Mounts.{IsWhole, MountedGroup}
+use Rattle.group_engine.specs.Own.{IsSameGroup}
+use Rattle.file_extents.specs.Beginning.{Begins, IsGivenBack}
 use Rattle.file_extents.specs.Rows.{SpaceCause}
 use Rattle.file_extents.specs.declared.rows.NewExtents.{NewExtents}
 use Rattle.group_contents.specs.Files.{WriteCause}
@@ -72,29 +74,44 @@ pub record AreNext (c : Catalogued) (copies : ℕ) (stripe : Stripe) (size : ℕ
   pub first : extents.first ≡ 0
   pub count : (i : ℕ) → (i < extents.count) ↔ IsTrue (has_extent stripe c.shape.au c.shape.step size i)
 
--- There is no choice of homes for an extent of the file.
-pub record LacksSpace (m : MountedGroup) (new : NewFile) (refusal : Refusal) : Type 0 where
+-- The extents that a new file gets: by what is asked of it, and with its size.
+pub record AreOfNew (m : MountedGroup) (new : NewFile) (extents : NewExtents) : Type 0 where
   pub copies : ℕ
   pub stripe : Stripe
   pub chosen : IsChosen m new new.by copies stripe
-  pub extents : NewExtents
   pub next : AreNext m.catalog copies stripe new.size extents
-  pub space : SpaceCause m extents refusal
 
--- Why a file can't be made, before anything is changed: by its template, its name and its size, for want of blocks, or of space.
+-- Why a file can't be made, before anything is changed: by its template, its name and its size, or for want of blocks.
 abbrev pub NewCause : MountedGroup → NewFile → Refusal → Type 0
 NewCause m new refusal = IsTemplateCause m.catalog.tables new refusal
     ⊎ (IsCheckRefusal m.catalog new.path.parts new.size refusal
-    ⊎ (RoomCause m.catalog refusal
-    ⊎ LacksSpace m new refusal))
+    ⊎ RoomCause m.catalog refusal)
 
--- the same, or the group takes no calls, or was dismounted by the first commit
+-- The creation had begun, and then there was no choice of homes for one of its extents; it was given back.
+pub record LacksHomes (old : MountedGroup) (extents : NewExtents) (new : MountedGroup) (refusal : Refusal) : Type 0 where
+  pub between : MountedGroup
+  pub begins : Begins old Create extents between
+  pub same : IsSameGroup old between
+  pub whole : IsWhole between
+  pub space : SpaceCause between extents refusal
+  pub given_back : IsGivenBack new
+
+-- Why a creation that makes these extents doesn't begin: for want of space, or the group was dismounted by a commit.
+abbrev pub BegunCause : MountedGroup → NewExtents → MountedGroup → BayState → BayState → Refusal → Type 0
+BegunCause old extents new s t refusal = LacksHomes old extents new refusal ⊎ StatusCause old new s t refusal
+
+-- There is no choice of homes for an extent of the file.
+abbrev pub LacksSpace : MountedGroup → NewFile → MountedGroup → Refusal → Type 0
+LacksSpace old new group refusal = (extents : NewExtents) × AreOfNew old new extents × LacksHomes old extents group refusal
+
+-- Why a file doesn't begin: before anything is changed, or for want of space; or the group takes no calls, or was dismounted by a
+-- commit.
 abbrev pub BeginCause : MountedGroup → NewFile → MountedGroup → BayState → BayState → Refusal → Type 0
-BeginCause old new group s t refusal = NewCause old new refusal ⊎ StatusCause old group s t refusal
+BeginCause old new group s t refusal = NewCause old new refusal ⊎ (LacksSpace old new group refusal ⊎ StatusCause old group s t refusal)
 
 -- the same, or by a disk that failed
 abbrev pub CreateCause : MountedGroup → NewFile → MountedGroup → BayState → BayState → Refusal → Type 0
-CreateCause old new group s t refusal = NewCause old new refusal ⊎ WriteCause old group s t refusal
+CreateCause old new group s t refusal = NewCause old new refusal ⊎ (LacksSpace old new group refusal ⊎ WriteCause old group s t refusal)
 
 -- the creation of the file is pending, and it has no head yet
 pub record IsBegun (t : Tables) (file : ℕ) : Type 0 where

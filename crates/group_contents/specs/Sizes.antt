@@ -2,7 +2,9 @@
 use Rattle.std.specs.Prelude.{◌≡◌, ◌⊎◌, ◌↔◌, ℕ, ◌<◌, false, List, IsTrue}
 use Rattle.bay.specs.State.{BayState}
 use Rattle.asm_group.specs.Names.{Path}
+use Rattle.asm_group.specs.declared.PendingKind.TheVariants.{Grow}
 use Rattle.asm_base.specs.Records.{Entry}
+use Rattle.asm_base.specs.declared.refusal.DiskRef.{DiskRef}
 use Rattle.asm_base.specs.declared.refusal.Refusal.{Refusal}
 use Rattle.asm_base.specs.declared.refusal.Refusal.TheVariants as cause
 use Rattle.asm_formats.specs.Items.{Key}
@@ -10,7 +12,10 @@ use Rattle.asm_placement.specs.Layout.{has_extent}
 use Rattle.catalog.specs.Changing.{IsAfter}
 use Rattle.catalog.specs.FilePlans.{IsSizePlan}
 use Rattle.catalog.specs.Tables.{Catalogued}
-use Rattle.group_engine.specs.Mounts.{MountedGroup}
+use Rattle.group_engine.specs.Commits.{StatusCause}
+use Rattle.group_engine.specs.Mounts.{IsMounted, IsWhole, MountedGroup}
+use Rattle.group_engine.specs.Own.{IsSameGroup}
+use Rattle.file_extents.specs.Beginning.{Begins, IsGivenBack}
 use Rattle.file_extents.specs.Rows.{SpaceCause}
 use Rattle.file_extents.specs.declared.rows.NewExtents.{NewExtents}
 use Rattle.group_contents.specs.Creating.{RoomCause}
@@ -51,15 +56,42 @@ pub record AreMore (c : Catalogued) (file : OpenFile) (extents : NewExtents) : T
   pub copies : extents.copies ≡ file.copies
   pub first : (i : ℕ) → (i < extents.first) ↔ IsTrue (has_extent file.stripe c.shape.au c.shape.step file.size i)
 
--- there is no choice of homes for one of them
-abbrev pub LacksMore : MountedGroup → OpenFile → Refusal → Type 0
-LacksMore m file refusal = (extents : NewExtents) × AreMore m.catalog file extents × SpaceCause m extents refusal
-
 -- Why a file can't have a greater size, before anything is changed: one of its extents that has bytes behind its size has no usable
--- copy, or for want of blocks or of homes.
+-- copy, or for want of blocks.
 abbrev pub GrowCause : MountedGroup → OpenFile → Refusal → Type 0
 GrowCause m file (cause.Lost x) = LostIn m file x
-GrowCause m file refusal = RoomCause m.catalog refusal ⊎ LacksMore m file refusal
+GrowCause m file refusal = RoomCause m.catalog refusal
+
+-- There was no choice of homes for one of these extents by the group to which the call led, and the growth was given back.
+pub record LacksLater (old : MountedGroup) (extents : NewExtents) (new : MountedGroup) (refusal : Refusal) : Type 0 where
+  pub between : MountedGroup
+  pub same : IsSameGroup old between
+  pub whole : IsWhole between
+  pub space : SpaceCause between extents refusal
+  pub given_back : IsGivenBack new
+
+-- The growth had begun, and later there was no choice of homes for one of the extents that the file gets.
+pub record LacksMore (old : MountedGroup) (extents : NewExtents) (new : MountedGroup) (refusal : Refusal) : Type 0 where
+  pub begun : MountedGroup
+  pub begins : Begins old Grow extents begun
+  pub same : IsSameGroup old begun
+  pub later : LacksLater begun extents new refusal
+
+-- the growth was given back for a disk that failed, or couldn't be, on a group that took calls
+abbrev pub IsFaultBack : MountedGroup → DiskRef → MountedGroup → BayState → BayState → Refusal → Type 0
+IsFaultBack old by new s t refusal = (refusal ≡ cause.WriteFault by) ⊎ (IsMounted old × StatusCause old new s t refusal)
+
+-- Why the extents of a growth that has begun aren't made: for want of space, or by a disk that failed; or the group was dismounted.
+abbrev pub LaterCause : MountedGroup → NewExtents → MountedGroup → BayState → BayState → Refusal → Type 0
+LaterCause old extents new s t refusal = LacksLater old extents new refusal ⊎ WriteCause old new s t refusal
+
+-- the same of a growth that begins first
+abbrev pub MoreCause : MountedGroup → NewExtents → MountedGroup → BayState → BayState → Refusal → Type 0
+MoreCause old extents new s t refusal = LacksMore old extents new refusal ⊎ WriteCause old new s t refusal
+
+-- Why a file doesn't get a greater size: before anything is changed, or then as its extents aren't made.
+abbrev pub GrowthCause : MountedGroup → OpenFile → MountedGroup → BayState → BayState → Refusal → Type 0
+GrowthCause old file new s t refusal = GrowCause old file refusal ⊎ ((extents : NewExtents) × AreMore old.catalog file extents × MoreCause old extents new s t refusal)
 
 -- the size isn't whole sectors
 abbrev pub SectorsCause : MountedGroup → ℕ → OpenFile → Refusal → Type 0
@@ -69,4 +101,4 @@ SectorsCause m size file _ = ⊥
 -- why the file at a path doesn't get a size
 abbrev pub ResizeCause : MountedGroup → Path → ℕ → MountedGroup → BayState → BayState → Refusal → Type 0
 ResizeCause old path size new s t refusal =
-    AtFile old path (λ file why. SectorsCause old size file why ⊎ GrowCause old file why) refusal ⊎ WriteCause old new s t refusal
+    AtFile old path (λ file why. SectorsCause old size file why ⊎ GrowthCause old file new s t why) refusal ⊎ WriteCause old new s t refusal

@@ -5,22 +5,22 @@ ghost use Rattle.std.specs.Prelude.{◌≡◌, ◌⊎◌, IfErr, IfOk, None, OnO
 ghost use Rattle.asm_base.specs.declared.refusal.Refusal.TheVariants.{NoTemplate};
 ghost use Rattle.catalog.specs.NamePlans.{IsCreated, made_file};
 ghost use Rattle.group_engine.specs.Commits.{StatusCause};
-ghost use Rattle.group_engine.specs.Mounts.{IsMounted, IsWhole, MountedGroup, Takes};
+ghost use Rattle.group_engine.specs.Mounts.{IsMounted, MountedGroup, Takes};
 ghost use Rattle.group_engine.specs.Own.{KeepsGroup};
 ghost use Rattle.group_engine.specs.Pending.{GoesOn};
 ghost use Rattle.file_extents.specs.Filling.{end_by};
-ghost use Rattle.group_contents.specs.Creating.{AreNext, BeginCause, CreateCause, HasExtents, IsBegun, IsBy, IsChosen, IsTemplateCause, NamesFile, NewCause, RoomCause, template_in};
+ghost use Rattle.group_contents.specs.Creating.{AreNext, AreOfNew, BeginCause, BegunCause, CreateCause, HasExtents, IsBegun, IsBy, IsChosen, IsTemplateCause, NamesFile, NewCause, RoomCause, template_in};
 ghost use Rattle.group_contents.specs.Files.{WriteCause};
 
 use crate::buffers::buffer;
 use crate::chunks::chunks_of;
-use asm_base::{Name, Path, Refusal, Stripe};
+use asm_base::{Name, NoMemory, Path, Refusal, Stripe};
 use bay::Bay;
 use catalog::{Catalog, FileBy, NewFile};
 use extent_copies::{copies_for, serving_groups, template_for};
 use file_extents::{
-    Contents, Filling, LONGEST_PIECE, NewExtents, begin_filling, commit_plan, give_back, has_all,
-    is_within_file, layout_of, or_shut, prepare, put_zeros,
+    Contents, Filling, LONGEST_PIECE, NewExtents, begin_operation, commit_plan, give_back,
+    give_homes, has_all, is_within_file, layout_of, or_shut, prepare, put_zeros,
 };
 use group_engine::Mounted;
 use operations_directory::PendingKind;
@@ -90,31 +90,55 @@ fn extents_of(
     })
 }
 
-/// Looks whether a file may be made, and has all memory for it; nothing is changed. Refusals in their order: NoTemplate, NotSectors,
-/// NotDirectory, NameTaken, DirectoryFull, NoSpace.
+/// Looks whether a file may be made, and has the memory for its extents; nothing is changed. Refusals in their order: NoTemplate,
+/// NotSectors, NotDirectory, NameTaken, DirectoryFull.
 fn prepare_new(
     m: &Mounted,
     alloc: Global,
     new: &NewFile,
     contents: Contents,
 ) -> Result<Filling, Refusal>
-    requires whole { IsWhole m.now }
     ensures cause { IfErr result (NewCause m.now new.now) }
+    ensures extents { IfOk result (λ filling. AreOfNew m.now new.now filling.extents) }
     ensures end { IfOk result (λ filling. end_by contents new.now.size filling.end) }
     ensures failed { IfOk result (λ filling. filling.failed ≡ 0) }
 {
     let (copies, stripe) = chosen_by(m, new)?;
     let nodes = m.catalog().check_name(alloc, new)?;
     let extents = extents_of(m, copies, stripe, new.size, nodes)?;
-    prepare(m, alloc, extents, stripe, contents, new.size)
+    match prepare(m, alloc, extents, stripe, contents, new.size) {
+        Ok(filling) => Ok(filling),
+        Err(NoMemory) => Err(Refusal::NoMemory),
+    }
 }
 
 // ---- its begin
 
-/// Begins a file: its creation is the pending operation, and the extents of its first chunk have homes. It isn't there before
-/// `finish_new`. Where the one who fills it has no more bytes, `give_up` gives it back. Refusals in their order: NoTemplate,
-/// NotSectors, NotDirectory, NameTaken, DirectoryFull, NoSpace, Dismounted. Before the last nothing is changed, and the move in flight
-/// goes on.
+/// Begins a file that was looked at: its creation is the pending operation, and then its extents get homes.
+fn begin_prepared<B: Bay>(
+    m: &mut Mounted,
+    alloc: Global,
+    bay: &mut B,
+    filling: &mut Filling,
+) -> Result<(), Refusal>
+    requires mounted { IsMounted m.old }
+    requires takes { Takes m.old (B.state bay.old) }
+    ensures keeps { KeepsGroup m.old m.new (B.state bay.old) (B.state bay.new) }
+    ensures mounted { OnOk result (IsMounted m.new) }
+    ensures cause { IfErr result (BegunCause m.old filling.old.extents m.new (B.state bay.old) (B.state bay.new)) }
+    ensures end { filling.new.end ≡ filling.old.end }
+    ensures failed { filling.new.failed ≡ filling.old.failed }
+{
+    match begin_operation(m, alloc, bay, PendingKind::Create, filling.extents) {
+        Ok(()) => give_homes(m, alloc, bay, filling),
+        Err(refusal) => Err(refusal),
+    }
+}
+
+/// Begins a file: its creation is the pending operation, and its extents have homes. It isn't there before `finish_new`. Where the one
+/// who fills it has no more bytes, `give_up` gives it back. Refusals in their order: NoTemplate, NotSectors, NotDirectory, NameTaken,
+/// DirectoryFull, before which nothing is changed, and the move in flight goes on; then Dismounted, by the commit of the operation, and
+/// NoSpace, after which it is given back. The move in flight is given up before the last two.
 pub fn begin_new<B: Bay>(
     m: &mut Mounted,
     alloc: Global,
@@ -131,7 +155,7 @@ pub fn begin_new<B: Bay>(
 {
     m.takes_calls()?;
     let mut filling = prepare_new(m, alloc, new, contents)?;
-    match begin_filling(m, alloc, bay, PendingKind::Create, &mut filling) {
+    match begin_prepared(m, alloc, bay, &mut filling) {
         Ok(()) => Ok(filling),
         Err(refusal) => {
             drop(filling);
@@ -301,8 +325,8 @@ fn create_by<B: Bay>(
 }
 
 /// Makes a file of zeros, chunk by chunk under a pending operation, and its name in the last commit. Gives its number. Refusals in
-/// their order: NoTemplate, NotSectors, NotDirectory, NameTaken, DirectoryFull, NoSpace, and then Dismounted and WriteFault, where all
-/// copies of an extent failed. A refusal gives all back.
+/// their order: NoTemplate, NotSectors, NotDirectory, NameTaken, DirectoryFull; Dismounted by the commit of the operation, NoSpace;
+/// WriteFault, where all copies of an extent failed, and Dismounted. A refusal gives all back.
 pub fn create<B: Bay>(
     m: &mut Mounted,
     alloc: Global,

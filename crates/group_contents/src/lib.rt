@@ -4,6 +4,7 @@
 mod buffers;
 mod chunks;
 mod creating;
+mod entry_copies;
 mod opening;
 mod reading;
 mod removing;

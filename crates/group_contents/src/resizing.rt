@@ -1,26 +1,26 @@
 //! Another size of a file.
 ghost use Rattle.std.specs.Bool.{OnTrue};
-ghost use Rattle.std.specs.Prelude.{◌≡◌, ◌⊎◌, IfErr, IfOk, IsTrue, OnOk};
+ghost use Rattle.std.specs.Prelude.{◌≡◌, IfErr, IfOk, IsTrue, OnOk};
 ghost use Rattle.file_directory.specs.Files.{is_file};
 ghost use Rattle.catalog.specs.FilePlans.{MayGrow, is_on_file};
 ghost use Rattle.group_engine.specs.Commits.{StatusCause};
-ghost use Rattle.group_engine.specs.Mounts.{IsMounted, IsWhole, Takes};
+ghost use Rattle.group_engine.specs.Mounts.{IsMounted, Takes};
 ghost use Rattle.group_engine.specs.Own.{KeepsGroup};
 ghost use Rattle.group_engine.specs.Pending.{GoesOn};
 ghost use Rattle.group_contents.specs.Creating.{RoomCause};
 ghost use Rattle.group_contents.specs.Files.{WriteCause};
-ghost use Rattle.group_contents.specs.Sizes.{AreMore, GrowCause, IsCut, IsSized, ResizeCause, Resizes, SetsSize};
+ghost use Rattle.group_contents.specs.Sizes.{AreMore, GrowCause, GrowthCause, IsCut, IsFaultBack, IsSized, LaterCause, MoreCause, ResizeCause, Resizes, SetsSize};
 
 use crate::buffers::buffer;
 use crate::chunks::chunks_of;
 use crate::opening::{OpenFile, first_lost, is_sectors, open};
 use crate::writing::fill_span;
-use asm_base::{Path, Refusal};
+use asm_base::{DiskRef, NoMemory, Path, Refusal};
 use bay::Bay;
 use catalog::Catalog;
 use file_extents::{
-    Contents, Filling, LONGEST_PIECE, NewExtents, begin_filling, bytes_before, commit_plan,
-    has_all, is_at_rest, layout_of, or_shut, prepare, put_zeros,
+    Contents, Filling, LONGEST_PIECE, NewExtents, begin_operation, bytes_before, commit_plan,
+    give_back, give_homes, has_all, is_at_rest, layout_of, or_shut, prepare, put_zeros,
 };
 use group_engine::Mounted;
 use operations_directory::PendingKind;
@@ -147,17 +147,20 @@ fn bytes_behind(m: &Mounted, file: &OpenFile) -> u64 {
     }
 }
 
-/// Looks whether a file may have a greater size, and has all memory for it; nothing is changed.
+/// Looks whether a file may have a greater size, and has the memory for its new extents; nothing is changed.
 fn prepare_more(m: &Mounted, alloc: Global, file: &OpenFile, size: u64) -> Result<Filling, Refusal>
-    requires whole { IsWhole m.now }
     ensures cause { IfErr result (GrowCause m.now file.now) }
+    ensures extents { IfOk result (λ filling. AreMore m.now.catalog file.now filling.extents) }
     ensures failed { IfOk result (λ filling. filling.failed ≡ 0) }
 {
     if let Some(extent) = first_lost(m, file, file.size, bytes_behind(m, file)) {
         return Err(Refusal::Lost { extent });
     }
     let new = more_extents(m, file, size)?;
-    prepare(m, alloc, new, file.stripe, Contents::Zeros, size)
+    match prepare(m, alloc, new, file.stripe, Contents::Zeros, size) {
+        Ok(filling) => Ok(filling),
+        Err(NoMemory) => Err(Refusal::NoMemory),
+    }
 }
 
 /// A growth that is prepared: what its file and its size are, and when it begins.
@@ -169,7 +172,79 @@ struct Growth {
     time: u64,
 }
 
-/// Puts the new extents of a growth that has begun, and commits its size. After want of memory the group takes no more calls.
+/// Writes zeros over what a file's extents have behind its size.
+fn clear_behind<B: Bay>(
+    m: &mut Mounted,
+    alloc: Global,
+    bay: &mut B,
+    growth: &Growth,
+    zeros: &[u8],
+) -> Result<(), Refusal>
+    requires mounted { IsMounted m.old }
+    requires takes { Takes m.old (B.state bay.old) }
+    ensures keeps { KeepsGroup m.old m.new (B.state bay.old) (B.state bay.new) }
+    ensures mounted { OnOk result (IsMounted m.new) }
+    ensures cause { IfErr result (WriteCause m.old m.new (B.state bay.old) (B.state bay.new)) }
+{
+    let file = growth.file;
+    let behind = bytes_behind(m, &file);
+    fill_span(m, alloc, bay, &file, file.size, behind, zeros, growth.time)
+}
+
+/// Gives a growth back after WriteFault by this disk, where the group takes calls still.
+fn give_back_fault<B: Bay>(m: &mut Mounted, alloc: Global, bay: &mut B, disk: DiskRef) -> Refusal
+    requires takes { Takes m.old (B.state bay.old) }
+    ensures keeps { KeepsGroup m.old m.new (B.state bay.old) (B.state bay.new) }
+    ensures cause { IsFaultBack m.old disk m.new (B.state bay.old) (B.state bay.new) result }
+{
+    match m.takes_calls() {
+        Ok(()) => give_back(m, alloc, bay, Refusal::WriteFault { disk }),
+        Err(closed) => {
+            drop(closed);
+            Refusal::WriteFault { disk }
+        }
+    }
+}
+
+/// The same under a growth that has begun: after WriteFault it is given back, and after want of memory the group takes no more calls.
+fn clear_or_give_back<B: Bay>(
+    m: &mut Mounted,
+    alloc: Global,
+    bay: &mut B,
+    growth: &Growth,
+    zeros: &[u8],
+) -> Result<(), Refusal>
+    requires mounted { IsMounted m.old }
+    requires takes { Takes m.old (B.state bay.old) }
+    ensures keeps { KeepsGroup m.old m.new (B.state bay.old) (B.state bay.new) }
+    ensures mounted { OnOk result (IsMounted m.new) }
+    ensures cause { IfErr result (WriteCause m.old m.new (B.state bay.old) (B.state bay.new)) }
+{
+    match clear_behind(m, alloc, bay, growth, zeros) {
+        Ok(()) => Ok(()),
+        Err(Refusal::WriteFault { disk }) => Err(give_back_fault(m, alloc, bay, disk)),
+        Err(refusal) => or_shut(m, Err(refusal)),
+    }
+}
+
+/// Commits another size of a file. After want of memory the group takes no more calls.
+fn size_or_shut<B: Bay>(
+    m: &mut Mounted,
+    alloc: Global,
+    bay: &mut B,
+    file: u32,
+    size: u64,
+) -> Result<(), Refusal>
+    requires mounted { IsMounted m.old }
+    requires takes { Takes m.old (B.state bay.old) }
+    ensures goes { GoesOn m.old result m.new (B.state bay.old) (B.state bay.new) }
+    ensures sized { OnOk result (SetsSize m.old file size m.new) }
+{
+    let answer = set_size(m, alloc, bay, file, size);
+    or_shut(m, answer)
+}
+
+/// Puts the new extents of a growth, which have homes, and commits its size. After want of memory the group takes no more calls.
 fn put_more<B: Bay>(
     m: &mut Mounted,
     alloc: Global,
@@ -191,25 +266,8 @@ fn put_more<B: Bay>(
     }
 }
 
-/// Commits another size of a file. After want of memory the group takes no more calls.
-fn size_or_shut<B: Bay>(
-    m: &mut Mounted,
-    alloc: Global,
-    bay: &mut B,
-    file: u32,
-    size: u64,
-) -> Result<(), Refusal>
-    requires mounted { IsMounted m.old }
-    requires takes { Takes m.old (B.state bay.old) }
-    ensures goes { GoesOn m.old result m.new (B.state bay.old) (B.state bay.new) }
-    ensures sized { OnOk result (SetsSize m.old file size m.new) }
-{
-    let answer = set_size(m, alloc, bay, file, size);
-    or_shut(m, answer)
-}
-
-/// Puts the new extents of a growth behind those of its file, and commits its size.
-fn add_extents<B: Bay>(
+/// Gives the new extents of a growth homes, by the modes and the units as they are now, puts them, and commits its size.
+fn place_more<B: Bay>(
     m: &mut Mounted,
     alloc: Global,
     bay: &mut B,
@@ -221,16 +279,38 @@ fn add_extents<B: Bay>(
     requires takes { Takes m.old (B.state bay.old) }
     requires fresh { filling.old.failed ≡ 0 }
     ensures keeps { KeepsGroup m.old m.new (B.state bay.old) (B.state bay.new) }
-    ensures cause { IfErr result (WriteCause m.old m.new (B.state bay.old) (B.state bay.new)) }
+    ensures cause { IfErr result (LaterCause m.old filling.old.extents m.new (B.state bay.old) (B.state bay.new)) }
     ensures sized { OnOk result (IsSized growth.now.file.file growth.now.size m.new) }
 {
-    match begin_filling(m, alloc, bay, PendingKind::Grow, filling) {
+    match give_homes(m, alloc, bay, filling) {
         Ok(()) => put_more(m, alloc, bay, growth, filling, zeros),
         Err(refusal) => Err(refusal),
     }
 }
 
-/// The same, where extents are new; else the size alone is committed.
+/// Writes zeros behind the size of a file whose growth has begun, and puts its new extents.
+fn extend_begun<B: Bay>(
+    m: &mut Mounted,
+    alloc: Global,
+    bay: &mut B,
+    growth: &Growth,
+    filling: &mut Filling,
+    zeros: &[u8],
+) -> Result<(), Refusal>
+    requires mounted { IsMounted m.old }
+    requires takes { Takes m.old (B.state bay.old) }
+    requires fresh { filling.old.failed ≡ 0 }
+    ensures keeps { KeepsGroup m.old m.new (B.state bay.old) (B.state bay.new) }
+    ensures cause { IfErr result (LaterCause m.old filling.old.extents m.new (B.state bay.old) (B.state bay.new)) }
+    ensures sized { OnOk result (IsSized growth.now.file.file growth.now.size m.new) }
+{
+    match clear_or_give_back(m, alloc, bay, growth, zeros) {
+        Ok(()) => place_more(m, alloc, bay, growth, filling, zeros),
+        Err(refusal) => Err(refusal),
+    }
+}
+
+/// Makes a file greater by new extents: the growth is the pending operation first.
 fn extend<B: Bay>(
     m: &mut Mounted,
     alloc: Global,
@@ -243,17 +323,37 @@ fn extend<B: Bay>(
     requires takes { Takes m.old (B.state bay.old) }
     requires fresh { filling.old.failed ≡ 0 }
     ensures keeps { KeepsGroup m.old m.new (B.state bay.old) (B.state bay.new) }
-    ensures cause { IfErr result (WriteCause m.old m.new (B.state bay.old) (B.state bay.new)) }
+    ensures cause { IfErr result (MoreCause m.old filling.old.extents m.new (B.state bay.old) (B.state bay.new)) }
     ensures sized { OnOk result (IsSized growth.now.file.file growth.now.size m.new) }
 {
-    if filling.extents.count > 0 {
-        add_extents(m, alloc, bay, growth, filling, zeros)
-    } else {
-        set_size(m, alloc, bay, growth.file.file, growth.size)
+    match begin_operation(m, alloc, bay, PendingKind::Grow, filling.extents) {
+        Ok(()) => extend_begun(m, alloc, bay, growth, filling, zeros),
+        Err(refusal) => Err(refusal),
     }
 }
 
-/// Writes zeros over what a file's extents have behind its size, and makes it greater.
+/// Makes a file greater within the extents that it has.
+fn stretch<B: Bay>(
+    m: &mut Mounted,
+    alloc: Global,
+    bay: &mut B,
+    growth: &Growth,
+    zeros: &[u8],
+) -> Result<(), Refusal>
+    requires mounted { IsMounted m.old }
+    requires takes { Takes m.old (B.state bay.old) }
+    ensures keeps { KeepsGroup m.old m.new (B.state bay.old) (B.state bay.new) }
+    ensures cause { IfErr result (WriteCause m.old m.new (B.state bay.old) (B.state bay.new)) }
+    ensures sized { OnOk result (IsSized growth.now.file.file growth.now.size m.new) }
+{
+    m.set_flight(None);
+    match clear_behind(m, alloc, bay, growth, zeros) {
+        Ok(()) => set_size(m, alloc, bay, growth.file.file, growth.size),
+        Err(refusal) => Err(refusal),
+    }
+}
+
+/// Makes a file greater: with new extents, where it needs some.
 fn grow_by<B: Bay>(
     m: &mut Mounted,
     alloc: Global,
@@ -266,15 +366,13 @@ fn grow_by<B: Bay>(
     requires takes { Takes m.old (B.state bay.old) }
     requires fresh { filling.old.failed ≡ 0 }
     ensures keeps { KeepsGroup m.old m.new (B.state bay.old) (B.state bay.new) }
-    ensures cause { IfErr result (WriteCause m.old m.new (B.state bay.old) (B.state bay.new)) }
+    ensures cause { IfErr result (MoreCause m.old filling.old.extents m.new (B.state bay.old) (B.state bay.new)) }
     ensures sized { OnOk result (IsSized growth.now.file.file growth.now.size m.new) }
 {
-    m.set_flight(None);
-    let file = growth.file;
-    let behind = bytes_behind(m, &file);
-    match fill_span(m, alloc, bay, &file, file.size, behind, zeros, growth.time) {
-        Ok(()) => extend(m, alloc, bay, growth, filling, zeros),
-        Err(refusal) => Err(refusal),
+    if filling.extents.count > 0 {
+        extend(m, alloc, bay, growth, filling, zeros)
+    } else {
+        stretch(m, alloc, bay, growth, zeros)
     }
 }
 
@@ -289,7 +387,7 @@ fn grow_with<B: Bay>(
     requires mounted { IsMounted m.old }
     requires takes { Takes m.old (B.state bay.old) }
     ensures keeps { KeepsGroup m.old m.new (B.state bay.old) (B.state bay.new) }
-    ensures cause { IfErr result (λ refusal. GrowCause m.old growth.now.file refusal ⊎ WriteCause m.old m.new (B.state bay.old) (B.state bay.new) refusal) }
+    ensures cause { IfErr result (GrowthCause m.old growth.now.file m.new (B.state bay.old) (B.state bay.new)) }
     ensures sized { OnOk result (IsSized growth.now.file.file growth.now.size m.new) }
 {
     match prepare_more(m, alloc, &growth.file, growth.size) {
@@ -302,13 +400,13 @@ fn grow_with<B: Bay>(
     }
 }
 
-/// Makes a file greater: zeros over what its extents have behind its size, and then more extents of zeros, chunk by chunk under a
-/// pending operation; the size comes last.
+/// Makes a file greater: the growth is the pending operation, where the file needs more extents; then zeros go over what its extents have
+/// behind its size, more extents get homes and are filled with zeros, chunk by chunk, and the size comes last.
 fn grow<B: Bay>(m: &mut Mounted, alloc: Global, bay: &mut B, growth: &Growth) -> Result<(), Refusal>
     requires mounted { IsMounted m.old }
     requires takes { Takes m.old (B.state bay.old) }
     ensures keeps { KeepsGroup m.old m.new (B.state bay.old) (B.state bay.new) }
-    ensures cause { IfErr result (λ refusal. GrowCause m.old growth.now.file refusal ⊎ WriteCause m.old m.new (B.state bay.old) (B.state bay.new) refusal) }
+    ensures cause { IfErr result (GrowthCause m.old growth.now.file m.new (B.state bay.old) (B.state bay.new)) }
     ensures sized { OnOk result (IsSized growth.now.file.file growth.now.size m.new) }
 {
     if !is_at_rest(m) {
@@ -323,8 +421,9 @@ fn grow<B: Bay>(m: &mut Mounted, alloc: Global, bay: &mut B, growth: &Growth) ->
 }
 
 /// Gives the file at a path another size in bytes; what it gets reads as zeros. Refusals in their order: NoName; NotSectors; of a
-/// greater size Lost, with the first of its extents that has bytes behind the old size and no usable copy, DirectoryFull and NoSpace;
-/// then Dismounted and WriteFault. A refusal leaves the size as it was, but for Dismounted, after which it is either.
+/// greater size Lost, with the first of its extents that has bytes behind the old size and no usable copy, and DirectoryFull. Before
+/// these nothing is changed; then come Dismounted by the commit of the growth, WriteFault of what the file has behind its size, NoSpace,
+/// and WriteFault and Dismounted. A refusal leaves the size as it was, but for Dismounted, after which it is either.
 pub fn resize<B: Bay>(
     m: &mut Mounted,
     alloc: Global,

@@ -1,6 +1,7 @@
 //! The bytes of a file are written.
 ghost use Rattle.std.specs.Prelude.{◌≡◌, ◌⊎◌, ◌<◌, ℕ, IfErr, IfOk, IfSome, OnOk, length, true};
 ghost use Rattle.asm_formats.specs.Sets.{has_bit};
+ghost use Rattle.asm_base.specs.declared.refusal.Refusal.TheVariants.{WriteFault};
 ghost use Rattle.striping.specs.Pieces.{IsLayout};
 ghost use Rattle.group_engine.specs.Mounts.{IsMounted, Takes};
 ghost use Rattle.group_engine.specs.Own.{KeepsGroup};
@@ -9,8 +10,9 @@ ghost use Rattle.file_extents.specs.Filling.{FailsMore, FillCause, PutCause};
 ghost use Rattle.group_contents.specs.Files.{WriteCause, WriteFileCause};
 
 use crate::buffers::buffer;
+use crate::entry_copies::EntryCopies;
 use crate::opening::{OpenFile, open_span};
-use asm_base::{DiskRef, DiskSet, ExtentId, Home, Path, Refusal};
+use asm_base::{DiskRef, DiskSet, Path, Refusal};
 use bay::Bay;
 use file_extents::{Piece, first_piece, layout_of};
 use group_engine::Mounted;
@@ -18,14 +20,14 @@ use group_pieces::write_piece;
 use std::alloc::Global;
 use striping::Layout;
 
-/// The disk of a home, where it is in the set.
-fn on_failed(home: Option<Home>, failed: DiskSet) -> Option<u8>
+/// A disk, where it is in the set.
+fn among(disk: Option<u8>, failed: DiskSet) -> Option<u8>
     ensures { IfSome result (λ disk. (disk < 64) × (has_bit failed disk ≡ true)) }
 {
-    match home {
-        Some(home) => {
-            if home.disk < 64 && failed.has(home.disk) {
-                Some(home.disk)
+    match disk {
+        Some(disk) => {
+            if disk < 64 && failed.has(disk) {
+                Some(disk)
             } else {
                 None
             }
@@ -34,35 +36,28 @@ fn on_failed(home: Option<Home>, failed: DiskSet) -> Option<u8>
     }
 }
 
-fn first_failed(
-    first: Option<Home>,
-    second: Option<Home>,
-    third: Option<Home>,
-    failed: DiskSet,
-) -> Option<u8>
-    ensures { IfSome result (λ disk. (disk < 64) × (has_bit failed disk ≡ true)) }
-{
-    if let Some(disk) = on_failed(first, failed) {
-        return Some(disk);
-    }
-    if let Some(disk) = on_failed(second, failed) {
-        return Some(disk);
-    }
-    on_failed(third, failed)
-}
-
-/// The refusal where no copy of an extent is usable any more: by its first copy that is on one of the disks that failed.
-fn lost_on_the_way(m: &Mounted, x: ExtentId, failed: DiskSet) -> Refusal
+/// The refusal where no copy of an extent is usable any more: by its first copy that was as the call began, whose disk failed since.
+fn lost_on_the_way(first: Option<u8>, failed: DiskSet) -> Refusal
     ensures { FillCause failed result }
 {
-    let Some(homes) = m.catalog().homes(x) else {
-        return Refusal::NoMemory;
-    };
-    match first_failed(homes.first, homes.second, homes.third, failed) {
+    match among(first, failed) {
         Some(disk) => Refusal::WriteFault {
             disk: DiskRef::Number(disk),
         },
         None => Refusal::NoMemory,
+    }
+}
+
+/// The refusal where all copies of an extent failed that were usable still, that on this disk first. It names the first copy that was
+/// usable as the call began: that is this one, where the disk of the first hasn't failed before.
+fn failed_on_the_way(first: Option<u8>, failed: DiskSet, disk: DiskRef) -> Refusal
+    ensures { FillCause failed result ⊎ (result ≡ WriteFault disk) }
+{
+    match among(first, failed) {
+        Some(disk) => Refusal::WriteFault {
+            disk: DiskRef::Number(disk),
+        },
+        None => Refusal::WriteFault { disk },
     }
 }
 
@@ -74,8 +69,8 @@ fn joined(one: DiskSet, other: DiskSet) -> DiskSet
     DiskSet::from_bits(one.bits() | other.bits())
 }
 
-/// Writes a piece. Gives the set of the disks that failed, with those of this set. Refusals: WriteFault, where no copy took it;
-/// Dismounted; NoMemory.
+/// Writes a piece of an extent, of which the first copy that was usable as the call began is on this disk. Gives the set of the disks
+/// that failed, with those of this set. Refusals: WriteFault, where no copy took it; Dismounted; NoMemory.
 fn write_one<B: Bay>(
     m: &mut Mounted,
     alloc: Global,
@@ -84,6 +79,7 @@ fn write_one<B: Bay>(
     bytes: &[u8],
     now: u64,
     failed: DiskSet,
+    first: Option<u8>,
 ) -> Result<DiskSet, Refusal>
     requires takes { Takes m.old (B.state bay.old) }
     requires piece { FitsExtent m.old.catalog.shape piece.x.index piece.inner (length bytes.now) }
@@ -94,8 +90,8 @@ fn write_one<B: Bay>(
 {
     match write_piece(m, alloc, bay, piece.x, piece.inner, bytes, now) {
         Ok(more) => Ok(joined(failed, more)),
-        Err(Refusal::Lost { extent }) => Err(lost_on_the_way(m, extent, failed)),
-        Err(Refusal::WriteFault { disk }) => Err(Refusal::WriteFault { disk }),
+        Err(Refusal::Lost { .. }) => Err(lost_on_the_way(first, failed)),
+        Err(Refusal::WriteFault { disk }) => Err(failed_on_the_way(first, failed, disk)),
         Err(Refusal::Dismounted { disk }) => Err(Refusal::Dismounted { disk }),
         Err(_) => Err(Refusal::NoMemory),
     }
@@ -118,6 +114,7 @@ fn write_bytes<B: Bay>(
     at: u64,
     bytes: &[u8],
     failed: DiskSet,
+    entry: &mut EntryCopies,
 ) -> Result<DiskSet, Refusal>
     requires mounted { IsMounted m.old }
     requires takes { Takes m.old (B.state bay.old) }
@@ -137,7 +134,8 @@ fn write_bytes<B: Bay>(
             return Err(Refusal::NoMemory);
         };
         let part = &bytes[done..done + piece.len];
-        match write_one(m, alloc, bay, piece, part, writing.now, failed) {
+        let first = entry.first_of(m, piece.x);
+        match write_one(m, alloc, bay, piece, part, writing.now, failed, first) {
             Ok(more) => failed = more,
             Err(refusal) => return Err(refusal),
         }
@@ -165,6 +163,7 @@ fn fill_bytes<B: Bay>(
     ensures cause { IfErr result (PutCause m.old 0 m.new (B.state bay.old) (B.state bay.new)) }
 {
     let mut failed = DiskSet::empty();
+    let mut entry = EntryCopies::now(m);
     let mut from = at;
     let mut left = len;
     while left > 0 {
@@ -172,7 +171,7 @@ fn fill_bytes<B: Bay>(
         if n == 0 {
             return Err(Refusal::NoMemory);
         }
-        match write_bytes(m, alloc, bay, writing, from, &buf[..n], failed) {
+        match write_bytes(m, alloc, bay, writing, from, &buf[..n], failed, &mut entry) {
             Ok(more) => failed = more,
             Err(refusal) => return Err(refusal),
         }
@@ -235,14 +234,24 @@ fn write_span<B: Bay>(
         layout,
         now,
     };
-    match write_bytes(m, alloc, bay, writing, at, bytes, DiskSet::empty()) {
+    let mut entry = EntryCopies::now(m);
+    match write_bytes(
+        m,
+        alloc,
+        bay,
+        writing,
+        at,
+        bytes,
+        DiskSet::empty(),
+        &mut entry,
+    ) {
         Ok(_) => Ok(()),
         Err(refusal) => Err(refusal),
     }
 }
 
 /// Writes bytes of the file at a path from one on. Refusals in their order: NoName, NotSectors, OutOfFile, Lost; then WriteFault, where
-/// all copies of an extent failed or are gone by faults of this call, and Dismounted. After the last two, and after want of memory
+/// all copies of an extent that were usable as the call began failed in it, with the first of them, and Dismounted. After the last two, and after want of memory
 /// behind the first write, the bytes of the span are free.
 pub fn write<B: Bay>(
     m: &mut Mounted,

@@ -3,15 +3,13 @@ use Rattle.file_extents.proofs.Chains.{kept}
 use Rattle.group_contents.proofs.Steps.{grows}
 use Rattle.group_contents.proofs.resizing.grow_with.Goals as goal
 
-pub prepare_more-requires : goal.prepare_more-requires
-prepare_more-requires g c = record { whole = (c.requires.takes c.requires.mounted).0 }
-
 pub returns-in-Ok-clause-keeps : goal.returns-in-Ok-clause-keeps
 returns-in-Ok-clause-keeps g c = c.grow_by-answer.ensures.keeps
 
 pub returns-in-Ok-clause-cause : goal.returns-in-Ok-clause-cause
 returns-in-Ok-clause-cause g c =
-    grows c.args.m.now c.args.growth.now.file c.grow_by-answer.new.m (g.B.Bay.state c.args.bay.now) (g.B.Bay.state c.grow_by-answer.new.bay) c.grow_by-answer.result c.grow_by-answer.ensures.cause
+    grows c.args.m.now c.args.growth.now.file c.in-Ok.filling.extents c.grow_by-answer.new.m (g.B.Bay.state c.args.bay.now) (g.B.Bay.state c.grow_by-answer.new.bay) c.grow_by-answer.result
+    c.in-Ok.ensures.extents c.grow_by-answer.ensures.cause
 
 pub returns-in-Ok-clause-sized : goal.returns-in-Ok-clause-sized
 returns-in-Ok-clause-sized g c = c.grow_by-answer.ensures.sized

@@ -1,7 +1,7 @@
 use Rattle.std.proofs.Common.{subst}
 use Rattle.asm_base.specs.declared.refusal.Refusal.{Refusal}
 use Rattle.group_pieces.specs.Pieces.{WritePieceCause}
-use Rattle.group_contents.proofs.Chains.{fills_put, more_failed, piece_fails}
+use Rattle.group_contents.proofs.Chains.{fault_puts, fills_put, more_failed, piece_fails}
 use Rattle.group_contents.proofs.writing.write_one.Goals as goal
 
 pub returns-in-Ok-clause-failed : goal.returns-in-Ok-clause-failed
@@ -20,8 +20,10 @@ returns-in-Err-WriteFault-clause-cause g c =
     let new = c.write_piece.new.m in
     let s = g.B.Bay.state c.args.bay.now in
     let t = g.B.Bay.state c.write_piece.new.bay in
-    piece_fails m x inner c.args.failed s t c.in-Err-WriteFault.disk
-    (subst (λ (r : Refusal). WritePieceCause m x inner new s t r) c.in-Err-WriteFault.field-0-is c.in-Err-WriteFault.ensures.cause)
+    fault_puts m new c.args.failed s t c.in-Err-WriteFault.disk c.failed_on_the_way.result
+    (piece_fails m x inner c.args.failed s t c.in-Err-WriteFault.disk
+    (subst (λ (r : Refusal). WritePieceCause m x inner new s t r) c.in-Err-WriteFault.field-0-is c.in-Err-WriteFault.ensures.cause))
+    c.failed_on_the_way.ensures
 
 pub returns-in-Err-Dismounted-clause-cause : goal.returns-in-Err-Dismounted-clause-cause
 returns-in-Err-Dismounted-clause-cause g c =
