@@ -26,7 +26,7 @@ use Rattle.disk_joining.specs.AddCauses.{AddCause, SomeFailed, IsWriteFault, Joi
 use Rattle.disk_joining.specs.AddCauses.AddCause.{by_step}
 use Rattle.disk_joining.specs.Causes.{IsLostBy, StepCause}
 use Rattle.disk_joining.specs.Causes.IsLostBy.{has_failed, was_lost}
-use Rattle.disk_joining.specs.Joiners.{AreJoiners, AreEntered, HaveJoined, JoinStep, CanJoin, ShowHeaders, are_named}
+use Rattle.disk_joining.specs.Joiners.{AreJoiners, AreEntered, HaveJoined, JoinStep, CanJoin, ShowHeaders, are_asked}
 use Rattle.disk_joining.specs.Taking.{TakesIn}
 use Rattle.disk_joining.specs.declared.joining.Joining.{Joining}
 use Rattle.disk_joining.proofs.Joiners.{joiners_stay}
@@ -114,10 +114,10 @@ pub shut_entries : (hs : List Headed) (r : Result (Unit {0}) Refusal) (b : Mount
 shut_entries hs (Ok done) b is = is
 shut_entries hs (Err e) b is = tt
 
-pub joined_all : (asked : List PlannedDisk) (hs : List Headed) (m : MountedGroup) (t : BayState) (r : Result (Unit {0}) Refusal) → are_named hs asked ≡ true → OnOk r (ShowHeaders hs t) → OnOk r (AreEntered m.register.value hs)
-    → OnOk r (HaveJoined asked m t)
-joined_all asked hs m t (Ok done) named headers entries = record { disks = hs; named = named; headers = headers; entries = entries }
-joined_all asked hs m t (Err e) named headers entries = tt
+pub joined_all : (asked : List PlannedDisk) (numbers : List ℕ) (hs : List Headed) (m : MountedGroup) (t : BayState) (r : Result (Unit {0}) Refusal) → are_asked hs asked numbers ≡ true → OnOk r (ShowHeaders hs t) → OnOk r (AreEntered m.register.value hs)
+    → OnOk r (HaveJoined asked numbers m t)
+joined_all asked numbers hs m t (Ok done) given headers entries = record { disks = hs; asked_for = given; headers = headers; entries = entries }
+joined_all asked numbers hs m t (Err e) given headers entries = tt
 
 -- ---- what joins, over the group's own calls
 

@@ -42,7 +42,20 @@ abbrev pub asked_from : Bytes → List Entry → ℕ → List NewFailgroup → L
 asked_from name es n [] = []
 asked_from name es n (g ∷ gs) = asked_in name es n g g.disks ++ asked_from name es (number_after es n g.disks) gs
 
--- The disks of a statement in its order: each has the least number that no entry and no disk before it has.
+-- the numbers that disks of a failure group are given, from n on, and those of failure groups
+abbrev pub given_in : List Entry → ℕ → List NewDisk → List ℕ
+given_in es n [] = []
+given_in es n (d ∷ ds) = free_number es n ∷ given_in es (free_number es n + 1) ds
+
+abbrev pub given_from : List Entry → ℕ → List NewFailgroup → List ℕ
+given_from es n [] = []
+given_from es n (g ∷ gs) = given_in es n g.disks ++ given_from es (number_after es n g.disks) gs
+
+-- The numbers of the disks of a statement: each the least that no entry and no disk before it has.
+abbrev pub given_numbers : MountedGroup → List NewFailgroup → List ℕ
+given_numbers m groups = given_from m.register.value.entries 0 groups
+
+-- The disks of a statement in its order, with the names that they get by these numbers.
 abbrev pub asked_disks : MountedGroup → List NewFailgroup → List PlannedDisk
 asked_disks m groups = asked_from m.name m.register.value.entries 0 groups
 

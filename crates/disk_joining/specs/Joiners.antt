@@ -70,12 +70,11 @@ are_unrecorded disks (x ∷ xs) = is_item (disk_item x.0 x.1) && (not (is_some (
 abbrev pub may_join : MountedGroup → List Looked → List ℕ → Joining → Bool
 may_join m looked held j = nat_le (length j.records.items) 64 && (are_free m looked held j.disks.items && (are_apart j.disks.items && are_unrecorded m.catalog.tables.disks j.records.items))
 
--- the disks are those that are asked for, in their order, by their names
-abbrev pub are_named : List Headed → List PlannedDisk → Bool
-are_named [] [] = true
-are_named [] (d ∷ ds) = false
-are_named (h ∷ hs) [] = false
-are_named (h ∷ hs) (d ∷ ds) = is_same_name h.header.disk d.name && are_named hs ds
+-- the disks are those that are asked for, in their order: they have their names, and the numbers that these are given
+abbrev pub are_asked : List Headed → List PlannedDisk → List ℕ → Bool
+are_asked [] [] ns = true
+are_asked (h ∷ hs) (d ∷ ds) (n ∷ ns) = is_same_name h.header.disk d.name && ((h.header.number == n) && are_asked hs ds ns)
+are_asked hs ds ns = false
 
 -- the disk has an entry of its birth
 abbrev pub is_entered : Status → Headed → Bool
@@ -104,9 +103,9 @@ abbrev pub ShowHeaders : List Headed → BayState → Type 0
 ShowHeaders hs state = (h : Headed) → IsAmong hs h → ShowsHeader h state
 
 -- The disks that were asked for have joined: each shows its header, and has an entry of the header's number and birth.
-pub record HaveJoined (asked : List PlannedDisk) (m : MountedGroup) (state : BayState) : Type 0 where
+pub record HaveJoined (asked : List PlannedDisk) (numbers : List ℕ) (m : MountedGroup) (state : BayState) : Type 0 where
   pub disks : List Headed
-  pub named : are_named disks asked ≡ true
+  pub asked_for : are_asked disks asked numbers ≡ true
   pub headers : ShowHeaders disks state
   pub entries : AreEntered m.register.value disks
 

@@ -6,7 +6,7 @@ ghost use Rattle.group_engine.specs.Mounts.{IsMounted, Takes};
 ghost use Rattle.group_engine.specs.Pending.{GoesOn};
 ghost use Rattle.new_groups.specs.Drafts.{AreApart};
 ghost use Rattle.disk_joining.specs.AddCauses.{AddCause};
-ghost use Rattle.disk_joining.specs.Asking.{asked_disks};
+ghost use Rattle.disk_joining.specs.Asking.{asked_disks, given_numbers};
 ghost use Rattle.disk_joining.specs.Joiners.{AreJoiners, AreEntered, HaveJoined, JoinStep, CanJoin, ShowHeaders};
 ghost use Rattle.disk_joining.specs.Taking.{IsApart, TakesIn};
 
@@ -326,8 +326,8 @@ pub fn add_disks<B: Bay>(
     // The group's parts agree, it takes the next call, and the disks of others stay.
     ensures taken { TakesIn known.now.held.items m.old m.new (B.state bay.old) (B.state bay.new) }
     ensures mounted { OnOk result (IsMounted m.new) }
-    // Each disk that is named shows its header then, and has an entry of its number and birth.
-    ensures joined { OnOk result (HaveJoined (asked_disks m.old groups.now) m.new (B.state bay.new)) }
+    // Each disk that is named shows its header then, with the least free number, and has an entry of that number and its birth.
+    ensures joined { OnOk result (HaveJoined (asked_disks m.old groups.now) (given_numbers m.old groups.now) m.new (B.state bay.new)) }
     ensures cause { IfErr result (AddCause (map string_bytes paths.now) groups.now known.now m.old m.new (B.state bay.old) (B.state bay.new)) }
 {
     match m.takes_calls() {

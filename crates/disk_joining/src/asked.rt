@@ -7,7 +7,7 @@ ghost use Rattle.asm_world.specs.NewDisks.{planned_disk};
 ghost use Rattle.new_groups.specs.Causes.{terms_in, terms_of};
 ghost use Rattle.new_groups.specs.Planning.{disk_count};
 ghost use Rattle.disk_joining.specs.AddCauses.{IsTooManyMore};
-ghost use Rattle.disk_joining.specs.Asking.{asked_disks, asked_from, asked_in, free_number, number_after};
+ghost use Rattle.disk_joining.specs.Asking.{asked_disks, asked_from, asked_in, free_number, given_from, given_in, given_numbers, number_after};
 
 use crate::recording::entry_of;
 use asm_base::{Limited, NoMemory, Refusal};
@@ -58,6 +58,7 @@ fn put_disk(new: PlannedDisk, terms: Terms, number: u8, asked: &mut Asked) -> Re
     requires most { number ≤ 64 }
     ensures disks { OnOk result (asked.new.disks.items ≡ asked.old.disks.items ++ new ∷ []) }
     ensures terms { OnOk result (asked.new.terms.items ≡ asked.old.terms.items ++ terms ∷ []) }
+    ensures numbers { OnOk result (asked.new.numbers.items ≡ asked.old.numbers.items ++ number ∷ []) }
     ensures next { OnOk result (asked.new.next ≡ number + 1) }
 {
     asked.disks.push(new).map_err(|_| NoMemory)?;
@@ -77,6 +78,7 @@ fn put_disks(
 ) -> Result<(), NoMemory>
     ensures disks { OnOk result (asked.new.disks.items ≡ asked.old.disks.items ++ asked_in m.now.name m.now.register.value.entries asked.old.next failgroup.now disks.now) }
     ensures terms { OnOk result (asked.new.terms.items ≡ asked.old.terms.items ++ terms_in disks.now) }
+    ensures numbers { OnOk result (asked.new.numbers.items ≡ asked.old.numbers.items ++ given_in m.now.register.value.entries asked.old.next disks.now) }
     ensures next { OnOk result (asked.new.next ≡ number_after m.now.register.value.entries asked.old.next disks.now) }
 {
     let [first, rest @ ..] = disks else {
@@ -101,6 +103,7 @@ fn put_groups(
 ) -> Result<(), NoMemory>
     ensures disks { OnOk result (asked.new.disks.items ≡ asked.old.disks.items ++ asked_from m.now.name m.now.register.value.entries asked.old.next groups.now) }
     ensures terms { OnOk result (asked.new.terms.items ≡ asked.old.terms.items ++ terms_of groups.now) }
+    ensures numbers { OnOk result (asked.new.numbers.items ≡ asked.old.numbers.items ++ given_from m.now.register.value.entries asked.old.next groups.now) }
 {
     let [first, rest @ ..] = groups else {
         return Ok(());
@@ -113,6 +116,7 @@ fn put_groups(
 fn numbered_disks(alloc: Global, m: &Mounted, groups: &[NewFailgroup]) -> Result<Asked, NoMemory>
     ensures disks { IfOk result (λ asked. asked.disks.items ≡ asked_disks m.now groups.now) }
     ensures terms { IfOk result (λ asked. asked.terms.items ≡ terms_of groups.now) }
+    ensures numbers { IfOk result (λ asked. asked.numbers.items ≡ given_numbers m.now groups.now) }
 {
     let mut asked = Asked {
         disks: Vec::new(alloc),
@@ -136,6 +140,7 @@ fn has_room(m: &Mounted, groups: &[NewFailgroup]) -> bool
 pub fn asked_disks(alloc: Global, m: &Mounted, groups: &[NewFailgroup]) -> Result<Asked, Refusal>
     ensures disks { IfOk result (λ asked. asked.disks.items ≡ asked_disks m.now groups.now) }
     ensures terms { IfOk result (λ asked. asked.terms.items ≡ terms_of groups.now) }
+    ensures numbers { IfOk result (λ asked. asked.numbers.items ≡ given_numbers m.now groups.now) }
     ensures refused { IfErr result (λ refusal. IsTooManyMore m.now.register.value.entries groups.now (said (λ _. []) refusal)) }
 {
     if !has_room(m, groups) {

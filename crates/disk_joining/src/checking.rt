@@ -3,7 +3,7 @@ ghost use Rattle.std.specs.Prelude.{◌≡◌, ◌&&◌, is_some, not};
 ghost use Rattle.catalog.specs.Disks.{info_at};
 ghost use Rattle.new_groups.specs.Tests.{are_apart, is_apart, is_there};
 ghost use Rattle.disk_joining.specs.Attaching.{has_slot};
-ghost use Rattle.disk_joining.specs.Joiners.{are_free, are_named, are_unrecorded, is_entered, records_disk, are_entered, fits_shape, may_join};
+ghost use Rattle.disk_joining.specs.Joiners.{are_free, are_asked, are_unrecorded, is_entered, records_disk, are_entered, fits_shape, may_join};
 
 use crate::joining::Joining;
 use crate::recording::entry_of;
@@ -117,19 +117,21 @@ pub fn may_join(m: &Mounted, looked: &[Looked], held: &[u32], joining: &Joining)
             && (are_apart(&joining.disks) && are_unrecorded(m.catalog(), &joining.records)))
 }
 
-/// Whether the disks are those that are asked for, in their order, by their names.
-pub fn are_named(disks: &[Headed], asked: &[PlannedDisk]) -> bool
-    ensures { result ≡ are_named disks.now asked.now }
+/// Whether the disks are those that are asked for, in their order, by their names and numbers.
+pub fn are_asked(disks: &[Headed], asked: &[PlannedDisk], numbers: &[u8]) -> bool
+    ensures { result ≡ are_asked disks.now asked.now numbers.now }
 {
-    match disks {
-        [] => asked.is_empty(),
-        [disk, disks @ ..] => match asked {
-            [] => false,
-            [first, asked @ ..] => {
-                disk.header.disk.is_same(&first.name) && are_named(disks, asked)
-            }
-        },
-    }
+    let [disk, disks @ ..] = disks else {
+        return asked.is_empty();
+    };
+    let [first, asked @ ..] = asked else {
+        return false;
+    };
+    let [number, numbers @ ..] = numbers else {
+        return false;
+    };
+    disk.header.disk.is_same(&first.name)
+        && (disk.header.number == *number && are_asked(disks, asked, numbers))
 }
 
 /// Whether the disk has an entry of its birth.

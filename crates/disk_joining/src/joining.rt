@@ -7,11 +7,11 @@ ghost use Rattle.asm_group.specs.Shape.{is_shape};
 ghost use Rattle.disk_images.specs.Looks.{Looks};
 ghost use Rattle.group_engine.specs.Mounts.{IsWhole};
 ghost use Rattle.disk_joining.specs.AddCauses.{IsNotPrepared, IsUnfit};
-ghost use Rattle.disk_joining.specs.Asking.{asked_disks};
-ghost use Rattle.disk_joining.specs.Joiners.{CanJoin, are_named, may_join};
+ghost use Rattle.disk_joining.specs.Asking.{asked_disks, given_numbers};
+ghost use Rattle.disk_joining.specs.Joiners.{CanJoin, are_asked, may_join};
 
 use crate::asked::{Asked, asked_disks};
-use crate::checking::{are_named, may_join};
+use crate::checking::{are_asked, may_join};
 use crate::looking::{Fitting, fit_disks, known_with};
 use asm_base::{NoMemory, Refusal};
 use bay::Bay;
@@ -136,7 +136,7 @@ fn checked(
     looked: &[Looked],
 ) -> Result<Joining, Refusal>
     ensures may { IfOk result (λ joining. may_join m.now looked.now held.now joining ≡ true) }
-    ensures named { IfOk result (λ joining. are_named joining.disks.items asked.now.disks.items ≡ true) }
+    ensures asked { IfOk result (λ joining. are_asked joining.disks.items asked.now.disks.items asked.now.numbers.items ≡ true) }
     ensures refused { IfErr result (λ refusal. said (λ _. []) refusal ≡ NoMemoryLeft) }
 {
     let joining = match joining_of(alloc, m, asked, fitting) {
@@ -146,7 +146,7 @@ fn checked(
     if !may_join(m, looked, held, &joining) {
         return Err(Refusal::NoMemory);
     }
-    if !are_named(&joining.disks, &asked.disks) {
+    if !are_asked(&joining.disks, &asked.disks, &asked.numbers) {
         return Err(Refusal::NoMemory);
     }
     Ok(joining)
@@ -164,7 +164,7 @@ fn planned(
     requires few { length paths.now ≤ 512 }
     requires shape { IsTrue (is_shape m.now.catalog.shape) }
     ensures may { IfOk result (λ joining. may_join m.now looked.now known.now.held.items joining ≡ true) }
-    ensures named { IfOk result (λ joining. are_named joining.disks.items asked.now.disks.items ≡ true) }
+    ensures asked { IfOk result (λ joining. are_asked joining.disks.items asked.now.disks.items asked.now.numbers.items ≡ true) }
     ensures refused { IfErr result (λ refusal. IsUnfit known.now m.now (map string_bytes paths.now) looked.now asked.now (said (λ _. []) refusal)) }
 {
     let all = match known_with(alloc, m, known) {
@@ -191,7 +191,7 @@ pub fn prepare<B: Bay>(
     requires whole { IsWhole m.now }
     ensures looks { Looks (λ slot. slot < length paths.now) (4 * length paths.now) (B.state bay.old) (B.state bay.new) }
     ensures may { IfOk result (λ joining. CanJoin known.now.held.items m.now joining (B.state bay.new)) }
-    ensures named { IfOk result (λ joining. are_named joining.disks.items (asked_disks m.now groups.now) ≡ true) }
+    ensures asked { IfOk result (λ joining. are_asked joining.disks.items (asked_disks m.now groups.now) (given_numbers m.now groups.now) ≡ true) }
     ensures refused { IfErr result (λ refusal. IsNotPrepared (map string_bytes paths.now) groups.now known.now m.now (said (λ _. []) refusal) (B.state bay.old) (B.state bay.new)) }
 {
     let asked = match asked_disks(alloc, m, groups) {

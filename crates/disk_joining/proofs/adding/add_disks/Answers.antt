@@ -1,7 +1,7 @@
 use Rattle.std.proofs.Common.{List, ℕ, map, sym, subst}
 use Rattle.std.specs.String.{string_bytes}
 use Rattle.disk_joining.specs.AddCauses.AddCause.{by_disks, by_step}
-use Rattle.disk_joining.specs.Asking.{asked_disks}
+use Rattle.disk_joining.specs.Asking.{asked_disks, given_numbers}
 use Rattle.disk_joining.specs.Joiners.{CanJoin}
 use Rattle.disk_joining.specs.Taking.{IsApart, TakesIn}
 use Rattle.disk_joining.proofs.Adds.{join_adds, joined_all, step_joins}
@@ -40,7 +40,7 @@ returns-in-Ok-prepare-clause-mounted g c = c.join.ensures.joins.mounted
 
 pub returns-in-Ok-prepare-clause-joined : goal.returns-in-Ok-prepare-clause-joined
 returns-in-Ok-prepare-clause-joined g c =
-    joined_all (asked_disks c.args.m.now c.args.groups.now) c.in-Ok-prepare.joining.disks.items c.join.new.m (g.B.Bay.state c.join.new.bay) c.join.result c.in-Ok-prepare.ensures.named c.join.ensures.show c.join.ensures.entries
+    joined_all (asked_disks c.args.m.now c.args.groups.now) (given_numbers c.args.m.now c.args.groups.now) c.in-Ok-prepare.joining.disks.items c.join.new.m (g.B.Bay.state c.join.new.bay) c.join.result c.in-Ok-prepare.ensures.asked c.join.ensures.show c.join.ensures.entries
 
 pub returns-in-Ok-prepare-clause-cause : goal.returns-in-Ok-prepare-clause-cause
 returns-in-Ok-prepare-clause-cause g c =

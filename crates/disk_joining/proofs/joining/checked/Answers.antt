@@ -10,6 +10,6 @@ pub returns-then-not-may_join-clause-refused : goal.returns-then-not-may_join-cl
 unfolding said
 returns-then-not-may_join-clause-refused c = refl
 
-pub returns-then-not-are_named-clause-refused : goal.returns-then-not-are_named-clause-refused
+pub returns-then-not-are_asked-clause-refused : goal.returns-then-not-are_asked-clause-refused
 unfolding said
-returns-then-not-are_named-clause-refused c = refl
+returns-then-not-are_asked-clause-refused c = refl

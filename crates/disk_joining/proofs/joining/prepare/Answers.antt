@@ -1,4 +1,4 @@
-use Rattle.std.proofs.Common.{◌≡◌, [], List, length, map, true, refl, sym, subst, ◌∙◌}
+use Rattle.std.proofs.Common.{◌≡◌, ℕ, [], List, length, map, true, refl, sym, subst, ◌∙◌}
 use Rattle.std.specs.String.{string_bytes}
 use Rattle.std.proofs.lemmas.List.{length-map}
 use Rattle.std.proofs.lemmas.Result.{IfErr-weaker, IfOk-weaker}
@@ -6,7 +6,8 @@ use Rattle.asm_base.specs.Refusals.{said}
 use Rattle.asm_world.specs.NewDisks.{PlannedDisk}
 use Rattle.new_groups.proofs.Formed.{looks_none}
 use Rattle.disk_joining.specs.AddCauses.IsNotPrepared.{by_count, by_memory}
-use Rattle.disk_joining.specs.Joiners.{are_named}
+use Rattle.disk_joining.specs.Asking.{asked_disks}
+use Rattle.disk_joining.specs.Joiners.{are_asked}
 use Rattle.disk_joining.proofs.Unfit.{look_refused}
 use Rattle.disk_joining.proofs.Joiners.{joining_may}
 use Rattle.disk_joining.proofs.joining.prepare.Goals as goal
@@ -26,9 +27,11 @@ returns-in-Ok-look_at_images-clause-may g c =
     (λ j is. joining_may c.args.m.now c.requires.whole c.in-Ok-look_at_images.looked.items c.deref.result.now c.args.known.now.held.items j (g.B.Bay.state c.args.bay.now) (g.B.Bay.state c.look_at_images.new.bay) c.deref.ensures.value c.in-Ok-look_at_images.ensures.each is)
     c.planned.ensures.may
 
-pub returns-in-Ok-look_at_images-clause-named : goal.returns-in-Ok-look_at_images-clause-named
-returns-in-Ok-look_at_images-clause-named g c =
-    IfOk-weaker c.planned.result _ _ (λ j is. subst (λ (ds : List PlannedDisk). are_named j.disks.items ds ≡ true) c.in-Ok.ensures.disks is) c.planned.ensures.named
+pub returns-in-Ok-look_at_images-clause-asked : goal.returns-in-Ok-look_at_images-clause-asked
+returns-in-Ok-look_at_images-clause-asked g c =
+    IfOk-weaker c.planned.result _ _
+    (λ j is. subst (λ (ns : List ℕ). are_asked j.disks.items (asked_disks c.args.m.now c.args.groups.now) ns ≡ true) c.in-Ok.ensures.numbers
+    (subst (λ (ds : List PlannedDisk). are_asked j.disks.items ds c.in-Ok.asked.numbers.items ≡ true) c.in-Ok.ensures.disks is)) c.planned.ensures.asked
 
 pub returns-in-Ok-look_at_images-clause-refused : goal.returns-in-Ok-look_at_images-clause-refused
 returns-in-Ok-look_at_images-clause-refused g c =
