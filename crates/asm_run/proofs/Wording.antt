@@ -1,8 +1,8 @@
 -- What the words give, and what statuses say.
-use Rattle.std.proofs.Common.{◌≡◌, ◌≢◌, ℕ, Bool, true, false, Option, Some, None, option_map, Result, Ok, Err, List, IfErr, refl, sym, ◌∙◌, ap, subst, arith}
+use Rattle.std.proofs.Common.{◌≡◌, ◌≢◌, ℕ, Bool, true, false, Option, Some, None, option_map, Result, Ok, Err, List, IfErr, refl, sym, ◌∙◌, ap, arith}
 use Rattle.std.specs.Str.Parse.{digits_value}
-use Rattle.command_line.specs.Command.{IsRead, images_in, number_in}
-use Rattle.command_line.specs.Paths.{Text, IsNumberOf, IsTaken}
+use Rattle.command_line.specs.Command.{IsRead, number_in}
+use Rattle.command_line.specs.Paths.{Text, IsNumberOf}
 use Rattle.session.specs.declared.stop.Stop.{Stop}
 use Rattle.session.specs.declared.stop.Stop.TheVariants.{ReadFault, WriteFault, NoMemory, TooLong}
 use Rattle.session.specs.Serves.{IsInputStop}
@@ -19,16 +19,6 @@ number_is (Some text) None is = absurd is
 -- the number that was read is the one given
 pub given_is : (words : List Text) (generate : Option ℕ) (images : List Text) → IsRead words generate images → number_given words ≡ generate
 given_is words generate images read = number_is (number_in words) generate read.taken.number
-
--- what was read is what the words give
-pub read_is : (words : List Text) (generate : Option ℕ) (images : List Text) → IsRead words generate images → IsRead words (number_given words) (images_in words)
-read_is words generate images read =
-    let P : Option ℕ → Type 0 = λ g. IsRead words g (images_in words) in
-    let Q : List Text → Type 0 = λ is. IsRead words generate is in
-    subst P (sym (given_is words generate images read)) (subst Q read.taken.same read)
-
-pub not_both : {P : Type 0} (o : Option ℕ) (n : ℕ) → o ≡ None → o ≡ Some n → P
-not_both o n none some = absurd (let f : None ≡ Some n = sym none ∙ some in cc)
 
 pub same_number : (o : Option ℕ) (m n : ℕ) → o ≡ Some m → o ≡ Some n → m ≡ n
 same_number o m n first second = let f : Some m ≡ Some n = sym first ∙ second in cc

@@ -48,20 +48,25 @@ pub fn run<B: Bay, H: Host, S: Source, K: Sink, C: Clock>(
     match read_words(alloc, words) {
         Ok(
             Words {
-                generate: None,
+                generate: number,
                 images,
             },
-        ) => {
-            let mut program = Program::new(alloc, bay, host, sink, clock, images, Manner::InFull);
-            let outcome = program.serve(source);
-            ended(outcome, program)
-        }
-        Ok(
-            Words {
-                generate: Some(number),
-                images,
-            },
-        ) => generate(alloc, number, images, bay, host, sink, clock),
+        ) => match number {
+            Some(number) => generate(alloc, number, images, bay, host, sink, clock),
+            None => {
+                let mut program = Program::new(
+                    alloc,
+                    bay,
+                    host,
+                    sink,
+                    clock,
+                    images,
+                    Manner::InFull,
+                );
+                let outcome = program.serve(source);
+                ended(outcome, program)
+            }
+        },
         Err(WordsError::Usage) => nothing_done(alloc, 2, bay, host, sink, clock),
         Err(WordsError::NoMemory) => nothing_done(alloc, 5, bay, host, sink, clock),
     }
