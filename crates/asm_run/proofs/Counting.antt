@@ -1,5 +1,5 @@
 -- How many commands the generator makes.
-use Rattle.std.proofs.Common.{◌≡◌, ℕ, zero, suc, ◌+◌, List, [], ◌∷◌, ◌++◌, length, map, refl, sym, ◌∙◌, ap, arith}
+use Rattle.std.proofs.Common.{◌≡◌, ℕ, zero, suc, ◌+◌, List, [], ◌∷◌, ◌++◌, length, map, refl, ◌∙◌, ap, arith}
 use Rattle.std.proofs.lemmas.List.{length-append, length-map}
 use Rattle.asm_group.specs.Names.{Bytes}
 use Rattle.asm_world.specs.Generator.{after_choices, create_file, create_group, create_image, fills, from_zero, generated, next_choice}

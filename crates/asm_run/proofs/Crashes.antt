@@ -1,5 +1,5 @@
 -- From what a run holds to what a stop in it may leave.
-use Rattle.std.proofs.Common.{◌≡◌, ◌⊎◌, ◌&&◌, ◌==◌, ℕ, ◌<◌, ◌≤◌, Bool, true, List, [], ◌∷◌, ◌++◌, length, inl, inr, refl, sym, ◌∙◌, ap, subst, append_assoc, arith}
+use Rattle.std.proofs.Common.{◌≡◌, ◌&&◌, ◌==◌, ℕ, ◌<◌, ◌≤◌, Bool, true, List, [], ◌∷◌, ◌++◌, length, inl, inr, refl, sym, ◌∙◌, ap, subst, arith}
 use Rattle.std.proofs.lemmas.Bool.{cases_lt, false≢true}
 use Rattle.std.specs.List.{list_any}
 use Rattle.bay.specs.Image.{Image}
@@ -17,7 +17,7 @@ use Rattle.asm_world.specs.Run.{State, Entry, Move, AllMoves, Answers, IsMove, I
 use Rattle.asm_world.specs.RunLaws.{Grows, IsQuiet}
 use Rattle.asm_world.specs.World.{World, SessionEntry, groups_of, has_mounted, is_mounted}
 use Rattle.group_disks.specs.Creating.{Allows}
-use Rattle.group_disks.specs.Found.{Counts, counts_of}
+use Rattle.group_disks.specs.Found.{Counts}
 use Rattle.session.specs.Acts.{Holding}
 use Rattle.session.proofs.Creation.{same_sound, same_members, same_member, all_stand}
 use Rattle.session.specs.Claims.{held_outside, untouched, StandsFor, IsProvedApart}

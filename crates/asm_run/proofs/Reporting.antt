@@ -1,13 +1,12 @@
 -- From what was served to the transcript of the whole run.
-use Rattle.std.proofs.Common.{◌≡◌, ◌≢◌, ◌⊎◌, ◌||◌, ℕ, ◌+◌, ◌<◌, ◌≤◌, Bool, true, false, if◌then◌else◌, MatchBool, List, [], ◌∷◌, ◌++◌, length, take, Option, Some, None, Result, Ok, Err, inl, inr, refl, sym, ◌∙◌, ap, subst, arith}
+use Rattle.std.proofs.Common.{◌≡◌, ◌⊎◌, ℕ, ◌+◌, ◌≤◌, Bool, true, false, MatchBool, List, [], ◌∷◌, ◌++◌, length, take, Option, Some, None, Result, Ok, Err, inl, inr, refl, sym, ◌∙◌, ap, subst, arith}
 use Rattle.std.proofs.lemmas.List.{append-nil, take_all}
-use Rattle.std.specs.Str.{bytes_eq}
 use Rattle.std.specs.Io.KnownBytes.{Consumes, IsAtEnd}
 use Rattle.bay.proofs.Known.{Appends-none}
 use Rattle.bay.specs.State.{BayState}
 use Rattle.asm_group.specs.Names.{Bytes}
 use Rattle.asm_world.specs.Generator.{generated, generated_script}
-use Rattle.asm_world.specs.Run.{State, Phase, Resting, Entry, Move, Starts, Expires, Answers, Slices, Rests, IsGenerated, IsPrinted, IsPrintedToCut, end_of, entry_text, answered, marks_at, marks_of, has_refusal}
+use Rattle.asm_world.specs.Run.{State, Phase, Resting, Entry, IsGenerated, IsPrinted, IsPrintedToCut, answered, marks_of, has_refusal}
 use Rattle.asm_world.proofs.Histories.{marks_rise_by}
 use Rattle.asm_world.specs.RunLaws.{RisesFrom}
 use Rattle.asm_world.specs.World.{World}
@@ -17,11 +16,10 @@ use Rattle.session.specs.declared.stop.Stop.{Stop}
 use Rattle.session.specs.declared.stop.Stop.TheVariants.{ReadFault, WriteFault, NoMemory, TooLong}
 use Rattle.session.specs.declared.manner.Manner.{Manner}
 use Rattle.session.specs.declared.manner.Manner.TheVariants.{InShort}
-use Rattle.session.specs.Acts.{Scene, scene, Acts}
+use Rattle.session.specs.Acts.{scene}
 use Rattle.session.specs.Manners.{AreTold}
 use Rattle.session.specs.Quiet.{quiet}
 use Rattle.session.specs.Serves.{limit, IsFront, IsAnswered, Serves, is_whole}
-use Rattle.asm_run.specs.Crash.{StartsAs}
 use Rattle.asm_run.specs.Headline.{first_state, status_number, GeneratedRun, Outcome, Transcript}
 use Rattle.asm_run.proofs.Counting.{count-generated}
 use Rattle.asm_run.proofs.Cuts.{commands-are}
