@@ -221,7 +221,7 @@ pub enum News {
 }
 
 /// What is new of a stop behind a call, where the stop before that call was tried as well.
-pub fn news(last: Option<&Call>, next: Option<&Call>) -> News {
+pub fn what_is_new(last: Option<&Call>, next: Option<&Call>) -> News {
     let is_same = match last {
         Some(call) => call.kind == Kind::Read || call.kind == Kind::Attach,
         None => false,
@@ -328,7 +328,7 @@ pub fn try_stops(
             let is_next = cut.step <= 1 && calls > cut.first && count == last_count;
             let stop = Stop {
                 next,
-                news: if is_next { news(last, next) } else { News::All },
+                news: if is_next { what_is_new(last, next) } else { News::All },
                 mounted: None,
                 calls,
             };
@@ -368,7 +368,7 @@ fn try_mount_stops(
             let is_next = cut.step <= 1 && calls > cut.first;
             let stop = Stop {
                 next,
-                news: if is_next { news(last, next) } else { News::All },
+                news: if is_next { what_is_new(last, next) } else { News::All },
                 mounted: Some(mounted),
                 calls,
             };
