@@ -37,10 +37,11 @@ const MOUNT: &str = "ALTER DISKGROUP DATA MOUNT FORCE;\n";
 pub fn second_script(alloc: Global) -> Result<String, AllocError> {
     let mut text = String::from_str(alloc, MOUNT)?;
     text.push_str("find +DATA *\ndu +DATA\nls +DATA\n")?;
-    for (name, last) in [("u.256.1", 10), ("v.257.2", 10)] {
-        for extent in 0..last {
-            let at = extent * 4;
-            let line = format!(in alloc; "dbread +DATA/o/DATAFILE/{name} {at}K 4K\n")?;
+    for name in ["u.256.1", "v.257.2"] {
+        for at in [
+            "0", "4K", "8K", "12K", "16K", "20K", "24K", "28K", "32K", "36K",
+        ] {
+            let line = format!(in alloc; "dbread +DATA/o/DATAFILE/{name} {at} 4K\n")?;
             text.push_str(&line)?;
         }
     }
@@ -55,9 +56,11 @@ fn put_page(bay: &mut MemBay, slot: u32, page: usize, bytes: &[u8]) -> bool {
     let Ok(size) = bay.attach(slot, "d") else {
         return false;
     };
+    if page >= PAGES || bytes.len() != PAGE {
+        return false;
+    }
     let at = page as u64 * 4096;
-    let is_inside = page < PAGES && bytes.len() == PAGE && at + 4096 <= size;
-    is_inside && bay.write(slot, at, bytes).is_ok()
+    at + 4096 <= size && bay.write(slot, at, bytes).is_ok()
 }
 
 // Writes what is there of a disk.

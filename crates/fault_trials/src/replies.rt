@@ -122,6 +122,6 @@ pub fn read_run(line: &[u8]) -> Option<Run> {
     Some(Run {
         at,
         count,
-        byte: high * 16 + low,
+        byte: high.wrapping_mul(16).wrapping_add(low),
     })
 }

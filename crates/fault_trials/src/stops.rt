@@ -328,7 +328,11 @@ pub fn try_stops(
             let is_next = cut.step <= 1 && calls > cut.first && count == last_count;
             let stop = Stop {
                 next,
-                news: if is_next { what_is_new(last, next) } else { News::All },
+                news: if is_next {
+                    what_is_new(last, next)
+                } else {
+                    News::All
+                },
                 mounted: None,
                 calls,
             };
@@ -368,7 +372,11 @@ fn try_mount_stops(
             let is_next = cut.step <= 1 && calls > cut.first;
             let stop = Stop {
                 next,
-                news: if is_next { what_is_new(last, next) } else { News::All },
+                news: if is_next {
+                    what_is_new(last, next)
+                } else {
+                    News::All
+                },
                 mounted: Some(mounted),
                 calls,
             };
