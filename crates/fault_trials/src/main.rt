@@ -1,7 +1,8 @@
 //! Plays one script to four disks in memory, by the program's own call: with each call on a disk failing once, and stopped before
-//! and within each call, with a second run after it that mounts the group by force. Without a word it tries some of the calls; with
-//! `all` it tries each, with numbers N and M every Nth from the Mth on, and with `once` it plays the script alone and prints its
-//! replies. It prints what it tried, and what went wrong.
+//! and within each call, with a second run after it that mounts the group by force. Without a word it tries some of the calls.
+//! `stops`, `faults` and `mounts` with numbers N and M try every Nth from the Mth on, and two more numbers say the same of the
+//! calls of the mounts that are stopped. `all` tries each, and each 20th call of the mounts behind each 100th. `once` plays the
+//! script alone and prints its replies. It prints what it tried, and what went wrong.
 #![tactic(auto)]
 
 mod disks;
@@ -62,14 +63,32 @@ const NONE: Cut = Cut {
     first: 1_000_000,
 };
 
-// What the words ask for: a word for what is tried, and two numbers for a cut.
-fn choice_of(word: &str, step: usize, first: usize) -> Choice {
+// The numbers of the words: a cut's step and first place, and the same of the calls of the mounts that are stopped.
+#[derive(Clone, Copy)]
+struct Numbers {
+    step: usize,
+    first: usize,
+    inner_step: usize,
+    inner_first: usize,
+}
+
+// What the words ask for: a word for what is tried, and the numbers of its cuts.
+fn choice_of(word: &str, numbers: Numbers) -> Choice {
+    let Numbers {
+        step,
+        first,
+        inner_step,
+        inner_first,
+    } = numbers;
     let none = Choice {
         once: false,
         stops: NONE,
         faults: NONE,
         mounts: NONE,
-        inner: Cut { step: 1, first: 0 },
+        inner: Cut {
+            step: inner_step,
+            first: inner_first,
+        },
     };
     let cut = Cut { step, first };
     match word {
@@ -81,6 +100,7 @@ fn choice_of(word: &str, step: usize, first: usize) -> Choice {
                 step: 100,
                 first: 0,
             },
+            inner: Cut { step: 20, first: 0 },
             ..none
         },
         "stops" => Choice { stops: cut, ..none },
@@ -104,19 +124,25 @@ fn script_text(alloc: Global) -> Result<String, AllocError> {
     Ok(text)
 }
 
+// A word as a number.
+fn number_of(word: Option<String>, other: usize) -> usize {
+    match word {
+        Some(text) => text.parse::<usize>().unwrap_or(other),
+        None => other,
+    }
+}
+
 fn read_choice(rt: &HostRuntime) -> io::Result<Choice> {
     let mut words = env::args(rt)?.skip(1);
     let word = words.next();
-    let step = match words.next() {
-        Some(text) => text.parse::<usize>().unwrap_or(1),
-        None => 1,
-    };
-    let first = match words.next() {
-        Some(text) => text.parse::<usize>().unwrap_or(0),
-        None => 0,
+    let numbers = Numbers {
+        step: number_of(words.next(), 1),
+        first: number_of(words.next(), 0),
+        inner_step: number_of(words.next(), 1),
+        inner_first: number_of(words.next(), 0),
     };
     Ok(match word {
-        Some(word) => choice_of(&word, step, first),
+        Some(word) => choice_of(&word, numbers),
         None => SOME,
     })
 }

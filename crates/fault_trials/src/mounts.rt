@@ -157,7 +157,7 @@ fn files(world: &World<'_>) -> usize {
 fn has_sizes(reply: &Reply<'_>, world: &World<'_>) -> bool {
     match reply.report.get(1) {
         Some(line) => match decimal(line) {
-            Some((used, _)) => reply.is_ok() && used == files(world) * 40_960,
+            Some((used, _)) => reply.is_ok() && used == files(world).saturating_mul(40_960),
             None => false,
         },
         None => false,
@@ -248,7 +248,7 @@ fn counts_extents(reply: &Reply<'_>, world: &World<'_>) -> bool {
     match reply.report.first() {
         Some(line) => match line.strip_prefix(b"check ".as_slice()) {
             Some(rest) => match decimal(rest) {
-                Some((extents, _)) => reply.is_ok() && extents == files(world) * 10,
+                Some((extents, _)) => reply.is_ok() && extents == files(world).saturating_mul(10),
                 None => false,
             },
             None => false,
