@@ -1,7 +1,7 @@
 // The script, with one of its calls failing.
 use crate::disks::Disks;
 use crate::dues::{due_refusal, is_alone, mode_name, span_of};
-use crate::formats::Group;
+use crate::formats::{Group, has};
 use crate::mounts::{Wrong, contains, tells_span};
 use crate::playing::{Played, four_disks, play};
 use crate::replies::{Replies, Reply, decimal, read};
@@ -79,6 +79,14 @@ impl Story {
         }
         self.followed = count.max(from);
         Ok(())
+    }
+
+    // Whether a disk has a directory copy that counts. One that hasn't may be the target of a new one.
+    fn has_copy(&self, disk: usize) -> bool {
+        match Group::on(&self.disks, set_of(15)) {
+            Some(group) => has(group.status.copies(), disk),
+            None => false,
+        }
     }
 
     // Whether the failed disk has the only directory copy.
@@ -222,7 +230,10 @@ impl Story {
             }
             Effect::Read(_) => Ok(is_read && self.has_last_extent(effect, disk)),
             Effect::Online => Ok(disk == 1 && last == b"error 5 NoDisk DATA_0001".as_slice()),
-            Effect::Forced => Ok(is_read || (is_write && failed.is_write())),
+            Effect::Forced => {
+                let is_target = failed.is_write() || !self.has_copy(disk);
+                Ok((is_read && !failed.is_write()) || (is_write && is_target))
+            }
             _ => Ok(false),
         }
     }

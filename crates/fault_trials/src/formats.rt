@@ -426,8 +426,15 @@ impl<'a> Group<'a> {
         true
     }
 
+    // Whether a disk that can be read has its header, where the record has an entry of it and it wasn't dropped by force.
+    fn is_joined(&self, disk: usize) -> bool {
+        let mode = self.status.mode(disk);
+        let is_owed = mode != 0 && mode != 5 && self.present.get(disk) == Some(&true);
+        !is_owed || is_member(self.disks, disk)
+    }
+
     /// Whether the disks stand for a world: its files with their sizes and names, the next incarnation, and the known bytes in each
-    /// current copy.
+    /// current copy; and each disk of the record is a member.
     pub fn stands_for(&self, world: &World<'_>) -> bool {
         let settings = Record {
             kind: 9,
@@ -440,7 +447,9 @@ impl<'a> Group<'a> {
         };
         let counts = next == world.made().saturating_add(1);
         let agrees = self.agrees_on(world, File::U) && self.agrees_on(world, File::V);
+        let are_joined = (0..4usize).all(|disk| self.is_joined(disk));
         world.has_group()
+            && are_joined
             && counts
             && agrees
             && (!world.has(File::U) || self.file_holds(world, File::U))

@@ -41,20 +41,17 @@ struct Choice {
 const SOME: Choice = Choice {
     once: false,
     stops: Cut {
-        step: 400,
-        first: 1,
+        step: 61,
+        first: 13,
     },
-    faults: Cut {
-        step: 400,
-        first: 1,
-    },
+    faults: Cut { step: 53, first: 5 },
     mounts: Cut {
-        step: 4_000,
-        first: 800,
+        step: 700,
+        first: 560,
     },
     inner: Cut {
-        step: 100,
-        first: 40,
+        step: 131,
+        first: 31,
     },
 };
 
