@@ -1,0 +1,200 @@
+//! Plays one script to four disks in memory, by the program's own call: with each call on a disk failing once, and stopped before
+//! and within each call, with a second run after it that mounts the group by force. Without a word it tries some of the calls.
+//! `stops`, `faults` and `mounts` with numbers N and M try every Nth from the Mth on, and two more numbers say the same of the
+//! calls of the mounts that are stopped. `all` tries each, and each 20th call of the mounts behind each 100th. `once` plays the
+//! script alone and prints its replies. It prints what it tried, and what went wrong.
+#![tactic(auto)]
+
+mod disks;
+mod dues;
+mod faults;
+mod formats;
+mod mounts;
+mod playing;
+mod replies;
+mod script;
+mod stops;
+mod tally;
+mod traced;
+mod world;
+
+use faults::try_faults;
+use mounts::second_script;
+use playing::{Played, four_disks, play};
+use script::SCRIPT;
+use std::alloc::{AllocError, Global};
+use std::{env, io};
+use stops::{Cut, try_mounts, try_stops};
+use tally::Tally;
+
+/// What is tried.
+#[derive(Clone, Copy)]
+struct Choice {
+    once: bool,
+    stops: Cut,
+    faults: Cut,
+    mounts: Cut,
+    inner: Cut,
+}
+
+/// What is tried without a word.
+const SOME: Choice = Choice {
+    once: false,
+    stops: Cut {
+        step: 61,
+        first: 13,
+    },
+    faults: Cut { step: 53, first: 5 },
+    mounts: Cut {
+        step: 700,
+        first: 560,
+    },
+    inner: Cut {
+        step: 131,
+        first: 31,
+    },
+};
+
+const NONE: Cut = Cut {
+    step: 1_000_000,
+    first: 1_000_000,
+};
+
+// The numbers of the words: a cut's step and first place, and the same of the calls of the mounts that are stopped.
+#[derive(Clone, Copy)]
+struct Numbers {
+    step: usize,
+    first: usize,
+    inner_step: usize,
+    inner_first: usize,
+}
+
+// What the words ask for: a word for what is tried, and the numbers of its cuts.
+fn choice_of(word: &str, numbers: Numbers) -> Choice {
+    let Numbers {
+        step,
+        first,
+        inner_step,
+        inner_first,
+    } = numbers;
+    let none = Choice {
+        once: false,
+        stops: NONE,
+        faults: NONE,
+        mounts: NONE,
+        inner: Cut {
+            step: inner_step,
+            first: inner_first,
+        },
+    };
+    let cut = Cut { step, first };
+    match word {
+        "once" => Choice { once: true, ..none },
+        "all" => Choice {
+            stops: Cut { step: 1, first: 0 },
+            faults: Cut { step: 1, first: 1 },
+            mounts: Cut {
+                step: 100,
+                first: 0,
+            },
+            inner: Cut { step: 20, first: 0 },
+            ..none
+        },
+        "stops" => Choice { stops: cut, ..none },
+        "faults" => Choice {
+            faults: cut,
+            ..none
+        },
+        "mounts" => Choice {
+            mounts: cut,
+            ..none
+        },
+        _ => SOME,
+    }
+}
+
+fn script_text(alloc: Global) -> Result<String, AllocError> {
+    let mut text = String::new(alloc);
+    for deed in SCRIPT {
+        text.push_str(deed.text)?;
+    }
+    Ok(text)
+}
+
+// A word as a number.
+fn number_of(word: Option<String>, other: usize) -> usize {
+    match word {
+        Some(text) => text.parse::<usize>().unwrap_or(other),
+        None => other,
+    }
+}
+
+fn read_choice(rt: &HostRuntime) -> io::Result<Choice> {
+    let mut words = env::args(rt)?.skip(1);
+    let word = words.next();
+    let numbers = Numbers {
+        step: number_of(words.next(), 1),
+        first: number_of(words.next(), 0),
+        inner_step: number_of(words.next(), 1),
+        inner_first: number_of(words.next(), 0),
+    };
+    Ok(match word {
+        Some(word) => choice_of(&word, numbers),
+        None => SOME,
+    })
+}
+
+fn try_all(
+    alloc: Global,
+    choice: Choice,
+    text: &[u8],
+    base: &Played,
+    tally: &mut Tally,
+) -> Result<(), AllocError> {
+    let second = second_script(alloc)?;
+    try_stops(alloc, second.as_bytes(), base, choice.stops, tally)?;
+    try_mounts(
+        alloc,
+        second.as_bytes(),
+        base,
+        choice.mounts,
+        choice.inner,
+        tally,
+    )?;
+    try_faults(alloc, (text, second.as_bytes()), base, choice.faults, tally)
+}
+
+fn tell(rt: &HostRuntime, calls: usize, tally: &Tally) -> io::Result<()> {
+    let failing = tally.failing;
+    let stops = tally.stops;
+    let mounts = tally.mounts;
+    let again = tally.again;
+    let wrong = tally.wrong.len();
+    for line in tally.wrong.iter().take(20) {
+        println!(rt; "{line}")?;
+    }
+    println!(rt;
+        "calls {calls} · failing calls {failing} · stops {stops} · stops of mounts {again} · mounts {mounts} · wrong {wrong}"
+    )
+}
+
+fn main(rt: HostRuntime) -> io::Result<()> {
+    let alloc = rt.alloc();
+    let choice = read_choice(&rt)?;
+    let text = script_text(alloc)?;
+    let played = match four_disks(alloc) {
+        Some(disks) => play(alloc, text.as_bytes(), disks),
+        None => None,
+    };
+    let Some(base) = played else {
+        return println!(rt; "there is no memory");
+    };
+    if choice.once {
+        let shown = String::from_utf8_lossy(alloc, &base.text)?;
+        let status = base.status;
+        return println!(rt; "{shown}status {status}");
+    }
+    let mut tally = Tally::new(alloc);
+    try_all(alloc, choice, text.as_bytes(), &base, &mut tally)?;
+    tell(&rt, base.calls.len(), &tally)
+}
