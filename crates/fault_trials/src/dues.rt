@@ -1,6 +1,6 @@
 // What a command must answer, by the directories and the status record as they are when it begins.
+use crate::deeds::{Effect, File, Fill};
 use crate::formats::{Group, copy_in, file_number, has, number};
-use crate::script::{Effect, File, Fill};
 use std::alloc::{AllocError, Global};
 
 /// The files that a command reads or writes, by their sectors.

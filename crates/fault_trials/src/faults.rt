@@ -1,11 +1,11 @@
 // The script, with one of its calls failing.
+use crate::deeds::{DEEDS, Effect, SCRIPT};
 use crate::disks::Disks;
 use crate::dues::{due_refusal, is_alone, mode_name, span_of};
 use crate::formats::{Group, has};
 use crate::mounts::{Wrong, contains, tells_span};
 use crate::playing::{Played, four_disks, play};
 use crate::replies::{Replies, Reply, decimal, read};
-use crate::script::{DEEDS, Effect, SCRIPT};
 use crate::stops::{Asked, Cut, set_of, try_set};
 use crate::tally::{Place, Shown, Tally};
 use crate::traced::{Call, Kind};

@@ -1,6 +1,6 @@
 // What four disks stand for, read by the formats alone, not by the program's own way.
+use crate::deeds::File;
 use crate::disks::Disks;
-use crate::script::File;
 use crate::world::World;
 
 /// Which of the four disks can be read.

@@ -5,6 +5,7 @@
 //! script alone and prints its replies. It prints what it tried, and what went wrong.
 #![tactic(auto)]
 
+mod deeds;
 mod disks;
 mod dues;
 mod faults;
@@ -12,16 +13,15 @@ mod formats;
 mod mounts;
 mod playing;
 mod replies;
-mod script;
 mod stops;
 mod tally;
 mod traced;
 mod world;
 
+use deeds::SCRIPT;
 use faults::try_faults;
 use mounts::second_script;
 use playing::{Played, four_disks, play};
-use script::SCRIPT;
 use std::alloc::{AllocError, Global};
 use std::{env, io};
 use stops::{Cut, try_mounts, try_stops};

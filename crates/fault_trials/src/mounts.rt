@@ -1,9 +1,9 @@
 // A second run, which mounts the group by force: what it must answer, and the world that it finds.
+use crate::deeds::File;
 use crate::disks::{Disks, PAGE, PAGES};
 use crate::formats::{Answer, Group, Present, due_answer, file_number};
 use crate::playing::{Played, four_disks, play};
 use crate::replies::{Replies, Reply, decimal, read, read_run};
-use crate::script::File;
 use crate::world::World;
 use bay::Bay;
 use bay_mem::MemBay;

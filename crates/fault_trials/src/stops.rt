@@ -1,9 +1,9 @@
 // The script, stopped before and within each of its calls.
+use crate::deeds::{DEEDS, Effect, SCRIPT};
 use crate::disks::{Disks, Patch};
 use crate::formats::{Answer, Present, due_answer};
 use crate::mounts::{Judgement, Wrong, judge, mount};
 use crate::playing::Played;
-use crate::script::{DEEDS, Effect, SCRIPT};
 use crate::tally::{Place, Shown, Tally};
 use crate::traced::{Call, Kind};
 use crate::world::World;

@@ -1,5 +1,5 @@
 // What a later run may find of the group.
-use crate::script::{Effect, File, Fill};
+use crate::deeds::{Effect, File, Fill};
 
 /// The sectors of a file.
 pub const SECTORS: usize = 80;
