@@ -31,6 +31,7 @@ Each command is answered by ok or by an error line on standard output. The state
       [ATTRIBUTE 'name' = 'value' ..];
   DROP DISKGROUP name [INCLUDING CONTENTS];
   ALTER DISKGROUP name MOUNT [FORCE] | DISMOUNT | CHECK;
+  ALTER DISKGROUP name ADD DISK 'path' [NAME disk] [SIZE size] [FORCE] ..;
   ALTER DISKGROUP name DROP DISK disk [FORCE] .. | UNDROP DISKS;
   ALTER DISKGROUP name OFFLINE DISK disk [DROP AFTER n M | H] | ONLINE DISK disk | RESIZE ALL [SIZE size];
   ALTER DISKGROUP name REBALANCE [POWER n] [WAIT];
@@ -42,8 +43,7 @@ and the verbs, each on a line of its own
   dbcreate  dbwrite  dbfill  dbread  dbresize  cp  rm  ls  find  du  cd  pwd  mkdir  mkalias  rmalias
   lsdg  lsdsk  lstmpl  lsattr  offline  online  rebal
 
-ALTER DISKGROUP name ADD .. DISK isn't served yet: it is answered error 1 Syntax 0. A text that is no command
-is answered error 1 Syntax and the place where it parts from all commands. For example
+A text that is no command is answered error 1 Syntax and the place where it parts from all commands. For example
 
   truncate -s 64M disk0
   asm disk0 <<'END'
