@@ -2,7 +2,8 @@
 //! and within each call, with a second run after it that mounts the group by force. Without a word it tries some of the calls.
 //! `stops`, `faults` and `mounts` with numbers N and M try every Nth from the Mth on, and two more numbers say the same of the
 //! calls of the mounts that are stopped. `all` tries each, and each 20th call of the mounts behind each 100th. `once` plays the
-//! script alone and prints its replies. It prints what it tried, and what went wrong.
+//! script alone and prints its replies. It prints what it tried, and what went wrong. `script` prints the script, and `judge` with a
+//! number and four images judges what a run of the built program left behind so many acknowledged commands.
 #![tactic(auto)]
 
 mod deeds;
@@ -10,6 +11,7 @@ mod disks;
 mod dues;
 mod faults;
 mod formats;
+mod judging;
 mod mounts;
 mod playing;
 mod replies;
@@ -18,8 +20,10 @@ mod tally;
 mod traced;
 mod world;
 
+use bay_file::FileBay;
 use deeds::SCRIPT;
 use faults::try_faults;
+use judging::judge_images;
 use mounts::second_script;
 use playing::{Played, four_disks, play};
 use std::alloc::{AllocError, Global};
@@ -178,9 +182,44 @@ fn tell(rt: &HostRuntime, calls: usize, tally: &Tally) -> io::Result<()> {
     )
 }
 
+// The words after the program's own name.
+fn words_of(alloc: Global, rt: &HostRuntime) -> io::Result<Vec<String>> {
+    let mut words = Vec::new(alloc);
+    for word in env::args(rt)?.skip(1) {
+        words.push(word).map_err(AllocError::from)?;
+    }
+    Ok(words)
+}
+
+// Judges images by the words behind `judge`.
+fn judge_words(alloc: Global, rt: &HostRuntime, words: &[String]) -> io::Result<()> {
+    let [commands, paths @ ..] = words else {
+        return println!(rt; "judge wants a number and four images");
+    };
+    let commands = commands.parse::<usize>().unwrap_or(0);
+    let mut bay = FileBay::new(rt.clone()?);
+    match judge_images(alloc, &mut bay, commands, paths)? {
+        Some(tally) => tell(rt, 0, &tally),
+        None => println!(rt; "an image can't be read"),
+    }
+}
+
 fn main(rt: HostRuntime) -> io::Result<()> {
     let alloc = rt.alloc();
-    let choice = read_choice(&rt)?;
+    let words = words_of(alloc, &rt)?;
+    match words.first().map(String::as_str) {
+        Some("script") => {
+            let text = script_text(alloc)?;
+            rt.print(&text)
+        }
+        Some("judge") => judge_words(alloc, &rt, &words[1..]),
+        _ => try_by_words(alloc, &rt),
+    }
+}
+
+// Tries what the words choose.
+fn try_by_words(alloc: Global, rt: &HostRuntime) -> io::Result<()> {
+    let choice = read_choice(rt)?;
     let text = script_text(alloc)?;
     let played = match four_disks(alloc) {
         Some(disks) => play(alloc, text.as_bytes(), disks),
@@ -196,5 +235,5 @@ fn main(rt: HostRuntime) -> io::Result<()> {
     }
     let mut tally = Tally::new(alloc);
     try_all(alloc, choice, text.as_bytes(), &base, &mut tally)?;
-    tell(&rt, base.calls.len(), &tally)
+    tell(rt, base.calls.len(), &tally)
 }

@@ -32,6 +32,10 @@ pub enum Place {
     Fault {
         call: usize,
     },
+    /// A run left these images behind so many acknowledged commands.
+    Left {
+        commands: usize,
+    },
 }
 
 /// A run that isn't right: of a set of disks, by their bits.
