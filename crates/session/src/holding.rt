@@ -1,12 +1,12 @@
 // Which images the mounted groups of the session have.
-ghost use Rattle.std.specs.Prelude.{◌≡◌, ◌≤◌, ◌∷◌, ◌++◌, [], IfOk, OnOk};
-ghost use Rattle.session.specs.Sessions.{held_by, slots_in};
+ghost use Rattle.std.specs.Prelude.{◌≡◌, ◌≤◌, ◌∷◌, ◌++◌, [], IfOk, OnOk, map};
+ghost use Rattle.session.specs.Sessions.{held_by, slots_in, taken_by, taken_of};
 
 use crate::session::Session;
 use asm_base::NoMemory;
 use group_engine::Attached;
 use new_groups::{Known, Taken};
-use status_table::PstRecord;
+use status_table::{PstEntry, PstRecord};
 use std::alloc::Global;
 
 pub(crate) fn put_slot(slots: &mut Vec<u32>, slot: u32) -> Result<(), NoMemory>
@@ -28,16 +28,30 @@ pub(crate) fn put_slots(disks: &[Option<Attached>], slots: &mut Vec<u32>) -> Res
 }
 
 /// Puts the disks of a record's entries behind others.
-fn put_taken(status: &PstRecord, taken: &mut Vec<Taken>) -> Result<(), NoMemory> {
+fn put_taken(status: &PstRecord, taken: &mut Vec<Taken>) -> Result<(), NoMemory>
+    ensures { OnOk result (taken.new.items ≡ taken.old.items ++ map (taken_of status.now.id) status.now.entries) }
+{
     for entry in status.entries() {
-        let disk = Taken {
-            id: status.id,
-            number: entry.number,
-            birth: entry.birth,
-        };
-        taken.push(disk).map_err(|_| NoMemory)?;
+        put_disk(taken, taken_of(status.id, entry))?;
     }
     Ok(())
+}
+
+/// The disk of an entry of a group with this id.
+fn taken_of(id: u64, entry: &PstEntry) -> Taken
+    ensures { result ≡ taken_of id entry.now }
+{
+    Taken {
+        id,
+        number: entry.number,
+        birth: entry.birth,
+    }
+}
+
+fn put_disk(taken: &mut Vec<Taken>, disk: Taken) -> Result<(), NoMemory>
+    ensures { OnOk result (taken.new.items ≡ taken.old.items ++ disk ∷ []) }
+{
+    taken.push(disk).map_err(|_| NoMemory)
 }
 
 impl Session {
@@ -55,7 +69,9 @@ impl Session {
     }
 
     /// The disks of the entries of all groups, also of those that are dismounted.
-    fn taken_disks(&self, alloc: Global) -> Result<Vec<Taken>, NoMemory> {
+    fn taken_disks(&self, alloc: Global) -> Result<Vec<Taken>, NoMemory>
+        ensures { IfOk result (λ taken. taken.items ≡ taken_by self.now.groups) }
+    {
         let mut taken = Vec::new(alloc);
         for (_, entry) in self.groups.iter() {
             put_taken(entry.group.status(), &mut taken)?;
@@ -67,6 +83,7 @@ impl Session {
     pub fn known(&self, alloc: Global) -> Result<Known, NoMemory>
         ensures floor { IfOk result (λ known. self.now.given ≤ known.floor) }
         ensures held { IfOk result (λ known. known.held.items ≡ held_by self.now.groups) }
+        ensures taken { IfOk result (λ known. known.taken.items ≡ taken_by self.now.groups) }
     {
         Ok(Known {
             floor: self.next_id(),
