@@ -15,7 +15,7 @@ use asm_base::{
 };
 use catalog::Catalog;
 use file_directory::{FileHead, record_of};
-use rebalance::{Cursor, Move, Next, next_move, next_move_from};
+use rebalance::{Cursor, Move, Next, next_move, next_move_from, planned_moves_change_one_chunk};
 use sample_group::{is_regular, make_move};
 use status_table::{PstEntry, PstRecord, is_status};
 use std::alloc::Global;
@@ -110,7 +110,7 @@ fn catalog(alloc: Global, records: &Records, status: &PstRecord) -> io::Result<C
     }
 }
 
-/// Makes the next move, which is a shift, and sets the cursor back for it.
+/// Makes the next move, which is a shift, and lets the cursor follow.
 fn make_next(
     alloc: Global,
     catalog: &mut Catalog,
@@ -132,9 +132,10 @@ fn make_next(
         return Err(unexpected());
     }
     make(alloc, catalog, x, copy, to)?;
-    // It keeps the rules, as the cursor's meaning asks.
+    planned_moves_change_one_chunk();
+    // It keeps the rules, as the cursor asks.
     let _ = catalog.shape();
-    cursor.set_back(x);
+    cursor.follow(catalog, status, x);
     Ok(())
 }
 

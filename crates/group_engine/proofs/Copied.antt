@@ -10,6 +10,7 @@ use Rattle.bay.specs.Counts.{Rose}
 use Rattle.bay.specs.Moments.{Runs}
 use Rattle.bay.proofs.Calls.{attached-trans}
 use Rattle.asm_base.specs.declared.refusal.Refusal.{Refusal}
+use Rattle.asm_base.specs.declared.refusal.Refusal.TheVariants as cause
 use Rattle.asm_base.specs.Records.{record_at}
 use Rattle.asm_formats.specs.Bytes.{block_size}
 use Rattle.asm_formats.specs.Regions.{region_end}
@@ -31,7 +32,7 @@ use Rattle.status_register.specs.Writes.{after_write}
 use Rattle.status_register.specs.declared.error.Dead.{Dead}
 use Rattle.status_register.specs.declared.member.Member.{Member}
 use Rattle.group_engine.specs.Commits.{IsDismountedBy, IsLostIn}
-use Rattle.group_engine.specs.Copying.{CopiesTo, CopyCause, IsNotCopied, IsOneMore, IsWith, WritesMore}
+use Rattle.group_engine.specs.Copying.{CopiesTo, CopyCause, IsNotCopied, IsOneMore, IsWith, LeavesGroup, WritesMore}
 use Rattle.group_engine.specs.Mounts.{AreCopiesOf, IsCopyOf, IsMounted, IsOwn, IsReady, IsWhole, MountedGroup, Takes}
 use Rattle.group_engine.specs.Making.{IsShut}
 use Rattle.group_engine.specs.Own.{IsSameGroup, OnOwnDisks}
@@ -143,8 +144,9 @@ module _ (m : MountedGroup) (whole : IsWhole m) (s : BayState) (ready : IsReady 
           (λ x y change. record { size = change.elsewhere.size; byte = λ slot k out. change.elsewhere.byte slot k (λ region. out (own_slot slot region.0)) }) run
 
       -- nothing came of it
-      pub ends_uncopied : (refusal : Refusal) → new ≡ m.store → CopyCause m d (record m { store = new }) s t refusal → CopiesTo m d (Err refusal) (record m { store = new }) s t
-      ends_uncopied refusal same why = record {
+      pub ends_uncopied : (refusal : Refusal) → new ≡ m.store → LeavesGroup m (record m { store = new }) refusal → CopyCause m d (record m { store = new }) s t refusal
+          → CopiesTo m d (Err refusal) (record m { store = new }) s t
+      ends_uncopied refusal same leaves why = record {
         keeps = record {
           same = record { name = refl; id = refl; shape = refl; members = refl; disks = refl; flight = inl refl };
           attached = attached;
@@ -157,6 +159,7 @@ module _ (m : MountedGroup) (whole : IsWhole m) (s : BayState) (ready : IsReady 
         mounted = tt;
         named = tt;
         cause = why;
+        refused = leaves;
       }
         where
           whole_again : IsWhole (record m { store = m.store })
@@ -274,6 +277,7 @@ module _ (m : MountedGroup) (whole : IsWhole m) (s : BayState) (ready : IsReady 
               mounted = mounted;
               named = ap (λ (x : Registered). has_bit x.value.directories d) is ∙ own_bit writes.more m.register.value.directories d writes.with one.small;
               cause = tt;
+              refused = tt;
             }
 
         -- a majority was lost at it
@@ -287,6 +291,8 @@ module _ (m : MountedGroup) (whole : IsWhole m) (s : BayState) (ready : IsReady 
               mounted = tt;
               named = tt;
               cause = subst (λ (x : Refusal). CopyCause m d after s w x) (sym by.refusal_is) (inr (ap (λ (v : MountedGroup). v.access) by.new_is, lost));
+              refused = subst (λ (x : Refusal). LeavesGroup m after x) (sym by.refusal_is)
+                  (ap (λ (v : MountedGroup). v.register.value) by.new_is ∙ ap (λ (x : Registered). x.value) (writes.written.register ∙ ap (λ (a : Result ℕ Dead). after_write m.register next a) is));
             }
 
 -- ---- the entry of an attached disk
@@ -308,7 +314,12 @@ copied_before m s d mounted takes named = record {
   mounted = mounted;
   named = named;
   cause = tt;
+  refused = tt;
 }
+
+pub leaves_itself : (m : MountedGroup) (refusal : Refusal) → LeavesGroup m m refusal
+leaves_itself m (cause.Dismounted by) = refl
+leaves_itself m _ = refl
 
 pub copied_not : (m : MountedGroup) (s : BayState) (d : ℕ) (refusal : Refusal) → Takes m s → CopyCause m d m s s refusal → CopiesTo m d (Err refusal) m s s
 copied_not m s d refusal takes why = record {
@@ -318,6 +329,7 @@ copied_not m s d refusal takes why = record {
   mounted = tt;
   named = tt;
   cause = why;
+  refused = leaves_itself m refusal;
 }
 
 pub shut_copy : (m : MountedGroup) (s : BayState) (d : ℕ) (refusal : Refusal) (x : Access) → m.access ≡ x → IsShut x refusal → CopyCause m d m s s refusal

@@ -17,13 +17,14 @@ use Rattle.status_register.specs.Registered.{Registered}
 use Rattle.status_register.specs.Writes.{after_write}
 use Rattle.status_register.specs.declared.error.Dead.{Dead}
 use Rattle.group_engine.specs.Changes.{AppliesChange, CommitsRecords, IsAsBefore}
-use Rattle.group_engine.specs.Commits.{CommitCause, CommitsChange, IsDismountedBy, IsLostIn}
+use Rattle.group_engine.specs.Commits.{CommitCause, CommitsChange, IsDismountedBy, IsLostIn, KeepsRecord}
 use Rattle.group_engine.specs.Dropping.{WritesFewer}
 use Rattle.group_engine.specs.Mounts.{IsMounted, IsOwn, IsReady, IsWhole, MountedGroup}
 use Rattle.group_engine.specs.Own.{IsSameGroup, KeepsGroup, OnOwnDisks}
 pub use Rattle.group_engine.proofs.Causes.{not_mounted}
 use Rattle.group_engine.proofs.Causes.{dead_lost, gone_lost, store_own, written_own}
 use Rattle.group_engine.proofs.Commits.{all_done, all_whole, dropped_done, dropped_moments, fewer_whole, keeps_over_row, one_of, others_none, stored_moments}
+use Rattle.group_engine.proofs.KeptRecords.{record_fewer, record_same, record_stays}
 use Rattle.group_engine.proofs.Mounting.{still_ready}
 use Rattle.group_engine.proofs.Unchanged.{same_moments, same_mounts, same_whole}
 
@@ -85,6 +86,7 @@ module _ (was : MountedGroup) (mounted : IsMounted was) (whole : IsWhole was) (p
           ready = λ takes. still_ready was now s t refl refl commits.kept commits.attached ready;
         };
         flight = refl;
+        status = record_stays was.register.value;
         mounted = mounted;
         applied = applies.after;
         cause = tt;
@@ -123,6 +125,9 @@ module _ (was : MountedGroup) (mounted : IsMounted was) (whole : IsWhole was) (p
     runs : Runs (IsOwn was) (OnOwnDisks was) s w
     runs = written_own was whole next answer reg (store_own was whole commits.runs) writes.written
 
+    record_kept : KeepsRecord was.register.value reg.value
+    record_kept = record_fewer was.register reg failed answer t w writes
+
     pub ends_fewer : (taken : ℕ) → answer ≡ Ok taken → CommitsChange was put gone (Ok tt) fewer s w
     ends_fewer taken ok =
         let later : IsWhole fewer = fewer_whole was whole put gone s t new failed commits cat applies w answer reg writes taken ok in
@@ -135,6 +140,7 @@ module _ (was : MountedGroup) (mounted : IsMounted was) (whole : IsWhole was) (p
             ready = λ takes. still_ready was fewer s w same_group.members refl (keeps_over_row was new next t w answer reg writes.written commits.kept) attached ready;
           };
           flight = refl;
+          status = record_kept;
           mounted = mounted;
           applied = applies.after;
           cause = tt;
@@ -152,6 +158,7 @@ module _ (was : MountedGroup) (mounted : IsMounted was) (whole : IsWhole was) (p
         record {
           keeps = keeps_dismounted was fewer after s w dead.slot refusal same_group by attached runs;
           flight = ap (λ (v : MountedGroup). v.flight) by.new_is;
+          status = subst (λ (v : MountedGroup). KeepsRecord was.register.value v.register.value) (sym by.new_is) record_kept;
           mounted = tt;
           applied = tt;
           cause = subst (λ (x : Refusal). CommitCause was put after s w x) (sym by.refusal_is) (inr (ap (λ (v : MountedGroup). v.access) by.new_is, lost));
@@ -171,6 +178,7 @@ module _ (was : MountedGroup) (mounted : IsMounted was) (whole : IsWhole was) (p
         keeps = keeps_dismounted was now after s t slot refusal (record { name = refl; id = refl; shape = before.shape; members = refl; disks = refl; flight = inl refl }) by
             commits.attached (store_own was whole commits.runs);
         flight = ap (λ (v : MountedGroup). v.flight) by.new_is;
+        status = record_same was.register.value after.register.value (ap (λ (v : MountedGroup). v.register.value) by.new_is);
         mounted = tt;
         applied = tt;
         cause = subst (λ (x : Refusal). CommitCause was put after s t x) (sym by.refusal_is) (inr (ap (λ (v : MountedGroup). v.access) by.new_is, lost));
@@ -191,6 +199,7 @@ module _ (was : MountedGroup) (mounted : IsMounted was) (whole : IsWhole was) (p
         ready = λ takes. still_ready was now s t refl refl commits.kept commits.attached ready;
       };
       flight = refl;
+      status = record_stays was.register.value;
       mounted = tt;
       applied = tt;
       cause = why;

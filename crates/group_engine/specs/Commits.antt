@@ -1,5 +1,5 @@
 -- What a commit of a mounted group does.
-use Rattle.std.specs.Prelude.{◌≡◌, ◌⊎◌, ⊤, ℕ, ◌+◌, ◌<◌, ◌^◌, List, [], ◌∷◌, Some, IfErr, OnErr, OnOk, Result}
+use Rattle.std.specs.Prelude.{◌≡◌, ◌⊎◌, ⊤, ℕ, ◌+◌, ◌<◌, ◌^◌, true, List, [], ◌∷◌, Some, IfErr, OnErr, OnOk, Result}
 use Rattle.bay.specs.Image.{Image}
 use Rattle.bay.specs.State.{BayState}
 use Rattle.bay.specs.Counts.{Rose}
@@ -16,7 +16,7 @@ use Rattle.asm_placement.specs.Among.{IsAmong}
 use Rattle.asm_images.specs.Kept.{Kept, IsHeld}
 use Rattle.catalog.specs.Changing.{IsAfter}
 use Rattle.catalog.specs.Tables.{Tables}
-use Rattle.asm_formats.specs.Sets.{elements}
+use Rattle.asm_formats.specs.Sets.{elements, has_bit}
 use Rattle.asm_formats.specs.Status.{Status}
 use Rattle.page_map.specs.Tables.{new_in, room}
 use Rattle.status_register.specs.Holders.{attached_to}
@@ -95,12 +95,24 @@ StatusCause old new s t _ = ⊥
 
 -- ---- what the calls do
 
--- A commit on a group that takes calls: what it keeps, what the tables are after it, why it is refused, what each image of each moment
--- is held for, and what is mounted at the end.
+-- A status record after a commit: it is the one before, but for its number and for directory copies that failed.
+pub record KeepsRecord (old new : Status) : Type 0 where
+  pub id : new.id ≡ old.id
+  pub gone : new.gone ≡ old.gone
+  pub births : new.births ≡ old.births
+  pub holders : new.holders ≡ old.holders
+  pub next_holders : new.next_holders ≡ old.next_holders
+  pub entries : new.entries ≡ old.entries
+  -- a disk that has a copy had one before
+  pub copies : (d : ℕ) → d < 64 → has_bit new.directories d ≡ true → has_bit old.directories d ≡ true
+
+-- A commit on a group that takes calls: what it keeps, what the record and the tables are after it, why it is refused, what each image of
+-- each moment is held for, and what is mounted at the end.
 pub record CommitsChange (old : MountedGroup) (put : List Entry) (gone : List Key) (answer : Result (Unit {0}) Refusal) (new : MountedGroup)
     (s t : BayState) : Type 0 where
   pub keeps : KeepsGroup old new s t
   pub flight : new.flight ≡ old.flight
+  pub status : KeepsRecord old.register.value new.register.value
   pub mounted : OnOk answer (IsMounted new)
   pub applied : OnOk answer (IsAfter old.catalog.tables put gone new.catalog.tables)
   pub cause : IfErr answer (CommitCause old put new s t)
@@ -109,3 +121,12 @@ pub record CommitsChange (old : MountedGroup) (put : List Entry) (gone : List Ke
   pub done : OnOk answer ((n : ℕ) (g h : Group) (kept : Kept) → LeadsTo n old put gone s g h kept
       → (later : Kept) × (later.slots ≡ kept.slots) × Mounts n new t h later)
   pub refused : IsMounted new → OnErr answer ((n : ℕ) (g : Group) (kept : Kept) → Mounts n old s g kept → Mounts n new t g kept)
+
+-- The commit of a change that a plan gave: it was done, or was refused for a disk that failed or for want of memory. Of a group that takes
+-- calls it does what a commit does.
+pub record CommitsPlan (old : MountedGroup) (put : List Entry) (gone : List Key) (answer : Result (Unit {0}) Refusal) (new : MountedGroup)
+    (s t : BayState) : Type 0 where
+  pub cause : IfErr answer (StatusCause old new s t)
+  -- the tables are those after the change
+  pub applied : OnOk answer (IsAfter old.catalog.tables put gone new.catalog.tables)
+  pub held : IsMounted old → CommitsChange old put gone answer new s t

@@ -59,6 +59,11 @@ CopyCause old d new s t (cause.Dismounted by) = DismountCause old new s t by
 CopyCause old d new s t cause.NoMemory = ⊤
 CopyCause old d new s t _ = ⊥
 
+-- What a refusal leaves: all as it was, but for what a dismounted group has besides its record.
+abbrev pub LeavesGroup : MountedGroup → MountedGroup → Refusal → Type 0
+LeavesGroup old new (cause.Dismounted by) = new.register.value ≡ old.register.value
+LeavesGroup old new _ = new ≡ old
+
 -- The storing of the directories on a disk, of a group that takes calls.
 pub record CopiesTo (old : MountedGroup) (d : ℕ) (answer : Result (Unit {0}) Refusal) (new : MountedGroup) (s t : BayState) : Type 0 where
   pub keeps : KeepsGroup old new s t
@@ -67,3 +72,4 @@ pub record CopiesTo (old : MountedGroup) (d : ℕ) (answer : Result (Unit {0}) R
   pub mounted : OnOk answer (IsMounted new)
   pub named : OnOk answer (has_bit new.register.value.directories d ≡ true)
   pub cause : IfErr answer (CopyCause old d new s t)
+  pub refused : IfErr answer (LeavesGroup old new)

@@ -5,16 +5,19 @@ ghost use Rattle.asm_group.specs.Group.{Group};
 ghost use Rattle.asm_images.specs.Kept.{Kept};
 ghost use Rattle.catalog.specs.Applying.{Leaves};
 ghost use Rattle.catalog.specs.Changing.{IsAfter};
+ghost use Rattle.catalog.specs.Plans.{IsPlan};
 ghost use Rattle.catalog.specs.Tables.{Tables};
 ghost use Rattle.directory_store.specs.Contents.{ArePutItems};
-ghost use Rattle.group_engine.specs.Commits.{CommitCause, CommitsChange, IsDismountedBy, LeadsTo, StandsIn};
-ghost use Rattle.group_engine.specs.Mounts.{IsMounted, IsReady, IsWhole, Mounts};
+ghost use Rattle.group_engine.specs.Commits.{CommitCause, CommitsChange, CommitsPlan, IsDismountedBy, KeepsRecord, LeadsTo, StandsIn};
+ghost use Rattle.group_engine.specs.Mounts.{IsMounted, IsReady, IsWhole, Mounts, Takes};
 ghost use Rattle.group_engine.specs.Own.{KeepsGroup};
+ghost use Rattle.group_engine.specs.Pending.{GoesOn};
 
 use crate::access::Access;
 use crate::changing::commit_change;
 use crate::dropping::drop_copies;
 use crate::mounted::{Mounted, disk_in};
+use crate::search::Search;
 use asm_base::{Change, DiskRef, Refusal};
 use bay::Bay;
 use directory_store::StoreError;
@@ -38,6 +41,8 @@ impl Mounted {
         // The group's parts agree, it takes the next call, and the disks of others stay.
         ensures keeps { KeepsGroup self.old self.new (B.state bay.old) (B.state bay.new) }
         ensures flight { self.new.flight ≡ self.old.flight }
+        // Whatever it answers, the record that holds has the entries and the sets of the one before, and no directory copy more.
+        ensures status { KeepsRecord self.old.register.value self.new.register.value }
         // Once it is done, the group takes calls still, and its tables are those after the change.
         ensures mounted { OnOk result (IsMounted self.new) }
         ensures applied { OnOk result (IsAfter self.old.catalog.tables change.now.put change.now.gone self.new.catalog.tables) }
@@ -60,6 +65,29 @@ impl Mounted {
         }
     }
 
+    /// Commits a change that a plan gave. Refusals: Dismounted, as a commit; NoMemory. The plan has counted the blocks, so that
+    /// DirectoryFull doesn't come.
+    pub fn commit_plan<B: Bay>(
+        &mut self,
+        alloc: Global,
+        bay: &mut B,
+        change: &Change,
+    ) -> Result<(), Refusal>
+        requires takes { Takes self.old (B.state bay.old) }
+        requires plan { (u : Tables) × IsPlan self.old.catalog change.now.put change.now.gone u }
+        // The group's parts agree, it takes the next call, and the disks of others stay.
+        ensures goes { GoesOn self.old result self.new (B.state bay.old) (B.state bay.new) }
+        ensures commits { CommitsPlan self.old change.now.put change.now.gone result self.new (B.state bay.old) (B.state bay.new) }
+        // Whatever it answers, the record that holds has the entries and the sets of the one before, and no directory copy more.
+        ensures status { KeepsRecord self.old.register.value self.new.register.value }
+    {
+        match self.commit(alloc, bay, change) {
+            Ok(()) => Ok(()),
+            Err(Refusal::Dismounted { disk }) => Err(Refusal::Dismounted { disk }),
+            Err(_) => Err(Refusal::NoMemory),
+        }
+    }
+
     /// Commits a change on a group that takes calls.
     fn commit_mounted<B: Bay>(
         &mut self,
@@ -75,6 +103,7 @@ impl Mounted {
         requires leaves { (u : Tables) × Leaves self.old.catalog change.now.put change.now.gone u }
         ensures { CommitsChange self.old change.now.put change.now.gone result self.new (B.state bay.old) (B.state bay.new) }
     {
+        self.search = Search::start();
         match commit_change(alloc, bay, &mut self.catalog, &mut self.store, change) {
             Ok(failed) => {
                 if failed.bits() == 0 {

@@ -4,13 +4,14 @@ ghost use Rattle.asm_formats.specs.Sets.{has_bit};
 ghost use Rattle.asm_formats.specs.Status.{has_entry, is_status};
 ghost use Rattle.asm_base.specs.declared.refusal.DiskRef.TheVariants as refused;
 ghost use Rattle.asm_base.specs.declared.refusal.Refusal.TheVariants as cause;
-ghost use Rattle.group_engine.specs.Copying.{CopiesTo, CopyCause, IsOneMore, WritesMore};
+ghost use Rattle.group_engine.specs.Copying.{CopiesTo, CopyCause, IsOneMore, LeavesGroup, WritesMore};
 ghost use Rattle.group_engine.specs.Mounts.{IsMounted, IsReady, IsWhole, Takes};
 ghost use Rattle.group_engine.specs.Own.{KeepsGroup};
 ghost use Rattle.status_register.specs.Keeping.{IsReady as IsWritable};
 ghost use Rattle.status_register.specs.Reaching.{Reaches};
 
 use crate::mounted::Mounted;
+use crate::search::Search;
 use asm_base::{DiskRef, DiskSet, Refusal};
 use bay::Bay;
 use change_directory::DirCopy;
@@ -37,9 +38,9 @@ fn name_copy<B: Bay>(bay: &mut B, register: &mut Register, disk: u8) -> Result<D
 
 impl Mounted {
     /// Stores the directories on a disk, and then names it in the record as one that has a copy. A disk that is named has one already.
-    /// Refusals: WriteFault, where the disk isn't attached or its slot failed, and then all is as before; Dismounted, where the group is, or
-    /// where in this call a majority of a set of the record failed; NoMemory, also where the disk can't have a copy: it has no entry, or its
-    /// image is too short.
+    /// Refusals: WriteFault, where the disk isn't attached or its slot failed; Dismounted, where the group is, or where in this call a
+    /// majority of a set of the record failed; NoMemory, also where the disk can't have a copy: it has no entry, or its image is too short.
+    /// WriteFault and NoMemory leave the value as before.
     pub fn copy_directory<B: Bay>(
         &mut self,
         alloc: Global,
@@ -55,6 +56,8 @@ impl Mounted {
         ensures mounted { OnOk result (IsMounted self.new) }
         ensures named { OnOk result (has_bit self.new.register.value.directories to ≡ true) }
         ensures cause { IfErr result (CopyCause self.old to self.new (B.state bay.old) (B.state bay.new)) }
+        // Refused, it leaves the record that holds, and unless the group is dismounted all as before.
+        ensures refused { IfErr result (LeavesGroup self.old self.new) }
     {
         match self.takes_calls() {
             Ok(()) => self.copy_mounted(alloc, bay, to),
@@ -115,6 +118,7 @@ impl Mounted {
         requires unnamed { has_bit self.old.register.value.directories to ≡ false }
         ensures { CopiesTo self.old to result self.new (B.state bay.old) (B.state bay.new) }
     {
+        self.search = Search::start();
         match self.store.copy_to(alloc, bay, copy) {
             Ok(()) => match name_copy(bay, &mut self.register, to) {
                 Ok(_) => Ok(()),

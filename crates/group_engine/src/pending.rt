@@ -2,21 +2,20 @@
 ghost use Rattle.std.specs.Prelude.{◌≡◌, IfErr, IfSome, IsTrue, None, OnErr, OnOk, is_some};
 ghost use Rattle.std.specs.Bool.{OnTrue};
 ghost use Rattle.asm_group.specs.Shape.{is_shape};
-ghost use Rattle.catalog.specs.Changing.{IsAfter};
 ghost use Rattle.catalog.specs.ExtentPlans.{MayCut};
 ghost use Rattle.catalog.specs.FilePlans.{HasSoMany};
-ghost use Rattle.catalog.specs.Plans.{AreOwned, IsPlan};
-ghost use Rattle.catalog.specs.Tables.{AreTables, Tables};
+ghost use Rattle.catalog.specs.Plans.{AreOwned};
+ghost use Rattle.catalog.specs.Tables.{AreTables};
 ghost use Rattle.extent_map.specs.Extents.{chunk_at, chunks_from};
 ghost use Rattle.file_directory.specs.Files.{head_at};
-ghost use Rattle.group_engine.specs.Commits.{StatusCause};
+ghost use Rattle.group_engine.specs.Commits.{KeepsRecord, StatusCause};
 ghost use Rattle.group_engine.specs.Mounts.{IsMounted, IsReady, IsWhole};
 ghost use Rattle.group_engine.specs.Own.{KeepsGroup};
-ghost use Rattle.group_engine.specs.Pending.{GoesOn, HasAtMost, first_key, without_pending};
+ghost use Rattle.group_engine.specs.Pending.{EndsOn, HasAtMost, first_key, without_pending};
 
 use crate::access::Access;
 use crate::mounted::Mounted;
-use asm_base::{Change, DiskRef, ExtentId, Refusal, Shape};
+use asm_base::{DiskRef, ExtentId, Refusal, Shape};
 use bay::Bay;
 use catalog::Catalog;
 use file_directory::FileHead;
@@ -133,16 +132,19 @@ fn may_end(catalog: &Catalog) -> bool
 impl Mounted {
     /// Ends the pending operation, where there is one: the extents that its file hasn't by its size go, chunk by chunk from the
     /// last, and then the operation. What its record says of its kind and of extents decides nothing. Refusals: Dismounted, where
-    /// the group is, or as a commit finds it; NoMemory, also where a commit wants a block. After a refusal the group takes no
-    /// calls: after NoMemory it is closed, and the next mount ends the operation.
+    /// the group is, or as a commit finds it; NoMemory. After a refusal the group takes no calls: after NoMemory it is closed, and
+    /// the next mount ends the operation.
     pub fn end_pending<B: Bay>(&mut self, alloc: Global, bay: &mut B) -> Result<(), Refusal>
         requires whole { IsMounted self.old → IsWhole self.old }
         requires ready { IsMounted self.old → IsReady self.old (B.state bay.old) }
         ensures keeps { KeepsGroup self.old self.new (B.state bay.old) (B.state bay.new) }
         ensures cause { IfErr result (StatusCause self.old self.new (B.state bay.old) (B.state bay.new)) }
-        // Once it is done, the group takes calls, and nothing is pending.
+        // Whatever it answers, the record that holds has the entries and the sets of the one before, and no directory copy more.
+        ensures status { KeepsRecord self.old.register.value self.new.register.value }
+        // Once it is done, the group takes calls, nothing is pending, and the files have their heads.
         ensures mounted { OnOk result (IsMounted self.new) }
         ensures ended { OnOk result (self.new.catalog.tables.operations.pending ≡ None) }
+        ensures files { OnOk result (self.new.catalog.tables.files ≡ self.old.catalog.tables.files) }
         ensures closed { OnErr result (IsMounted self.new → ⊥) }
     {
         match self.access {
@@ -159,7 +161,7 @@ impl Mounted {
         requires mounted { IsMounted self.old }
         requires whole { IsWhole self.old }
         requires ready { IsReady self.old (B.state bay.old) }
-        ensures goes { GoesOn self.old result self.new (B.state bay.old) (B.state bay.new) }
+        ensures ends { EndsOn self.old result self.new (B.state bay.old) (B.state bay.new) }
         ensures ended { OnOk result (self.new.catalog.tables.operations.pending ≡ None) }
         ensures closed { OnErr result (IsMounted self.new → ⊥) }
     {
@@ -178,7 +180,7 @@ impl Mounted {
         requires mounted { IsMounted self.old }
         requires whole { IsWhole self.old }
         requires ready { IsReady self.old (B.state bay.old) }
-        ensures goes { GoesOn self.old result self.new (B.state bay.old) (B.state bay.new) }
+        ensures ends { EndsOn self.old result self.new (B.state bay.old) (B.state bay.new) }
         ensures ended { OnOk result (self.new.catalog.tables.operations.pending ≡ None) }
     {
         let Some(pending) = self.catalog().pending() else {
@@ -195,7 +197,7 @@ impl Mounted {
         requires mounted { IsMounted self.old }
         requires whole { IsWhole self.old }
         requires ready { IsReady self.old (B.state bay.old) }
-        ensures { GoesOn self.old result self.new (B.state bay.old) (B.state bay.new) }
+        ensures { EndsOn self.old result self.new (B.state bay.old) (B.state bay.new) }
     {
         let chunks = chunks_of(self.catalog(), file);
         for i in 0..chunks {
@@ -218,7 +220,7 @@ impl Mounted {
         requires mounted { IsMounted self.old }
         requires whole { IsWhole self.old }
         requires ready { IsReady self.old (B.state bay.old) }
-        ensures { GoesOn self.old result self.new (B.state bay.old) (B.state bay.new) }
+        ensures { EndsOn self.old result self.new (B.state bay.old) (B.state bay.new) }
     {
         let Some(from) = cut_of(self.catalog(), file, chunk) else {
             return Ok(());
@@ -237,7 +239,7 @@ impl Mounted {
         requires mounted { IsMounted self.old }
         requires whole { IsWhole self.old }
         requires ready { IsReady self.old (B.state bay.old) }
-        ensures goes { GoesOn self.old result self.new (B.state bay.old) (B.state bay.new) }
+        ensures ends { EndsOn self.old result self.new (B.state bay.old) (B.state bay.new) }
         ensures ended { OnOk result (self.new.catalog.tables.operations.pending ≡ None) }
     {
         if !may_end(self.catalog()) {
@@ -245,27 +247,6 @@ impl Mounted {
         }
         match self.catalog().plan_end(alloc) {
             Ok(change) => self.commit_plan(alloc, bay, &change),
-            Err(_) => Err(Refusal::NoMemory),
-        }
-    }
-
-    /// Commits a plan on a group that takes calls: want of blocks is answered as want of memory.
-    pub(crate) fn commit_plan<B: Bay>(
-        &mut self,
-        alloc: Global,
-        bay: &mut B,
-        change: &Change,
-    ) -> Result<(), Refusal>
-        requires mounted { IsMounted self.old }
-        requires whole { IsWhole self.old }
-        requires ready { IsReady self.old (B.state bay.old) }
-        requires plan { (u : Tables) × IsPlan self.old.catalog change.now.put change.now.gone u }
-        ensures goes { GoesOn self.old result self.new (B.state bay.old) (B.state bay.new) }
-        ensures applied { OnOk result (IsAfter self.old.catalog.tables change.now.put change.now.gone self.new.catalog.tables) }
-    {
-        match self.commit(alloc, bay, change) {
-            Ok(()) => Ok(()),
-            Err(Refusal::Dismounted { disk }) => Err(Refusal::Dismounted { disk }),
             Err(_) => Err(Refusal::NoMemory),
         }
     }

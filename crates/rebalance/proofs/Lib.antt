@@ -5,6 +5,6 @@ pub mod HomeLists
 pub mod Verdicts
 pub mod OwnCopies
 pub mod Passing
-pub mod SettingBack
+pub mod Following
 pub mod Falling
 pub mod Planning

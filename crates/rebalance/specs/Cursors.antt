@@ -1,12 +1,14 @@
 -- Cursors, which let the search for the next move pass over chunks with nothing due.
-use Rattle.std.specs.Prelude.{◌≡◌, ℕ, Bool, true, false, List, if◌then◌else◌, Option, Some, None}
+use Rattle.std.specs.Prelude.{◌≡◌, ℕ, ◌/◌, Bool, true, false, ◌&&◌, List, if◌then◌else◌, Option, Some, None}
+use Rattle.std.specs.BTreeMap.{is_at}
 use Rattle.std.specs.Option.{option_map}
 use Rattle.asm_formats.specs.Status.{Entry, Status}
-use Rattle.asm_formats.specs.Items.{FileHead, Homes}
-use Rattle.extent_map.specs.Extents.{Chunk, chunk_at, is_before}
+use Rattle.asm_formats.specs.Items.{FileHead, Home, Homes, chunk_len}
+use Rattle.extent_map.specs.Extents.{Chunk, Chunked, chunk_at, chunk_cmp, is_before}
 use Rattle.file_directory.specs.Files.{head_at}
 use Rattle.staleness_directory.specs.Marks.{marks_at}
-use Rattle.catalog.specs.Tables.{AreTables, Catalogued, Tables}
+use Rattle.catalog.specs.ExtentPlans.{with_marks_changed, with_move}
+use Rattle.catalog.specs.Tables.{Catalogued, Tables}
 use Rattle.rebalance.specs.declared.stages.Stage.{Stage}
 use Rattle.rebalance.specs.declared.stages.Stage.TheVariants as stage
 use Rattle.rebalance.specs.Sums.{Sums, sums_at}
@@ -73,25 +75,49 @@ pub record HasGoneOn (es : List Entry) (c : Catalogued) (r : Status) (t : Sums) 
   pub work : HasAskedWork es c t k
   pub rest : work_said es c t ≡ None → tables_said c r ≡ None → HasAskedRest es c t k
 
--- ---- after a change
+-- ---- after a change of one chunk
 
--- the place, or the chunk where that comes before it
-abbrev pub earlier : Option Chunk → Chunk → Option Chunk
-earlier None at = Some at
-earlier (Some place) at = if is_before place at then Some place else Some at
+-- the chunk passes the test, where it is there
+abbrev pub passes_found : (Chunked → Bool) → Chunk → Option (List Homes) → Bool
+passes_found test at None = false
+passes_found test at (Some homes) = test (at, homes)
 
--- the places, none of them behind the chunk, and the last one at the first chunk
-abbrev pub set_back : Places → Chunk → Places
-set_back k at = record { recopy = earlier k.recopy at; fill = earlier k.fill at; shift = earlier k.shift at; lost = earlier k.lost at; no_space = earlier k.no_space at; balance = Some (0, 0) }
+abbrev pub passes_at : (Chunked → Bool) → List Chunked → Chunk → Bool
+passes_at test table at = passes_found test at (chunk_at table at)
+
+-- the place, or the chunk where that comes before it and passes the test
+abbrev pub place_after : (Chunked → Bool) → List Chunked → Chunk → Option Chunk → Option Chunk
+place_after due table at place = if is_passed place at && passes_at due table at then Some at else place
+
+-- the places once the chunk has changed: those that are behind it go back to it where something is due there, and the last one to the first chunk
+abbrev pub followed : List Entry → Catalogued → Sums → Places → Chunk → Places
+followed es c t k at = record {
+  recopy = place_after (is_due_in stage.Recopy es c t) c.tables.extents at k.recopy;
+  fill = place_after (is_due_in stage.Fill es c t) c.tables.extents at k.fill;
+  shift = place_after (is_due_in stage.Shift es c t) c.tables.extents at k.shift;
+  lost = place_after (is_due_in stage.Lost es c t) c.tables.extents at k.lost;
+  no_space = place_after (is_due_in stage.NoSpace es c t) c.tables.extents at k.no_space;
+  balance = Some (0, 0);
+}
 
 -- copies that a file has, where it has a head
 abbrev pub copies_at : Tables → ℕ → Option ℕ
 copies_at t f = option_map (λ (h : FileHead). h.copies) (head_at t.files f)
 
--- the chunks before this one are as they were: their homes, their marks, and how many copies their files have
-pub record IsSameBefore (at : Chunk) (old new : Catalogued) : Type 0 where
-  pub tables : AreTables new.tables
-  pub shape : new.shape ≡ old.shape
-  pub chunks : (p : Chunk) → is_before p at ≡ true → chunk_at new.tables.extents p ≡ chunk_at old.tables.extents p
-  pub marks : (p : Chunk) → is_before p at ≡ true → marks_at new.tables.stale p ≡ marks_at old.tables.stale p
-  pub copies : (p : Chunk) → is_before p at ≡ true → copies_at new.tables p.0 ≡ copies_at old.tables p.0
+-- all chunks but one are as they were: their homes, their marks, and how many copies their files have
+pub record IsSameBut (at : Chunk) (old new : Tables) : Type 0 where
+  pub chunks : (p : Chunk) → is_at (chunk_cmp p) at ≡ false → chunk_at new.extents p ≡ chunk_at old.extents p
+  pub marks : (p : Chunk) → is_at (chunk_cmp p) at ≡ false → marks_at new.stale p ≡ marks_at old.stale p
+  pub copies : (f : ℕ) → copies_at new f ≡ copies_at old f
+
+-- What is a cursor of a group is followed to one of each group of the same shape and entries in which all chunks but one are the same.
+abbrev pub IsFollowed : Chunk → Places → Catalogued → Status → Places → Type 0
+IsFollowed at k c r later = (old : Catalogued) (q : Status) → IsCursor old q k → c.shape ≡ old.shape → r.entries ≡ q.entries → IsSameBut at old.tables c.tables → IsCursor c r later
+
+-- The plan of a copy's move leads to such tables.
+abbrev pub MovesChangeOne : Type 0
+MovesChangeOne = (t : Tables) (f i copy : ℕ) (h : Home) → IsSameBut (f, i / chunk_len) t (with_move t f i copy h)
+
+-- So does that of an extent's marks.
+abbrev pub MarksChangeOne : Type 0
+MarksChangeOne = (t : Tables) (f i set clear : ℕ) → IsSameBut (f, i / chunk_len) t (with_marks_changed t f i set clear)

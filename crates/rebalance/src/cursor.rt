@@ -2,10 +2,17 @@
 
 ghost use Rattle.std.specs.Prelude.{◌≡◌, ◌/◌};
 ghost use Rattle.asm_formats.specs.Status.{Status};
-ghost use Rattle.catalog.specs.Tables.{Catalogued};
-ghost use Rattle.rebalance.specs.Cursors.{IsCursor, IsSameBefore, earlier, set_back, start};
+ghost use Rattle.catalog.specs.Tables.{AreTables, Catalogued};
+ghost use Rattle.rebalance.specs.Cursors.{IsCursor, IsFollowed, followed, is_passed, passes_at, place_after, start};
+ghost use Rattle.rebalance.specs.Due.{is_due_in};
+ghost use Rattle.rebalance.specs.Sums.{sums_at};
 
+use crate::due::is_due_in;
+use crate::shares::Shares;
+use crate::stages::Stage;
 use asm_base::ExtentId;
+use catalog::Catalog;
+use status_table::{PstEntry, PstRecord};
 use std::marker::Model;
 
 /// For each stage of the search for the next move the chunk of extents at which it begins, by file and number; none where
@@ -36,7 +43,7 @@ const FIRST: Option<(u32, u32)> = Some((0, 0));
 
 impl Cursor {
     /// The cursor with which all chunks are asked: that of every group.
-    #[tactic(auto, using(crate::proofs::SettingBack::start_is))]
+    #[tactic(auto, using(crate::proofs::Following::start_is))]
     pub fn start() -> Cursor
         ensures { (c : Catalogued) (r : Status) → IsCursor c r result }
     {
@@ -56,36 +63,95 @@ impl Cursor {
         }
     }
 
-    /// Sets the cursor back to the chunk of an extent that changes, where it stands behind it; and the search for a
-    /// balancing shift, which goes by the used units of all disks, to the start. A move of a copy of the extent, or a change
-    /// of its marks, is such a change.
-    pub fn set_back(&mut self, extent: ExtentId)
-        // It is a cursor after each change by which the chunks before the extent's stay as they were.
-        ensures { (old new : Catalogued) (r q : Status) → IsCursor old r self.old → IsSameBefore (extent.file, extent.index / 256) old new → q.entries ≡ r.entries → IsCursor new q self.new }
+    /// Brings the cursor up to a change of one extent's homes or marks, as a move of a copy is: a place behind the extent's
+    /// chunk goes back to it where something is due there at the place's stage, and stays where nothing is. So the chunks
+    /// behind aren't asked again. The search for a balancing shift, which goes by the used units of all disks, goes back to
+    /// the start. It takes no memory, and asks the one chunk at most once for each stage.
+    pub fn follow(&mut self, catalog: &Catalog, status: &PstRecord, extent: ExtentId)
+        requires tables { AreTables catalog.now.tables }
+        // It is a cursor after each change by which all chunks but the extent's stay as they were.
+        ensures follows { IsFollowed (extent.file, extent.index / 256) self.old catalog.now status.now self.new }
+        // No place goes back further than it must.
+        ensures places { self.new ≡ followed status.now.entries catalog.now (sums_at catalog.now.units status.now.entries) self.old (extent.file, extent.index / 256) }
     {
-        *self = self.at_most((extent.file, extent.index / 256));
+        *self = self.followed(catalog, status, (extent.file, extent.index / 256));
     }
 
-    fn at_most(&self, at: (u32, u32)) -> Cursor
-        ensures { result ≡ set_back self.now at }
+    fn followed(&self, catalog: &Catalog, status: &PstRecord, at: (u32, u32)) -> Cursor
+        requires { AreTables catalog.now.tables }
+        ensures { result ≡ followed status.now.entries catalog.now (sums_at catalog.now.units status.now.entries) self.now at }
+    {
+        let disks = status.entries();
+        let shares = Shares::of(status, catalog.units());
+        self.followed_by(catalog, disks, &shares, at)
+    }
+
+    fn followed_by(
+        &self,
+        catalog: &Catalog,
+        disks: &[PstEntry],
+        shares: &Shares,
+        at: (u32, u32),
+    ) -> Cursor
+        requires { AreTables catalog.now.tables }
+        ensures { result ≡ followed disks.now catalog.now shares.now self.now at }
     {
         Cursor {
-            recopy: earlier(self.recopy, at),
-            fill: earlier(self.fill, at),
-            shift: earlier(self.shift, at),
-            lost: earlier(self.lost, at),
-            no_space: earlier(self.no_space, at),
+            recopy: place_after(catalog, disks, shares, Stage::Recopy, at, self.recopy),
+            fill: place_after(catalog, disks, shares, Stage::Fill, at, self.fill),
+            shift: place_after(catalog, disks, shares, Stage::Shift, at, self.shift),
+            lost: place_after(catalog, disks, shares, Stage::Lost, at, self.lost),
+            no_space: place_after(catalog, disks, shares, Stage::NoSpace, at, self.no_space),
             balance: FIRST,
         }
     }
 }
 
-/// The place, or the chunk where that comes before it.
-fn earlier(place: Option<(u32, u32)>, at: (u32, u32)) -> Option<(u32, u32)>
-    ensures { result ≡ earlier place at }
+/// The place of a stage once a chunk has changed.
+fn place_after(
+    catalog: &Catalog,
+    disks: &[PstEntry],
+    shares: &Shares,
+    stage: Stage,
+    at: (u32, u32),
+    place: Option<(u32, u32)>,
+) -> Option<(u32, u32)>
+    requires { AreTables catalog.now.tables }
+    ensures { result ≡ place_after (is_due_in stage disks.now catalog.now shares.now) catalog.now.tables.extents at place }
+{
+    if is_passed(place, at) && is_due_there(catalog, disks, shares, stage, at) {
+        Some(at)
+    } else {
+        place
+    }
+}
+
+/// Whether a chunk comes before a place.
+fn is_passed(place: Option<(u32, u32)>, at: (u32, u32)) -> bool
+    ensures { result ≡ is_passed place at }
 {
     match place {
-        Some(first) if first.cmp(&at).is_lt() => Some(first),
-        _ => Some(at),
+        Some(first) => at.cmp(&first).is_lt(),
+        None => true,
+    }
+}
+
+/// Whether something is due in a chunk, where it is there.
+fn is_due_there(
+    catalog: &Catalog,
+    disks: &[PstEntry],
+    shares: &Shares,
+    stage: Stage,
+    at: (u32, u32),
+) -> bool
+    requires { AreTables catalog.now.tables }
+    ensures { result ≡ passes_at (is_due_in stage disks.now catalog.now shares.now) catalog.now.tables.extents at }
+{
+    match catalog.chunks_from(at).next() {
+        Some((first, chunk)) => {
+            at.cmp(first).is_eq()
+                && is_due_in(catalog, disks, shares, stage, *first, chunk.as_slice())
+        }
+        None => false,
     }
 }

@@ -12,7 +12,9 @@ mod shares;
 mod stages;
 
 pub use cursor::Cursor;
-pub use laws::{next_moves_may_be_planned, planned_moves_lower_the_work};
+pub use laws::{
+    next_moves_may_be_planned, planned_moves_change_one_chunk, planned_moves_lower_the_work,
+};
 pub use moves::{Move, Next};
 pub use next::{next_move, next_move_from, share};
 pub use shares::Shares;

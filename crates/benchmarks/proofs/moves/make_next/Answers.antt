@@ -1,8 +1,14 @@
-use Rattle.std.proofs.Common.{refl}
-use Rattle.benchmarks.proofs.Cursors.{same_before}
+use Rattle.std.proofs.Common.{◌/◌, refl, sym, subst}
+use Rattle.catalog.specs.Tables.{Tables}
+use Rattle.rebalance.specs.Cursors.{IsSameBut}
 use Rattle.benchmarks.proofs.moves.make_next.Goals as goal
+
+pub follow-requires : goal.follow-requires
+follow-requires c = record { tables = c.shape.ensures.rules.rules.tables }
 
 pub returns-clause-cursor : goal.returns-clause-cursor
 returns-clause-cursor c =
-    let same = same_before c.args.catalog.now c.make.new.catalog c.in-Shift.x.file c.in-Shift.x.index c.in-Shift.copy c.in-Shift.to c.shape.ensures.rules c.make.ensures.shape c.in_ok-make.ensures.moved in
-    c.set_back.ensures c.args.catalog.now c.make.new.catalog c.args.status.now c.args.status.now c.next_move_from.ensures.cursor same refl
+    let x = c.in-Shift.x in
+    let same = subst (λ (t : Tables). IsSameBut (x.file, x.index / 256) c.args.catalog.now.tables t) (sym c.in_ok-make.ensures.moved)
+    (c.planned_moves_change_one_chunk.ensures.moves c.args.catalog.now.tables x.file x.index c.in-Shift.copy c.in-Shift.to) in
+    c.follow.ensures.follows c.args.catalog.now c.args.status.now c.next_move_from.ensures.cursor c.make.ensures.shape refl same

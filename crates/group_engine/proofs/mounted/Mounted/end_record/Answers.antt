@@ -1,12 +1,12 @@
-use Rattle.std.proofs.Common.{sym, subst, ◌∙◌}
+use Rattle.std.proofs.Common.{refl, sym, subst, ◌∙◌}
 use Rattle.catalog.specs.Plans.{AreOwned, IsPlan}
 use Rattle.catalog.specs.Tables.{Catalogued}
 use Rattle.group_engine.specs.Pending.{without_pending}
-use Rattle.group_engine.proofs.Endings.{ended_if, goes_without, on_true}
+use Rattle.group_engine.proofs.Endings.{ended_if, ends_planned, ends_without, on_true}
 use Rattle.group_engine.proofs.mounted.Mounted.end_record.Goals as goal
 
-pub returns-then-not-may_end-clause-goes : goal.returns-then-not-may_end-clause-goes
-returns-then-not-may_end-clause-goes g c = goes_without c.args.self.now (g.B.Bay.state c.args.bay.now) c.requires.whole c.requires.ready
+pub returns-then-not-may_end-clause-ends : goal.returns-then-not-may_end-clause-ends
+returns-then-not-may_end-clause-ends g c = ends_without c.args.self.now (g.B.Bay.state c.args.bay.now) c.requires.whole c.requires.ready
 
 pub commit_plan-requires-clause-plan : goal.commit_plan-requires-clause-plan
 commit_plan-requires-clause-plan g c =
@@ -18,4 +18,11 @@ pub returns-in-Ok-clause-ended : goal.returns-in-Ok-clause-ended
 returns-in-Ok-clause-ended g c =
     let owned = subst (λ (v : Catalogued). AreOwned (without_pending v.tables)) (c.catalog.ensures ∙ sym c.catalog-2.ensures) (on_true c.may_end.result c.may_end.ensures c.if-not-may_end.false) in
     let plan = subst (λ (v : Catalogued). IsPlan v c.in-Ok.change.put c.in-Ok.change.gone (without_pending v.tables)) c.catalog-2.ensures (c.in-Ok.ensures.planned owned) in
-    ended_if c.commit_plan.result c.args.self.now.catalog.tables c.commit_plan.new.self.catalog.tables c.in-Ok.change.put c.in-Ok.change.gone c.commit_plan.ensures.applied plan.after
+    ended_if c.commit_plan.result c.args.self.now.catalog.tables c.commit_plan.new.self.catalog.tables c.in-Ok.change.put c.in-Ok.change.gone c.commit_plan.ensures.commits.applied plan.after
+
+pub returns-in-Ok-clause-ends : goal.returns-in-Ok-clause-ends
+returns-in-Ok-clause-ends g c =
+    let owned = subst (λ (v : Catalogued). AreOwned (without_pending v.tables)) (c.catalog.ensures ∙ sym c.catalog-2.ensures) (on_true c.may_end.result c.may_end.ensures c.if-not-may_end.false) in
+    let plan = subst (λ (v : Catalogued). IsPlan v c.in-Ok.change.put c.in-Ok.change.gone (without_pending v.tables)) c.catalog-2.ensures (c.in-Ok.ensures.planned owned) in
+    ends_planned c.args.self.now c.commit_plan.new.self c.in-Ok.change.put c.in-Ok.change.gone (without_pending c.args.self.now.catalog.tables) c.commit_plan.result
+    (g.B.Bay.state c.args.bay.now) (g.B.Bay.state c.commit_plan.new.bay) c.commit_plan.ensures.goes c.commit_plan.ensures.status c.commit_plan.ensures.commits.applied plan.after refl

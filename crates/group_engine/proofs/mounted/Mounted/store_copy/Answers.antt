@@ -3,6 +3,7 @@ use Rattle.asm_base.specs.declared.refusal.DiskRef.TheVariants.{Number}
 use Rattle.asm_base.specs.declared.refusal.Refusal.{Refusal}
 use Rattle.asm_base.specs.declared.refusal.Refusal.TheVariants as cause
 use Rattle.asm_formats.specs.Sets.{has_bit}
+use Rattle.directory_store.specs.Stores.{Stored}
 use Rattle.directory_store.specs.declared.copying.CopyError.{CopyError}
 use Rattle.group_engine.specs.Mounts.{IsMounted, IsReady, IsWhole, MountedGroup}
 use Rattle.group_engine.specs.Copying.{CopiesTo, IsOneMore}
@@ -78,7 +79,7 @@ returns-in-Err-Fault g c =
     let unnamed : has_bit was.register.value.directories c.args.to ≡ false = subst (λ (v : MountedGroup). has_bit v.register.value.directories c.args.to ≡ false) (sym c.self.view_is) c.requires.unnamed in
     subst (λ (e : Refusal). CopiesTo c.args.self.now c.args.to (Err e) (record was { store = c.copy_to.new.self }) s t) (sym c.write_fault.ensures)
     (subst (λ (v : MountedGroup). CopiesTo v c.args.to (Err (cause.WriteFault (Number c.args.to))) (record was { store = c.copy_to.new.self }) s t) c.self.view_is
-    (ends_uncopied was whole s ready c.args.to c.args.copy one unnamed t c.copy_to.new.self c.copy_to.ensures.runs c.copy_to.ensures.kept c.copy_to.ensures.attached (cause.WriteFault (Number c.args.to)) c.in-Err-Fault.ensures.same (refl, why_uncopied was whole s ready c.args.to c.args.copy one unnamed t c.copy_to.new.self c.copy_to.ensures.runs c.copy_to.ensures.kept c.copy_to.ensures.attached (c.in-Err-Fault.ensures.fault (ap (λ (e : CopyError). Err e) c.in-Err-Fault.field-0-is)))))
+    (ends_uncopied was whole s ready c.args.to c.args.copy one unnamed t c.copy_to.new.self c.copy_to.ensures.runs c.copy_to.ensures.kept c.copy_to.ensures.attached (cause.WriteFault (Number c.args.to)) c.in-Err-Fault.ensures.same (ap (λ (x : Stored). record was { store = x }) c.in-Err-Fault.ensures.same) (refl, why_uncopied was whole s ready c.args.to c.args.copy one unnamed t c.copy_to.new.self c.copy_to.ensures.runs c.copy_to.ensures.kept c.copy_to.ensures.attached (c.in-Err-Fault.ensures.fault (ap (λ (e : CopyError). Err e) c.in-Err-Fault.field-0-is)))))
 
 pub returns-in-Err-NoMemory : goal.returns-in-Err-NoMemory
 returns-in-Err-NoMemory g c =
@@ -90,4 +91,4 @@ returns-in-Err-NoMemory g c =
     let one : IsOneMore was c.args.to c.args.copy = subst (λ (v : MountedGroup). IsOneMore v c.args.to c.args.copy) (sym c.self.view_is) c.requires.copy in
     let unnamed : has_bit was.register.value.directories c.args.to ≡ false = subst (λ (v : MountedGroup). has_bit v.register.value.directories c.args.to ≡ false) (sym c.self.view_is) c.requires.unnamed in
     subst (λ (v : MountedGroup). CopiesTo v c.args.to (Err cause.NoMemory) (record was { store = c.copy_to.new.self }) s t) c.self.view_is
-    (ends_uncopied was whole s ready c.args.to c.args.copy one unnamed t c.copy_to.new.self c.copy_to.ensures.runs c.copy_to.ensures.kept c.copy_to.ensures.attached cause.NoMemory c.in-Err-NoMemory.ensures.same tt)
+    (ends_uncopied was whole s ready c.args.to c.args.copy one unnamed t c.copy_to.new.self c.copy_to.ensures.runs c.copy_to.ensures.kept c.copy_to.ensures.attached cause.NoMemory c.in-Err-NoMemory.ensures.same (ap (λ (x : Stored). record was { store = x }) c.in-Err-NoMemory.ensures.same) tt)
