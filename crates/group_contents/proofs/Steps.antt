@@ -182,6 +182,9 @@ lacks_later m extents new s t e mounted takes why =
     (λ because. inr (status_writes m new s t e because))
     why
 
+pub shut_later : (a c : MountedGroup) (extents : NewExtents) (s t : BayState) (r : Result (Unit {0}) Refusal) → IfErr r (WriteCause a c s t) → IfErr r (LaterCause a extents c s t)
+shut_later a c extents s t r = on_err (WriteCause a c s t) (LaterCause a extents c s t) r (λ e why. inr why)
+
 pub writes_more : {A : Type 0} (m : MountedGroup) (extents : NewExtents) (new : MountedGroup) (s t : BayState) (r : Result A Refusal)
     → IfErr r (WriteCause m new s t) → IfErr r (MoreCause m extents new s t)
 writes_more m extents new s t r = on_err (WriteCause m new s t) (MoreCause m extents new s t) r (λ e why. inr why)
@@ -273,13 +276,33 @@ fault_before : (a : MountedGroup) {b c : MountedGroup} (s : BayState) {t u : Bay
 fault_before a s keeps (Number d) rose = rose_before a s keeps d rose
 fault_before a s keeps (Spelt text) none = absurd none
 
-pub fault_given_back : {a b c : MountedGroup} {s t u : BayState} (by : DiskRef) (r : Refusal) → KeepsGroup a b s t → KeepsGroup b c t u → FaultOn a s t by → IsFaultBack b by c t u r
-    → WriteCause a c s u r
-fault_given_back {a} {b} {c} {s} {t} {u} by r one two fault why =
+pub fault_given_back : {a b c : MountedGroup} {s t u : BayState} (extents : NewExtents) (by : DiskRef) (r : Refusal) → KeepsGroup a b s t → KeepsGroup b c t u → FaultOn a s t by
+    → IsFaultBack b extents by c t u r → LaterCause a extents c s u r
+fault_given_back {a} {b} {c} {s} {t} {u} extents by r one two fault why =
     ⊎_elim
-    (λ same. subst (λ (v : Refusal). WriteCause a c s u v) (sym same) (fault_before a s two by fault))
-    (λ because. status_writes a c s u r (cause_on one u c because.0 r because.1))
+    (λ same. inr (subst (λ (v : Refusal). WriteCause a c s u v) (sym same) (fault_before a s two by fault)))
+    (λ because. ⊎_elim
+    (λ lacks. inl (record { between = lacks.between; same = same_joins one.same lacks.same; whole = lacks.whole; space = lacks.space; given_back = lacks.given_back }))
+    (λ status. inr (status_writes a c s u r (cause_on one u c because.0 r status)))
+    because.1)
     why
+
+-- a growth was given homes, and then given back
+pub homes_given_back : {a b c : MountedGroup} {s t u : BayState} (extents : NewExtents) (by : DiskRef) (r : Refusal) → IsMounted a → KeepsGroup a b s t → IsMounted b
+    → (r ≡ cause.WriteFault by) ⊎ StatusCause b c t u r → IsFaultBack a extents by c s u r
+homes_given_back {a} {b} {c} {s} {t} {u} extents by r mounted one still why =
+    ⊎_elim (λ same. inl same) (λ status. inr (mounted, inr (cause_on one u c still r status))) why
+
+-- or it got none, and was given back for that
+pub homes_lacked : (m : MountedGroup) (extents : NewExtents) (by : DiskRef) (new : MountedGroup) (s t : BayState) (e : Refusal) → IsMounted m → Takes m s → HomesCause m extents new s t e
+    → IsFaultBack m extents by new s t e
+homes_lacked m extents by new s t e mounted takes why = inr (
+  mounted,
+  ⊎_elim
+      (λ lacks. inl (record { between = m; same = (kept m s takes).same; whole = (takes mounted).0; space = lacks.0; given_back = lacks.1 }))
+      (λ because. inr because)
+      why,
+)
 
 pub or_shut_keeps : (a b c : MountedGroup) (s t : BayState) (r q : Result (Unit {0}) Refusal) → KeepsGroup a b s t → IsOrShut r b q c → KeepsGroup a c s t
 or_shut_keeps a b c s t r q keeps is = subst (λ (x : MountedGroup). KeepsGroup a x s t) (sym is.1) (go r)

@@ -77,9 +77,10 @@ pub record LacksMore (old : MountedGroup) (extents : NewExtents) (new : MountedG
   pub same : IsSameGroup old begun
   pub later : LacksLater begun extents new refusal
 
--- the growth was given back for a disk that failed, or couldn't be, on a group that took calls
-abbrev pub IsFaultBack : MountedGroup → DiskRef → MountedGroup → BayState → BayState → Refusal → Type 0
-IsFaultBack old by new s t refusal = (refusal ≡ cause.WriteFault by) ⊎ (IsMounted old × StatusCause old new s t refusal)
+-- A growth was given back for a disk that failed, on a group that took calls: for want of space where there is no choice of homes for one of its extents, and
+-- else for the fault; or it couldn't be given back.
+abbrev pub IsFaultBack : MountedGroup → NewExtents → DiskRef → MountedGroup → BayState → BayState → Refusal → Type 0
+IsFaultBack old extents by new s t refusal = (refusal ≡ cause.WriteFault by) ⊎ (IsMounted old × (LacksLater old extents new refusal ⊎ StatusCause old new s t refusal))
 
 -- Why the extents of a growth that has begun aren't made: for want of space, or by a disk that failed; or the group was dismounted.
 abbrev pub LaterCause : MountedGroup → NewExtents → MountedGroup → BayState → BayState → Refusal → Type 0

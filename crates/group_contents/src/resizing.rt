@@ -191,39 +191,44 @@ fn clear_behind<B: Bay>(
     fill_span(m, alloc, bay, &file, file.size, behind, zeros, growth.time)
 }
 
-/// Gives a growth back after WriteFault by this disk, where the group takes calls still.
-fn give_back_fault<B: Bay>(m: &mut Mounted, alloc: Global, bay: &mut B, disk: DiskRef) -> Refusal
+/// Gives a growth that takes calls back after WriteFault by this disk. NoSpace comes before that, where there is no choice of homes for
+/// one of its extents.
+fn give_back_more<B: Bay>(
+    m: &mut Mounted,
+    alloc: Global,
+    bay: &mut B,
+    filling: &mut Filling,
+    disk: DiskRef,
+) -> Refusal
+    requires mounted { IsMounted m.old }
     requires takes { Takes m.old (B.state bay.old) }
     ensures keeps { KeepsGroup m.old m.new (B.state bay.old) (B.state bay.new) }
-    ensures cause { IsFaultBack m.old disk m.new (B.state bay.old) (B.state bay.new) result }
+    ensures cause { IsFaultBack m.old filling.old.extents disk m.new (B.state bay.old) (B.state bay.new) result }
+{
+    match give_homes(m, alloc, bay, filling) {
+        Ok(()) => give_back(m, alloc, bay, Refusal::WriteFault { disk }),
+        Err(refusal) => refusal,
+    }
+}
+
+/// The same, where the group takes calls still.
+fn give_back_fault<B: Bay>(
+    m: &mut Mounted,
+    alloc: Global,
+    bay: &mut B,
+    filling: &mut Filling,
+    disk: DiskRef,
+) -> Refusal
+    requires takes { Takes m.old (B.state bay.old) }
+    ensures keeps { KeepsGroup m.old m.new (B.state bay.old) (B.state bay.new) }
+    ensures cause { IsFaultBack m.old filling.old.extents disk m.new (B.state bay.old) (B.state bay.new) result }
 {
     match m.takes_calls() {
-        Ok(()) => give_back(m, alloc, bay, Refusal::WriteFault { disk }),
+        Ok(()) => give_back_more(m, alloc, bay, filling, disk),
         Err(closed) => {
             drop(closed);
             Refusal::WriteFault { disk }
         }
-    }
-}
-
-/// The same under a growth that has begun: after WriteFault it is given back, and after want of memory the group takes no more calls.
-fn clear_or_give_back<B: Bay>(
-    m: &mut Mounted,
-    alloc: Global,
-    bay: &mut B,
-    growth: &Growth,
-    zeros: &[u8],
-) -> Result<(), Refusal>
-    requires mounted { IsMounted m.old }
-    requires takes { Takes m.old (B.state bay.old) }
-    ensures keeps { KeepsGroup m.old m.new (B.state bay.old) (B.state bay.new) }
-    ensures mounted { OnOk result (IsMounted m.new) }
-    ensures cause { IfErr result (WriteCause m.old m.new (B.state bay.old) (B.state bay.new)) }
-{
-    match clear_behind(m, alloc, bay, growth, zeros) {
-        Ok(()) => Ok(()),
-        Err(Refusal::WriteFault { disk }) => Err(give_back_fault(m, alloc, bay, disk)),
-        Err(refusal) => or_shut(m, Err(refusal)),
     }
 }
 
@@ -288,7 +293,8 @@ fn place_more<B: Bay>(
     }
 }
 
-/// Writes zeros behind the size of a file whose growth has begun, and puts its new extents.
+/// Writes zeros behind the size of a file whose growth has begun, and puts its new extents. After WriteFault of the zeros the growth is
+/// given back, and after want of memory the group takes no more calls.
 fn extend_begun<B: Bay>(
     m: &mut Mounted,
     alloc: Global,
@@ -304,9 +310,10 @@ fn extend_begun<B: Bay>(
     ensures cause { IfErr result (LaterCause m.old filling.old.extents m.new (B.state bay.old) (B.state bay.new)) }
     ensures sized { OnOk result (IsSized growth.now.file.file growth.now.size m.new) }
 {
-    match clear_or_give_back(m, alloc, bay, growth, zeros) {
+    match clear_behind(m, alloc, bay, growth, zeros) {
         Ok(()) => place_more(m, alloc, bay, growth, filling, zeros),
-        Err(refusal) => Err(refusal),
+        Err(Refusal::WriteFault { disk }) => Err(give_back_fault(m, alloc, bay, filling, disk)),
+        Err(refusal) => or_shut(m, Err(refusal)),
     }
 }
 
@@ -422,8 +429,8 @@ fn grow<B: Bay>(m: &mut Mounted, alloc: Global, bay: &mut B, growth: &Growth) ->
 
 /// Gives the file at a path another size in bytes; what it gets reads as zeros. Refusals in their order: NoName; NotSectors; of a
 /// greater size Lost, with the first of its extents that has bytes behind the old size and no usable copy, and DirectoryFull. Before
-/// these nothing is changed; then come Dismounted by the commit of the growth, WriteFault of what the file has behind its size, NoSpace,
-/// and WriteFault and Dismounted. A refusal leaves the size as it was, but for Dismounted, after which it is either.
+/// these nothing is changed; then come Dismounted by the commit of the growth, NoSpace by the modes as they are once zeros went over what
+/// the file has behind its size, WriteFault and Dismounted. A refusal leaves the size as it was, but for Dismounted, after which it is either.
 pub fn resize<B: Bay>(
     m: &mut Mounted,
     alloc: Global,

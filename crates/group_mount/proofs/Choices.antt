@@ -1,11 +1,12 @@
 -- Surveys of ids, one after another.
-use Rattle.std.proofs.Common.{◌≡◌, inl, inr, ⊎_elim, ℕ, ◌+◌, ◌*◌, ◌-◌, ◌≤◌, Bool, true, false, if◌then◌else◌, List, [], ◌∷◌, ◌++◌, length, take, drop, get_or, flat_map, refl, sym, ap, subst, ◌∙◌, Option, arith, Result, ◌==◌}
+use Rattle.std.proofs.Common.{◌≡◌, inl, inr, ⊎_elim, ℕ, ◌+◌, ◌*◌, ◌-◌, ◌≤◌, Bool, true, false, if◌then◌else◌, List, [], ◌∷◌, ◌++◌, length, take, drop, get_or, flat_map, refl, sym, ap, subst, ◌∙◌, Option, arith, Result, Ok, Err, IfOk, ◌==◌}
 use Rattle.std.specs.Option.{option_map, option_or}
 use Rattle.std.specs.List.{list_any}
 use Rattle.std.specs.Prelude.{◌||◌}
 use Rattle.asm_group.specs.Names.{Bytes, is_same_name}
 use Rattle.std.proofs.lemmas.Bool.{cond_both, eqb-true, eq-eqb, false≢true}
 use Rattle.std.proofs.lemmas.List.{take_all}
+use Rattle.std.proofs.lemmas.Result.{IfOk-weaker}
 use Rattle.asm_formats.specs.Status.{Status}
 use Rattle.status_register.proofs.Filling.{still_slots}
 use Rattle.bay.specs.Image.{Image, Same}
@@ -15,16 +16,17 @@ use Rattle.bay.specs.Moments.{Runs}
 use Rattle.asm_formats.specs.Damage.{body_damage}
 use Rattle.asm_formats.specs.Metadata.{metadata}
 use Rattle.asm_placement.specs.Among.{IsAmong}
+use Rattle.asm_placement.proofs.Membership.{among_split}
 use Rattle.asm_images.specs.Members.{claims_of_group, of_group}
 use Rattle.asm_images.specs.Register.{greatest}
 use Rattle.asm_images.proofs.Bridges.{same_disk}
 use Rattle.status_register.specs.Answers.{Surveyed, IsAnswer}
 use Rattle.status_register.specs.Places.{HasSlots}
-use Rattle.status_register.specs.Surveys.{claims_on, records_on, greatest_epoch, first_damage}
+use Rattle.status_register.specs.Surveys.{AreRead, none_yet, one_read, one_failed, claims_on, records_on, greatest_epoch, first_damage}
 use Rattle.status_register.specs.declared.error.SurveyError.{SurveyError}
 use Rattle.status_register.specs.declared.member.Member.{Member}
-use Rattle.status_register.proofs.Tallying.{still_read}
-use Rattle.group_mount.specs.Verdicts.{member_of, members_with, with_id, ids_named, calls_to_survey, AreAttached, IsSlotIn, IsJudged, AreJudged, with_verdict, Chooses}
+use Rattle.status_register.proofs.Tallying.{RoseAt, still_read}
+use Rattle.group_mount.specs.Verdicts.{member_of, members_with, with_id, has_slot, ids_named, calls_to_survey, unread_by, unread_of, AreAttached, IsSlotIn, IsJudged, AreJudged, with_verdict, Chooses}
 use Rattle.group_mount.specs.declared.choosing.Choice.{Choice}
 use Rattle.group_mount.specs.declared.choosing.Verdict.{Verdict}
 use Rattle.group_mount.specs.declared.finding.Headed.{Headed}
@@ -98,45 +100,107 @@ unfolding first_damage
 damage_before [] x y same = refl
 damage_before (m ∷ ns) x y same = λ i. option_or (option_map (λ block. (m.slot, block)) (body_damage (same_disk x y m.slot (same.size m.slot) (same.byte m.slot) i))) (damage_before ns x y same i)
 
-module _ (s m t : BayState) (id : ℕ) (ms : List Member) (verdict : Verdict) where
-  pub judged_later : {later : ℕ → Type 0} {step : Image → Image → Type 0} → Runs later step m t → IsJudged id ms verdict s m → IsJudged id ms verdict s t
-  judged_later next (answer, (read, are, told), is) = (
-    answer,
-    (
+module _ (s m t : BayState) (id : ℕ) (ms : List Member) (verdict : Verdict) (unread : List ℕ) where
+  pub judged_later : {later : ℕ → Type 0} {step : Image → Image → Type 0} → Runs later step m t → IsJudged id ms verdict unread s m → IsJudged id ms verdict unread s t
+  judged_later next judged = record {
+    answer = judged.answer;
+    verdict_is = judged.verdict_is;
+    unread_are = judged.unread_are;
+    surveyed = let (read, are, told) = judged.surveyed in (
       read,
-      still_read (λ slot. Rose (s.faults slot) (m.faults slot)) (λ slot. Rose (s.faults slot) (t.faults slot)) (λ slot rose. rose_later (s.faults slot) (m.faults slot) (t.faults slot) (next.faults slot) rose) ms read are,
-      told_later s m t {P = AnswersBy id ms read answer} next told,
-    ),
-    is,
-  )
+      wider ms read are,
+      told_later s m t {P = AnswersBy id ms read judged.answer} next told,
+    );
+    read = IfOk-weaker judged.answer _ _ (λ survey are. wider ms survey.read are) judged.read;
+  }
+    where
+      wider : (ks read : List Member) → AreRead (RoseAt s m) ks read → AreRead (RoseAt s t) ks read
+      wider = still_read (RoseAt s m) (RoseAt s t) (λ slot rose. rose_later (s.faults slot) (m.faults slot) (t.faults slot) (next.faults slot) rose)
 
-  pub judged_before : {early later : ℕ → Type 0} → Runs early Same s m → Runs later Same m t → IsJudged id ms verdict m t → IsJudged id ms verdict s t
-  judged_before first next (answer, (read, are, told), is) = (
-    answer,
-    (
+  pub judged_before : {early later : ℕ → Type 0} → Runs early Same s m → Runs later Same m t → IsJudged id ms verdict unread m t → IsJudged id ms verdict unread s t
+  judged_before first next judged = record {
+    answer = judged.answer;
+    verdict_is = judged.verdict_is;
+    unread_are = judged.unread_are;
+    surveyed = let (read, are, told) = judged.surveyed in (
       read,
-      still_read (λ slot. Rose (m.faults slot) (t.faults slot)) (λ slot. Rose (s.faults slot) (t.faults slot)) (λ slot rose. rose_before (s.faults slot) (m.faults slot) (t.faults slot) (first.faults slot) rose) ms read are,
-      told_before s m t {P = AnswersBy id ms read answer} first next (answers_same id ms read answer) told,
-    ),
-    is,
-  )
+      wider ms read are,
+      told_before s m t {P = AnswersBy id ms read judged.answer} first next (answers_same id ms read judged.answer) told,
+    );
+    read = IfOk-weaker judged.answer _ _ (λ survey are. wider ms survey.read are) judged.read;
+  }
+    where
+      wider : (ks read : List Member) → AreRead (RoseAt m t) ks read → AreRead (RoseAt s t) ks read
+      wider = still_read (RoseAt m t) (RoseAt s t) (λ slot rose. rose_before (s.faults slot) (m.faults slot) (t.faults slot) (first.faults slot) rose)
 
 -- ---- several
 
-pub all_before : (s m t : BayState) {early later : ℕ → Type 0} (first : Runs early Same s m) (next : Runs later Same m t) (hs : List Headed) (ids : List ℕ) (verdicts : List (ℕ × Verdict))
-    → AreJudged hs ids verdicts m t → AreJudged hs ids verdicts s t
-all_before s m t first next hs [] verdicts are = are
-all_before s m t first next hs (id ∷ ids) verdicts (verdict, rest, is, judged, others) =
-    (verdict, rest, is, judged_before s m t id (members_with id hs) verdict first next judged, all_before s m t first next hs ids rest others)
+pub all_before : (s m t : BayState) {early later : ℕ → Type 0} (first : Runs early Same s m) (next : Runs later Same m t) (hs : List Headed) (ids : List ℕ) (verdicts : List (ℕ × Verdict)) (unread : List ℕ)
+    → AreJudged hs ids verdicts unread m t → AreJudged hs ids verdicts unread s t
+all_before s m t first next hs [] verdicts unread are = are
+all_before s m t first next hs (id ∷ ids) verdicts unread (verdict, own, others, later, is, makes, judged, rest) =
+    (verdict, own, others, later, is, makes, judged_before s m t id (members_with id hs) verdict own first next judged, all_before s m t first next hs ids others later rest)
 
 -- one id, and then the others
-pub chooses_more : (s m t : BayState) {early later : ℕ → Type 0} (first : Runs early Same s m) (next : Runs later Same m t) (hs : List Headed) (id : ℕ) (ids : List ℕ) (verdict : Verdict) (choice all : Choice)
-    → IsJudged id (members_with id hs) verdict s m → Chooses hs ids choice m t → all ≡ with_verdict id verdict choice → Chooses hs (id ∷ ids) all s t
-chooses_more s m t first next hs id ids verdict choice all judged (verdicts, are, is) e = (
+pub chooses_more : (s m t : BayState) {early later : ℕ → Type 0} (first : Runs early Same s m) (next : Runs later Same m t) (hs : List Headed) (id : ℕ) (ids : List ℕ) (verdict : Verdict) (own more : List ℕ)
+    (choice all : Choice) → IsJudged id (members_with id hs) verdict own s m → Chooses hs ids choice more m t → all ≡ with_verdict id verdict choice → Chooses hs (id ∷ ids) all (own ++ more) s t
+chooses_more s m t first next hs id ids verdict own more choice all judged (verdicts, are, is) e = (
   (id, verdict) ∷ verdicts,
-  (verdict, verdicts, refl, judged_later s m t id (members_with id hs) verdict next judged, all_before s m t first next hs ids verdicts are),
+  (verdict, own, verdicts, more, refl, refl, judged_later s m t id (members_with id hs) verdict own next judged, all_before s m t first next hs ids verdicts more are),
   e ∙ ap (with_verdict id verdict) is,
 )
+
+-- ---- members that were left unread
+
+any_split : (test : Member → Bool) (xs : List Member) (x : Member) → list_any test (xs ++ x ∷ []) ≡ false → (list_any test xs ≡ false) × (test x ≡ false)
+any_split test [] x none = (refl, last (test x) none)
+  where
+    last : (b : Bool) → (b || false) ≡ false → b ≡ false
+    last true e = e
+    last false e = e
+any_split test (y ∷ ys) x none = go (test y) none (any_split test ys x)
+  where
+    go : (b : Bool) → (b || list_any test (ys ++ x ∷ [])) ≡ false → (list_any test (ys ++ x ∷ []) ≡ false → (list_any test ys ≡ false) × (test x ≡ false))
+        → ((b || list_any test ys) ≡ false) × (test x ≡ false)
+    go true e later = absurd (false≢true (sym e))
+    go false e later = later e
+
+-- of those that were read nothing is left out but where a slot failed
+unread_of_failed : (failed : ℕ → Type 0) (ms read : List Member) → AreRead failed ms read → (m : Member) → IsAmong ms m → has_slot read m.slot ≡ false → failed m.slot
+unread_of_failed failed ms read none_yet m among unread = absurd among
+unread_of_failed failed ms read (one_read before earlier k are) m among unread =
+    let parts = any_split (λ (x : Member). x.slot == m.slot) earlier k unread in
+    ⊎_elim (λ old. unread_of_failed failed before earlier are m old parts.0)
+    (λ last. ⊎_elim (λ (e : m ≡ k). absurd (false≢true (sym parts.1 ∙ eq-eqb k.slot m.slot (ap (λ (x : Member). x.slot) (sym e))))) (λ none. absurd none) last)
+    (among_split before (k ∷ []) m among)
+unread_of_failed failed ms read (one_failed before earlier k fail are) m among unread =
+    ⊎_elim (λ old. unread_of_failed failed before earlier are m old unread)
+    (λ last. ⊎_elim (λ (e : m ≡ k). subst (λ (x : Member). failed x.slot) (sym e) fail) (λ none. absurd none) last)
+    (among_split before (k ∷ []) m among)
+
+-- each slot that is left is that of a member
+unread_from : (read ms : List Member) (slot : ℕ) → IsAmong (unread_of read ms) slot → (m : Member) × IsAmong ms m × (m.slot ≡ slot) × (has_slot read m.slot ≡ false)
+unread_from read [] slot among = absurd among
+unread_from read (k ∷ ms) slot among =
+    let later : IsAmong (unread_of read ms) slot → (m : Member) × IsAmong (k ∷ ms) m × (m.slot ≡ slot) × (has_slot read m.slot ≡ false) = λ old. let m = unread_from read ms slot old in (m.0, inr m.1, m.2, m.3) in
+    cond_both (has_slot read k.slot) (unread_of read ms) (k.slot ∷ unread_of read ms) (λ (l : List ℕ). IsAmong l slot → (m : Member) × IsAmong (k ∷ ms) m × (m.slot ≡ slot) × (has_slot read m.slot ≡ false))
+    (λ is. later)
+    (λ no. λ a. ⊎_elim (λ (e : slot ≡ k.slot). (k, inl refl, sym e, no)) later a) among
+
+-- what an answer leaves unread failed
+answer_failed : (failed : ℕ → Type 0) (ms : List Member) (answer : Result Surveyed SurveyError) → IfOk answer (λ survey. AreRead failed ms survey.read) → (slot : ℕ) → IsAmong (unread_by ms answer) slot → failed slot
+answer_failed failed ms (Err e) are slot among = absurd among
+answer_failed failed ms (Ok survey) are slot among =
+    let m = unread_from survey.read ms slot among in
+    subst failed m.2 (unread_of_failed failed ms survey.read are m.0 m.1 m.3)
+
+pub unread_failed : (s t : BayState) (hs : List Headed) (ids : List ℕ) (verdicts : List (ℕ × Verdict)) (unread : List ℕ) → AreJudged hs ids verdicts unread s t → (slot : ℕ) → IsAmong unread slot
+    → Rose (s.faults slot) (t.faults slot)
+unread_failed s t hs [] verdicts unread are slot among = absurd (subst (λ (l : List ℕ). IsAmong l slot) are.1 among)
+unread_failed s t hs (id ∷ ids) verdicts unread (verdict, own, others, later, is, makes, judged, rest) slot among = ⊎_elim
+    (λ here. answer_failed (RoseAt s t) (members_with id hs) judged.answer judged.read slot (subst (λ (l : List ℕ). IsAmong l slot) judged.unread_are here))
+    (λ there. unread_failed s t hs ids others later rest slot there)
+    (among_split own later slot (subst (λ (l : List ℕ). IsAmong l slot) makes among))
 
 -- a list by its first item and the others
 pub first_and_rest : (xs : List ℕ) → 1 ≤ length xs → xs ≡ get_or xs 0 0 ∷ take (length xs - 1) (drop 1 xs)

@@ -24,9 +24,9 @@ use Rattle.status_register.proofs.Meeting.{found}
 use Rattle.group_mount.specs.Alike.{first_stranger}
 use Rattle.group_mount.specs.Finding.{AreApart as AreApartDisks, AreThere}
 use Rattle.group_mount.specs.Missing.{has_units}
-use Rattle.group_mount.specs.NamedCopies.{copy_of, has_slot, is_named_copy, named_copies}
+use Rattle.group_mount.specs.NamedCopies.{copy_of, is_named_copy, named_copies}
 use Rattle.group_mount.specs.Syncing.{AreDurable}
-use Rattle.group_mount.specs.Verdicts.{IsSlotIn, member_of}
+use Rattle.group_mount.specs.Verdicts.{IsSlotIn, has_slot, member_of}
 use Rattle.group_mount.specs.declared.finding.Headed.{Headed}
 use Rattle.group_mount.proofs.Alikes.{alike_rest, further_in, one_shape}
 use Rattle.group_mount.proofs.Searches.{there_attached}

@@ -7,9 +7,7 @@ pub mod Leaving
 pub mod Bringing
 pub mod Rows
 pub mod Mounting
-pub mod Shown
 pub mod Told
-pub mod Headers
 pub mod Looks
 pub mod Choices
 pub mod Searches

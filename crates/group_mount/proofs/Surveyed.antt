@@ -2,20 +2,17 @@
 use Rattle.std.proofs.Common.{◌≡◌, ◌≢◌, inl, inr, ⊎_elim, ℕ, ◌^◌, ◌<◌, List, [], ◌∷◌, ◌++◌, drop, refl, sym, ap, subst, ◌∙◌, Some, None, arith, Result, Ok, Err, IfOk, IfErr, ◌==◌}
 use Rattle.std.proofs.lemmas.Bool.{cond_both, and_parts, eqb-true, ltb-true}
 use Rattle.bay.specs.Image.{Image, Same}
-use Rattle.bay.specs.State.{BayState, IsSound, KeepsAttached}
-use Rattle.bay.specs.Moments.{Runs, Durable}
-use Rattle.bay.proofs.Calls.{as_held}
+use Rattle.bay.specs.State.{BayState, KeepsAttached}
+use Rattle.bay.specs.Moments.{Runs}
 use Rattle.std.proofs.Common.{true, false, nat_lt}
 use Rattle.asm_group.specs.Names.{is_name}
 use Rattle.asm_group.specs.Shape.{is_shape}
 use Rattle.asm_formats.specs.Header.{Header, is_header}
-use Rattle.asm_formats.specs.Metadata.{header_of}
 use Rattle.asm_formats.specs.Status.{Status}
 use Rattle.asm_placement.specs.Among.{IsAmong}
 use Rattle.asm_placement.proofs.Membership.{among_left, among_right, among_split}
 use Rattle.asm_images.specs.Kept.{header_in}
 use Rattle.asm_images.specs.Register.{greatest}
-use Rattle.asm_images.proofs.Bridges.{same_disk}
 use Rattle.status_register.specs.Answers.{Surveyed, IsSurveyed}
 use Rattle.status_register.specs.Registered.{AreNumbered}
 use Rattle.status_register.specs.SurveyLaws.{IsMemberOn}
@@ -92,7 +89,7 @@ header_number h ok =
     let d = and_parts (nat_lt h.number 64) _ c.1 in
     ltb-true h.number 64 d.0
 
-module _ (n id : ℕ) (named : List Headed) (state : BayState) (sound : IsSound state) (there : AreThere n named state) where
+module _ (n id : ℕ) (named : List Headed) (state : BayState) (there : AreThere n named state) where
   pub numbered : AreNumbered (members_with id named)
   numbered m h =
       let k = member_from id named m h in
@@ -107,19 +104,14 @@ module _ (n id : ℕ) (named : List Headed) (state : BayState) (sound : IsSound 
       (λ is a. ⊎_elim (λ e. (x, inl refl, e, eqb-true x.header.id id is)) (λ b. let k = later b in (k.0, inr k.1, k.2, k.3)) a)
       (λ no a. let k = later a in (k.0, inr k.1, k.2, k.3)) h
 
-  pub member_on : (m : Member) → IsAmong (members_with id named) m → Durable m.slot state → (image : Image) → state.leaves state.calls image → IsMemberOn n id image m
-  member_on m h durable image left =
+  pub member_on : (m : Member) → IsAmong (members_with id named) m → (image : Image) → state.leaves state.calls image → IsMemberOn n id image m
+  member_on m h image left =
       let k = id_of named m h in
       let slot : m.slot ≡ k.0.slot = ap (λ (x : Member). x.slot) k.2 in
-      let held = as_held sound durable left in
-      let attached : state.attached m.slot ≡ Some k.0.size = ap state.attached slot ∙ there.attached k.0 k.1 in
-      let size : image.size m.slot ≡ held.0.size m.slot = sound.sized m.slot k.0.size image attached left ∙ sym (sound.sized m.slot k.0.size held.0 attached (sound.held held.0 held.1)) in
-      let header : header_in image m.slot ≡ Some k.0.header =
-      ap header_of (same_disk held.0 image m.slot size held.2) ∙ ap (header_in held.0) slot ∙ there.held k.0 k.1 held.0 held.1 in
       record {
         inside = omega (arith, slot, there.inside k.0 k.1);
         header = k.0.header;
-        header_is = header;
+        header_is = ap (header_in image) slot ∙ (there.now k.0 k.1).now image left;
         group = k.3;
         number = sym (ap (λ (x : Member). x.number) k.2);
         birth = sym (ap (λ (x : Member). x.birth) k.2);
@@ -227,7 +219,7 @@ module _ (s m t : BayState) {early later : ℕ → Type 0} (first : Runs early S
 
 -- ---- the found disks
 
-module _ (n id : ℕ) (named : List Headed) (s t : BayState) (sound : IsSound t) {slots : ℕ → Type 0} (run : Runs slots Same s t) (keeps : KeepsAttached s t) (there : AreThere n named s) where
+module _ (n id : ℕ) (named : List Headed) (s t : BayState) {slots : ℕ → Type 0} (run : Runs slots Same s t) (keeps : KeepsAttached s t) (there : AreThere n named s) where
   now_there : AreThere n named t
   now_there = there_still n named s t run keeps there
 
@@ -238,10 +230,10 @@ module _ (n id : ℕ) (named : List Headed) (s t : BayState) (sound : IsSound t)
         id_is = are.id_is;
         slots = λ m h. members_attached id named t (there_attached n named t now_there) m (among m h);
         apart = apart_list survey.members (read_apart (RoseAt s t) (members_with id named) survey.members are.are (members_apart id named there.apart));
-        numbers = λ m h. numbered n id named t sound now_there m (among m h);
+        numbers = λ m h. numbered n id named t now_there m (among m h);
         durable = are.durable;
         not_gone = are.not_gone;
         well = are.well;
-        members = record { now = λ image left m h. subst (λ (k : ℕ). IsMemberOn n k image m) (sym are.id_is) (member_on n id named t sound now_there m (among m h) (are.durable m h) image left) };
+        members = record { now = λ image left m h. subst (λ (k : ℕ). IsMemberOn n k image m) (sym are.id_is) (member_on n id named t now_there m (among m h) image left) };
         now = are.now;
       }

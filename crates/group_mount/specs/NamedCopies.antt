@@ -1,6 +1,5 @@
 -- The directory copies that a mount reads.
 use Rattle.std.specs.Prelude.{ℕ, ◌==◌, ◌&&◌, Bool, List, [], ◌∷◌, if◌then◌else◌}
-use Rattle.std.specs.List.{list_any}
 use Rattle.asm_formats.specs.Regions.{has_region}
 use Rattle.asm_formats.specs.Sets.{has_bit}
 use Rattle.asm_formats.specs.Status.{Status}
@@ -8,16 +7,12 @@ use Rattle.change_directory.specs.declared.copy.DirCopy.{DirCopy}
 use Rattle.status_register.specs.Holders.{is_of}
 use Rattle.status_register.specs.declared.member.Member.{Member}
 use Rattle.group_mount.specs.Missing.{has_units}
-use Rattle.group_mount.specs.Verdicts.{member_of}
+use Rattle.group_mount.specs.Verdicts.{has_slot, member_of}
 use Rattle.group_mount.specs.declared.finding.Headed.{Headed}
 
 -- the directory copy of a disk
 abbrev pub copy_of : Headed → DirCopy
 copy_of h = record { number = h.header.number; slot = h.slot; dir_blocks = h.header.shape.dir_blocks; sector = h.header.shape.sector }
-
--- the slot is that of one of these members
-abbrev pub has_slot : List Member → ℕ → Bool
-has_slot ms slot = list_any (λ (m : Member). m.slot == slot) ms
 
 -- the disk is a member of the id that was read, the record names its copy, it is the disk of its number's entry with at least its units, and its image reaches to the end of the directory region
 abbrev pub is_named_copy : ℕ → List Member → Status → Headed → Bool

@@ -5,7 +5,8 @@ ghost use Rattle.std.specs.List.{list_any};
 ghost use Rattle.bay.specs.Image.{Same};
 ghost use Rattle.bay.specs.State.{KeepsAttached};
 ghost use Rattle.bay.specs.Moments.{Runs};
-ghost use Rattle.group_mount.specs.Verdicts.{AreAttached, Chooses, IsJudged, IsSlotIn, calls_to_survey, ids_named, member_of, members_with, verdict_of, with_id, with_verdict};
+ghost use Rattle.status_register.specs.declared.member.Member.{Member as Disk};
+ghost use Rattle.group_mount.specs.Verdicts.{AreAttached, Chooses, GrowsBy, IsJudged, IsSlotIn, calls_to_survey, greater_of, has_slot, ids_named, member_of, members_with, unread_by, unread_of, verdict_of, with_id, with_verdict};
 
 use crate::finding::Headed;
 use asm_base::{Name, NoMemory};
@@ -18,18 +19,33 @@ use std::alloc::Global;
 pub enum Verdict {
     /// Its greatest record is marked gone, and a majority of each of its sets was read.
     Gone,
-    /// A majority of each set was read.
-    Whole,
-    /// Fewer were read.
-    Short,
+    /// A majority of each set was read. Where a body doesn't decode, its slot and block.
+    Whole(Option<(u32, u64)>),
+    /// Of a set fewer were read than are needed.
+    Short { seen: u8, need: u8 },
+}
+
+/// An id of which a majority was read, and the slot and block of the first body that doesn't decode.
+#[derive(Clone, Copy, Debug, PartialEq, Eq)]
+pub struct WholeId {
+    pub id: u64,
+    pub damage: Option<(u32, u64)>,
+}
+
+/// An id without a majority: how many disks of a set were read, and how many are needed.
+#[derive(Clone, Copy, Debug, PartialEq, Eq)]
+pub struct ShortId {
+    pub id: u64,
+    pub seen: u8,
+    pub need: u8,
 }
 
 /// What was found of the ids of a name: one that is whole, whether there is a second one, and the greatest of those that are short.
 #[derive(Clone, Copy, Debug, PartialEq, Eq)]
 pub struct Choice {
-    pub whole: Option<u64>,
+    pub whole: Option<WholeId>,
     pub are_two: bool,
-    pub short: Option<u64>,
+    pub short: Option<ShortId>,
 }
 
 /// The disk as the register sees it.
@@ -64,6 +80,13 @@ pub fn members_of(alloc: Global, headed: &[Headed], id: u64) -> Result<Vec<Membe
     let mut members = Vec::new(alloc);
     put_members(headed, id, &mut members)?;
     Ok(members)
+}
+
+/// Whether a slot is that of one of these members.
+pub fn has_slot(members: &[Member], slot: u32) -> bool
+    ensures { result ≡ has_slot members.now slot }
+{
+    members.iter().any(|member| member.slot == slot)
 }
 
 /// Whether an id is one of these.
@@ -105,30 +128,73 @@ fn verdict_of(answer: Result<Survey, SurveyError>) -> Verdict
         Ok(survey) => if survey.value().gone {
             Verdict::Gone
         } else {
-            Verdict::Whole
+            Verdict::Whole(None)
         },
-        Err(SurveyError::NoMajority { .. }) => Verdict::Short,
-        Err(SurveyError::Damaged { gone, .. }) => if gone { Verdict::Gone } else { Verdict::Whole },
+        Err(SurveyError::NoMajority { seen, need }) => Verdict::Short { seen, need },
+        Err(SurveyError::Damaged { slot, block, gone }) => if gone {
+            Verdict::Gone
+        } else {
+            Verdict::Whole(Some((slot, block)))
+        },
     }
 }
 
-/// Surveys the members of an id.
+/// Puts the slots of the members that aren't among those that were read behind others.
+fn put_unread(read: &[Member], members: &[Member], unread: &mut Vec<u32>) -> Result<(), NoMemory>
+    ensures { OnOk result (unread.new.items ≡ unread.old.items ++ unread_of read.now members.now) }
+{
+    let [first, rest @ ..] = members else {
+        return Ok(());
+    };
+    if !has_slot(read, first.slot) {
+        unread.push(first.slot).map_err(|_| NoMemory)?;
+    }
+    put_unread(read, rest, unread)
+}
+
+/// Puts the slots of the members that a survey couldn't read behind others. Of a survey that is refused nothing is told.
+fn note_unread(
+    answer: &Result<Survey, SurveyError>,
+    members: &[Member],
+    unread: &mut Vec<u32>,
+) -> Result<(), NoMemory>
+    ensures { OnOk result (unread.new.items ≡ unread.old.items ++ unread_by members.now answer.now) }
+{
+    match answer {
+        Ok(survey) => put_unread(survey.seen(), members, unread),
+        Err(_refusal) => Ok(()),
+    }
+}
+
+/// Surveys the members of an id. The slots of those that couldn't be read are put behind others.
 fn judge<B: Bay>(
     alloc: Global,
     bay: &mut B,
     headed: &[Headed],
     id: u64,
+    unread: &mut Vec<u32>,
 ) -> Result<Verdict, NoMemory>
     requires attached { AreAttached headed.now (B.state bay.old) }
     requires few { length headed.now ≤ 512 }
-    ensures judged { IfOk result (λ verdict. IsJudged id (members_with id headed.now) verdict (B.state bay.old) (B.state bay.new)) }
+    ensures judged { IfOk result (λ verdict. GrowsBy unread.old.items unread.new.items (λ own. IsJudged id (members_with id headed.now) verdict own (B.state bay.old) (B.state bay.new))) }
     ensures attached { KeepsAttached (B.state bay.old) (B.state bay.new) }
     ensures calls { (B.state bay.new).calls ≤ (B.state bay.old).calls + 8 * length (members_with id headed.now) }
     ensures runs { Runs (IsSlotIn headed.now) Same (B.state bay.old) (B.state bay.new) }
 {
     let members = members_of(alloc, headed, id)?;
     let answer = Survey::read(bay, id, &members);
+    note_unread(&answer, &members, unread)?;
     Ok(verdict_of(answer))
+}
+
+/// The greater of two ids that are short.
+fn greater_of(short: ShortId, other: Option<ShortId>) -> ShortId
+    ensures { result ≡ greater_of short other }
+{
+    match other {
+        Some(other) => if short.id < other.id { other } else { short },
+        None => short,
+    }
 }
 
 /// The choice with one id more.
@@ -137,32 +203,30 @@ fn with_verdict(choice: Choice, id: u64, verdict: Verdict) -> Choice
 {
     match verdict {
         Verdict::Gone => choice,
-        Verdict::Whole => Choice {
-            whole: Some(id),
+        Verdict::Whole(damage) => Choice {
+            whole: Some(WholeId { id, damage }),
             are_two: choice.whole.is_some(),
             short: choice.short,
         },
-        Verdict::Short => Choice {
+        Verdict::Short { seen, need } => Choice {
             whole: choice.whole,
             are_two: choice.are_two,
-            short: match choice.short {
-                Some(other) => Some(id.max(other)),
-                None => Some(id),
-            },
+            short: Some(greater_of(ShortId { id, seen, need }, choice.short)),
         },
     }
 }
 
-/// Surveys these ids, one after the other, and chooses one.
+/// Surveys these ids, one after the other, and chooses one. The slots of members that couldn't be read are put behind others.
 pub fn choose<B: Bay>(
     alloc: Global,
     bay: &mut B,
     headed: &[Headed],
     ids: &[u64],
+    unread: &mut Vec<u32>,
 ) -> Result<Choice, NoMemory>
     requires attached { AreAttached headed.now (B.state bay.old) }
     requires few { length headed.now ≤ 512 }
-    ensures chosen { IfOk result (λ choice. Chooses headed.now ids.now choice (B.state bay.old) (B.state bay.new)) }
+    ensures chosen { IfOk result (λ choice. GrowsBy unread.old.items unread.new.items (λ more. Chooses headed.now ids.now choice more (B.state bay.old) (B.state bay.new))) }
     ensures attached { KeepsAttached (B.state bay.old) (B.state bay.new) }
     ensures calls { (B.state bay.new).calls ≤ (B.state bay.old).calls + calls_to_survey headed.now ids.now }
     ensures runs { Runs (IsSlotIn headed.now) Same (B.state bay.old) (B.state bay.new) }
@@ -175,7 +239,7 @@ pub fn choose<B: Bay>(
         });
     };
     let id = *first;
-    let verdict = judge(alloc, bay, headed, id)?;
-    let others = choose(alloc, bay, headed, rest)?;
+    let verdict = judge(alloc, bay, headed, id, unread)?;
+    let others = choose(alloc, bay, headed, rest, unread)?;
     Ok(with_verdict(others, id, verdict))
 }

@@ -4,9 +4,9 @@ ghost use Rattle.std.specs.List.{list_any};
 ghost use Rattle.asm_formats.specs.Regions.{has_region};
 ghost use Rattle.status_register.specs.Holders.{is_of};
 ghost use Rattle.status_register.specs.declared.member.Member.{Member as Disk};
-ghost use Rattle.group_mount.specs.NamedCopies.{copy_of, has_slot, is_named_copy, named_copies};
+ghost use Rattle.group_mount.specs.NamedCopies.{copy_of, is_named_copy, named_copies};
 
-use crate::choosing::member_of;
+use crate::choosing::{has_slot, member_of};
 use crate::finding::Headed;
 use crate::missing::has_units;
 use asm_base::NoMemory;
@@ -35,13 +35,6 @@ fn has_region(dir_blocks: u32, size: u64) -> bool
     ensures { result ≡ has_region dir_blocks size }
 {
     (14 + 2 * dir_blocks as u64) * BLOCK <= size
-}
-
-/// Whether a slot is that of one of these members.
-fn has_slot(members: &[Member], slot: u32) -> bool
-    ensures { result ≡ has_slot members.now slot }
-{
-    members.iter().any(|member| member.slot == slot)
 }
 
 /// Whether a member of an id was read, has all its units and a whole directory region, and a copy there that the record names.

@@ -1,13 +1,12 @@
 // The images with an open header.
-ghost use Rattle.std.specs.Prelude.{◌≡◌, ◌≤◌, ◌<◌, ◌+◌, ◌*◌, ◌++◌, [], length, IfOk, OnOk};
-ghost use Rattle.bay.specs.Image.{Same};
-ghost use Rattle.bay.specs.Moments.{Runs};
-ghost use Rattle.group_mount.specs.Finding.{AttachedStays, AreHeaded, AreAllHeaded, seen_of};
+ghost use Rattle.std.specs.Prelude.{◌≡◌, ◌≤◌, ◌<◌, ◌*◌, ◌++◌, [], length, IfOk, OnOk};
+ghost use Rattle.disk_images.specs.Looks.{Looks};
+ghost use Rattle.group_mount.specs.Finding.{AreAllHeaded, AreThere, headed_in};
 
-use crate::looking::look;
 use asm_base::NoMemory;
 use bay::Bay;
 use disk_header::Header;
+use disk_images::{Looked, look_at};
 use std::alloc::Global;
 
 /// An image whose open header was read, with its size in bytes.
@@ -18,34 +17,38 @@ pub struct Headed {
     pub header: Header,
 }
 
-/// Attaches every image, and gives those with an open header.
+/// Looks at every image, and gives those with an open header. Each is attached and synced before its header is read.
 pub fn find_headed<B: Bay>(
     alloc: Global,
     bay: &mut B,
     paths: &[String],
 ) -> Result<Vec<Headed>, NoMemory>
     requires few { length paths.now ≤ 512 }
-    ensures calls { (B.state bay.new).calls ≤ (B.state bay.old).calls + 3 * length paths.now }
-    ensures runs { Runs (λ slot. slot < length paths.now) Same (B.state bay.old) (B.state bay.new) }
-    ensures stays { AttachedStays (B.state bay.old) (B.state bay.new) }
+    ensures looks { Looks (λ slot. slot < length paths.now) (4 * length paths.now) (B.state bay.old) (B.state bay.new) }
     ensures few { IfOk result (λ found. length found.items ≤ length paths.now) }
-    ensures each { IfOk result (λ found. AreHeaded (length paths.now) found.items (B.state bay.old) (B.state bay.new)) }
+    ensures there { IfOk result (λ found. AreThere (length paths.now) found.items (B.state bay.new)) }
     ensures all { IfOk result (λ found. AreAllHeaded (length paths.now) found.items (B.state bay.old) (B.state bay.new)) }
 {
     let mut found = Vec::new(alloc);
     for (slot, path) in paths.iter().enumerate() {
-        let seen = look(alloc, bay, slot as u32, path.as_str())?;
-        put_seen(&mut found, seen)?;
+        let looked = look_at(alloc, bay, slot as u32, path.as_str())?;
+        put_headed(&mut found, slot as u32, looked)?;
     }
     Ok(found)
 }
 
-/// Puts what was seen behind others.
-fn put_seen(found: &mut Vec<Headed>, seen: Option<Headed>) -> Result<(), NoMemory>
-    ensures { OnOk result (found.new.items ≡ found.old.items ++ seen_of seen) }
+/// Puts the image of a slot behind others, where it has an open header.
+fn put_headed(found: &mut Vec<Headed>, slot: u32, looked: Looked) -> Result<(), NoMemory>
+    ensures { OnOk result (found.new.items ≡ found.old.items ++ headed_in slot looked) }
 {
-    match seen {
-        Some(headed) => found.push(headed).map_err(|_| NoMemory),
-        None => Ok(()),
+    match looked {
+        Looked::Absent => Ok(()),
+        Looked::Unread { size: _ } => Ok(()),
+        Looked::Read { size, header } => match header {
+            Some(header) => found
+                .push(Headed { slot, size, header })
+                .map_err(|_| NoMemory),
+            None => Ok(()),
+        },
     }
 }

@@ -4,11 +4,10 @@ ghost use Rattle.std.specs.Prelude.{◌≡◌, ◌≤◌, ◌<◌, ◌+◌, ◌*
 ghost use Rattle.bay.specs.Image.{Same};
 ghost use Rattle.bay.specs.Moments.{Runs};
 ghost use Rattle.group_mount.specs.Finding.{AreThere, AttachedStays};
-ghost use Rattle.group_mount.specs.Founds.{FindCause, IsFound, is_held, not_held};
+ghost use Rattle.group_mount.specs.Founds.{FindCause, IsFound, is_held, not_held, short_refusal, taken, undamaged};
 ghost use Rattle.group_mount.specs.Recovering.{is_named, name_in};
-ghost use Rattle.group_mount.specs.Verdicts.{chosen};
 
-use crate::choosing::{Choice, choose, ids_named};
+use crate::choosing::{Choice, ShortId, WholeId, choose, ids_named};
 use crate::error::MountError;
 use crate::finding::{Headed, find_headed};
 use asm_base::Name;
@@ -63,19 +62,56 @@ fn leave_out(headed: &mut Vec<Headed>, held: &[u32])
     headed.retain(|disk| !is_held(held, disk.slot));
 }
 
-/// The id that is taken.
-fn chosen(choice: &Choice) -> Option<u64>
-    ensures { result ≡ chosen choice.now }
+/// The refusal of a name of which no id is whole.
+fn short_refusal(short: Option<ShortId>) -> MountError
+    ensures { result ≡ short_refusal short }
 {
-    match choice.whole {
-        Some(id) => Some(id),
-        None => choice.short,
+    match short {
+        Some(short) => MountError::NoMajority {
+            seen: short.seen,
+            need: short.need,
+        },
+        None => MountError::NoGroup,
     }
 }
 
+/// The id that is whole, where all bodies that were read decode.
+fn undamaged(whole: WholeId) -> Result<u64, MountError>
+    ensures { result ≡ undamaged whole }
+{
+    match whole.damage {
+        Some((slot, block)) => Err(MountError::Damaged { slot, block }),
+        None => Ok(whole.id),
+    }
+}
+
+/// The id that is mounted.
+fn taken(choice: &Choice) -> Result<u64, MountError>
+    ensures { result ≡ taken choice.now }
+{
+    if choice.are_two {
+        return Err(MountError::TwoGroups);
+    }
+    match choice.whole {
+        Some(whole) => undamaged(whole),
+        None => Err(short_refusal(choice.short)),
+    }
+}
+
+/// What was found of an id, without the images in these slots.
+fn found_of(id: u64, slots: u32, headed: Vec<Headed>, unread: &[u32]) -> Found
+    requires few { length headed.items ≤ 512 }
+    ensures { result ≡ record { id = id; slots = slots; headed = not_held unread.now headed.items } }
+{
+    let mut headed = headed;
+    leave_out(&mut headed, unread);
+    Found { id, slots, headed }
+}
+
 impl Found {
-    /// Attaches every image, reads the headers and surveys each id of the name, all its members. The id with a majority of each set of its record is
-    /// taken, else the greatest one; an id that is gone is passed over. Nothing is written.
+    /// Attaches and syncs every image, reads the headers and surveys each id of the name, all its members. The one id with a majority of each set of its
+    /// record is taken; an id that is gone is passed over. Disks that failed are left out, those in the surveys too. The refusals are tried in this order:
+    /// NoGroup, TwoGroups, NoMajority of the greatest id, Damaged in a claim or status body. Nothing is written.
     pub fn find<B: Bay>(
         alloc: Global,
         bay: &mut B,
@@ -90,22 +126,16 @@ impl Found {
         // What is attached stays so, with its size.
         ensures stays { AttachedStays (B.state bay.old) (B.state bay.new) }
         ensures slots { IfOk result (λ found. found.slots ≡ length paths.now) }
-        ensures calls { (B.state bay.new).calls ≤ (B.state bay.old).calls + 11 * length paths.now }
+        ensures calls { (B.state bay.new).calls ≤ (B.state bay.old).calls + 12 * length paths.now }
         ensures runs { Runs (λ slot. slot < length paths.now) Same (B.state bay.old) (B.state bay.new) }
     {
         let headed = find_headed(alloc, bay, paths)?;
         let ids = ids_named(alloc, &headed, name)?;
-        let choice = choose(alloc, bay, &headed, &ids)?;
-        if choice.are_two {
-            return Err(MountError::TwoGroups);
-        }
-        match chosen(&choice) {
-            Some(id) => Ok(Found {
-                id,
-                slots: paths.len() as u32,
-                headed,
-            }),
-            None => Err(MountError::NoGroup),
+        let mut unread = Vec::new(alloc);
+        let choice = choose(alloc, bay, &headed, &ids, &mut unread)?;
+        match taken(&choice) {
+            Ok(id) => Ok(found_of(id, paths.len() as u32, headed, &unread)),
+            Err(error) => Err(error),
         }
     }
 
@@ -128,9 +158,7 @@ impl Found {
         ensures { result ≡ record self { headed = not_held held.now self.headed } }
     {
         let Found { id, slots, headed } = self;
-        let mut headed = headed;
-        leave_out(&mut headed, held);
-        Found { id, slots, headed }
+        found_of(id, slots, headed, held)
     }
 
     /// The group's id, how many images there are, and those with an open header.

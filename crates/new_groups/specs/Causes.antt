@@ -1,5 +1,5 @@
 -- Why a creation is refused once its images were looked at.
-use Rattle.std.specs.Prelude.{◌≡◌, ◌⊎◌, ℕ, ◌+◌, ◌/◌, Bool, false, ◌&&◌, ◌||◌, ◌==◌, not, nat_lt, List, [], ◌∷◌, ◌++◌, map, get_or, Option, Some, None, if◌then◌else◌}
+use Rattle.std.specs.Prelude.{◌≡◌, ◌⊎◌, ℕ, ◌+◌, ◌/◌, Bool, true, false, ◌&&◌, ◌||◌, ◌==◌, not, nat_lt, List, [], ◌∷◌, ◌++◌, map, get_or, Option, Some, None, if◌then◌else◌}
 use Rattle.std.specs.List.{filter_map, list_any}
 use Rattle.std.specs.Str.{bytes_eq}
 use Rattle.asm_formats.specs.Header.{Header}
@@ -93,14 +93,17 @@ is_member_taken taken force (shown.Member member) = not force || list_any (λ t.
 abbrev pub is_taken : Known → Bool → Place → Bool
 is_taken known force place = is_held known.held.items place.slot || is_member_taken known.taken.items force place.shown
 
-abbrev pub unread_refusal : Bytes → Shown → Option r.Refusal
-unread_refusal name shown.Unread = Some (r.WriteFault name)
-unread_refusal name shown.Free = None
-unread_refusal name (shown.Member member) = None
+-- the header couldn't be read
+abbrev pub is_unread : Shown → Bool
+is_unread shown.Unread = true
+is_unread shown.Free = false
+is_unread (shown.Member member) = false
 
--- DiskTaken, or WriteFault where the header couldn't be read
+-- WriteFault where the header couldn't be read, by which alone it can be told whether the disk is taken; else DiskTaken
 abbrev pub taken_refusal : Known → Candidate → Option r.Refusal
-taken_refusal known c = if is_taken known c.terms.force c.place then Some (r.DiskTaken c.disk.path) else unread_refusal c.disk.name c.place.shown
+taken_refusal known c =
+    if is_unread c.place.shown then Some (r.WriteFault c.disk.name)
+    else (if is_taken known c.terms.force c.place then Some (r.DiskTaken c.disk.path) else None)
 
 -- the units that the disk is to have: those that are said, or those of its image
 abbrev pub units_asked : Shape → Option ℕ → ℕ → ℕ

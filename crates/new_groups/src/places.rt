@@ -4,7 +4,7 @@ ghost use Rattle.std.specs.Prelude.{◌≡◌, ◌≤◌, ◌+◌, ◌++◌, [],
 ghost use Rattle.std.specs.List.{list_any};
 ghost use Rattle.std.specs.String.{string_bytes};
 ghost use Rattle.asm_base.specs.Refusals.{said};
-ghost use Rattle.new_groups.specs.Causes.{IsFirst, candidate, candidates, first_refused, is_member_taken, is_same_disk, is_taken, missing_refusal, place_at, place_in, places_at, shown_by, slot_from, taken_refusal};
+ghost use Rattle.new_groups.specs.Causes.{IsFirst, candidate, candidates, first_refused, is_member_taken, is_same_disk, is_taken, is_unread, missing_refusal, place_at, place_in, places_at, shown_by, slot_from, taken_refusal};
 ghost use Rattle.new_groups.specs.Tests.{is_held};
 
 use crate::asked::{Known, Taken};
@@ -183,7 +183,15 @@ fn is_taken(known: &Known, force: bool, place: Place) -> bool
     is_held(&known.held, place.slot) || is_member_taken(&known.taken, force, place.shown)
 }
 
-/// Whether the disk may be given to a new group.
+/// Whether the header couldn't be read.
+fn is_unread(shown: Shown) -> bool
+    ensures { result ≡ is_unread shown }
+{
+    matches!(shown, Shown::Unread)
+}
+
+/// Whether the disk may be given to a new group. A header that couldn't be read comes first: by it alone can it be told whether
+/// the disk is taken.
 fn check_free(
     alloc: Global,
     known: &Known,
@@ -194,13 +202,13 @@ fn check_free(
     ensures free { OnOk result (taken_refusal known.now (candidate disk.now terms place) ≡ None) }
     ensures refused { IfErr result (λ refusal. IsFirst (taken_refusal known.now (candidate disk.now terms place)) (said (λ _. []) refusal)) }
 {
-    if is_taken(known, terms.force, place) {
-        return Err(disk_taken(alloc, disk.path.as_slice()));
+    if is_unread(place.shown) {
+        return Err(write_fault(alloc, &disk.name));
     }
-    match place.shown {
-        Shown::Unread => Err(write_fault(alloc, &disk.name)),
-        Shown::Free => Ok(()),
-        Shown::Member(_) => Ok(()),
+    if is_taken(known, terms.force, place) {
+        Err(disk_taken(alloc, disk.path.as_slice()))
+    } else {
+        Ok(())
     }
 }
 

@@ -46,8 +46,8 @@ pub enum Amount {
 /// What becomes of the calls of a kind on an image, from the next command on.
 #[derive(Clone, Copy)]
 pub enum Then {
-    /// The first fails.
-    FailOnce,
+    /// The call of this number, counted from 1, fails.
+    FailAt(u64),
     /// Each fails.
     FailOn,
     /// The run stops at the call of this number, counted from 1.
@@ -124,10 +124,11 @@ fn byte(rest: &str) -> Option<Line<'_>> {
     Some(Line::Byte(name, number(place)?, value))
 }
 
-fn failing<'t>(kind: Kind, rest: &'t str) -> Line<'t> {
-    match rest.strip_suffix(" on") {
-        Some(name) => Line::Rule(kind, name, Then::FailOn),
-        None => Line::Rule(kind, rest, Then::FailOnce),
+fn failing<'t>(kind: Kind, rest: &'t str) -> Option<Line<'t>> {
+    match rest.split_once(' ') {
+        Some((name, "on")) => Some(Line::Rule(kind, name, Then::FailOn)),
+        Some((name, count)) => Some(Line::Rule(kind, name, Then::FailAt(number(count)?))),
+        None => Some(Line::Rule(kind, rest, Then::FailAt(1))),
     }
 }
 
@@ -137,7 +138,7 @@ fn fail(rest: &str) -> Option<Line<'_>> {
         "source" => Some(Line::FailSource(number(more)?)),
         "sink" => Some(Line::FailSink(number(more)?)),
         "each" => Some(Line::FailEach(number(more)?)),
-        _ => Some(failing(Kind::named(word)?, more)),
+        _ => failing(Kind::named(word)?, more),
     }
 }
 

@@ -23,6 +23,7 @@
 //!     away d2               each call on this image fails, as if it weren't there
 //!     clock 1000 1300       the times that the commands read, one after the other, and then the last again; else it is noon
 //!     fail read d0          the next read of this image fails; so with attach, make, write and sync
+//!     fail read d0 3        the third read of it from here on fails
 //!     fail read d0 on       each read of it fails from here on
 //!     fail source 2         the second read of the script fails, which is one of its second line
 //!     fail sink 2           the second write of what is printed fails

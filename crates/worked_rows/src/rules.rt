@@ -40,7 +40,11 @@ impl Rule {
             return Fate::IsDone;
         }
         match self.then {
-            Then::FailOnce => {
+            Then::FailAt(count) if count > 1 => {
+                self.then = Then::FailAt(count - 1);
+                Fate::IsDone
+            }
+            Then::FailAt(_) => {
                 self.then = Then::Over;
                 Fate::Fails
             }

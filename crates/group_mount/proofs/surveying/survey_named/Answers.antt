@@ -21,7 +21,7 @@ returns-clause-now g c =
     let s = g.B.Bay.state c.args.bay.now in
     let t = g.B.Bay.state c.survey_members.new.bay in
     IfOk-weaker c.survey_members.result _ _
-    (λ survey are. survey_is c.args.slots c.args.id c.args.named.now s t (g.met.B.Bay.sound c.survey_members.new.bay) c.survey_members.ensures.runs c.survey_members.ensures.attached c.requires.there survey
+    (λ survey are. survey_is c.args.slots c.args.id c.args.named.now s t c.survey_members.ensures.runs c.survey_members.ensures.attached c.requires.there survey
     (subst (λ (l : List Member). AreSurveyed c.args.id l survey s t) (c.deref.ensures.value ∙ c.in_ok-members.ensures) are)) c.survey_members.ensures.surveyed
 
 pub survey_members-requires-clause-few : goal.survey_members-requires-clause-few
