@@ -21,9 +21,11 @@ fits ms es d = eqb (map_units (slice_get ms d)) (disk_units es d)
 
 -- the test, one number after the other
 pub all_have : (ms : List UnitMap) (es : List Entry) (n : ℕ) → ((d : ℕ) → d < n → map_units (slice_get ms d) ≡ disk_units es d) → n ≡ most_disks → have_units ms es ≡ true
+unfolding have_units
 all_have ms es n each end = from_all (fits ms es) 0 most_disks (λ d low high. eq-eqb (map_units (slice_get ms d)) (disk_units es d) (each d (omega (arith, high, end))))
 
 pub one_has : (ms : List UnitMap) (es : List Entry) → have_units ms es ≡ true → (d : ℕ) → d < most_disks → map_units (slice_get ms d) ≡ disk_units es d
+unfolding have_units
 one_has ms es all d small = eqb-true (map_units (slice_get ms d)) (disk_units es d) (all_in (fits ms es) 0 most_disks all d (omega arith) (omega (arith, small)))
 
 pub one_lacks : (ms : List UnitMap) (es : List Entry) (d : ℕ) → d < most_disks → (map_units (slice_get ms d) ≡ disk_units es d → ⊥) → have_units ms es ≡ false

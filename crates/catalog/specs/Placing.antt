@@ -77,7 +77,7 @@ map_units None = 0
 map_units (Some m) = m.units
 
 -- the maps have as many units as the entries give each disk number
-abbrev pub have_units : List UnitMap → List status.Entry → Bool
+unfoldable pub have_units : List UnitMap → List status.Entry → Bool
 have_units ms entries = list_all (λ d. map_units (slice_get ms d) == disk_units entries d) (range_with_len 0 most_disks)
 
 -- the maps of all disk numbers, with no user unit used

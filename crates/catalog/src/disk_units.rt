@@ -35,10 +35,11 @@ impl Catalog {
         ensures next { self.new.next ≡ self.old.next }
     {
         self.next_units = None;
-        if have_units(&self.units, next.entries()) {
+        let entries = next.entries();
+        if have_units(&self.units, entries) {
             return Ok(());
         }
-        let units = units_for(alloc, &self.shape, &self.parts, next.entries())?;
+        let units = units_for(alloc, &self.shape, &self.parts, entries)?;
         self.next_units = Some(units);
         Ok(())
     }
