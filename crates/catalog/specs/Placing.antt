@@ -90,4 +90,5 @@ HasUnits s entries t ms = after_chunks s.step (unused_maps s entries) t.extents 
 
 -- Units by some entries are those by others that give each disk number as many units.
 abbrev pub UnitsStay : Type 0
-UnitsStay = (s : Shape) (one other : List status.Entry) (t : Tables) (ms : List UnitMap) → HaveSameUnits one other → HasUnits s one t ms → HasUnits s other t ms
+UnitsStay = (s : Shape) (one other : List status.Entry) (t : Tables) (ms : List UnitMap)
+    → HaveSameUnits one other → HasUnits s one t ms → HasUnits s other t ms
