@@ -210,6 +210,14 @@ const FEWER_COPIES: [Step; 6] = [
     Step::Tells(Fact::Record(1, 2)),
 ];
 
+/// A disk gets fewer units.
+const UNITS: [Step; 4] = [
+    Step::Record(Next::Units(3, 1000), Answer::Done),
+    Step::Tells(Fact::Record(1, 2)),
+    MAKE_A,
+    HAS_A,
+];
+
 /// A record may be of this group and no other, isn't marked gone, names copies that are there, and has an entry for each disk of its
 /// sets. Its sets are those before, or a second one comes to the one.
 const MAY_NOT: [Step; 11] = [
@@ -492,6 +500,7 @@ fn play_records(alloc: Global) -> Result<(), Wrong> {
     play(alloc, "holder fails", &HOLDER_FAILS, OFFLINE_STILL)?;
     play(alloc, "holders fail", &HOLDERS_FAIL, Then::Ends)?;
     play(alloc, "fewer copies", &FEWER_COPIES, Then::Ends)?;
+    play(alloc, "fewer units", &UNITS, FOUND)?;
     play(alloc, "record may not come next", &MAY_NOT, Then::Ends)?;
     play(alloc, "sets", &SETS, Then::Ends)?;
     play(alloc, "second set fails", &SECOND_SET_FAILS, Then::Ends)?;
