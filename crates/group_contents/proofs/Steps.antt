@@ -288,9 +288,9 @@ fault_given_back {a} {b} {c} {s} {t} {u} extents by r one two fault why =
     why
 
 -- a growth was given homes, and then given back
-pub homes_given_back : {a b c : MountedGroup} {s t u : BayState} (extents : NewExtents) (by : DiskRef) (r : Refusal) → IsMounted a → KeepsGroup a b s t → IsMounted b
+pub homes_given_back : {a b : MountedGroup} {s t : BayState} (c : MountedGroup) (u : BayState) (extents : NewExtents) (by : DiskRef) (r : Refusal) → IsMounted a → KeepsGroup a b s t → IsMounted b
     → (r ≡ cause.WriteFault by) ⊎ StatusCause b c t u r → IsFaultBack a extents by c s u r
-homes_given_back {a} {b} {c} {s} {t} {u} extents by r mounted one still why =
+homes_given_back c u extents by r mounted one still why =
     ⊎_elim (λ same. inl same) (λ status. inr (mounted, inr (cause_on one u c still r status))) why
 
 -- or it got none, and was given back for that

@@ -11,7 +11,7 @@ returns-in-Ok-clause-keeps g c = calls_keep c.give_homes.ensures.keeps c.give_ba
 
 pub returns-in-Ok-clause-cause : goal.returns-in-Ok-clause-cause
 returns-in-Ok-clause-cause g c =
-    homes_given_back c.args.filling.now.extents c.args.disk c.give_back.result c.requires.mounted c.give_homes.ensures.keeps c.in-Ok.ensures.mounted c.give_back.ensures.cause
+    homes_given_back c.give_back.new.m (g.B.Bay.state c.give_back.new.bay) c.args.filling.now.extents c.args.disk c.give_back.result c.requires.mounted c.give_homes.ensures.keeps c.in-Ok.ensures.mounted c.give_back.ensures.cause
 
 pub returns-in-Err-clause-cause : goal.returns-in-Err-clause-cause
 returns-in-Err-clause-cause g c =
