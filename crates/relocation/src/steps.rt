@@ -13,7 +13,6 @@ use crate::homes::may_move;
 use asm_base::{Change, DiskSet, ExtentId, Home, NoMemory, Refusal};
 use bay::Bay;
 use catalog::Catalog;
-use file_extents::commit_plan;
 use group_engine::{Flight, Mounted};
 use resync::{CopyError, copy_piece, extent_bytes, piece_len, refusal_of};
 use status_table::{PstRecord, with_holders, with_next_holders};
@@ -176,7 +175,7 @@ fn commit_move<B: Bay>(
     ensures { GoesOn m.old result m.new (B.state bay.old) (B.state bay.new) }
 {
     match plan_of(m.catalog(), alloc, flight) {
-        Ok(change) => commit_plan(m, alloc, bay, &change),
+        Ok(change) => m.commit_plan(alloc, bay, &change),
         Err(_) => Err(Refusal::NoMemory),
     }
 }

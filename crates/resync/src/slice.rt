@@ -9,7 +9,6 @@ use crate::copying::{copy_whole, piece_buffer, refusal_of};
 use crate::searching::{Search, next_stale, stale_copy, start};
 use asm_base::{ExtentId, Mode, NoMemory, Refusal};
 use bay::Bay;
-use file_extents::commit_plan;
 use group_engine::{Mounted, same_disks_are_next};
 use partnership::entry_of;
 use status_table::{PstEntry, with_mode};
@@ -184,7 +183,7 @@ fn clear_mark<B: Bay>(
         return Err(Refusal::NoMemory);
     };
     match catalog.plan_marks(alloc, x, 0, 1 << copy) {
-        Ok(change) => commit_plan(m, alloc, bay, &change),
+        Ok(change) => m.commit_plan(alloc, bay, &change),
         Err(_) => Err(Refusal::NoMemory),
     }
 }
