@@ -135,6 +135,13 @@ impl Units {
         self.lowest(n).is_some()
     }
 
+    /// How many units the disk has, reserved ones included.
+    pub fn size(&self) -> u32
+        ensures { result ≡ self.now.units }
+    {
+        self.units
+    }
+
     /// The number of user units.
     pub fn total(&self) -> u32
         ensures { result ≡ total_of self.now }

@@ -9,7 +9,7 @@ use Rattle.asm_formats.specs.Items.{Key}
 use Rattle.asm_formats.specs.Status as status
 use Rattle.asm_group.specs.Shape.{Shape}
 use Rattle.allocator.specs.UnitMaps.{UnitMap}
-use Rattle.catalog.specs.Applying.{AreDisksReady, IsReady, Leaves}
+use Rattle.catalog.specs.Applying.{AreDisksReady, IsReady, Leaves, next_maps}
 use Rattle.catalog.specs.Changing.{IsAfter}
 use Rattle.extent_map.specs.Extents.{Chunk, Chunked}
 use Rattle.catalog.specs.Placing.{HasUnits, after_chunks, misplaced, unused_maps}
@@ -117,12 +117,19 @@ pub kept_units : (t : Tables) (s : Shape) (ms new : List UnitMap) (o : Option Ta
 kept_units t s ms new o d e spare entries own has = record { catalog = record { rules = own.catalog.rules; entries = entries; units = has }; shape = own.shape; kept = own.kept }
 
 -- the units that were made ready are those of the homes
-pub disks_seen : (c : Catalogued) (t : Tables) (s : Shape) (ms : List UnitMap) (o : Option Tables) (next : Option (Vec UnitMap Global)) (units : Vec UnitMap Global) (entries : List status.Entry) → made t s ms o (units_in next) ≡ c → AreDisksReady c entries → Some units ≡ next
+disks_seen : (c : Catalogued) (t : Tables) (s : Shape) (ms : List UnitMap) (o : Option Tables) (next : Option (Vec UnitMap Global)) (entries : List status.Entry) → made t s ms o (units_in next) ≡ c → AreDisksReady c entries
+    → HasUnits s entries t (next_maps ms (units_in next))
+disks_seen c t s ms o next entries view ready = (subst (λ (x : Catalogued). AreDisksReady x entries) (sym view) ready).homes
+
+pub disks_taken : (c : Catalogued) (t : Tables) (s : Shape) (ms : List UnitMap) (o : Option Tables) (next : Option (Vec UnitMap Global)) (units : Vec UnitMap Global) (entries : List status.Entry) → made t s ms o (units_in next) ≡ c → AreDisksReady c entries → Some units ≡ next
     → HasUnits s entries t units.items
-disks_seen c t s ms o next units entries view ready is =
-    let r = subst (λ (x : Catalogued). AreDisksReady x entries) (sym view) ready in
-    let there : Some r.units ≡ Some units.items = sym r.next ∙ sym (ap units_in is) in
-    subst (λ (x : List UnitMap). HasUnits s entries t x) (some_is r.units units.items there) r.homes
+disks_taken c t s ms o next units entries view ready is =
+    subst (λ (n : Option (Vec UnitMap Global)). HasUnits s entries t (next_maps ms (units_in n))) (sym is) (disks_seen c t s ms o next entries view ready)
+
+-- where none were, those of now are
+pub disks_stay : (c : Catalogued) (t : Tables) (s : Shape) (ms : List UnitMap) (o : Option Tables) (next : Option (Vec UnitMap Global)) (entries : List status.Entry) → made t s ms o (units_in next) ≡ c → AreDisksReady c entries → None ≡ next → HasUnits s entries t ms
+disks_stay c t s ms o next entries view ready is =
+    subst (λ (n : Option (Vec UnitMap Global)). HasUnits s entries t (next_maps ms (units_in n))) (sym is) (disks_seen c t s ms o next entries view ready)
 
 -- the homes have units, so all of them are placed
 pub units_placed : (s : Shape) (step : ℕ) (entries : List status.Entry) (t : Tables) (extents : List Chunked) (old new : List UnitMap) (fault : Option Chunk) → step ≡ s.step → extents ≡ t.extents → (all : List UnitMap) × HasUnits s entries t all

@@ -54,3 +54,4 @@ pub mod MoveItems
 pub mod RecopyItems
 pub mod DiskUnitLaws
 pub mod ToldRecords
+pub mod SameUnits

@@ -1,5 +1,5 @@
 -- When a change may be applied to a catalog.
-use Rattle.std.specs.Prelude.{◌≡◌, List, Some}
+use Rattle.std.specs.Prelude.{◌≡◌, List, Option, Some, None}
 use Rattle.asm_formats.specs.Items.{Key}
 use Rattle.asm_formats.specs.Status as status
 use Rattle.asm_base.specs.Records.{Entry}
@@ -21,8 +21,12 @@ pub record IsReady (c : Catalogued) (put : List Entry) (gone : List Key) : Type 
   pub next : c.next ≡ Some tables
   pub leaves : Leaves c put gone tables
 
--- The memory for the disks of these entries was taken: the next units are those of the tables' homes.
+-- the units that were made ready for the next status record, or those of now where none were
+abbrev pub next_maps : List UnitMap → Option (List UnitMap) → List UnitMap
+next_maps now None = now
+next_maps now (Some next) = next
+
+-- The memory for the disks of these entries was taken: the next units, or those of now where they stay, are those of the tables'
+-- homes.
 pub record AreDisksReady (c : Catalogued) (entries : List status.Entry) : Type 0 where
-  pub units : List UnitMap
-  pub next : c.next_units ≡ Some units
-  pub homes : HasUnits c.shape entries c.tables units
+  pub homes : HasUnits c.shape entries c.tables (next_maps c.units c.next_units)

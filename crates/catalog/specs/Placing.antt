@@ -1,5 +1,5 @@
 -- The units of the disks, from the homes that the tables name.
-use Rattle.std.specs.Prelude.{◌≡◌, ℕ, ◌*◌, ◌==◌, Bool, true, List, find, [], ◌∷◌, map, slice_set, Option, Some, None, if◌then◌else◌}
+use Rattle.std.specs.Prelude.{◌≡◌, ℕ, ◌*◌, ◌<◌, ◌==◌, Bool, true, List, find, [], ◌∷◌, map, slice_set, Option, Some, None, if◌then◌else◌}
 use Rattle.std.specs.List.{list_all, range_with_len, slice_get}
 use Rattle.std.specs.Option.{option_and_then}
 use Rattle.asm_group.specs.Shape.{Shape}
@@ -67,6 +67,19 @@ entry_units (Some e) = e.units
 abbrev pub disk_units : List status.Entry → ℕ → ℕ
 disk_units entries d = entry_units (find (λ (e : status.Entry). e.number == d) entries)
 
+-- the entries give each disk number as many units as others do
+abbrev pub HaveSameUnits : List status.Entry → List status.Entry → Type 0
+HaveSameUnits one other = (d : ℕ) → d < most_disks → disk_units one d ≡ disk_units other d
+
+-- units of a disk by its map, and none where there is no map
+abbrev pub map_units : Option UnitMap → ℕ
+map_units None = 0
+map_units (Some m) = m.units
+
+-- the maps have as many units as the entries give each disk number
+unfoldable pub have_units : List UnitMap → List status.Entry → Bool
+have_units ms entries = list_all (λ d. map_units (slice_get ms d) == disk_units entries d) (range_with_len 0 most_disks)
+
 -- the maps of all disk numbers, with no user unit used
 abbrev pub unused_maps : Shape → List status.Entry → List UnitMap
 unused_maps s entries = map (λ d. unused (reserved_units s) (disk_units entries d)) (range_with_len 0 most_disks)
@@ -74,3 +87,8 @@ unused_maps s entries = map (λ d. unused (reserved_units s) (disk_units entries
 -- The used units are, from scratch, those of the homes that the tables name: none is used twice, and all are user units of the entries.
 abbrev pub HasUnits : Shape → List status.Entry → Tables → List UnitMap → Type 0
 HasUnits s entries t ms = after_chunks s.step (unused_maps s entries) t.extents ≡ Some ms
+
+-- Units by some entries are those by others that give each disk number as many units.
+abbrev pub UnitsStay : Type 0
+UnitsStay = (s : Shape) (one other : List status.Entry) (t : Tables) (ms : List UnitMap)
+    → HaveSameUnits one other → HasUnits s one t ms → HasUnits s other t ms

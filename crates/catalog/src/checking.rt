@@ -1,6 +1,6 @@
 //! Whether the tables of a group keep the rules that hold across them.
 
-ghost use Rattle.std.specs.Prelude.{◌≡◌, List as Items, IfErr, IfNone, IfOk, IfSome, IsTrue, None};
+ghost use Rattle.std.specs.Prelude.{◌≡◌, List as Items, IfErr, IfNone, IfOk, IfSome, IsTrue, None, Ok, true};
 ghost use Rattle.std.specs.Bool.{OnTrue};
 ghost use Rattle.std.specs.List.{list_all};
 ghost use Rattle.asm_group.specs.Shape.{Shape as GroupShape, is_shape};
@@ -8,14 +8,14 @@ ghost use Rattle.asm_formats.specs.Status.{Entry, is_entry};
 ghost use Rattle.allocator.specs.UnitMaps.{UnitMap};
 ghost use Rattle.extent_map.specs.Extents as extent_table;
 ghost use Rattle.catalog.specs.Faults.{AreChunksRight, AreNamesRight, AreSizesRight, BreaksRule, IsChunkFault, Names, disk_key, file_key, key_of_marks};
-ghost use Rattle.catalog.specs.Placing.{HasUnits};
+ghost use Rattle.catalog.specs.Placing.{HasUnits, HaveSameUnits};
 ghost use Rattle.catalog.specs.Rules.{AreOnRegular, KeepsRules, first_unknown};
 ghost use Rattle.catalog.specs.Tables.{AreTables};
 
 use crate::catalog::Catalog;
 use crate::error::CatalogError;
 use crate::parts::Parts;
-use crate::placing::{place_in, unused_units};
+use crate::placing::{have_units, place_in, unused_units};
 use crate::reading::{SETTINGS, chunk_key, node_key};
 use allocator::Units;
 use asm_base::{Key, NoMemory, Shape};
@@ -133,19 +133,39 @@ impl Parts {
 
 impl Catalog {
     /// Whether the units of these entries cover the homes that the tables name: all are user units of theirs, and none is used
-    /// twice. Work and memory go by the number of homes and of units.
+    /// twice. They do where the entries give each disk as many units as it has, which takes no memory; otherwise work and memory
+    /// go by the number of homes and of units.
     pub fn covers(&self, alloc: Global, entries: &[PstEntry]) -> Result<bool, NoMemory>
         requires entries { IsTrue (list_all is_entry entries.now) }
-        ensures { IfOk result (λ covers. OnTrue covers ((ms : Items UnitMap) × HasUnits self.now.shape entries.now self.now.tables ms)) }
+        ensures covers { IfOk result (λ covers. OnTrue covers ((ms : Items UnitMap) × HasUnits self.now.shape entries.now self.now.tables ms)) }
+        ensures same { (before : Items Entry) → HasUnits self.now.shape before self.now.tables self.now.units → HaveSameUnits before entries.now → result ≡ Ok true }
     {
-        match self.parts.units(alloc, &self.shape, entries) {
-            Ok(units) => {
-                drop(units);
-                Ok(true)
-            }
-            Err(CatalogError::Damaged { .. }) => Ok(false),
-            Err(CatalogError::NoMemory) => Err(NoMemory),
+        if have_units(&self.units, entries) {
+            return Ok(true);
         }
+        covers_anew(alloc, &self.shape, &self.parts, entries)
+    }
+}
+
+/// Whether the units of these entries, made anew, cover the homes that the tables name.
+fn covers_anew(
+    alloc: Global,
+    shape: &Shape,
+    parts: &Parts,
+    entries: &[PstEntry],
+) -> Result<bool, NoMemory>
+    requires shape { IsTrue (is_shape shape.now) }
+    requires entries { IsTrue (list_all is_entry entries.now) }
+    requires table { extent_table.IsTable parts.now.extents }
+    ensures { IfOk result (λ covers. OnTrue covers ((ms : Items UnitMap) × HasUnits shape.now entries.now parts.now ms)) }
+{
+    match parts.units(alloc, shape, entries) {
+        Ok(units) => {
+            drop(units);
+            Ok(true)
+        }
+        Err(CatalogError::Damaged { .. }) => Ok(false),
+        Err(CatalogError::NoMemory) => Err(NoMemory),
     }
 }
 

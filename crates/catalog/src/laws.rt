@@ -10,6 +10,7 @@ ghost use Rattle.catalog.specs.ExtentPlans.{ClearsItems, MovesItems, StaysInPlac
 ghost use Rattle.catalog.specs.Items.{ItemsAreOneList, ItemsOfRecords, ItemsSayTables, RecordsAreTold, TablesHaveItems, UnitsOfItems};
 ghost use Rattle.catalog.specs.NameChecks.{ChecksAgree, ChecksHold};
 ghost use Rattle.catalog.specs.NamePlans.{FilesAsWorld, RefusesAsWorld};
+ghost use Rattle.catalog.specs.Placing.{UnitsStay};
 ghost use Rattle.catalog.specs.RegularHomes.{AppendingKeepsRegular, CopiesAreRegular, CuttingKeepsRegular, HomesAreRegular, MovingKeepsRegular, RegularStays};
 
 /// Where a record is at fault, no value is a catalog of the records.
@@ -41,6 +42,11 @@ pub fn items_say_tables()
 /// The used units of each disk are, from scratch, those of the homes that the items name.
 pub fn units_are_of_items()
     ensures { UnitsOfItems }
+{}
+
+/// Units by the entries of a status record are those by other entries that give each disk number as many units.
+pub fn units_stay()
+    ensures { UnitsStay }
 {}
 
 /// The items after a move of a copy, as a committed move leaves them, are those of the tables that the plan of the move leads

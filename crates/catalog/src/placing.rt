@@ -1,13 +1,13 @@
 //! The units of the disks, from the homes that the tables name.
 
 ghost use Rattle.std.specs.Prelude.{◌≡◌, ◌≤◌, ◌<◌, ◌+◌, ◌*◌, ◌∷◌, ◌++◌, [], ◌^◌, length, map, if◌then◌else◌, IfOk, IsTrue, None, OnErr, OnOk, Some, true, IfNone};
-ghost use Rattle.std.specs.List.{list_all};
+ghost use Rattle.std.specs.List.{list_all, slice_get};
 ghost use Rattle.asm_formats.specs.Items.{Home as FormatHome};
 ghost use Rattle.asm_formats.specs.Regions.{reserved_units};
 ghost use Rattle.asm_formats.specs.Status.{is_entry};
 ghost use Rattle.asm_group.specs.Shape.{is_shape};
 ghost use Rattle.asm_placement.specs.Placed.{placed_copies, placed_extents};
-ghost use Rattle.catalog.specs.Placing.{after_chunks, after_homes, disk_units, home_placed, home_taken, misplaced, unused_maps};
+ghost use Rattle.catalog.specs.Placing.{after_chunks, after_homes, disk_units, have_units, home_placed, home_taken, map_units, misplaced, unused_maps};
 
 use allocator::Units;
 use asm_base::{Home, Homes, NoMemory, Shape};
@@ -145,6 +145,28 @@ pub(crate) fn unused_units(
         push(&mut units, map)?;
     }
     Ok(units)
+}
+
+/// Whether the maps have as many units as the entries give each disk number.
+pub(crate) fn have_units(units: &[Units], entries: &[PstEntry]) -> bool
+    ensures { result ≡ have_units units.now entries.now }
+{
+    for number in 0..MOST_DISKS {
+        if map_units(units, number) != units_in(entries, number) {
+            return false;
+        }
+    }
+    true
+}
+
+/// The units of a disk by its map, reserved ones included, and 0 where there is no map.
+fn map_units(units: &[Units], number: u8) -> u32
+    ensures { result ≡ map_units (slice_get units.now number) }
+{
+    match units.get(number as usize) {
+        Some(map) => map.size(),
+        None => 0,
+    }
 }
 
 fn push(units: &mut Vec<Units>, map: Units) -> Result<(), NoMemory>

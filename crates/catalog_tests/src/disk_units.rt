@@ -45,20 +45,23 @@ pub fn with_second(units: u32, quorum: bool) -> PstRecord {
     status
 }
 
-/// What is told once the second disk has 32 units.
-const FEWER: [Step<'static>; 3] = [
-    Step::Tells(Fact::Units(0, Some((62, 3, Some(5))))),
-    Step::Tells(Fact::Units(1, Some((30, 3, Some(5))))),
-    Step::Tells(Fact::Units(63, Some((0, 0, None)))),
-];
+/// What is told of the units where the second disk has so many user units.
+fn told(units: u32) -> [Step<'static>; 3] {
+    [
+        Step::Tells(Fact::Units(0, Some((62, 3, Some(5))))),
+        Step::Tells(Fact::Units(1, Some((units, 3, Some(5))))),
+        Step::Tells(Fact::Units(63, Some((0, 0, None)))),
+    ]
+}
 
 /// Gives a catalog the units of its disks by the next status record, by which another catalog of the same records has units.
-/// The place of the first fact that isn't told then.
+/// The place of the first fact that isn't told then, where the second disk has so many user units.
 fn wrong_by(
     alloc: Global,
     group: &mut Catalog,
     other: &Catalog,
     next: &PstRecord,
+    units: u32,
 ) -> Result<Option<usize>, Fail>
     requires entries { IsTrue (list_all is_entry next.now.entries) }
     requires units { HasUnits group.old.shape next.now.entries group.old.tables other.now.units }
@@ -66,14 +69,14 @@ fn wrong_by(
     match group.ready_disks(alloc, next) {
         Ok(()) => {
             group.apply_disks(next);
-            Ok(wrong_in(alloc, group, &FEWER))
+            Ok(wrong_in(alloc, group, &told(units)))
         }
         Err(_) => Err(Fail::from("memory")),
     }
 }
 
 /// Gives the group the units of the next record, by which there is another catalog of its records. The place of the first
-/// fact that isn't told then.
+/// fact that isn't told then, where the second disk has so many user units.
 #[tactic(auto, using(crate::proofs::SameHomes::fits))]
 fn wrong_after(
     alloc: Global,
@@ -81,13 +84,14 @@ fn wrong_after(
     group: &mut Catalog,
     next: &PstRecord,
     shape: Shape,
+    units: u32,
 ) -> Result<Option<usize>, Fail>
     requires catalog { (first : Items Entry) × IsCatalogOf records.now first group.old }
     requires shape { group.old.shape ≡ shape }
 {
     match opened(alloc, records, next, shape) {
         Ok(other) => {
-            let wrong = wrong_by(alloc, group, &other, next);
+            let wrong = wrong_by(alloc, group, &other, next, units);
             drop(other);
             wrong
         }
@@ -95,12 +99,20 @@ fn wrong_after(
     }
 }
 
-/// The same of a catalog of the records by the usual status record.
-fn wrong_of(alloc: Global, records: &Records) -> Result<Option<usize>, Fail> {
+/// The same of a catalog of the records by the usual status record, and the next one by which the second disk has so many units,
+/// two of them reserved.
+fn wrong_of(alloc: Global, records: &Records, units: u32) -> Result<Option<usize>, Fail> {
     match opened(alloc, records, &disks(2), SHAPE) {
         Ok(mut group) => {
-            let next = with_second(32, false);
-            let wrong = wrong_after(alloc, records, &mut group, &next, SHAPE);
+            let next = with_second(units, false);
+            let wrong = wrong_after(
+                alloc,
+                records,
+                &mut group,
+                &next,
+                SHAPE,
+                units.saturating_sub(2),
+            );
             drop(group);
             wrong
         }
@@ -108,10 +120,11 @@ fn wrong_of(alloc: Global, records: &Records) -> Result<Option<usize>, Fail> {
     }
 }
 
-fn wrong_units(alloc: Global) -> Result<Option<usize>, Fail> {
+/// The same where it has as many units as before, fewer, or more.
+fn wrong_units(alloc: Global, units: u32) -> Result<Option<usize>, Fail> {
     match usual(alloc) {
         Ok(records) => {
-            let wrong = wrong_of(alloc, &records);
+            let wrong = wrong_of(alloc, &records, units);
             drop(records);
             wrong
         }
@@ -121,5 +134,7 @@ fn wrong_units(alloc: Global) -> Result<Option<usize>, Fail> {
 
 /// The units are those of the next entries, and those of the homes are used.
 pub fn units_of_a_status_record(alloc: Global) -> Result<(), Fail> {
-    judged("units of a status record", wrong_units(alloc)?)
+    judged("units by as many", wrong_units(alloc, 64)?)?;
+    judged("units by fewer", wrong_units(alloc, 32)?)?;
+    judged("units by more", wrong_units(alloc, 96)?)
 }

@@ -19,7 +19,7 @@ returns c =
     let m = c.args.self.now in
     let next = c.args.next.now in
     let allowed : IsTrue (is_status next) = sym c.is_status.ensures ∙ c.if-not-is_status.false in
-    if_ok_true c.covers.result c.covers.ensures
+    if_ok_true c.covers.result c.covers.ensures.covers
     (λ units. next_of m next allowed c.if-not-is_record.ensures c.if-not-has_births.ensures c.if-not-names_copies.ensures (
       units.0,
       subst (λ (v : MountedGroup). HasUnits v.catalog.shape next.entries v.catalog.tables units.0) c.self.view_is
