@@ -6,7 +6,7 @@ use Rattle.bay.proofs.Calls.{leaves_begin}
 use Rattle.asm_base.specs.declared.refusal.Refusal.{Refusal}
 use Rattle.asm_base.specs.declared.refusal.Refusal.TheVariants as cause
 use Rattle.asm_formats.specs.Status.{Status}
-use Rattle.catalog.specs.Placing.{HasUnits}
+use Rattle.catalog.specs.Placing.{HasUnits, HaveSameUnits}
 use Rattle.catalog.specs.Tables.{Catalogued}
 use Rattle.directory_store.specs.Answers.{IsUnchanged}
 use Rattle.directory_store.specs.Stores.{Stored}
@@ -43,6 +43,7 @@ module _ (was : MountedGroup) (mounted : IsMounted was) (whole : IsWhole was) (n
         };
         flight = refl;
         tables = before.tables;
+        units = λ same. before.units;
         mounted = tt;
         recorded = tt;
         cause = tt;
@@ -55,7 +56,7 @@ module _ (was : MountedGroup) (mounted : IsMounted was) (whole : IsWhole was) (n
       ready_same = record { store = ready.store; register = ready.register; sizes = ready.sizes }
 
   module _ (is_next : IsNextOf was next) (t : BayState) (sound : IsSound s) (answer : Result ℕ Dead) (reg : Registered) (written : HasWritten was.register next answer reg s t) (tables : cat.tables ≡ was.catalog.tables)
-      (shape : cat.shape ≡ was.catalog.shape) where
+      (shape : cat.shape ≡ was.catalog.shape) (maps : HaveSameUnits was.register.value.entries next.entries → cat.units ≡ was.catalog.units) where
     abbrev now : MountedGroup
     now = record was { catalog = cat; register = reg }
 
@@ -88,6 +89,7 @@ module _ (was : MountedGroup) (mounted : IsMounted was) (whole : IsWhole was) (n
           };
           flight = refl;
           tables = tables;
+          units = maps;
           mounted = mounted;
           recorded = ap (λ (x : Registered). x.value) written.register ∙ ap (λ (a : Result ℕ Dead). (after_write was.register next a).value) ok;
           cause = tt;
@@ -104,6 +106,7 @@ module _ (was : MountedGroup) (mounted : IsMounted was) (whole : IsWhole was) (n
           keeps = keeps_dismounted was now after s t dead.slot refusal same_group by written.attached runs;
           flight = ap (λ (v : MountedGroup). v.flight) by.new_is;
           tables = ap (λ (v : MountedGroup). v.catalog.tables) by.new_is ∙ tables;
+          units = λ same. ap (λ (v : MountedGroup). v.catalog.units) by.new_is ∙ maps same;
           mounted = tt;
           recorded = tt;
           cause = subst (λ (x : Refusal). StatusCause was after s t x) (sym by.refusal_is) (inr (ap (λ (v : MountedGroup). v.access) by.new_is, lost));

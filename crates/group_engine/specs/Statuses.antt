@@ -11,7 +11,7 @@ use Rattle.asm_placement.specs.Among.{IsAmong}
 use Rattle.change_directory.specs.declared.copy.DirCopy.{DirCopy}
 use Rattle.asm_group.specs.Group.{Group}
 use Rattle.asm_images.specs.Kept.{Kept}
-use Rattle.catalog.specs.Placing.{HasUnits}
+use Rattle.catalog.specs.Placing.{HasUnits, HaveSameUnits}
 use Rattle.status_register.specs.Holders.{numbered}
 use Rattle.status_register.specs.Reaching.{Reaches}
 use Rattle.group_engine.specs.Commits.{StandsIn, StatusCause}
@@ -43,6 +43,7 @@ pub record WritesStatus (old : MountedGroup) (next : Status) (answer : Result (U
   pub keeps : KeepsGroup old new s t
   pub flight : new.flight ≡ old.flight
   pub tables : new.catalog.tables ≡ old.catalog.tables
+  pub units : HaveSameUnits old.register.value.entries next.entries → new.catalog.units ≡ old.catalog.units
   pub mounted : OnOk answer (IsMounted new)
   pub recorded : OnOk answer (new.register.value ≡ numbered old.register next)
   pub cause : IfErr answer (StatusCause old new s t)

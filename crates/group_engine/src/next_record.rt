@@ -51,7 +51,8 @@ fn follows(value: &PstRecord, next: &PstRecord) -> bool
 impl Mounted {
     /// Whether a record may come next, so that `set_status` may write it: it is one of this group and of the formats, not marked gone, may
     /// be written after the one that holds, is reached by the attached disks and has their births, names copies that the group has, and its
-    /// entries have the units of all homes. Work and memory go by the number of homes and of units.
+    /// entries have the units of all homes. Work goes by the record where it gives each disk as many units as the one before;
+    /// otherwise work and memory go by the number of homes and of units.
     pub fn may_get(&self, alloc: Global, next: &PstRecord) -> Result<bool, NoMemory>
         ensures { IfOk result (λ may. OnTrue may (IsNextOf self.now next.now)) }
     {

@@ -3,6 +3,7 @@ ghost use Rattle.std.specs.Prelude.{◌≡◌, ◌∷◌, [], ℕ, IfErr, OnErr,
 ghost use Rattle.bay.specs.Moments.{LeavesOnly};
 ghost use Rattle.asm_group.specs.Group.{Group};
 ghost use Rattle.asm_images.specs.Kept.{Kept};
+ghost use Rattle.catalog.specs.Placing.{HaveSameUnits};
 ghost use Rattle.status_register.specs.Holders.{numbered};
 ghost use Rattle.group_engine.specs.Commits.{StandsIn, StatusCause};
 ghost use Rattle.group_engine.specs.Mounts.{IsMounted, IsReady, IsWhole, Mounts};
@@ -22,6 +23,9 @@ impl Mounted {
     /// Writes a status record under the next number, and brings the units of the catalog and the directory copies to it. The
     /// record names no other copies than the one before. Refusals: Dismounted, where the group is, or where in this call a majority of a set of
     /// the record failed; NoMemory. NoMemory leaves the value as before.
+    ///
+    /// Where the record gives each disk as many units as the one before, the unit maps stay, and work goes by the record. Otherwise
+    /// work and memory go by the number of homes and of units.
     pub fn set_status<B: Bay>(
         &mut self,
         alloc: Global,
@@ -35,6 +39,8 @@ impl Mounted {
         ensures keeps { KeepsGroup self.old self.new (B.state bay.old) (B.state bay.new) }
         ensures flight { self.new.flight ≡ self.old.flight }
         ensures tables { self.new.catalog.tables ≡ self.old.catalog.tables }
+        // Where the record gives each disk as many units as the one before, the unit maps stay.
+        ensures units { HaveSameUnits self.old.register.value.entries next.now.entries → self.new.catalog.units ≡ self.old.catalog.units }
         // Once it is done, the group takes calls still, and the record holds under the next number.
         ensures mounted { OnOk result (IsMounted self.new) }
         ensures recorded { OnOk result (self.new.register.value ≡ numbered self.old.register next.now) }
