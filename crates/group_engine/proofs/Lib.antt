@@ -18,6 +18,7 @@ pub mod Statuses
 pub mod Bytes
 pub mod Causes
 pub mod KeptRecords
+pub mod Searches
 pub mod Ends
 pub mod StatusEnds
 pub mod NextRecords

@@ -1,4 +1,5 @@
 pub mod CommitSteps
+pub mod Searches
 pub mod Mounts
 pub mod Own
 pub mod Becoming

@@ -9,6 +9,7 @@ ghost use Rattle.status_register.specs.declared.member.Member.{Member as Attache
 use crate::attached::Attached;
 use crate::births::has_birth;
 use crate::mounted::Mounted;
+use crate::search::Search;
 use bay::Bay;
 use status_register::Member;
 
@@ -63,6 +64,7 @@ impl Mounted {
         let _bay = bay;
         // Reading a place shows that there are 64 of them.
         let _place = self.register.member(member.number);
+        self.search = Search::start();
         self.register.attach(member);
         self.disks[member.number as usize] = Some(Attached {
             slot: member.slot,
@@ -78,6 +80,7 @@ impl Mounted {
         ensures takes { Takes self.old (B.state bay.now) → Takes self.new (B.state bay.now) }
     {
         let _bay = bay;
+        self.search = Search::start();
         self.register.detach(disk);
         self.disks[disk as usize] = None;
     }

@@ -17,6 +17,7 @@ use crate::access::Access;
 use crate::changing::commit_change;
 use crate::dropping::drop_copies;
 use crate::mounted::{Mounted, disk_in};
+use crate::search::Search;
 use asm_base::{Change, DiskRef, Refusal};
 use bay::Bay;
 use directory_store::StoreError;
@@ -102,6 +103,7 @@ impl Mounted {
         requires leaves { (u : Tables) × Leaves self.old.catalog change.now.put change.now.gone u }
         ensures { CommitsChange self.old change.now.put change.now.gone result self.new (B.state bay.old) (B.state bay.new) }
     {
+        self.search = Search::start();
         match commit_change(alloc, bay, &mut self.catalog, &mut self.store, change) {
             Ok(failed) => {
                 if failed.bits() == 0 {

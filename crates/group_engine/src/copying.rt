@@ -11,6 +11,7 @@ ghost use Rattle.status_register.specs.Keeping.{IsReady as IsWritable};
 ghost use Rattle.status_register.specs.Reaching.{Reaches};
 
 use crate::mounted::Mounted;
+use crate::search::Search;
 use asm_base::{DiskRef, DiskSet, Refusal};
 use bay::Bay;
 use change_directory::DirCopy;
@@ -117,6 +118,7 @@ impl Mounted {
         requires unnamed { has_bit self.old.register.value.directories to ≡ false }
         ensures { CopiesTo self.old to result self.new (B.state bay.old) (B.state bay.new) }
     {
+        self.search = Search::start();
         match self.store.copy_to(alloc, bay, copy) {
             Ok(()) => match name_copy(bay, &mut self.register, to) {
                 Ok(_) => Ok(()),

@@ -10,6 +10,7 @@ ghost use Rattle.group_engine.specs.Own.{KeepsGroup};
 
 use crate::access::Access;
 use crate::mounted::Mounted;
+use crate::search::Search;
 use asm_base::{DiskRef, DiskSet, Refusal};
 use bay::Bay;
 use status_register::{Dead, Register};
@@ -57,6 +58,7 @@ impl Mounted {
         requires ready { IsReady self.old (B.state bay.old) }
         ensures { EndsGroup self.old result self.new (B.state bay.old) (B.state bay.new) }
     {
+        self.search = Search::start();
         match mark_gone(bay, &mut self.register) {
             Ok(_) => {
                 self.access = Access::Closed;

@@ -11,6 +11,7 @@ mod commit;
 mod commit_laws;
 mod copying;
 mod dropping;
+mod extent_commit;
 mod flight;
 mod forgetting;
 mod frames;
@@ -21,6 +22,8 @@ mod mounted;
 mod next_laws;
 mod next_record;
 mod pending;
+mod quorum;
+mod search;
 mod status;
 
 pub use access::Access;

@@ -1,17 +1,21 @@
 //! A mounted group as one value.
-ghost use Rattle.std.specs.Prelude.{◌≡◌, ◌<◌, ℕ, IfErr, None, OnOk, Some, get_or, length};
+ghost use Rattle.std.specs.Prelude.{◌≡◌, ◌<◌, ℕ, IfErr, IfNone, IfSome, None, OnOk, Some, get_or, length};
 ghost use Rattle.std.specs.Bool.{OnFalse, OnTrue};
 ghost use Rattle.std.specs.Option.{option_map};
+ghost use Rattle.catalog.specs.Rules.{AreOnRegular};
 ghost use Rattle.group_engine.specs.declared.attached.Attached.{Attached as AttachedDisk};
 ghost use Rattle.group_engine.specs.Making.{IsShut, closed, dismounted_by, made};
 ghost use Rattle.group_engine.specs.Mounts.{IsMounted, IsWhole, slot_at};
+ghost use Rattle.group_engine.specs.Searches.{IsNextMove};
 
 use crate::access::Access;
 use crate::attached::Attached;
 use crate::flight::Flight;
+use crate::search::Search;
 use asm_base::{DiskRef, Name, Refusal};
 use catalog::Catalog;
 use directory_store::Store;
+use rebalance::Next;
 use status_register::Register;
 use status_table::PstRecord;
 use std::marker::Model;
@@ -28,17 +32,19 @@ pub struct Mounted {
     pub(crate) disks: [Option<Attached>; 64],
     pub(crate) flight: Option<Flight>,
     pub(crate) access: Access,
+    /// What is known of the search for the next move. No contract sees it.
+    pub(crate) search: Search,
 }
 
 impl Model for Mounted {
-    ghost use Rattle.std.specs.Prelude.{◌≡◌, length};
     ghost use Rattle.group_engine.specs.Mounts.{MountedGroup};
+    ghost use Rattle.group_engine.specs.Searches.{AreParts};
 
     ghost Value = { MountedGroup };
 
     ghost view = { λ m. record { name = m.name; catalog = m.catalog; store = m.store; register = m.register; disks = m.disks; flight = m.flight; access = m.access } };
 
-    ghost invariant = { λ m. length m.disks ≡ 64 };
+    ghost invariant = { λ m. AreParts m.disks m.catalog m.register.value m.search };
 }
 
 impl Mounted {
@@ -62,6 +68,7 @@ impl Mounted {
             disks,
             flight: None,
             access: Access::Mounted,
+            search: Search::start(),
         }
     }
 
@@ -127,6 +134,18 @@ impl Mounted {
         ensures { self.new ≡ record self.old { flight = flight } }
     {
         self.flight = flight;
+    }
+
+    /// What the rebalance does next, or how it ends. None where a home lies on a disk of a quorum failure group. The search goes on
+    /// where the one before came to, and whether homes lie on such disks is asked of all of them once: after commits by
+    /// `commit_extent` no more. It takes no memory.
+    pub fn next_move(&mut self) -> Option<Next>
+        requires whole { IsWhole self.old }
+        ensures same { self.new ≡ self.old }
+        ensures next { IfSome result (IsNextMove self.old.catalog self.old.register.value) }
+        ensures none { IfNone result (AreOnRegular self.old.register.value.entries self.old.catalog.tables → ⊥) }
+    {
+        self.search.next(&self.catalog, self.register.value())
     }
 
     /// Whether the group takes calls, and if not why.

@@ -13,6 +13,7 @@ ghost use Rattle.group_engine.specs.Statuses.{IsNextOf, WritesStatus};
 use crate::access::Access;
 use crate::forgetting::forget_others;
 use crate::mounted::Mounted;
+use crate::search::Search;
 use asm_base::{DiskRef, Refusal};
 use bay::Bay;
 use status_table::PstRecord;
@@ -70,6 +71,7 @@ impl Mounted {
         requires next { IsNextOf self.old next.now }
         ensures { WritesStatus self.old next.now result self.new (B.state bay.old) (B.state bay.new) }
     {
+        self.search = Search::start();
         if self.catalog.ready_disks(alloc, next).is_err() {
             return Err(Refusal::NoMemory);
         }

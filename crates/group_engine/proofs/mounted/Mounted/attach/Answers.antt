@@ -15,4 +15,4 @@ returns-clause-takes g c =
     let place : HasPlace was x = subst (λ (v : MountedGroup). HasPlace v x) (sym c.self.view_is) c.requires.place in
     subst (λ (v : MountedGroup). Takes v s → Takes (record was { register = c.attach.new.self; disks = set was.disks x.number (Some (record { slot = x.slot; size = size })) }) s) c.self.view_is
     (subst (λ (r : Registered). Takes was s → Takes (record was { register = r; disks = set was.disks x.number (Some (record { slot = x.slot; size = size })) }) s) (sym c.attach.ensures)
-    (attached_takes was x size s place c.requires.image c.member-place.ensures.all c.self.invariant))
+    (attached_takes was x size s place c.requires.image c.member-place.ensures.all c.self.invariant.places))

@@ -1,9 +1,11 @@
 // That no home lies on a disk of a quorum failure group, as the search for the next move asks.
-ghost use Rattle.std.specs.Bool.{OnTrue};
+ghost use Rattle.std.specs.Bool.{OnFalse, OnTrue};
 ghost use Rattle.std.specs.List.{list_all};
 ghost use Rattle.std.specs.Prelude.{◌≡◌};
 ghost use Rattle.asm_placement.specs.Work.{is_regular};
 ghost use Rattle.catalog.specs.Rules.{AreOnRegular, are_on_regular, first_wrong, is_on_regular, is_regular_chunk};
+ghost use Rattle.catalog.specs.Tables.{AreTables};
+ghost use Rattle.rebalance.specs.Cursors.{passes_at};
 
 use asm_base::{Home, Homes};
 use catalog::Catalog;
@@ -12,9 +14,23 @@ use status_table::PstEntry;
 
 /// Whether no home of the tables lies on a disk of a quorum failure group.
 pub(crate) fn are_all_regular(catalog: &Catalog, disks: &[PstEntry]) -> bool
-    ensures { OnTrue result (AreOnRegular disks.now catalog.now.tables) }
+    ensures yes { OnTrue result (AreOnRegular disks.now catalog.now.tables) }
+    ensures no { OnFalse result (AreOnRegular disks.now catalog.now.tables → ⊥) }
 {
     first_on_quorum(catalog, disks).is_none()
+}
+
+/// Whether a chunk is there and none of its homes does.
+pub(crate) fn is_chunk_regular(catalog: &Catalog, disks: &[PstEntry], at: (u32, u32)) -> bool
+    requires { AreTables catalog.now.tables }
+    ensures { result ≡ passes_at (is_regular_chunk disks.now) catalog.now.tables.extents at }
+{
+    match catalog.chunks_from(at).next() {
+        Some((first, chunk)) => {
+            at.cmp(first).is_eq() && are_on_regular_all(disks, chunk.as_slice())
+        }
+        None => false,
+    }
 }
 
 /// The first chunk with a home on such a disk.
