@@ -11,12 +11,13 @@ use Rattle.catalog.specs.Changing.{IsAfter}
 use Rattle.catalog.specs.Plans.{IsPlan}
 use Rattle.catalog.specs.Tables.{Catalogued, Tables}
 use Rattle.catalog.proofs.AfterLaws.{one_after}
+use Rattle.group_engine.specs.Commits.{KeepsRecord}
 use Rattle.group_engine.specs.Mounts.{MountedGroup}
 use Rattle.status_register.specs.Holders.{numbered}
 use Rattle.disk_modes.specs.declared.changing.Changes.{Changes}
 use Rattle.disk_modes.specs.declared.changing.Changes.TheVariants as changes
 use Rattle.disk_modes.specs.declared.records.NewModes.{NewModes}
-use Rattle.disk_modes.specs.Effects.{KeepsEntries, Makes, PutsBoth, PutsModes, PutsRebalance, with_rebalance}
+use Rattle.disk_modes.specs.Effects.{Makes, PutsBoth, PutsModes, PutsRebalance, with_rebalance}
 use Rattle.disk_modes.specs.Records.{IsUnder, entries_after, taken_off}
 
 pub on_ok : (P Q : Type 0) (r : Result (Unit {0}) Refusal) → (P → Q) → OnOk r P → OnOk r Q
@@ -35,7 +36,7 @@ puts_modes to old new next tables written under = record {
 
 -- the tables after a commit are those that were planned
 pub puts_rebalance : (power : Option ℕ) (old new : MountedGroup) (put : List records.Entry) (gone : List Key) → IsAfter old.catalog.tables put gone new.catalog.tables
-    → IsAfter old.catalog.tables put gone (with_rebalance old.catalog.tables power) → KeepsEntries old.register.value new.register.value → PutsRebalance power old new
+    → IsAfter old.catalog.tables put gone (with_rebalance old.catalog.tables power) → KeepsRecord old.register.value new.register.value → PutsRebalance power old new
 puts_rebalance power old new put gone applied planned kept = record { tables = one_after old.catalog.tables new.catalog.tables (with_rebalance old.catalog.tables power) put gone applied planned; kept = kept }
 
 pub modes_put : (to : NewModes) (old new : MountedGroup) (next : Status) (r : Result (Unit {0}) Refusal) → new.catalog.tables ≡ old.catalog.tables → OnOk r (new.register.value ≡ numbered old.register next)
@@ -44,7 +45,7 @@ modes_put to old new next r tables written under =
     on_ok (new.register.value ≡ numbered old.register next) (PutsModes to old new) r (λ is. puts_modes to old new next tables is under) written
 
 pub rebalance_put : (power : Option ℕ) (old new : MountedGroup) (c : Catalogued) (put : List records.Entry) (gone : List Key) (r : Result (Unit {0}) Refusal) → c ≡ old.catalog
-    → IsPlan c put gone (with_rebalance c.tables power) → OnOk r (IsAfter old.catalog.tables put gone new.catalog.tables) → OnOk r (KeepsEntries old.register.value new.register.value)
+    → IsPlan c put gone (with_rebalance c.tables power) → OnOk r (IsAfter old.catalog.tables put gone new.catalog.tables) → KeepsRecord old.register.value new.register.value
     → OnOk r (PutsRebalance power old new)
 rebalance_put power old new c put gone (Ok done) same plan applied kept =
     puts_rebalance power old new put gone applied (subst (λ (k : Catalogued). IsAfter k.tables put gone (with_rebalance k.tables power)) same plan.after) kept

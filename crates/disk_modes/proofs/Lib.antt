@@ -3,7 +3,6 @@ pub mod Steps
 pub mod NextRecords
 pub mod Reasons
 pub mod Entries
-pub mod SameEntries
 pub mod Effects
 pub mod Naming
 pub mod Drops

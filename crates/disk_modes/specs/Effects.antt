@@ -4,10 +4,11 @@ use Rattle.std.specs.List.{list_any}
 use Rattle.std.specs.Option.{option_map}
 use Rattle.asm_group.specs.declared.Mode.TheVariants as mode
 use Rattle.asm_formats.specs.Sets.{has_bit}
-use Rattle.asm_formats.specs.Status.{Entry, Status}
+use Rattle.asm_formats.specs.Status.{Entry}
 use Rattle.asm_placement.specs.Modes.{is_dropping}
 use Rattle.asm_placement.specs.Partners.{with_partners}
 use Rattle.catalog.specs.Tables.{Tables}
+use Rattle.group_engine.specs.Commits.{KeepsRecord}
 use Rattle.group_engine.specs.Mounts.{MountedGroup}
 use Rattle.group_reports.specs.Disks.{expiring}
 use Rattle.disk_modes.specs.declared.changing.Changes.{Changes}
@@ -24,15 +25,10 @@ use Rattle.disk_modes.specs.Records.{IsUnder, entries_after, entry_as, taken_off
 abbrev pub with_rebalance : Tables → Option ℕ → Tables
 with_rebalance t power = record t { operations = record t.operations { rebalance = power } }
 
--- The record has the same entries, and no directory copy more.
-pub record KeepsEntries (r s : Status) : Type 0 where
-  pub entries : s.entries ≡ r.entries
-  pub copies : IsWithin s.directories r.directories
-
--- The rebalance of a power is active, or none is, and the entries stay.
+-- The rebalance of a power is active, or none is, and the entries and the sets of the record stay, but for directory copies that failed.
 pub record PutsRebalance (power : Option ℕ) (old new : MountedGroup) : Type 0 where
   pub tables : new.catalog.tables ≡ with_rebalance old.catalog.tables power
-  pub kept : KeepsEntries old.register.value new.register.value
+  pub kept : KeepsRecord old.register.value new.register.value
 
 -- The record that holds is under the new modes, and the tables stay.
 pub record PutsModes (to : NewModes) (old new : MountedGroup) : Type 0 where

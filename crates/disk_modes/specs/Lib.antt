@@ -3,7 +3,6 @@ pub mod Losing
 pub mod Directories
 pub mod Records
 pub mod Causes
-pub mod Comparing
 pub mod Effects
 pub mod Finding
 pub mod Sizes

@@ -1,20 +1,13 @@
 // The two changes of which each statement on disks is made: the status record, and the record of the active rebalance.
 ghost use Rattle.std.specs.Prelude.{OnOk, Some};
-ghost use Rattle.std.specs.Bool.{OnTrue};
-ghost use Rattle.catalog.specs.Changing.{IsAfter};
-ghost use Rattle.catalog.specs.Plans.{IsPlan};
-ghost use Rattle.catalog.specs.Tables.{Tables};
 ghost use Rattle.group_engine.specs.Mounts.{IsMounted, Takes};
 ghost use Rattle.group_engine.specs.Pending.{GoesOn};
-ghost use Rattle.disk_modes.specs.Effects.{KeepsEntries, Makes, PutsBoth, PutsModes, PutsRebalance};
+ghost use Rattle.disk_modes.specs.Effects.{Makes, PutsBoth, PutsModes, PutsRebalance};
 
-use crate::checking::{directories_of, is_within};
-use crate::comparing::same_entries;
 use crate::records::{NewModes, next_record};
-use asm_base::{Change, NoMemory, Refusal};
+use asm_base::{NoMemory, Refusal};
 use bay::Bay;
 use group_engine::Mounted;
-use status_table::PstRecord;
 use std::alloc::Global;
 
 /// The changes that a statement makes, in their order. The rebalance is of a power.
@@ -177,61 +170,7 @@ pub(crate) fn put_rebalance<B: Bay>(
     ensures done { OnOk result (PutsRebalance power m.old m.new) }
 {
     match m.catalog().plan_rebalance(alloc, power) {
-        Ok(change) => commit_keeping(m, alloc, bay, &change),
-        Err(_) => Err(Refusal::NoMemory),
-    }
-}
-
-/// Commits a change that a plan gave. The group takes no more calls where the entries of the disks weren't the same behind it, which
-/// doesn't come.
-fn commit_keeping<B: Bay>(
-    m: &mut Mounted,
-    alloc: Global,
-    bay: &mut B,
-    change: &Change,
-) -> Result<(), Refusal>
-    requires takes { Takes m.old (B.state bay.old) }
-    requires plan { (u : Tables) × IsPlan m.old.catalog change.now.put change.now.gone u }
-    ensures goes { GoesOn m.old result m.new (B.state bay.old) (B.state bay.new) }
-    ensures applied { OnOk result (IsAfter m.old.catalog.tables change.now.put change.now.gone m.new.catalog.tables) }
-    ensures kept { OnOk result (KeepsEntries m.old.register.value m.new.register.value) }
-{
-    let before = m.status().copy();
-    match commit_plan(m, alloc, bay, change) {
-        Ok(()) => {
-            if keeps_entries(&before, m.status()) {
-                return Ok(());
-            }
-            m.close();
-            Err(Refusal::NoMemory)
-        }
-        Err(refusal) => Err(refusal),
-    }
-}
-
-/// Whether a record has the entries of the one before, and no directory copy more.
-fn keeps_entries(before: &PstRecord, status: &PstRecord) -> bool
-    ensures { OnTrue result (KeepsEntries before.now status.now) }
-{
-    same_entries(before.entries(), status.entries())
-        && is_within(directories_of(status), directories_of(before))
-}
-
-/// Commits a change that a plan gave. The plan has counted the blocks, so that DirectoryFull doesn't come.
-fn commit_plan<B: Bay>(
-    m: &mut Mounted,
-    alloc: Global,
-    bay: &mut B,
-    change: &Change,
-) -> Result<(), Refusal>
-    requires takes { Takes m.old (B.state bay.old) }
-    requires plan { (u : Tables) × IsPlan m.old.catalog change.now.put change.now.gone u }
-    ensures goes { GoesOn m.old result m.new (B.state bay.old) (B.state bay.new) }
-    ensures applied { OnOk result (IsAfter m.old.catalog.tables change.now.put change.now.gone m.new.catalog.tables) }
-{
-    match m.commit(alloc, bay, change) {
-        Ok(()) => Ok(()),
-        Err(Refusal::Dismounted { disk }) => Err(Refusal::Dismounted { disk }),
+        Ok(change) => m.commit_plan(alloc, bay, &change),
         Err(_) => Err(Refusal::NoMemory),
     }
 }

@@ -84,7 +84,7 @@ pub(crate) fn check_directories(directories: DiskSet, disks: DiskSet) -> Result<
 }
 
 /// Whether each disk of a set is in the other.
-pub(crate) fn is_within(set: DiskSet, all: DiskSet) -> bool
+fn is_within(set: DiskSet, all: DiskSet) -> bool
     ensures { OnTrue result (IsWithin set all) }
 {
     for disk in 0..64u8 {

@@ -3,7 +3,6 @@
 
 mod changing;
 mod checking;
-mod comparing;
 mod dropping;
 mod ending;
 mod finding;
