@@ -20,7 +20,7 @@ use crate::returning::give_back;
 use asm_base::{DiskSet, Mode, NoMemory, Refusal};
 use bay::Bay;
 use catalog::DiskInfo;
-use file_extents::{commit_plan, or_shut};
+use file_extents::or_shut;
 use group_engine::Mounted;
 use group_mount::Headed;
 use group_sql::NewFailgroup;
@@ -57,7 +57,7 @@ fn put_records<B: Bay>(
     ensures goes { GoesOn m.old result m.new (B.state bay.old) (B.state bay.new) }
 {
     match m.catalog().plan_disks(alloc, records) {
-        Ok(change) => commit_plan(m, alloc, bay, &change),
+        Ok(change) => m.commit_plan(alloc, bay, &change),
         Err(_) => Err(Refusal::NoMemory),
     }
 }
@@ -73,7 +73,7 @@ fn put_rebalance<B: Bay>(
     ensures goes { GoesOn m.old result m.new (B.state bay.old) (B.state bay.new) }
 {
     match m.catalog().plan_rebalance(alloc, Some(power)) {
-        Ok(change) => commit_plan(m, alloc, bay, &change),
+        Ok(change) => m.commit_plan(alloc, bay, &change),
         Err(_) => Err(Refusal::NoMemory),
     }
 }

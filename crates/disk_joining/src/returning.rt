@@ -10,7 +10,6 @@ ghost use Rattle.disk_joining.specs.Taking.{IsApart, TakesIn};
 use crate::heading::take_headers;
 use asm_base::{DiskRef, NoMemory, Refusal, Text};
 use bay::Bay;
-use file_extents::commit_plan;
 use group_engine::Mounted;
 use group_mount::Headed;
 use std::alloc::Global;
@@ -26,7 +25,7 @@ fn drop_record<B: Bay>(
     ensures goes { GoesOn m.old result m.new (B.state bay.old) (B.state bay.new) }
 {
     match m.catalog().plan_disk(alloc, number, None) {
-        Ok(change) => commit_plan(m, alloc, bay, &change),
+        Ok(change) => m.commit_plan(alloc, bay, &change),
         Err(_) => Err(Refusal::NoMemory),
     }
 }

@@ -2,7 +2,6 @@ pub mod Appends
 pub mod Begins
 pub mod Chains
 pub mod Choices
-pub mod Commits
 pub mod Extents
 pub mod Layouts
 pub mod Within

@@ -1,6 +1,5 @@
 pub mod Appending
 pub mod Beginning
 pub mod Closing
-pub mod Committing
 pub mod Filling
 pub mod Rows

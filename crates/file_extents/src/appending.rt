@@ -13,7 +13,6 @@ ghost use Rattle.group_engine.specs.Mounts.{IsMounted, Takes};
 ghost use Rattle.group_engine.specs.Pending.{GoesOn};
 ghost use Rattle.file_extents.specs.Appending.{AreMarks, HasAll, IsOwner, MayStand, are_all_copies};
 
-use crate::committing::commit_plan;
 use crate::placing::{copy_units, place_row};
 use crate::rows::{CHUNK, MOST_EXTENTS};
 use asm_base::{ExtentId, Home, Homes, NoMemory, Refusal};
@@ -297,7 +296,7 @@ pub(crate) fn append<B: Bay>(
     }
     let chunk = (part.first / CHUNK) as u32;
     match m.catalog().plan_chunk(alloc, part.file, chunk, row, marks) {
-        Ok(change) => commit_plan(m, alloc, bay, &change),
+        Ok(change) => m.commit_plan(alloc, bay, &change),
         Err(_) => Err(Refusal::NoMemory),
     }
 }

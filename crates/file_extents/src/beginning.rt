@@ -5,7 +5,7 @@ ghost use Rattle.group_engine.specs.Own.{KeepsGroup};
 ghost use Rattle.group_engine.specs.Pending.{GoesOn};
 ghost use Rattle.file_extents.specs.Beginning.{Begins, HomesCause};
 
-use crate::committing::{commit_plan, give_back, is_at_rest, shut};
+use crate::committing::{give_back, is_at_rest, shut};
 use crate::filling::{Filling, choose_all, open_part};
 use crate::rows::NewExtents;
 use asm_base::Refusal;
@@ -41,7 +41,7 @@ pub fn begin_operation<B: Bay>(
     // The tables keep their rules: the proof takes this from here.
     let _shape = catalog.shape();
     match catalog.plan_begin(alloc, op) {
-        Ok(change) => commit_plan(m, alloc, bay, &change),
+        Ok(change) => m.commit_plan(alloc, bay, &change),
         Err(_) => Err(Refusal::NoMemory),
     }
 }

@@ -1,42 +1,17 @@
-// Commits of changes that plans gave, and what is done where a call ends behind one.
+// What is done where a call ends behind a commit.
 ghost use Rattle.std.specs.Bool.{OnTrue};
 ghost use Rattle.std.specs.Prelude.{◌≡◌, ◌⊎◌, None};
-ghost use Rattle.catalog.specs.Plans.{IsPlan};
-ghost use Rattle.catalog.specs.Tables.{Tables};
-ghost use Rattle.group_engine.specs.Commits.{StatusCause};
+ghost use Rattle.group_engine.specs.Commits.{KeepsRecord, StatusCause};
 ghost use Rattle.group_engine.specs.Making.{closed};
 ghost use Rattle.group_engine.specs.Mounts.{IsMounted, Takes};
 ghost use Rattle.group_engine.specs.Own.{KeepsGroup};
-ghost use Rattle.group_engine.specs.Pending.{GoesOn};
 ghost use Rattle.asm_base.specs.declared.refusal.Refusal.TheVariants as cause;
 ghost use Rattle.file_extents.specs.Closing.{IsOrShut};
-ghost use Rattle.file_extents.specs.Committing.{Commits};
 
-use asm_base::{Change, Refusal};
+use asm_base::Refusal;
 use bay::Bay;
 use group_engine::Mounted;
 use std::alloc::Global;
-
-/// Commits a change that a plan gave. Refusals: Dismounted, NoMemory. The plan has counted the blocks, so that DirectoryFull
-/// doesn't come.
-pub fn commit_plan<B: Bay>(
-    m: &mut Mounted,
-    alloc: Global,
-    bay: &mut B,
-    change: &Change,
-) -> Result<(), Refusal>
-    requires takes { Takes m.old (B.state bay.old) }
-    requires plan { (u : Tables) × IsPlan m.old.catalog change.now.put change.now.gone u }
-    // The group's parts agree, it takes the next call, and the disks of others stay.
-    ensures goes { GoesOn m.old result m.new (B.state bay.old) (B.state bay.new) }
-    ensures commits { Commits m.old change.now.put change.now.gone result m.new (B.state bay.old) (B.state bay.new) }
-{
-    match m.commit(alloc, bay, change) {
-        Ok(()) => Ok(()),
-        Err(Refusal::Dismounted { disk }) => Err(Refusal::Dismounted { disk }),
-        Err(_) => Err(Refusal::NoMemory),
-    }
-}
 
 /// Memory was wanted behind a commit: the group takes no more calls.
 pub(crate) fn shut(m: &mut Mounted) -> Refusal
@@ -64,8 +39,11 @@ pub fn give_back<B: Bay>(m: &mut Mounted, alloc: Global, bay: &mut B, refusal: R
     requires takes { Takes m.old (B.state bay.old) }
     ensures keeps { KeepsGroup m.old m.new (B.state bay.old) (B.state bay.new) }
     ensures cause { (result ≡ refusal) ⊎ StatusCause m.old m.new (B.state bay.old) (B.state bay.new) result }
-    // While the group takes calls still, nothing is pending.
+    // The record that holds has the entries and the sets of the one before, and no directory copy more.
+    ensures status { KeepsRecord m.old.register.value m.new.register.value }
+    // While the group takes calls still, nothing is pending, and the files have their heads.
     ensures ended { IsMounted m.new → m.new.catalog.tables.operations.pending ≡ None }
+    ensures files { IsMounted m.new → m.new.catalog.tables.files ≡ m.old.catalog.tables.files }
 {
     match m.end_pending(alloc, bay) {
         Ok(()) => refusal,

@@ -13,7 +13,7 @@ mod sparing;
 
 pub use appending::{has_all, is_within_file};
 pub use beginning::{begin_operation, give_homes};
-pub use committing::{commit_plan, give_back, is_at_rest, or_shut};
+pub use committing::{give_back, is_at_rest, or_shut};
 pub use filling::{Contents, Filling, prepare, put_next, put_zeros};
 pub use layout::{LONGEST_PIECE, Piece, bytes_before, first_piece, layout_of};
 pub use rows::{CHUNK, NewExtents};

@@ -19,8 +19,8 @@ use bay::Bay;
 use catalog::{Catalog, FileBy, NewFile};
 use extent_copies::{copies_for, serving_groups, template_for};
 use file_extents::{
-    Contents, Filling, LONGEST_PIECE, NewExtents, begin_operation, commit_plan, give_back,
-    give_homes, has_all, is_within_file, layout_of, or_shut, prepare, put_zeros,
+    Contents, Filling, LONGEST_PIECE, NewExtents, begin_operation, give_back, give_homes, has_all,
+    is_within_file, layout_of, or_shut, prepare, put_zeros,
 };
 use group_engine::Mounted;
 use operations_directory::PendingKind;
@@ -222,7 +222,7 @@ fn name_new<B: Bay>(
         .catalog()
         .plan_name(alloc, new, filling.extents.copies, filling.stripe)
     {
-        Ok(change) => commit_plan(m, alloc, bay, &change),
+        Ok(change) => m.commit_plan(alloc, bay, &change),
         Err(_) => Err(Refusal::NoMemory),
     }
 }

@@ -16,7 +16,7 @@ use alias_tree::TreeEdit;
 use asm_base::{Change, NoMemory, NodeKind, Path, Refusal};
 use bay::Bay;
 use catalog::Catalog;
-use file_extents::{commit_plan, is_at_rest};
+use file_extents::is_at_rest;
 use group_engine::Mounted;
 use std::alloc::Global;
 
@@ -40,7 +40,7 @@ fn unname<B: Bay>(m: &mut Mounted, alloc: Global, bay: &mut B, file: u32) -> Res
         return Err(Refusal::NoMemory);
     }
     match m.catalog().plan_unname(alloc, file) {
-        Ok(change) => commit_plan(m, alloc, bay, &change),
+        Ok(change) => m.commit_plan(alloc, bay, &change),
         Err(_) => Err(Refusal::NoMemory),
     }
 }
@@ -130,7 +130,7 @@ fn remove_directory<B: Bay>(
     ensures dropped { OnOk result (DropsDirectory m.old path.now.parts m.new) }
 {
     match plan_drop(m.catalog(), alloc, path) {
-        Ok(change) => commit_plan(m, alloc, bay, &change),
+        Ok(change) => m.commit_plan(alloc, bay, &change),
         Err(refusal) => Err(refusal),
     }
 }

@@ -19,8 +19,8 @@ use asm_base::{DiskRef, NoMemory, Path, Refusal};
 use bay::Bay;
 use catalog::Catalog;
 use file_extents::{
-    Contents, Filling, LONGEST_PIECE, NewExtents, begin_operation, bytes_before, commit_plan,
-    give_back, give_homes, has_all, is_at_rest, layout_of, or_shut, prepare, put_zeros,
+    Contents, Filling, LONGEST_PIECE, NewExtents, begin_operation, bytes_before, give_back,
+    give_homes, has_all, is_at_rest, layout_of, or_shut, prepare, put_zeros,
 };
 use group_engine::Mounted;
 use operations_directory::PendingKind;
@@ -82,7 +82,7 @@ fn set_size<B: Bay>(
         return Err(Refusal::NoMemory);
     }
     match m.catalog().plan_size(alloc, file, size) {
-        Ok(change) => commit_plan(m, alloc, bay, &change),
+        Ok(change) => m.commit_plan(alloc, bay, &change),
         Err(_) => Err(Refusal::NoMemory),
     }
 }

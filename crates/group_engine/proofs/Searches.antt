@@ -1,15 +1,14 @@
 -- What is known of the search for the next move, after a change of one chunk.
-use Rattle.std.proofs.Common.{◌≡◌, ◌∙◌, inl, inr, Bool, true, false, ◌&&◌, List, [], ◌∷◌, refl, sym, ap, subst, Option, Some, None}
+use Rattle.std.proofs.Common.{◌≡◌, ◌∙◌, inl, inr, Bool, true, false, ◌&&◌, List, [], ◌∷◌, refl, sym, subst, Option, Some, None}
 use Rattle.std.specs.Bool.{OnTrue}
 use Rattle.std.specs.BTreeMap.{is_at}
 use Rattle.std.specs.Ordering.{is_eq}
 use Rattle.std.specs.declared.cmp.Ordering.{Ordering}
 use Rattle.std.specs.declared.cmp.Ordering.TheVariants.{Less, Equal, Greater}
 use Rattle.asm_formats.specs.Among.{IsAmong}
-use Rattle.asm_formats.specs.Items.{Homes}
+use Rattle.asm_formats.specs.Items.{Homes, Key}
 use Rattle.asm_formats.specs.Status.{Entry, Status}
 use Rattle.asm_base.specs.Records as records
-use Rattle.asm_formats.specs.Items.{Key}
 use Rattle.extent_map.specs.Extents.{Chunk, Chunked, chunk_at, chunk_cmp}
 use Rattle.extent_map.proofs.Laws.{chunk_total}
 use Rattle.catalog.specs.Changing.{IsAfter}
@@ -48,11 +47,11 @@ regular_on es at t u tables is regular there = all_pass (is_regular_chunk es) u.
 
 -- ---- the search
 
-pub followed_search : (at : Chunk) (c : Catalogued) (r : Status) (s : Searched) (k : Places) (b : Bool) → AreTables c.tables → WasSearchOf at c r s → IsFollowed at s.cursor c r k → b ≡ passes_at (is_regular_chunk r.entries) c.tables.extents at
-    → IsSearchOf c r (record { cursor = k; is_regular = s.is_regular && b })
+pub followed_search : (at : Chunk) (c : Catalogued) (r : Status) (s : Searched) (k : Places) (b : Bool) → AreTables c.tables → WasSearchOf at c r s → IsFollowed at s.cursor c r k → b ≡ (s.is_regular && passes_at (is_regular_chunk r.entries) c.tables.extents at)
+    → IsSearchOf c r (record { cursor = k; is_regular = b })
 followed_search at c r s k b tables was follows is = record {
   cursor = follows was.old was.status was.search.cursor was.shape was.entries was.same;
-  regular = by s.is_regular b is was.search.regular;
+  regular = subst (λ (x : Bool). OnTrue x (AreOnRegular r.entries c.tables)) (sym is) (by s.is_regular (passes_at (is_regular_chunk r.entries) c.tables.extents at) refl was.search.regular);
 }
   where
     by : (old new : Bool) → new ≡ passes_at (is_regular_chunk r.entries) c.tables.extents at → OnTrue old (AreOnRegular was.status.entries was.old.tables) → OnTrue (old && new) (AreOnRegular r.entries c.tables)

@@ -1,5 +1,5 @@
 // What a mounted group knows of the search for the next move of its rebalance.
-ghost use Rattle.std.specs.Prelude.{◌≡◌, ◌/◌, IfNone, IfSome, IsTrue};
+ghost use Rattle.std.specs.Prelude.{◌/◌, IfNone, IfSome, IsTrue};
 ghost use Rattle.asm_formats.specs.Status.{Status, is_status};
 ghost use Rattle.catalog.specs.Placing.{HasUnits};
 ghost use Rattle.catalog.specs.Rules.{AreOnRegular};

@@ -1,16 +1,15 @@
 -- What an edit of a mounted group does that is one commit.
-use Rattle.std.specs.Prelude.{◌≡◌, ◌⊎◌, List, Result, Err, IfErr, OnOk}
+use Rattle.std.specs.Prelude.{◌≡◌, ◌⊎◌, List, Result, Err}
 use Rattle.bay.specs.State.{BayState}
 use Rattle.asm_group.specs.NewGroup.{templates_by_name}
 use Rattle.asm_group.specs.TemplateEdits.{TemplateEdit, templates_edited}
 use Rattle.asm_formats.specs.Items.{Key}
 use Rattle.asm_base.specs.Records.{Entry}
 use Rattle.asm_base.specs.declared.refusal.Refusal.{Refusal}
-use Rattle.catalog.specs.Changing.{IsAfter}
 use Rattle.catalog.specs.Tables.{Catalogued}
 use Rattle.template_directory.specs.Meant.{IsRefusal}
-use Rattle.group_engine.specs.Commits.{CommitsChange, StatusCause}
-use Rattle.group_engine.specs.Mounts.{IsMounted, MountedGroup}
+use Rattle.group_engine.specs.Commits.{CommitsPlan}
+use Rattle.group_engine.specs.Mounts.{MountedGroup}
 
 -- No change is the edit, and nothing was done: no call on a disk was made.
 pub record IsUnplanned (IsCause : Refusal → Type 0) (old : MountedGroup) (answer : Result (Unit {0}) Refusal) (new : MountedGroup)
@@ -21,22 +20,13 @@ pub record IsUnplanned (IsCause : Refusal → Type 0) (old : MountedGroup) (answ
   pub group : new ≡ old
   pub calls : t.calls ≡ s.calls
 
--- A change was committed, or its commit was refused: for a disk that failed, or for want of memory. Of a group that takes calls each image of each moment is held for the group before or
--- the one after, the one after is mounted once it is done, and the one before where it is refused.
-pub record Commits (old : MountedGroup) (put : List Entry) (gone : List Key) (answer : Result (Unit {0}) Refusal) (new : MountedGroup)
-    (s t : BayState) : Type 0 where
-  pub cause : IfErr answer (StatusCause old new s t)
-  -- the tables are those after the change
-  pub applied : OnOk answer (IsAfter old.catalog.tables put gone new.catalog.tables)
-  pub held : IsMounted old → CommitsChange old put gone answer new s t
-
 -- A change that is the edit was committed, or its commit was refused.
 pub record IsCommitted (IsChange : List Entry → List Key → Type 0) (old : MountedGroup) (answer : Result (Unit {0}) Refusal)
     (new : MountedGroup) (s t : BayState) : Type 0 where
   pub put : List Entry
   pub gone : List Key
   pub change : IsChange put gone
-  pub commits : Commits old put gone answer new s t
+  pub commits : CommitsPlan old put gone answer new s t
 
 -- An edit was answered: it is refused, for such a cause, or one of these changes was committed, or its commit refused.
 abbrev pub Edits : (List Entry → List Key → Type 0) → (Refusal → Type 0) → MountedGroup → Result (Unit {0}) Refusal → MountedGroup

@@ -4,7 +4,6 @@ ghost use Rattle.group_engine.specs.Mounts.{Takes};
 ghost use Rattle.group_engine.specs.Own.{KeepsGroup};
 ghost use Rattle.group_files.specs.Edits.{Edits};
 
-use crate::planned::commit_plan;
 use asm_base::{Name, Refusal};
 use bay::Bay;
 use group_engine::Mounted;
@@ -31,5 +30,5 @@ pub fn edit_attribute<B: Bay>(
         Ok(change) => change,
         Err(refusal) => return Err(refusal),
     };
-    commit_plan(m, alloc, bay, &change)
+    m.commit_plan(alloc, bay, &change)
 }

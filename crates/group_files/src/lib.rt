@@ -4,7 +4,6 @@
 mod attributes;
 mod edit;
 mod names;
-mod planned;
 mod templates;
 
 pub use attributes::edit_attribute;

@@ -6,7 +6,6 @@ ghost use Rattle.group_engine.specs.Mounts.{Takes};
 ghost use Rattle.group_engine.specs.Own.{KeepsGroup};
 ghost use Rattle.group_files.specs.Edits.{Edits};
 
-use crate::planned::commit_plan;
 use alias_tree::TreeEdit;
 use asm_base::Refusal;
 use bay::Bay;
@@ -35,5 +34,5 @@ pub fn edit_tree<B: Bay>(
         Ok(change) => change,
         Err(refusal) => return Err(refusal),
     };
-    commit_plan(m, alloc, bay, &change)
+    m.commit_plan(alloc, bay, &change)
 }

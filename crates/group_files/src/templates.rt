@@ -8,7 +8,6 @@ ghost use Rattle.group_engine.specs.Own.{KeepsGroup};
 ghost use Rattle.group_files.specs.Edits.{Edits, IsTemplateRefusal};
 ghost use Rattle.template_directory.specs.Meant.{edit_meant, is_edit};
 
-use crate::planned::commit_plan;
 use asm_base::Refusal;
 use bay::Bay;
 use group_engine::Mounted;
@@ -37,5 +36,5 @@ pub fn edit_template<B: Bay>(
         Ok(change) => change,
         Err(refusal) => return Err(refusal),
     };
-    commit_plan(m, alloc, bay, &change)
+    m.commit_plan(alloc, bay, &change)
 }

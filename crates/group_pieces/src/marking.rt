@@ -1,17 +1,14 @@
 // Copies that didn't take what was written are marked stale.
 ghost use Rattle.std.specs.Prelude.{◌≡◌, ◌<◌, ◌≤◌, ◌^◌, IsTrue, OnOk, ℕ};
 ghost use Rattle.asm_group.specs.Shape.{is_shape};
-ghost use Rattle.catalog.specs.Changing.{IsAfter};
 ghost use Rattle.catalog.specs.Faults.{IsCatalog};
-ghost use Rattle.catalog.specs.Plans.{IsPlan};
-ghost use Rattle.catalog.specs.Tables.{Tables};
 ghost use Rattle.group_engine.specs.Mounts.{IsMounted, Takes};
 ghost use Rattle.group_engine.specs.Pending.{GoesOn};
 ghost use Rattle.group_pieces.specs.Marking.{AreMarked, bit_if, is_left, left_of, took};
 
 use crate::copies::Place;
 use crate::usable::{extent_of, place};
-use asm_base::{Change, DiskSet, ExtentId, Refusal};
+use asm_base::{DiskSet, ExtentId, Refusal};
 use bay::Bay;
 use extent_copies::Extent;
 use group_engine::Mounted;
@@ -39,26 +36,7 @@ pub(crate) fn mark_left<B: Bay>(
         return Ok(());
     }
     match m.catalog().plan_marks(alloc, x, left, 0) {
-        Ok(change) => commit_marks(m, alloc, bay, &change),
-        Err(_) => Err(Refusal::NoMemory),
-    }
-}
-
-/// Commits marks. Their record is there, so that it needs no block: want of blocks is answered as want of memory.
-fn commit_marks<B: Bay>(
-    m: &mut Mounted,
-    alloc: Global,
-    bay: &mut B,
-    change: &Change,
-) -> Result<(), Refusal>
-    requires takes { Takes m.old (B.state bay.old) }
-    requires plan { (u : Tables) × IsPlan m.old.catalog change.now.put change.now.gone u }
-    ensures goes { GoesOn m.old result m.new (B.state bay.old) (B.state bay.new) }
-    ensures applied { OnOk result (IsAfter m.old.catalog.tables change.now.put change.now.gone m.new.catalog.tables) }
-{
-    match m.commit(alloc, bay, change) {
-        Ok(()) => Ok(()),
-        Err(Refusal::Dismounted { disk }) => Err(Refusal::Dismounted { disk }),
+        Ok(change) => m.commit_plan(alloc, bay, &change),
         Err(_) => Err(Refusal::NoMemory),
     }
 }

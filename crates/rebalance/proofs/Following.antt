@@ -9,7 +9,7 @@ use Rattle.std.specs.declared.cmp.Ordering.TheVariants.{Less, Equal, Greater}
 use Rattle.std.proofs.lemmas.Bool.{cond_both}
 use Rattle.asm_group.specs.Shape.{Shape}
 use Rattle.asm_formats.specs.Status.{Entry, Status}
-use Rattle.asm_formats.specs.Items.{Home, Homes, is_item}
+use Rattle.asm_formats.specs.Items.{Homes, is_item}
 use Rattle.asm_base.specs.Records.{Ascend}
 use Rattle.asm_placement.specs.Layout.{units_of}
 use Rattle.asm_placement.specs.Moves.{without_bit}

@@ -1,6 +1,8 @@
 //! Groups of disks of their own failure groups, and what their rebalance does.
 
 ghost use Rattle.std.specs.Prelude.{IfOk};
+ghost use Rattle.asm_formats.specs.Status.{Status};
+ghost use Rattle.catalog.specs.Tables.{Catalogued};
 ghost use Rattle.rebalance.specs.Cursors.{IsCursor};
 ghost use Rattle.rebalance.specs.Searching.{IsStatusOf};
 
@@ -130,19 +132,26 @@ fn is_shifted(
     if !is_regular(status.entries(), to) {
         return false;
     }
-    match make_move(alloc, catalog, x, copy, to) {
-        Ok(true) => {
-            planned_moves_change_one_chunk();
-            // It keeps the rules, as the cursor asks.
-            let _ = catalog.shape();
-            cursor.follow(catalog, status, x);
-            true
-        }
-        _ => {
-            *cursor = Cursor::start();
-            false
-        }
+    let Ok(moved) = make_move(alloc, catalog, x, copy, to) else {
+        restart(cursor);
+        return false;
+    };
+    if !moved {
+        restart(cursor);
+        return false;
     }
+    planned_moves_change_one_chunk();
+    // It keeps the rules, as the cursor asks.
+    let _ = catalog.shape();
+    cursor.follow(catalog, status, x);
+    true
+}
+
+/// A cursor of every group.
+fn restart(cursor: &mut Cursor)
+    ensures { (c : Catalogued) (r : Status) → IsCursor c r cursor.new }
+{
+    *cursor = Cursor::start();
 }
 
 /// Whether the search of all extents, and that from the cursor on, give this next move.

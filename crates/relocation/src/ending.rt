@@ -10,7 +10,6 @@ use crate::asking::Slice;
 use asm_base::{Mode, Refusal};
 use bay::Bay;
 use disk_images::close_header;
-use file_extents::commit_plan;
 use group_engine::{Attached, Mounted};
 use partnership::entry_of;
 use status_table::PstRecord;
@@ -116,7 +115,7 @@ fn end_active<B: Bay>(m: &mut Mounted, alloc: Global, bay: &mut B) -> Result<(),
     ensures { GoesOn m.old result m.new (B.state bay.old) (B.state bay.new) }
 {
     match m.catalog().plan_rebalance(alloc, None) {
-        Ok(change) => commit_plan(m, alloc, bay, &change),
+        Ok(change) => m.commit_plan(alloc, bay, &change),
         Err(_) => Err(Refusal::NoMemory),
     }
 }

@@ -34,7 +34,7 @@ returns-in-Ok-clause-begins g c =
     let none = on_true c.is_at_rest.result c.is_at_rest.ensures c.if-not-is_at_rest.false in
     let op : Pending = record { kind = c.args.kind; file = c.args.new.file; kept = c.args.new.first } in
     let owned = owned_with cat.tables op c.shape-shape.ensures.rules.rules.owned (ap (λ (v : Catalogued). v.tables.operations.pending) c.catalog-catalog.ensures ∙ none) in
-    begins c.args.m.now c.set_flight.new.self cat c.args.kind c.args.new c.in-Ok.change.put c.in-Ok.change.gone c.commit_plan.result c.commit_plan.new.m c.set_flight.ensures
+    begins c.args.m.now c.set_flight.new.self cat c.args.kind c.args.new c.in-Ok.change.put c.in-Ok.change.gone c.commit_plan.result c.commit_plan.new.self c.set_flight.ensures
     c.catalog-catalog.ensures (c.in-Ok.ensures.planned owned) c.commit_plan.ensures.commits.applied
 
 pub returns-clause-goes : goal.returns-clause-goes

@@ -19,7 +19,7 @@ pub returns-in-Ok-clause-named : goal.returns-in-Ok-clause-named
 returns-in-Ok-clause-named g c =
     let copies = c.args.filling.now.extents.copies in
     let stripe = c.args.filling.now.stripe in
-    names c.args.m.now c.args.m.now.catalog c.args.new.now c.args.filling.now.extents.file copies stripe c.in-Ok.change.put c.in-Ok.change.gone c.commit_plan.result c.commit_plan.new.m
+    names c.args.m.now c.args.m.now.catalog c.args.new.now c.args.filling.now.extents.file copies stripe c.in-Ok.change.put c.in-Ok.change.gone c.commit_plan.result c.commit_plan.new.self
     refl
     (subst (λ (k : Catalogued). made_file k.tables ≡ c.args.filling.now.extents.file) c.catalog.ensures
     (on_true c.is_created.result c.is_created.ensures.file c.if-not-is_created.false))

@@ -18,13 +18,13 @@ returns-in-Ok-clause-cause g c =
     let m = c.args.m.now in
     let s = g.B.Bay.state c.args.bay.now in
     let t = g.B.Bay.state c.commit_plan.new.bay in
-    on_err (StatusCause m c.commit_plan.new.m s t)
-    (λ (refusal : Refusal). IsTreeRefusal m.catalog (e.DropDir c.args.path.now.parts) refusal ⊎ StatusCause m c.commit_plan.new.m s t refusal)
+    on_err (StatusCause m c.commit_plan.new.self s t)
+    (λ (refusal : Refusal). IsTreeRefusal m.catalog (e.DropDir c.args.path.now.parts) refusal ⊎ StatusCause m c.commit_plan.new.self s t refusal)
     c.commit_plan.result (λ refusal why. inr why) c.commit_plan.ensures.goes.cause
 
 pub returns-in-Ok-clause-dropped : goal.returns-in-Ok-clause-dropped
 returns-in-Ok-clause-dropped g c =
-    drops c.args.m.now c.args.path.now.parts c.in-Ok.change.put c.in-Ok.change.gone c.commit_plan.result c.commit_plan.new.m
+    drops c.args.m.now c.args.path.now.parts c.in-Ok.change.put c.in-Ok.change.gone c.commit_plan.result c.commit_plan.new.self
     (subst (λ (k : Catalogued). IsTreePlan k (e.DropDir c.args.path.now.parts) c.in-Ok.change.put c.in-Ok.change.gone) c.catalog.ensures c.in-Ok.ensures.planned)
     c.commit_plan.ensures.commits.applied
 

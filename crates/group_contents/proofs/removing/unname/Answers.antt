@@ -26,7 +26,7 @@ returns-in-Ok-clause-goes g c =
 
 pub returns-in-Ok-clause-removed : goal.returns-in-Ok-clause-removed
 returns-in-Ok-clause-removed g c =
-    removes c.args.m.now c.set_flight.new.self.catalog c.args.file c.in-Ok.change.put c.in-Ok.change.gone c.commit_plan.result c.commit_plan.new.m
+    removes c.args.m.now c.set_flight.new.self.catalog c.args.file c.in-Ok.change.put c.in-Ok.change.gone c.commit_plan.result c.commit_plan.new.self
     (ap (λ (v : MountedGroup). v.catalog) c.set_flight.ensures)
     (subst (λ (k : Catalogued). IsRemovalPlan k c.args.file c.in-Ok.change.put c.in-Ok.change.gone) c.catalog.ensures c.in-Ok.ensures.planned)
     c.commit_plan.ensures.commits.applied

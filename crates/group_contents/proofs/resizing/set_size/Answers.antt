@@ -19,7 +19,7 @@ commit_plan-requires-clause-plan g c =
 
 pub returns-in-Ok-clause-sized : goal.returns-in-Ok-clause-sized
 returns-in-Ok-clause-sized g c =
-    sizes c.args.m.now c.args.m.now.catalog c.args.file c.args.size c.in-Ok.change.put c.in-Ok.change.gone c.commit_plan.result c.commit_plan.new.m refl
+    sizes c.args.m.now c.args.m.now.catalog c.args.file c.args.size c.in-Ok.change.put c.in-Ok.change.gone c.commit_plan.result c.commit_plan.new.self refl
     (subst (λ (k : Catalogued). IsSizePlan k c.args.file c.args.size c.in-Ok.change.put c.in-Ok.change.gone) c.catalog-2.ensures c.in-Ok.ensures.planned)
     c.commit_plan.ensures.commits.applied
 

@@ -42,11 +42,11 @@ returns-in-Ok-clause-marked g c =
     let is = c.left_copies-left.ensures.value in
     let change = c.in-Ok.change in
     let planned = subst (λ (k : Catalogued). IsPlan k change.put change.gone (with_marks_changed k.tables c.args.x.file c.args.x.index c.left_copies-left.result 0)) c.catalog.ensures c.in-Ok.ensures.planned in
-    on_ok c.commit_marks.result
-    (λ applied. left_marked m c.args.x c.args.inner c.args.failed c.left_copies-left.ensures.rules (λ none. c.if-left-eq0.false (is ∙ none)) c.commit_marks.new.m.catalog.tables
-    (one_after m.catalog.tables c.commit_marks.new.m.catalog.tables (with_marks_changed m.catalog.tables c.args.x.file c.args.x.index c.left_copies-left.result 0) change.put change.gone applied planned.after
+    on_ok c.commit_plan.result
+    (λ applied. left_marked m c.args.x c.args.inner c.args.failed c.left_copies-left.ensures.rules (λ none. c.if-left-eq0.false (is ∙ none)) c.commit_plan.new.self.catalog.tables
+    (one_after m.catalog.tables c.commit_plan.new.self.catalog.tables (with_marks_changed m.catalog.tables c.args.x.file c.args.x.index c.left_copies-left.result 0) change.put change.gone applied planned.after
     ∙ ap (λ (n : ℕ). with_marks_changed m.catalog.tables c.args.x.file c.args.x.index n 0) is))
-    c.commit_marks.ensures.applied
+    c.commit_plan.ensures.commits.applied
 
 pub returns-in-Ok-clause-still : goal.returns-in-Ok-clause-still
 returns-in-Ok-clause-still g c = λ none. absurd (c.if-left-eq0.false (c.left_copies-left.ensures.value ∙ none))

@@ -104,3 +104,12 @@ returns-in-Err-NoMemory g c =
     subst (λ (v : MountedGroup). CommitsChange v put gone (Err cause.NoMemory) (record was { catalog = cat; store = new }) s t) c.self.view_is
     (ends_unchanged was (subst (λ (v : MountedGroup). IsMounted v) (sym c.self.view_is) c.requires.mounted) (subst (λ (v : MountedGroup). IsWhole v) (sym c.self.view_is) c.requires.whole) put gone s t (subst (λ (v : MountedGroup). IsReady v s) (sym c.self.view_is) c.requires.ready)
     new cat NoMemory commits commits.refused c.in-Err-NoMemory.ensures.same cause.NoMemory tt)
+
+pub invariant_of-self : goal.invariant_of-self
+invariant_of-self g c = record { places = c.self.invariant.places; search = c.start-self-inside.ensures c.commit_change.new.catalog c.self.inside.register.value }
+
+pub invariant_of-self-in-Ok-drop_copies : goal.invariant_of-self-in-Ok-drop_copies
+invariant_of-self-in-Ok-drop_copies g c = record { places = c.self.invariant.places; search = c.start-self-inside.ensures c.commit_change.new.catalog c.drop_copies.new.register.value }
+
+pub invariant_of-self-in-Err : goal.invariant_of-self-in-Err
+invariant_of-self-in-Err g c = record { places = c.self.invariant.places; search = c.start-self-inside.ensures c.commit_change.new.catalog c.drop_copies.new.register.value }

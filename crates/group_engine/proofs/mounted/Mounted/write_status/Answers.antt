@@ -80,3 +80,6 @@ returns-in-Err g c =
     (ends_lost was (subst (λ (v : MountedGroup). IsMounted v) (sym c.self.view_is) c.requires.mounted) (subst (λ (v : MountedGroup). IsWhole v) (sym c.self.view_is) c.requires.whole) next s (subst (λ (v : MountedGroup). IsReady v s) (sym c.self.view_is) c.requires.ready) c.ready_disks.new.self
     (subst (λ (v : MountedGroup). IsNextOf v next) (sym c.self.view_is) c.requires.next) t sound c.write.result c.write.new.self written d.tables d.shape
     c.in-Err.dead c.dismount.result c.dismount.new.self c.in-Err.is c.dismount.ensures)
+
+pub invariant_of-self-in-Ok : goal.invariant_of-self-in-Ok
+invariant_of-self-in-Ok g c = record { places = c.self.invariant.places; search = c.start-self-inside.ensures c.apply_disks.new.self c.write.new.self.value }

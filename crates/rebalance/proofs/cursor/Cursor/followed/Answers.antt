@@ -1,6 +1,6 @@
-use Rattle.std.proofs.Common.{◌≡◌, List, sym}
+use Rattle.std.proofs.Common.{◌≡◌, List}
 use Rattle.asm_formats.specs.Status.{Entry}
-use Rattle.rebalance.specs.Cursors.{Places, followed}
+use Rattle.rebalance.specs.Cursors.{followed}
 use Rattle.rebalance.specs.Sums.{Sums}
 use Rattle.rebalance.proofs.Passing.{along}
 use Rattle.rebalance.proofs.Searching.{sums_given}
