@@ -8,13 +8,13 @@ use Rattle.asm_base.specs.declared.refusal.DiskRef.{DiskRef}
 use Rattle.asm_base.specs.declared.refusal.DiskRef.TheVariants.{Number, Spelt}
 use Rattle.asm_base.specs.declared.refusal.Refusal.{Refusal}
 use Rattle.asm_base.specs.declared.refusal.Refusal.TheVariants as cause
-use Rattle.asm_formats.specs.Status.{Entry, Status}
 use Rattle.asm_base.specs.declared.records.Change.{Change}
 use Rattle.catalog.specs.Plans.{IsPlan}
-use Rattle.catalog.specs.Rules.{AreOnRegular}
 use Rattle.catalog.specs.Tables.{Catalogued, Tables}
 use Rattle.catalog.proofs.TableItems.{from_map}
-use Rattle.rebalance.specs.Searching.{IsStatusOf}
+use Rattle.extent_map.specs.Extents.{Chunk}
+use Rattle.rebalance.specs.Cursors.{IsSameBut}
+use Rattle.group_engine.specs.Searches.{IsPlanIn}
 use Rattle.status_register.specs.declared.member.Member.{Member}
 use Rattle.group_engine.specs.Commits.{StatusCause}
 use Rattle.group_engine.specs.Copying as engine
@@ -209,22 +209,8 @@ pub on_any : {P : Type 0} (b : Bool) → P → OnTrue b P
 on_any true p = p
 on_any false p = tt
 
--- ---- the search for the next move
-
--- the group's record is that of its catalog, where no home lies on a quorum disk
-pub status_of : (m : MountedGroup) → IsWhole m → (k : Catalogued) (r : Status) (es : List Entry) → k ≡ m.catalog → r ≡ m.register.value → es ≡ r.entries → AreOnRegular es k.tables → IsStatusOf k r
-status_of m whole k r es catalog status entries regular =
-    subst (λ (j : Catalogued). IsStatusOf j r) (sym catalog)
-    (subst (λ (q : Status). IsStatusOf m.catalog q) (sym status)
-    (record {
-      status = whole.status;
-      units = whole.units;
-      regular = subst (λ (j : Catalogued). AreOnRegular m.register.value.entries j.tables) catalog
-          (subst (λ (xs : List Entry). AreOnRegular xs k.tables) (entries ∙ ap (λ (q : Status). q.entries) status) regular);
-    }))
-
 -- ---- plans
 
-pub planned : (k : Catalogued) (u : Tables) (r : Result Change Refusal) → IfOk r (λ change. IsPlan k change.put change.gone u) → IfOk r (λ change. (v : Tables) × IsPlan k change.put change.gone v)
-planned k u (Ok change) is = (u, is)
-planned k u (Err e) is = tt
+pub planned : (at : Chunk) (k : Catalogued) (u : Tables) (r : Result Change Refusal) → IfOk r (λ change. IsPlan k change.put change.gone u) → IsSameBut at k.tables u → IfOk r (λ change. IsPlanIn at k change.put change.gone)
+planned at k u (Ok change) is same = record { tables = u; plan = is; same = same }
+planned at k u (Err e) is same = tt

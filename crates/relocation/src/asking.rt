@@ -1,15 +1,14 @@
 // What a slice does next.
-ghost use Rattle.std.specs.Prelude.{IsTrue};
+ghost use Rattle.std.specs.Prelude.{◌≡◌, IsTrue};
 ghost use Rattle.asm_group.specs.Shape.{is_shape};
 ghost use Rattle.group_engine.specs.Mounts.{IsMounted, IsWhole, Takes};
 ghost use Rattle.group_engine.specs.Members.{LetsGo};
 
 use crate::fitting::{can_go_on, home_of};
-use crate::quorum::are_all_regular;
 use asm_base::{DiskSet, ExtentId, Home};
 use bay::Bay;
 use group_engine::{Flight, Mounted};
-use rebalance::{Move, Next, next_move};
+use rebalance::{Move, Next};
 
 /// How a slice of a rebalance ends.
 #[derive(Clone, Copy, Debug, PartialEq, Eq)]
@@ -71,15 +70,19 @@ fn going_on(m: &Mounted) -> Option<Flight>
 }
 
 /// What comes next where no move is on its way.
-fn next_asked(m: &Mounted) -> Asked
-    requires whole { IsWhole m.now }
+fn next_asked(m: &mut Mounted) -> Asked
+    requires whole { IsWhole m.old }
+    ensures same { m.new ≡ m.old }
 {
-    let catalog = m.catalog();
-    let status = m.status();
-    if !are_all_regular(catalog, status.entries()) {
-        return Asked::Unknown;
+    match m.next_move() {
+        Some(next) => asked_of(m, next),
+        None => Asked::Unknown,
     }
-    match next_move(catalog, status) {
+}
+
+/// The next move, or the end, as a slice asks it.
+fn asked_of(m: &Mounted, next: Next) -> Asked {
+    match next {
         Next::Move(next) => begun(m, next),
         Next::Done => Asked::End { end: Slice::Done },
         Next::NoSpace(x) => Asked::End {

@@ -7,7 +7,6 @@ mod asking;
 mod ending;
 mod fitting;
 mod homes;
-mod quorum;
 mod slicing;
 mod steps;
 

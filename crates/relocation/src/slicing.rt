@@ -9,7 +9,7 @@ use crate::ending::end_with;
 use crate::steps::{add_directory, copy_step, move_tables};
 use asm_base::{NoMemory, Refusal};
 use bay::Bay;
-use group_engine::Mounted;
+use group_engine::{Flight, Mounted};
 use resync::piece_buffer;
 use std::alloc::Global;
 
@@ -50,19 +50,17 @@ fn slice_mounted<B: Bay>(
     ensures cause { IfErr result.0 (SliceCause m.old m.new (B.state bay.old) (B.state bay.new)) }
     ensures steps { result.1 ≤ power }
 {
-    match piece_buffer(alloc) {
-        Ok(mut buffer) => do_steps(m, alloc, bay, power as u64, &mut buffer),
-        Err(NoMemory) => (Err(Refusal::NoMemory), 0),
-    }
+    let mut buffer = Vec::new(alloc);
+    do_steps(m, alloc, bay, power as u64, &mut buffer)
 }
 
-/// The steps of the slice, over a buffer for a piece.
+/// The steps of the slice, over a buffer for a piece, which the first that copies takes.
 fn do_steps<B: Bay>(
     m: &mut Mounted,
     alloc: Global,
     bay: &mut B,
     power: u64,
-    buffer: &mut [u8],
+    buffer: &mut Vec<u8>,
 ) -> (Result<Slice, Refusal>, u64)
     requires mounted { IsMounted m.old }
     requires takes { Takes m.old (B.state bay.old) }
@@ -86,7 +84,7 @@ fn step<B: Bay>(
     m: &mut Mounted,
     alloc: Global,
     bay: &mut B,
-    buffer: &mut [u8],
+    buffer: &mut Vec<u8>,
 ) -> Result<Option<Slice>, Refusal>
     requires mounted { IsMounted m.old }
     requires takes { Takes m.old (B.state bay.old) }
@@ -140,20 +138,46 @@ fn do_step<B: Bay>(
     alloc: Global,
     bay: &mut B,
     asked: Asked,
-    buffer: &mut [u8],
+    buffer: &mut Vec<u8>,
 ) -> Result<(), Refusal>
     requires mounted { IsMounted m.old }
     requires takes { Takes m.old (B.state bay.old) }
     ensures { Goes m.old result m.new (B.state bay.old) (B.state bay.new) }
 {
     match asked {
-        Asked::Copy { flight } => copy_step(m, alloc, bay, flight, buffer),
+        Asked::Copy { flight } => copy_with(m, alloc, bay, flight, buffer),
         Asked::Directory { to } => add_directory(m, alloc, bay, to),
         Asked::Status { to } => move_tables(m, alloc, bay, to),
         // An end is no step.
         Asked::End { end: _ } => Err(Refusal::NoMemory),
         Asked::Unknown => Err(Refusal::NoMemory),
     }
+}
+
+/// Does a step that copies. It takes the buffer, where none before it did.
+fn copy_with<B: Bay>(
+    m: &mut Mounted,
+    alloc: Global,
+    bay: &mut B,
+    flight: Flight,
+    buffer: &mut Vec<u8>,
+) -> Result<(), Refusal>
+    requires mounted { IsMounted m.old }
+    requires takes { Takes m.old (B.state bay.old) }
+    ensures { Goes m.old result m.new (B.state bay.old) (B.state bay.new) }
+{
+    match take_buffer(alloc, buffer) {
+        Ok(()) => copy_step(m, alloc, bay, flight, buffer),
+        Err(NoMemory) => Err(Refusal::NoMemory),
+    }
+}
+
+/// Makes an empty buffer one for the longest piece.
+fn take_buffer(alloc: Global, buffer: &mut Vec<u8>) -> Result<(), NoMemory> {
+    if buffer.is_empty() {
+        *buffer = piece_buffer(alloc)?;
+    }
+    Ok(())
 }
 
 /// Does slices of this power until one doesn't answer More. Gives the number of all their steps beside the answer of the last. The

@@ -1,10 +1,9 @@
 // The steps of a slice.
-ghost use Rattle.std.specs.Prelude.{◌≡◌, IfErr, IfOk};
-ghost use Rattle.catalog.specs.Plans.{IsPlan};
-ghost use Rattle.catalog.specs.Tables.{Tables};
+ghost use Rattle.std.specs.Prelude.{◌≡◌, ◌/◌, IfErr, IfOk};
 ghost use Rattle.group_engine.specs.Mounts.{IsMounted, Takes};
 ghost use Rattle.group_engine.specs.Own.{KeepsGroup};
 ghost use Rattle.group_engine.specs.Pending.{GoesOn};
+ghost use Rattle.group_engine.specs.Searches.{IsPlanIn};
 ghost use Rattle.relocation.specs.Slices.{Goes, HasFault};
 ghost use Rattle.resync.specs.Copying.{refusal_of};
 
@@ -14,6 +13,7 @@ use asm_base::{Change, DiskSet, ExtentId, Home, NoMemory, Refusal};
 use bay::Bay;
 use catalog::Catalog;
 use group_engine::{Flight, Mounted};
+use rebalance::planned_moves_change_one_chunk;
 use resync::{CopyError, copy_piece, extent_bytes, piece_len, refusal_of};
 use status_table::{PstRecord, with_holders, with_next_holders};
 use std::alloc::Global;
@@ -149,9 +149,11 @@ fn commit_flight<B: Bay>(m: &mut Mounted, alloc: Global, bay: &mut B) -> Result<
 }
 
 /// The change by which a move is made all of whose bytes are copied: the mark of the copy in place goes, or the copy has its new home.
+/// It changes the chunk of the extent alone.
 fn plan_of(catalog: &Catalog, alloc: Global, flight: Flight) -> Result<Change, Refusal>
-    ensures { IfOk result (λ change. (u : Tables) × IsPlan catalog.now change.put change.gone u) }
+    ensures { IfOk result (λ change. IsPlanIn (flight.x.file, flight.x.index / 256) catalog.now change.put change.gone) }
 {
+    planned_moves_change_one_chunk();
     let Flight { x, copy, to, .. } = flight;
     if is_in_place(catalog, x, copy, to) {
         return catalog.plan_marks(alloc, x, 0, 1 << copy);
@@ -175,7 +177,7 @@ fn commit_move<B: Bay>(
     ensures { GoesOn m.old result m.new (B.state bay.old) (B.state bay.new) }
 {
     match plan_of(m.catalog(), alloc, flight) {
-        Ok(change) => m.commit_plan(alloc, bay, &change),
+        Ok(change) => m.commit_extent(alloc, bay, &change, flight.x),
         Err(_) => Err(Refusal::NoMemory),
     }
 }

@@ -11,6 +11,7 @@ use asm_base::{ExtentId, Mode, NoMemory, Refusal};
 use bay::Bay;
 use group_engine::{Mounted, same_disks_are_next};
 use partnership::entry_of;
+use rebalance::planned_moves_change_one_chunk;
 use status_table::{PstEntry, with_mode};
 use std::alloc::Global;
 
@@ -178,12 +179,13 @@ fn clear_mark<B: Bay>(
     requires copy { copy < 3 }
     ensures goes { GoesOn m.old result m.new (B.state bay.old) (B.state bay.new) }
 {
+    planned_moves_change_one_chunk();
     let catalog = m.catalog();
     let Some(_homes) = catalog.homes(x) else {
         return Err(Refusal::NoMemory);
     };
     match catalog.plan_marks(alloc, x, 0, 1 << copy) {
-        Ok(change) => m.commit_plan(alloc, bay, &change),
+        Ok(change) => m.commit_extent(alloc, bay, &change, x),
         Err(_) => Err(Refusal::NoMemory),
     }
 }

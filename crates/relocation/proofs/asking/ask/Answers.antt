@@ -1,4 +1,4 @@
-use Rattle.std.proofs.Common.{None}
+use Rattle.std.proofs.Common.{◌∙◌, None}
 use Rattle.relocation.proofs.Chains.{flight_lets, flight_mounted, nothing_lets}
 use Rattle.relocation.proofs.asking.ask.Goals as goal
 
@@ -14,7 +14,7 @@ next_asked-requires g c =
     record { whole = lets.whole (flight_mounted c.args.m.now c.set_flight.new.self None c.set_flight.ensures c.requires.mounted) }
 
 pub returns-in-None-clause-lets : goal.returns-in-None-clause-lets
-returns-in-None-clause-lets g c = flight_lets c.args.m.now c.set_flight.new.self None c.set_flight.ensures (g.B.Bay.state c.args.bay.now) c.requires.takes
+returns-in-None-clause-lets g c = flight_lets c.args.m.now c.next_asked.new.m None (c.next_asked.ensures.same ∙ c.set_flight.ensures) (g.B.Bay.state c.args.bay.now) c.requires.takes
 
 pub returns-in-None-clause-mounted : goal.returns-in-None-clause-mounted
-returns-in-None-clause-mounted g c = flight_mounted c.args.m.now c.set_flight.new.self None c.set_flight.ensures c.requires.mounted
+returns-in-None-clause-mounted g c = flight_mounted c.args.m.now c.next_asked.new.m None (c.next_asked.ensures.same ∙ c.set_flight.ensures) c.requires.mounted

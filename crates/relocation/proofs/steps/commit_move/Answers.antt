@@ -1,14 +1,16 @@
-use Rattle.std.proofs.Common.{subst}
-use Rattle.catalog.specs.Plans.{IsPlan}
-use Rattle.catalog.specs.Tables.{Catalogued, Tables}
+use Rattle.std.proofs.Common.{◌/◌, subst}
+use Rattle.catalog.specs.Tables.{Catalogued}
+use Rattle.group_engine.specs.Searches.{IsPlanIn}
 use Rattle.group_engine.proofs.Endings.{goes_without}
 use Rattle.relocation.proofs.steps.commit_move.Goals as goal
 
-pub commit_plan-requires-clause-plan : goal.commit_plan-requires-clause-plan
-commit_plan-requires-clause-plan g c = subst (λ (v : Catalogued). (u : Tables) × IsPlan v c.in-Ok.change.put c.in-Ok.change.gone u) c.catalog.ensures c.in-Ok.ensures
+pub commit_extent-requires-clause-plan : goal.commit_extent-requires-clause-plan
+commit_extent-requires-clause-plan g c =
+    let x = c.args.flight.x in
+    subst (λ (v : Catalogued). IsPlanIn (x.file, x.index / 256) v c.in-Ok.change.put c.in-Ok.change.gone) c.catalog.ensures c.in-Ok.ensures
 
 pub returns-in-Ok : goal.returns-in-Ok
-returns-in-Ok g c = c.commit_plan.ensures.goes
+returns-in-Ok g c = c.commit_extent.ensures.goes
 
 pub returns : goal.returns
 returns g c = let t = c.requires.takes c.requires.mounted in goes_without c.args.m.now (g.B.Bay.state c.args.bay.now) t.0 t.1
