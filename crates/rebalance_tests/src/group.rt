@@ -1,11 +1,14 @@
 //! Groups of disks of their own failure groups, and what their rebalance does.
 
 ghost use Rattle.std.specs.Prelude.{IfOk};
+ghost use Rattle.asm_formats.specs.Status.{Status};
+ghost use Rattle.catalog.specs.Tables.{Catalogued};
+ghost use Rattle.rebalance.specs.Cursors.{IsCursor};
 ghost use Rattle.rebalance.specs.Searching.{IsStatusOf};
 
 use asm_base::{DiskSet, ExtentId, Home, Mode, Records};
 use catalog::Catalog;
-use rebalance::{Move, Next, next_move};
+use rebalance::{Cursor, Move, Next, next_move, next_move_from, planned_moves_change_one_chunk};
 use sample_group::{Edit, SHAPE, edited, is_regular, make_move};
 use status_table::{PstEntry, PstRecord, is_status};
 use std::alloc::Global;
@@ -111,36 +114,76 @@ fn catalog(alloc: Global, records: &Records, status: &PstRecord) -> Result<Catal
     }
 }
 
-/// Shifts a copy by the plan of the move. Whether it is shifted.
+/// Shifts a copy by the plan of the move, and lets the cursor follow. Whether it is shifted.
 fn is_shifted(
     alloc: Global,
     catalog: &mut Catalog,
     status: &PstRecord,
+    cursor: &mut Cursor,
     x: ExtentId,
     copy: u8,
     to: Home,
 ) -> bool
-    requires { IsStatusOf catalog.old status.now }
-    ensures { IsStatusOf catalog.new status.now }
+    requires status { IsStatusOf catalog.old status.now }
+    requires cursor { IsCursor catalog.old status.now cursor.old }
+    ensures status { IsStatusOf catalog.new status.now }
+    ensures cursor { IsCursor catalog.new status.now cursor.new }
 {
     if !is_regular(status.entries(), to) {
         return false;
     }
-    matches!(make_move(alloc, catalog, x, copy, to), Ok(true))
+    let Ok(moved) = make_move(alloc, catalog, x, copy, to) else {
+        restart(cursor);
+        return false;
+    };
+    if !moved {
+        restart(cursor);
+        return false;
+    }
+    planned_moves_change_one_chunk();
+    // It keeps the rules, as the cursor asks.
+    let _ = catalog.shape();
+    cursor.follow(catalog, status, x);
+    true
+}
+
+/// A cursor of every group.
+fn restart(cursor: &mut Cursor)
+    ensures { (c : Catalogued) (r : Status) → IsCursor c r cursor.new }
+{
+    *cursor = Cursor::start();
+}
+
+/// Whether the search of all extents, and that from the cursor on, give this next move.
+fn gives(catalog: &Catalog, status: &PstRecord, cursor: &mut Cursor, next: Next) -> bool
+    requires status { IsStatusOf catalog.now status.now }
+    requires cursor { IsCursor catalog.now status.now cursor.old }
+    ensures cursor { IsCursor catalog.now status.now cursor.new }
+{
+    let found = next_move_from(catalog, status, cursor);
+    found == next && next_move(catalog, status) == next
 }
 
 /// Whether this is what the rebalance does next. A shift is made by its plan.
-fn does(alloc: Global, catalog: &mut Catalog, status: &PstRecord, step: Step) -> bool
-    requires { IsStatusOf catalog.old status.now }
-    ensures { IsStatusOf catalog.new status.now }
+fn does(
+    alloc: Global,
+    catalog: &mut Catalog,
+    status: &PstRecord,
+    cursor: &mut Cursor,
+    step: Step,
+) -> bool
+    requires status { IsStatusOf catalog.old status.now }
+    requires cursor { IsCursor catalog.old status.now cursor.old }
+    ensures status { IsStatusOf catalog.new status.now }
+    ensures cursor { IsCursor catalog.new status.now cursor.new }
 {
-    if next_move(catalog, status) != next_of(step) {
+    if !gives(catalog, status, cursor, next_of(step)) {
         return false;
     }
     match step {
         Step::Shift(index, copy, disk, unit) => {
             let to = Home { disk, unit };
-            is_shifted(alloc, catalog, status, extent(index), copy, to)
+            is_shifted(alloc, catalog, status, cursor, extent(index), copy, to)
         }
         _ => true,
     }
@@ -155,8 +198,9 @@ fn wrong_in(
 ) -> Option<usize>
     requires { IsStatusOf catalog.old status.now }
 {
+    let mut cursor = Cursor::start();
     for (place, step) in steps.iter().enumerate() {
-        if !does(alloc, catalog, status, *step) {
+        if !does(alloc, catalog, status, &mut cursor, *step) {
             return Some(place);
         }
     }
@@ -199,8 +243,8 @@ fn judged_of(
 }
 
 /// Plays a row: the usual records of a small group after edits, its disks' modes, at most five, how many units each has, and
-/// what the rebalance does there, in turn. A shift is made before the next is asked for. Fails by its name where it does
-/// another thing.
+/// what the rebalance does there, in turn. A shift is made before the next is asked for, of the search of all extents and of
+/// that which goes on from the move before. Fails by its name where one of them gives another thing.
 pub fn play(
     alloc: Global,
     name: &'static str,
