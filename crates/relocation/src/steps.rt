@@ -176,8 +176,9 @@ fn commit_move<B: Bay>(
     requires takes { Takes m.old (B.state bay.old) }
     ensures { GoesOn m.old result m.new (B.state bay.old) (B.state bay.new) }
 {
+    let x = flight.x;
     match plan_of(m.catalog(), alloc, flight) {
-        Ok(change) => m.commit_extent(alloc, bay, &change, flight.x),
+        Ok(change) => m.commit_extent(alloc, bay, &change, x),
         Err(_) => Err(Refusal::NoMemory),
     }
 }
