@@ -1,5 +1,5 @@
 // Images that a run of the built program left, judged as behind a stop.
-use crate::disks::{Disks, PAGE, PAGES};
+use crate::disks::{Disks, PAGES};
 use crate::mounts::second_script;
 use crate::stops::{Asked, between, effect_list, try_sets};
 use crate::tally::{Place, Tally};
@@ -16,16 +16,23 @@ fn is_empty(page: &[u8]) -> bool {
 fn take_page(
     bay: &mut FileBay,
     disks: &mut Disks,
-    slot: usize,
+    slot: u32,
     page: usize,
+    path: &str,
 ) -> Result<bool, AllocError> {
-    let mut bytes = [0u8; PAGE];
-    let at = page as u64 * PAGE as u64;
-    if bay.read(slot as u32, at, &mut bytes).is_err() {
+    let Ok(size) = bay.attach(slot, path) else {
+        return Ok(false);
+    };
+    if page >= PAGES {
+        return Ok(false);
+    }
+    let at = page as u64 * 4096;
+    let mut bytes = [0u8; 4096];
+    if at + 4096 > size || bay.read(slot, at, &mut bytes).is_err() {
         return Ok(false);
     }
     if !is_empty(&bytes) {
-        disks.write(slot, at, &bytes)?;
+        disks.write(slot as usize, at, &bytes)?;
     }
     Ok(true)
 }
@@ -34,17 +41,11 @@ fn take_page(
 fn take_image(
     bay: &mut FileBay,
     disks: &mut Disks,
-    slot: usize,
+    slot: u32,
     path: &str,
 ) -> Result<bool, AllocError> {
-    let Ok(size) = bay.attach(slot as u32, path) else {
-        return Ok(false);
-    };
-    if size < PAGES as u64 * PAGE as u64 {
-        return Ok(false);
-    }
     for page in 0..PAGES {
-        if !take_page(bay, disks, slot, page)? {
+        if !take_page(bay, disks, slot, page, path)? {
             return Ok(false);
         }
     }
@@ -58,8 +59,8 @@ fn take_all(
     paths: &[String],
 ) -> Result<Option<Disks>, AllocError> {
     let mut disks = Disks::zeros(alloc)?;
-    for slot in 0..4usize {
-        let Some(path) = paths.get(slot) else {
+    for slot in 0..4u32 {
+        let Some(path) = paths.get(slot as usize) else {
             return Ok(None);
         };
         if !take_image(bay, &mut disks, slot, path)? {
