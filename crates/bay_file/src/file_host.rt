@@ -6,7 +6,7 @@ ghost use Rattle.bay.specs.Hosts.{CountsAt, untold};
 ghost use Rattle.bay_file.specs.PathFaults.{faults_of};
 
 use crate::path_faults::{PathFaults, count_fault};
-use crate::whole::read_whole;
+use crate::whole::{lacks_memory, read_whole};
 use bay::{Host, HostError};
 use std::collections::BTreeMap;
 use std::fs::{File, OpenOptions};
@@ -32,7 +32,8 @@ impl FileHost {
         }
     }
 
-    // Passes on what the system answered for a path, and counts an error. Without memory for the count it is NoMemory.
+    // Passes on what the system answered for a path, and counts an error. Want of memory isn't counted, and where there is none
+    // for the count it is NoMemory too.
     fn passed<T: Drop>(&mut self, answer: io::Result<T>, path: &str) -> Result<T, HostError>
         ensures ok { IfOk answer (λ value. result ≡ Ok value) }
         ensures counts { CountsAt path.now (faults_of self.old.faults) (faults_of self.new.faults) }
@@ -40,10 +41,15 @@ impl FileHost {
     {
         match answer {
             Ok(value) => Ok(value),
-            Err(_) => match count_fault(self.runtime.alloc(), &mut self.faults, path) {
-                Ok(()) => Err(HostError::Fault),
-                Err(_) => Err(HostError::NoMemory),
-            },
+            Err(error) => {
+                if lacks_memory(&error) {
+                    return Err(HostError::NoMemory);
+                }
+                match count_fault(self.runtime.alloc(), &mut self.faults, path) {
+                    Ok(()) => Err(HostError::Fault),
+                    Err(_) => Err(HostError::NoMemory),
+                }
+            }
         }
     }
 }

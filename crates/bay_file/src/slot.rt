@@ -1,11 +1,12 @@
 // One slot: the image that is attached to it, and its counts.
-ghost use Rattle.std.specs.Prelude.{◌≡◌, ◌≤◌, Some, None, Ok, length, IfOk, OnOk, OnErr, IsSome};
+ghost use Rattle.std.specs.Prelude.{◌≡◌, ◌≤◌, Some, None, Ok, length, IfOk, OnOk, OnErr, IsErrOf, IsSome};
 ghost use Rattle.std.specs.Option.{ForSome};
+ghost use Rattle.bay.specs.declared.fault.BayError.TheVariants.{Fault};
 ghost use Rattle.bay.specs.Counts.{counted, Rose};
 
 use crate::image::Image;
-use crate::whole::passed;
-use bay::Fault;
+use crate::whole::{opened, passed};
+use bay::{BayError, Fault};
 
 #[derive(Drop)]
 pub struct Slot {
@@ -29,33 +30,33 @@ impl Slot {
     }
 
     // Attaches an image that exists, where none is attached.
-    pub fn attach(&mut self, runtime: &HostRuntime, path: &str) -> Result<u64, Fault>
+    pub fn attach(&mut self, runtime: &HostRuntime, path: &str) -> Result<u64, BayError>
         ensures attached { IfOk result (λ size. size_in self.new ≡ Some size) }
         ensures has { ForSome (size_in self.old) (λ size. (result ≡ Ok size) × (size_in self.new ≡ Some size)) }
         ensures refused { OnErr result (size_in self.new ≡ size_in self.old) }
         ensures written { self.new.written ≡ self.old.written }
         ensures later { self.old.faults ≤ self.new.faults }
-        ensures cause { OnErr result (Rose self.old.faults self.new.faults) }
+        ensures cause { IsErrOf result BayError.Fault → Rose self.old.faults self.new.faults }
     {
         if let Some(image) = &self.image {
             return Ok(image.size);
         }
-        let image = passed(Image::open(runtime, path), &mut self.faults)?;
+        let image = opened(Image::open(runtime, path), &mut self.faults)?;
         let size = image.size;
         self.image = Some(image);
         Ok(size)
     }
 
     // Makes an image of zeros and attaches it. What was attached is let go first, and with it its lock.
-    pub fn make(&mut self, runtime: &HostRuntime, path: &str, size: u64) -> Result<(), Fault>
+    pub fn make(&mut self, runtime: &HostRuntime, path: &str, size: u64) -> Result<(), BayError>
         ensures attached { OnOk result (size_in self.new ≡ Some size) }
         ensures refused { OnErr result (size_in self.new ≡ None) }
         ensures written { self.new.written ≡ self.old.written }
         ensures later { self.old.faults ≤ self.new.faults }
-        ensures cause { OnErr result (Rose self.old.faults self.new.faults) }
+        ensures cause { IsErrOf result BayError.Fault → Rose self.old.faults self.new.faults }
     {
         self.image = None;
-        let image = passed(Image::make(runtime, path, size), &mut self.faults)?;
+        let image = opened(Image::make(runtime, path, size), &mut self.faults)?;
         self.image = Some(image);
         Ok(())
     }

@@ -32,7 +32,7 @@ fn attach_kept(
     slot: u32,
     runtime: &HostRuntime,
     path: &str,
-) -> Result<u64, Fault>
+) -> Result<u64, BayError>
     requires { IsSome (get nat_cmp slots.old slot) }
     ensures attached { IfOk result (λ size. attached_in slots.new slot ≡ Some size) }
     ensures has { ForSome (attached_in slots.old slot) (λ size. attached_in slots.new slot ≡ Some size) }
@@ -40,7 +40,7 @@ fn attach_kept(
     ensures others { OthersStay slot slots.old slots.new }
     ensures written { written_in slots.new slot ≡ written_in slots.old slot }
     ensures later { faults_in slots.old slot ≤ faults_in slots.new slot }
-    ensures cause { OnErr result (Rose (faults_in slots.old slot) (faults_in slots.new slot)) }
+    ensures cause { IsErrOf result BayError.Fault → Rose (faults_in slots.old slot) (faults_in slots.new slot) }
 {
     slots.get_mut(&slot).unwrap().attach(runtime, path)
 }
@@ -51,14 +51,14 @@ fn make_kept(
     runtime: &HostRuntime,
     path: &str,
     size: u64,
-) -> Result<(), Fault>
+) -> Result<(), BayError>
     requires { IsSome (get nat_cmp slots.old slot) }
     ensures attached { OnOk result (attached_in slots.new slot ≡ Some size) }
     ensures refused { OnErr result (attached_in slots.new slot ≡ None) }
     ensures others { OthersStay slot slots.old slots.new }
     ensures written { written_in slots.new slot ≡ written_in slots.old slot }
     ensures later { faults_in slots.old slot ≤ faults_in slots.new slot }
-    ensures cause { OnErr result (Rose (faults_in slots.old slot) (faults_in slots.new slot)) }
+    ensures cause { IsErrOf result BayError.Fault → Rose (faults_in slots.old slot) (faults_in slots.new slot) }
 {
     slots.get_mut(&slot).unwrap().make(runtime, path, size)
 }
@@ -81,10 +81,7 @@ pub fn attach_in(
     if keep_slot(slots, slot).is_err() {
         return Err(BayError::NoMemory);
     }
-    match attach_kept(slots, slot, runtime, path) {
-        Ok(size) => Ok(size),
-        Err(Fault) => Err(BayError::Fault),
-    }
+    attach_kept(slots, slot, runtime, path)
 }
 
 // Makes an image of zeros at a path, and attaches it. A slot whose faults can't be counted isn't attached.
@@ -105,10 +102,7 @@ pub fn make_in(
     if keep_slot(slots, slot).is_err() {
         return Err(BayError::NoMemory);
     }
-    match make_kept(slots, slot, runtime, path, size) {
-        Ok(()) => Ok(()),
-        Err(Fault) => Err(BayError::Fault),
-    }
+    make_kept(slots, slot, runtime, path, size)
 }
 
 pub fn read_in(slots: &mut SlotMap, slot: u32, at: u64, buf: &mut [u8]) -> Result<(), Fault>

@@ -1,12 +1,13 @@
 // Whole reads and writes at a place, and answers of the system with their faults counted.
-ghost use Rattle.std.specs.Prelude.{◌≡◌, ◌≤◌, Ok, IfOk, OnOk, OnErr, IsErr};
+ghost use Rattle.std.specs.Prelude.{◌≡◌, ◌≤◌, Ok, IfOk, OnOk, OnErr, IsErr, IsErrOf};
 ghost use Rattle.std.specs.Io.KnownBytes.{Appends, Consumes};
 ghost use Rattle.bay.specs.Counts.{counted};
+ghost use Rattle.bay.specs.declared.fault.BayError.TheVariants.{Fault};
 ghost use Rattle.bay_file.specs.Places.{IsPlacedAt};
 
-use bay::Fault;
+use bay::{BayError, Fault};
 use std::io;
-use std::io::{Read, Seek, SeekFrom, Write};
+use std::io::{ErrorKind, Read, Seek, SeekFrom, Write};
 
 // Passes on what the system answered, and counts an error.
 pub fn passed<T: Drop>(answer: io::Result<T>, faults: &mut u64) -> Result<T, Fault>
@@ -21,6 +22,30 @@ pub fn passed<T: Drop>(answer: io::Result<T>, faults: &mut u64) -> Result<T, Fau
             Err(Fault)
         }
     }
+}
+
+// Passes on what the system answered where an image was opened or made. Want of memory is told apart, and isn't counted.
+pub fn opened<T: Drop>(answer: io::Result<T>, faults: &mut u64) -> Result<T, BayError>
+    ensures ok { IfOk answer (λ value. (result ≡ Ok value) × (faults.new ≡ faults.old)) }
+    ensures err { OnErr answer (IsErr result) }
+    ensures cause { IsErrOf result BayError.Fault → faults.new ≡ counted faults.old 1 }
+    ensures later { faults.old ≤ faults.new }
+{
+    match answer {
+        Ok(value) => Ok(value),
+        Err(error) => {
+            if lacks_memory(&error) {
+                return Err(BayError::NoMemory);
+            }
+            *faults = faults.saturating_add(1);
+            Err(BayError::Fault)
+        }
+    }
+}
+
+// Whether no memory was found, by the system or for the words of the call.
+pub fn lacks_memory(error: &io::Error) -> bool {
+    error.kind() == ErrorKind::OutOfMemory
 }
 
 // Goes to a place.

@@ -1,5 +1,5 @@
 // Images that a run of the built program left, judged as behind a stop.
-use crate::disks::{Disks, PAGES};
+use crate::disks::{Disks, PAGE, PAGES};
 use crate::mounts::second_script;
 use crate::stops::{Asked, between, effect_list, try_sets};
 use crate::tally::{Place, Tally};
@@ -26,9 +26,9 @@ fn take_page(
     if page >= PAGES {
         return Ok(false);
     }
-    let at = page as u64 * 4096;
-    let mut bytes = [0u8; 4096];
-    if at + 4096 > size || bay.read(slot, at, &mut bytes).is_err() {
+    let at = page as u64 * PAGE as u64;
+    let mut bytes = [0u8; PAGE];
+    if at + PAGE as u64 > size || bay.read(slot, at, &mut bytes).is_err() {
         return Ok(false);
     }
     if !is_empty(&bytes) {

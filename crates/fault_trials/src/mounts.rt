@@ -59,8 +59,8 @@ fn put_page(bay: &mut MemBay, slot: u32, page: usize, bytes: &[u8]) -> bool {
     if page >= PAGES || bytes.len() != PAGE {
         return false;
     }
-    let at = page as u64 * 4096;
-    at + 4096 <= size && bay.write(slot, at, bytes).is_ok()
+    let at = page as u64 * PAGE as u64;
+    at + PAGE as u64 <= size && bay.write(slot, at, bytes).is_ok()
 }
 
 // Writes what is there of a disk.
