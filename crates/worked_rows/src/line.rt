@@ -78,6 +78,7 @@ pub enum Line<'t> {
     StopEach,
     Written(&'t str, Amount),
     Calls(Amount),
+    Sectors(u64),
     Show,
     Striping(Group, Stripe, Question, &'t str),
     /// A line that can't be read.
@@ -211,6 +212,7 @@ fn wanting<'t>(word: &'t str, rest: &'t str) -> Option<Line<'t>> {
         "stands" => Some(Line::Stands(rest)),
         "written" => written(rest),
         "calls" => Some(Line::Calls(amount_of(rest)?)),
+        "sectors" => Some(Line::Sectors(number(rest)?)),
         "show" => Some(Line::Show),
         "striping" => striping(rest),
         _ => None,

@@ -35,6 +35,7 @@
 //!
 //!     written d3 to 22016   the command before handed at most so many bytes to writes of this image; without `to`, exactly so many
 //!     calls to 80           there were at most so many calls on the disks up to the end of the command before; so without `to`
+//!     sectors 4096          each read and write of the run is on multiples of so many bytes, a power of two: its place and its length
 //!     show                  for one who writes a row: it fails by a list of the calls of the command before, with slots and bytes
 //!
 //! What no command asks for alone.

@@ -7,7 +7,7 @@ use crate::checks::{
     compare_counts, compare_output, ends_by_reply, has_second, is_to_stop, replies_in,
 };
 use crate::findings::{Findings, Trouble};
-use crate::line::Numbered;
+use crate::line::{Line, Numbered};
 use crate::line_source::LineSource;
 use crate::ruled_bay::RuledBay;
 use asm_run::{Report, run};
@@ -218,7 +218,25 @@ fn judge_run(
     if !is_stopped {
         compare_end(findings, number, lines, output, bay.calls(), seen)?;
     }
+    compare_sectors(findings, lines, bay)?;
     compare_counts(alloc, findings, row, lines, bay.record())
+}
+
+/// Compares the pieces that a run asked for with what is wanted of their places and lengths.
+fn compare_sectors(
+    findings: &mut Findings,
+    lines: &[Numbered<'_>],
+    bay: &RuledBay<'_>,
+) -> Result<(), Trouble> {
+    for numbered in lines {
+        match numbered.line {
+            Line::Sectors(bytes) if !bay.is_on(bytes) => {
+                return Err(findings.wrong(numbered.number, "whole sectors", "parts of one"));
+            }
+            _ => {}
+        }
+    }
+    Ok(())
 }
 
 /// Compares how a run ended that wasn't stopped.

@@ -12,6 +12,8 @@ pub struct RuledBay<'a> {
     disks: MemBay,
     rules: Vec<Rule>,
     record: Vec<Call>,
+    /// The places and lengths of the run's reads and writes, bit by bit: it has the bits that one of them has.
+    pieces: u64,
     stop: Option<u64>,
     line: &'a Cell<u64>,
 }
@@ -30,6 +32,7 @@ impl<'a> RuledBay<'a> {
             disks: MemBay::new(alloc, sizes)?,
             rules: Vec::new(alloc),
             record: Vec::new(alloc),
+            pieces: 0,
             stop: None,
             line,
         })
@@ -38,6 +41,7 @@ impl<'a> RuledBay<'a> {
     /// A run begins, with these rules.
     pub fn begin_run(&mut self, rules: &[Rule]) -> Result<(), NoMemory> {
         self.record.clear();
+        self.pieces = 0;
         self.rules.clear();
         self.rules.extend_from_slice(rules)?;
         Ok(())
@@ -84,6 +88,17 @@ impl<'a> RuledBay<'a> {
         &self.record
     }
 
+    /// Whether each read and write of the run was on multiples of so many bytes, a power of two.
+    pub fn is_on(&self, bytes: u64) -> bool {
+        bytes != 0 && self.pieces % bytes == 0
+    }
+
+    fn add_piece(&mut self, at: u64, len: usize)
+        ensures { Stays (mem.state_of self.old.disks) (mem.state_of self.new.disks) }
+    {
+        self.pieces = self.pieces | at | len as u64;
+    }
+
     // A call comes. Want of memory for the record or for a failure is not told: the row fails by what comes of it.
     fn begin(&mut self, kind: Kind, slot: u32, bytes: u64)
         ensures { Stays (mem.state_of self.old.disks) (mem.state_of self.new.disks) }
@@ -125,11 +140,13 @@ impl Bay for RuledBay<'_> {
 
     fn read(&mut self, slot: u32, at: u64, buf: &mut [u8]) -> Result<(), Fault> {
         self.begin(Kind::Read, slot, 0);
+        self.add_piece(at, buf.len());
         self.disks.read(slot, at, buf)
     }
 
     fn write(&mut self, slot: u32, at: u64, bytes: &[u8]) -> Result<(), Fault> {
         self.begin(Kind::Write, slot, bytes.len() as u64);
+        self.add_piece(at, bytes.len());
         self.disks.write(slot, at, bytes)
     }
 
