@@ -18,6 +18,7 @@ use Rattle.catalog.specs.Rules.{blocks_used}
 use Rattle.catalog.specs.Tables.{Catalogued, Tables, records_of}
 use Rattle.catalog.proofs.DiskLaws.{put_keeps_table}
 use Rattle.catalog.proofs.DiskPlans.{disk_rules, put_at, with_disks}
+use Rattle.catalog.proofs.NewRecords.{at_most}
 use Rattle.catalog.proofs.NumberedLists.{new_longer}
 use Rattle.catalog.proofs.SetLaws.{disks_set}
 use Rattle.catalog.proofs.TableItems.{each_of, map_among}
@@ -64,6 +65,7 @@ added_planned c added first put gone is may room none p g =
       items = λ e among.
           let x = map_among record_of added e among in
           (disk_item x.0.0 x.0.1, record { is = each_of (λ (y : Disk). is_item (disk_item y.0 y.1) ≡ true) added x.0 items x.1; key = ap (λ (y : Entry). y.0) (sym x.2); value = ap (λ (y : Entry). y.1) (sym x.2) });
+      room = (let few = at_most c.tables (map record_of added) in omega (arith, few, length-map added record_of, room));
     })
 
 -- ---- whether blocks are wanting

@@ -36,6 +36,7 @@ use Rattle.catalog.specs.Plans.{IsPlan}
 use Rattle.catalog.specs.Rules.{are_marks_of, are_on_disks, are_within, are_within_head, blocks_used, has_chunk, has_copies, is_mark_of}
 use Rattle.catalog.specs.Tables.{AreTables, Catalogued, Tables}
 use Rattle.catalog.proofs.EditLaws.{IsEdited, IsRightChunk, after_two, changed, chunk_right, due_by, edited_plan, extent_in, homes_set, marks_set}
+use Rattle.catalog.proofs.NewRecords.{HasRoom, chunk_there, marks_there, two_old_room, two_room}
 use Rattle.catalog.proofs.EntryLaws.{both, either, right_at, three_true}
 use Rattle.catalog.proofs.HomeUnits.{takes}
 use Rattle.catalog.proofs.MarkPlans.{Stands as ChunkStands, stands, some_of, zip_at}
@@ -467,10 +468,16 @@ module _ (c : Catalogued) (is : IsCatalog c) (f n : ℕ) (homes : List Homes) (m
         let mid : Tables = record c.tables { extents = xs } in
         after_two c.tables mid (changed c.tables xs ms) chunk_entry marks_entry are (homes_set c.tables f n xs (Some more) here others) (marks_set mid f n ms (Some new_marks) marks_here marks_others)
 
+    free : HasRoom c (chunk_entry ∷ marks_entry ∷ [])
+    free = elim old_or_new [
+      | inl s ↦ two_old_room c chunk_entry marks_entry is (chunk_there c.tables f n s.0 s.2.homes) (marks_there c.tables (f, n) s.1 s.2.marks)
+      | inr none ↦ two_room c chunk_entry marks_entry (room none.0)
+    ]
+
   pub append_planned : (put : List Entry) (gone : List Key) → HasChunkRoom c f n → put ≡ record_of ((f, n), homes_appended c.tables f n homes) ∷ stale.record_of ((f, n), marks_appended c.tables f n marks) ∷ [] → gone ≡ []
       → IsPlan c put gone (with_appended c.tables f n homes marks)
   append_planned put gone blocks e g =
-      rw (e, g) (edited_plan c k xs ms (record_of ((f, n), more) ∷ stale.record_of ((f, n), new_marks) ∷ []) [] is (edit blocks.room) (two_records blocks.room) (units blocks.room) (omega arith) refl)
+      rw (e, g) (edited_plan c k xs ms (record_of ((f, n), more) ∷ stale.record_of ((f, n), new_marks) ∷ []) [] is (edit blocks.room) (two_records blocks.room) (units blocks.room) (omega arith) refl (free blocks.room))
 
 -- ---- whether blocks are wanting
 

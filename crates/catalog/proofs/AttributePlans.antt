@@ -12,6 +12,7 @@ use Rattle.catalog.specs.Faults.{IsCatalog, settings_key}
 use Rattle.catalog.specs.FilePlans.{IsAttributePlan}
 use Rattle.catalog.specs.Plans.{IsPlan}
 use Rattle.catalog.specs.Tables.{Catalogued}
+use Rattle.catalog.proofs.NewRecords.{old_room, settings_there}
 use Rattle.catalog.proofs.PlanLaws.{after_put}
 use Rattle.catalog.proofs.SetLaws.{templates_set}
 use Rattle.catalog.proofs.TemplatePlans.{with_templates}
@@ -41,7 +42,7 @@ settings_planned c put gone is s ok p g =
       room = r.room;
     })
     (λ es has. (c.units, has))
-    (omega arith) refl)
+    (omega arith) refl (old_room c (item_record (settings_item s)) is (settings_there c.tables)))
 
 pub edit_planned : (c : Catalogued) (put : List Entry) (gone : List Key) (name v : Bytes) (s : Settings) → Some s ≡ settings_with c.tables.templates.settings name v
     → IsPlan c put gone (record c.tables { templates = record { templates = c.tables.templates.templates; settings = s } }) → IsAttributePlan c name v put gone

@@ -33,6 +33,7 @@ use Rattle.catalog.specs.Rules.{HasExtents, are_marks_of, are_on_disks, are_with
 use Rattle.catalog.specs.Tables.{AreTables, Catalogued, Tables}
 use Rattle.catalog.proofs.AppendPlans.{all_first, all_joined, all_later, all_same, blank_homes, fits_later, homes_joined, zip_all}
 use Rattle.catalog.proofs.EditLaws.{IsEdited, IsRightChunk, after_two, changed, chunk_right, edited_plan, extent_in, homes_set, marks_set}
+use Rattle.catalog.proofs.NewRecords.{chunk_there, marks_there, two_old_room}
 use Rattle.catalog.proofs.EntryLaws.{both, either, three_true}
 use Rattle.catalog.proofs.MarkPlans.{Stands, stands, zip_at}
 use Rattle.catalog.proofs.UnitEdits.{cut, units_edited}
@@ -210,7 +211,7 @@ module _ (c : Catalogued) (is : IsCatalog c) (f n kept : ℕ) (may : MayCut c.sh
   units es has = units_edited c.shape.step (unused_maps c.shape es) c.units k c.tables.extents xs is.rules.tables.extents.0.0 edit.extents.0.0 others has w new s.homes here follows
 
   fewer_planned : IsPlan c (chunk_entry ∷ marks_entry ∷ []) [] (changed c.tables xs ms)
-  fewer_planned = edited_plan c k xs ms (chunk_entry ∷ marks_entry ∷ []) [] is edit after units (omega arith) refl
+  fewer_planned = edited_plan c k xs ms (chunk_entry ∷ marks_entry ∷ []) [] is edit after units (omega arith) refl (two_old_room c chunk_entry marks_entry is (chunk_there c.tables f n w s.homes) (marks_there c.tables (f, n) m s.marks))
 
 pub cut_planned : (c : Catalogued) (f n kept : ℕ) (put : List Entry) (gone : List Key) → IsCatalog c → MayCut c.shape c.tables f n kept → (kept ≡ 0 → ⊥)
     → put ≡ record_of ((f, n), cut_to kept (chunk_or_blank c.tables.extents (f, n))) ∷ stale.record_of ((f, n), marks_to kept (marks_or_none c.tables.stale (f, n))) ∷ [] → gone ≡ []

@@ -19,6 +19,7 @@ use Rattle.catalog.specs.Plans.{IsPlan, LacksBlock}
 use Rattle.catalog.specs.Rules.{KeepsRules, blocks_used}
 use Rattle.catalog.specs.Tables.{AreTables, Catalogued, Tables}
 use Rattle.catalog.proofs.DiskLaws.{put_keeps_table, record_gone, removed_keeps_table}
+use Rattle.catalog.proofs.NewRecords.{no_disk, nothing_room, one_room}
 use Rattle.catalog.proofs.NumberedLists.{either, gone_at, gone_few, new_longer, not_at, number_is, number_itself, there_as_long}
 use Rattle.catalog.proofs.PlanLaws.{after_gone, after_put}
 use Rattle.catalog.proofs.SetLaws.{disks_set}
@@ -80,7 +81,8 @@ module _ (c : Catalogued) (put : List Entry) (gone : List Key) (is : IsCatalog c
       (after_put c.tables (record c.tables { disks = new }) (item_record (disk_item d info)) (with_disks c.tables new is.rules.tables table) sets)
       (disk_rules c.shape c.tables new is.rules table (put_room c d info is room))
       (λ es has. (c.units, has))
-      (omega arith) refl)
+      (omega arith) refl
+      (one_room c (item_record (disk_item d info)) is (λ lacks. room (no_disk c.tables d lacks))))
 
   pub gone_planned : (d : ℕ) → put ≡ [] → gone ≡ disk_key d ∷ [] → IsPlan c put gone (record c.tables { disks = without_disk old d })
   gone_planned d p g =
@@ -92,7 +94,7 @@ module _ (c : Catalogued) (put : List Entry) (gone : List Key) (is : IsCatalog c
       (after_gone c.tables (record c.tables { disks = new }) (disk_key d) (with_disks c.tables new is.rules.tables table) sets)
       (disk_rules c.shape c.tables new is.rules table (omega (arith, few, is.rules.room)))
       (λ es has. (c.units, has))
-      (omega arith) refl)
+      (omega arith) refl (nothing_room c is))
 
 -- ---- whether a block is wanting
 

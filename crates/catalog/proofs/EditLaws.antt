@@ -30,6 +30,7 @@ use Rattle.asm_placement.specs.Naming.{is_pending}
 use Rattle.catalog.specs.Rules.{HasExtents, KeepsRules, are_chunk_marks, are_marks_of, are_on_disks, are_within_head, blocks_used, has_chunk, has_copies, has_marks, is_marked_right, is_on_disks, is_owned, keeps_copies}
 use Rattle.catalog.specs.Tables.{AreTables, Catalogued, Tables, records_of}
 use Rattle.catalog.proofs.EntryLaws.{edited, either, holds_all, holds_at, right_at}
+use Rattle.catalog.proofs.NewRecords.{HasRoom}
 use Rattle.catalog.proofs.SetLaws.{extents_set, stale_set}
 use Rattle.catalog.proofs.PutItems.{is_once, plan_is}
 
@@ -158,6 +159,6 @@ after_two_gone t mid u j l are first second = record { tables = are; records = �
 pub edited_plan : (c : Catalogued) (k : Chunk) (xs : List Chunked) (ms : List Marked) (put : List Entry) (gone : List Key) → IsCatalog c → IsEdited c.shape c.tables k xs ms
     → (AreTables (changed c.tables xs ms) → IsAfter c.tables put gone (changed c.tables xs ms))
     → ((entries : List status.Entry) → HasUnits c.shape entries c.tables c.units → (us : List UnitMap) × HasUnits c.shape entries (changed c.tables xs ms) us)
-    → length put + length gone ≤ 64 → is_once put gone ≡ true → IsPlan c put gone (changed c.tables xs ms)
-edited_plan c k xs ms put gone is e after units few once =
-    plan_is c put gone (changed c.tables xs ms) (after (edited_tables c.shape c.tables k xs ms is.rules.tables e)) (edited_rules c.shape c.tables k xs ms is.rules e) units few once
+    → length put + length gone ≤ 64 → is_once put gone ≡ true → HasRoom c put → IsPlan c put gone (changed c.tables xs ms)
+edited_plan c k xs ms put gone is e after units few once room =
+    plan_is c put gone (changed c.tables xs ms) (after (edited_tables c.shape c.tables k xs ms is.rules.tables e)) (edited_rules c.shape c.tables k xs ms is.rules e) units few once room

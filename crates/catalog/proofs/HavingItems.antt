@@ -135,7 +135,7 @@ one_of_rank t i j are o p e =
 
 -- ---- all items of the tables, table by table
 
-abbrev two_items : Tables → List Item
+abbrev pub two_items : Tables → List Item
 two_items t = templates_item t.templates.templates ∷ settings_item t.templates.settings ∷ []
 
 -- an item of a table's entries is one of the tables
@@ -145,7 +145,7 @@ of_part t item_of xs i is h = let m = map_among item_of xs i h in is m.0 m.1 m.2
 in_part : {X : Type 0} (item_of : X → Item) (xs : List X) (i : Item) (x : X) → IsAmong xs x → i ≡ item_of x → IsAmong (map item_of xs) i
 in_part item_of xs i x h e = subst (λ (j : Item). IsAmong (map item_of xs) j) (sym e) (among_map item_of xs x h)
 
-joined : List (List Item) → List Item
+unfoldable pub joined : List (List Item) → List Item
 joined [] = []
 joined (p ∷ ps) = p ++ joined ps
 
@@ -163,10 +163,10 @@ joined_in [] p i h among = absurd h
 joined_in (q ∷ ps) p i (inl e) among = left_among q (joined ps) i (subst (λ (l : List Item). IsAmong l i) e among)
 joined_in (q ∷ ps) p i (inr h) among = right_among q (joined ps) i (joined_in ps p i h among)
 
-abbrev parts : Tables → List (List Item)
+abbrev pub parts : Tables → List (List Item)
 parts t = map files.item_of t.files ∷ map extents.item_of t.extents ∷ map disks.item_of t.disks ∷ operations.items_of t.operations ∷ two_items t ∷ map nodes.item_of t.nodes ∷ map stale.item_of t.stale ∷ []
 
-in_parts : (t : Tables) (i : Item) → IsOf t i → IsAmong (joined (parts t)) i
+pub in_parts : (t : Tables) (i : Item) → IsOf t i → IsAmong (joined (parts t)) i
 in_parts t i (a_file x h e) = joined_in (parts t) (map files.item_of t.files) i (inl refl) (in_part files.item_of t.files i x h e)
 in_parts t i (a_chunk x h e) = joined_in (parts t) (map extents.item_of t.extents) i (inr (inl refl)) (in_part extents.item_of t.extents i x h e)
 in_parts t i (a_disk x h e) = joined_in (parts t) (map disks.item_of t.disks) i (inr (inr (inl refl))) (in_part disks.item_of t.disks i x h e)

@@ -21,6 +21,8 @@ pub mod UnusedLaws
 pub mod SetLaws
 pub mod SameTables
 pub mod AfterLaws
+pub mod NewRecords
+pub mod PageCounts
 pub mod PutItems
 pub mod PlanLaws
 pub mod NumberedLists

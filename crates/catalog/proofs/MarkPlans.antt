@@ -25,6 +25,7 @@ use Rattle.catalog.specs.Plans.{IsPlan}
 use Rattle.catalog.specs.Rules.{are_marks_of, is_mark_of, marks_of}
 use Rattle.catalog.specs.Tables.{AreTables, Catalogued, Tables}
 use Rattle.catalog.proofs.EditLaws.{IsEdited, IsRightChunk, changed, chunk_right, edited_plan, marks_set}
+use Rattle.catalog.proofs.NewRecords.{marks_there, old_room}
 use Rattle.catalog.proofs.EntryLaws.{both, holds_at, three_true}
 use Rattle.catalog.proofs.PlanLaws.{after_put}
 
@@ -207,7 +208,7 @@ module _ (c : Catalogued) (is : IsCatalog c) (f i set clear : ℕ) (may : MayMar
         (marks_set c.tables f (i / 256) ms (Some (slice_set m (i % 256) new)) (put_here chunk_cmp same_chunk k (slice_set m (i % 256) new) (found_self f (i / 256)) c.tables.stale) edit.marks)
 
     plan_at : (put : List Entry) (gone : List Key) → put ≡ entry ∷ [] → gone ≡ [] → IsPlan c put gone (changed c.tables c.tables.extents ms)
-    plan_at put gone p g = rw (p, g) (edited_plan c k c.tables.extents ms (entry ∷ []) [] is edit after (λ es has. (c.units, has)) (omega arith) refl)
+    plan_at put gone p g = rw (p, g) (edited_plan c k c.tables.extents ms (entry ∷ []) [] is edit after (λ es has. (c.units, has)) (omega arith) refl (old_room c entry is (marks_there c.tables k m s.marks)))
 
   pub marks_planned : (put : List Entry) (gone : List Key) → put ≡ record_of ((f, i / 256), slice_set (marks_or_none c.tables.stale (f, i / 256)) (i % 256) new) ∷ [] → gone ≡ []
       → IsPlan c put gone (with_marks_changed c.tables f i set clear)

@@ -40,6 +40,7 @@ use Rattle.catalog.specs.Plans.{IsPlan}
 use Rattle.catalog.specs.Rules.{are_marks_of, are_on_disks, are_within, are_within_head, has_copies, is_mark_of, marks_of}
 use Rattle.catalog.specs.Tables.{AreTables, Catalogued, Tables}
 use Rattle.catalog.proofs.EditLaws.{IsEdited, IsRightChunk, after_two, changed, chunk_right, due_by, edited_plan, extent_in, homes_set, marks_set}
+use Rattle.catalog.proofs.NewRecords.{chunk_there, marks_there, old_room, two_old_room}
 use Rattle.catalog.proofs.EntryLaws.{both, three_true}
 use Rattle.catalog.proofs.HomeUnits.{chunks_are_homes, takes}
 use Rattle.catalog.proofs.MarkPlans.{Stands, marks_small, set_allowed, stands, zip_at}
@@ -350,7 +351,7 @@ module _ (c : Catalogued) (is : IsCatalog c) (f i copy : ℕ) (h : Home) (may : 
       after_two c.tables mid (changed c.tables xs ms) chunk_entry marks_entry are (homes_set c.tables f (i / 256) xs (Some new) here others) (marks_set mid f (i / 256) ms (Some new_marks) marks_here marks_others)
 
   pub two_planned : IsPlan c (chunk_entry ∷ marks_entry ∷ []) [] (changed c.tables xs ms)
-  two_planned = edited_plan c k xs ms (chunk_entry ∷ marks_entry ∷ []) [] is edit two_records units (omega arith) refl
+  two_planned = edited_plan c k xs ms (chunk_entry ∷ marks_entry ∷ []) [] is edit two_records units (omega arith) refl (two_old_room c chunk_entry marks_entry is (chunk_there c.tables f (i / 256) w s.homes) (marks_there c.tables k m s.marks))
 
   -- where the copy has no mark, the marks stay
   same_marks : has_bit (get_or m (i % 256) 0) copy ≡ false → ms ≡ c.tables.stale
@@ -364,7 +365,7 @@ module _ (c : Catalogued) (is : IsCatalog c) (f i copy : ℕ) (h : Home) (may : 
       (after_put c.tables (changed c.tables xs c.tables.stale) chunk_entry (subst (λ (y : List Marked). AreTables (changed c.tables xs y)) same are) (homes_set c.tables f (i / 256) xs (Some new) here others))
 
   pub one_planned : has_bit (get_or m (i % 256) 0) copy ≡ false → IsPlan c (chunk_entry ∷ []) [] (changed c.tables xs ms)
-  one_planned none = edited_plan c k xs ms (chunk_entry ∷ []) [] is edit (one_record (same_marks none)) units (omega arith) refl
+  one_planned none = edited_plan c k xs ms (chunk_entry ∷ []) [] is edit (one_record (same_marks none)) units (omega arith) refl (old_room c chunk_entry is (chunk_there c.tables f (i / 256) w s.homes))
 
 -- ---- as the code says it
 

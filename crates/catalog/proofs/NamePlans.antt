@@ -47,6 +47,7 @@ use Rattle.catalog.specs.Plans.{ArePutItems, IsPlan}
 use Rattle.asm_placement.specs.Naming.{is_directory, is_named_as, is_pending, names_back}
 use Rattle.catalog.specs.Rules.{HasExtents, KeepsRules, are_within_head, blocks_used, first_wrong, has_names, is_named_back, is_owned, keeps_copies, names_file}
 use Rattle.catalog.specs.Tables.{AreTables, Catalogued, Tables, records_of}
+use Rattle.catalog.proofs.NewRecords.{HasRoom, all_but_last, settings_there}
 use Rattle.catalog.proofs.NumberedEntries.{passes_each, passes_where, put_all}
 use Rattle.catalog.proofs.NumberedLists.{either, number_is, number_itself, put_at, put_few, there_all}
 use Rattle.catalog.proofs.PlanLaws.{or_false, pending_key}
@@ -310,9 +311,18 @@ made_planned c f head made put gone is new few p g = (
     units = λ es has. (c.units, has);
     few = (let one : length gone ≡ 1 = ap (λ (ks : List Key). length ks) g in omega (arith, five, one));
     items = subst ArePutItems (sym p) (puts_items f head made c.tables.templates.settings new.item new.items is.rules.tables.templates.settings);
+    room = subst (HasRoom c) (sym p) free;
   },
   five,
 ) where
+  last : Entry
+  last = item_record (settings_item (settings_next c.tables.templates.settings))
+
+  free : HasRoom c (record_of (f, head) ∷ (map nodes.record_of made ++ last ∷ []))
+  free =
+      let room = new.room in
+      all_but_last c (record_of (f, head)) (map nodes.record_of made) last (omega (arith, length-map made nodes.record_of, room)) (settings_there c.tables)
+
   five : length put ≤ 5
   five =
       let all : length put ≡ 1 + (length (map nodes.record_of made) + 1) = ap (λ (es : List Entry). length es) p ∙ omega (arith, length-append (map nodes.record_of made) (item_record (settings_item (settings_next c.tables.templates.settings)) ∷ [])) in

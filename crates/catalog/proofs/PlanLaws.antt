@@ -12,9 +12,10 @@ use Rattle.operations_directory.proofs.ChangeLaws as operation_laws
 use Rattle.catalog.specs.Changing.{IsAfter, Sets}
 use Rattle.catalog.specs.Faults.{IsCatalog}
 use Rattle.catalog.specs.Plans.{AreOwned, IsPlan}
-use Rattle.catalog.specs.Rules.{KeepsRules}
+use Rattle.catalog.specs.Rules.{KeepsRules, lacks_record}
 use Rattle.catalog.specs.Tables.{AreTables, Catalogued, Tables, records_of}
 use Rattle.catalog.proofs.SetLaws.{operations_set}
+use Rattle.catalog.proofs.NewRecords.{nothing_room, old_room}
 use Rattle.catalog.proofs.PutItems.{plan_is}
 
 -- ---- one record that is put or goes
@@ -50,12 +51,12 @@ operation_rules s t new r is owned = record {
 }
 
 put_plan : (c : Catalogued) (new : operations.Operations) (e : Entry) (put : List Entry) (gone : List Key) → IsCatalog c → operations.IsTable new → AreOwned (record c.tables { operations = new })
-    → Sets c.tables (record c.tables { operations = new }) e.0 (Some e.1) → put ≡ e ∷ [] → gone ≡ [] → IsPlan c put gone (record c.tables { operations = new })
-put_plan c new e put gone is table owned sets p g = rw (p, g) (plan_is c _ _ _
+    → Sets c.tables (record c.tables { operations = new }) e.0 (Some e.1) → lacks_record c.tables e.0 ≡ false → put ≡ e ∷ [] → gone ≡ [] → IsPlan c put gone (record c.tables { operations = new })
+put_plan c new e put gone is table owned sets kept p g = rw (p, g) (plan_is c _ _ _
     (after_put c.tables (record c.tables { operations = new }) e (with_operations c.tables new is.rules.tables table) sets)
     (operation_rules c.shape c.tables new is.rules table owned)
     (λ es has. (c.units, has))
-    (omega arith) refl)
+    (omega arith) refl (old_room c e is kept))
 
 gone_plan : (c : Catalogued) (new : operations.Operations) (key : Key) (put : List Entry) (gone : List Key) → IsCatalog c → operations.IsTable new → AreOwned (record c.tables { operations = new })
     → Sets c.tables (record c.tables { operations = new }) key None → put ≡ [] → gone ≡ key ∷ [] → IsPlan c put gone (record c.tables { operations = new })
@@ -63,7 +64,7 @@ gone_plan c new key put gone is table owned sets p g = rw (p, g) (plan_is c _ _ 
     (after_gone c.tables (record c.tables { operations = new }) key (with_operations c.tables new is.rules.tables table) sets)
     (operation_rules c.shape c.tables new is.rules table owned)
     (λ es has. (c.units, has))
-    (omega arith) refl)
+    (omega arith) refl (nothing_room c is))
 
 pub operation_fits : (op op_inside : Pending) → op ≡ op_inside → op_inside.file < 2 ^ 32 → op_inside.kept < 2 ^ 64 → is_item (pending_item op) ≡ true
 unfolding is_item
@@ -85,7 +86,7 @@ module _ (c : Catalogued) (put : List Entry) (gone : List Key) (is : IsCatalog c
   power_planned p few e g =
       let new = record old { rebalance = Some p } in
       put_plan c new (item_record (rebalance_item p)) put gone is (operation_laws.power_allowed old p (lt-ltb p (2 ^ 16) few) is.rules.tables.operations) is.rules.owned
-      (operations_set c.tables new rebalance_key (Some (value (rebalance_item p))) refl (operation_laws.power_set old p)) e g
+      (operations_set c.tables new rebalance_key (Some (value (rebalance_item p))) refl (operation_laws.power_set old p)) refl e g
 
   pub no_power_planned : put ≡ [] → gone ≡ rebalance_key ∷ [] → IsPlan c put gone (record c.tables { operations = record old { rebalance = None } })
   no_power_planned e g =
@@ -98,7 +99,7 @@ module _ (c : Catalogued) (put : List Entry) (gone : List Key) (is : IsCatalog c
   begun_planned op ok e g owned =
       let new = record old { pending = Some op } in
       put_plan c new (item_record (pending_item op)) put gone is (operation_laws.operation_allowed old op ok is.rules.tables.operations) owned
-      (operations_set c.tables new pending_key (Some (value (pending_item op))) refl (operation_laws.operation_set old op)) e g
+      (operations_set c.tables new pending_key (Some (value (pending_item op))) refl (operation_laws.operation_set old op)) refl e g
 
   pub ended_planned : put ≡ [] → gone ≡ pending_key ∷ [] → AreOwned (record c.tables { operations = record old { pending = None } }) → IsPlan c put gone (record c.tables { operations = record old { pending = None } })
   ended_planned e g owned =

@@ -17,6 +17,7 @@ use Rattle.catalog.specs.Placing.{HasUnits}
 use Rattle.catalog.specs.Plans.{ArePutItems, IsPlan}
 use Rattle.catalog.specs.Rules.{KeepsRules}
 use Rattle.catalog.specs.Tables.{Catalogued, Tables, item_at, records_of}
+use Rattle.catalog.proofs.NewRecords.{HasRoom}
 use Rattle.catalog.proofs.TableItems.{allowed, from_map, key_total, said}
 
 -- no two records have one key
@@ -61,5 +62,5 @@ put_items t u put gone after once e among =
 
 -- a plan each key of which stands once
 pub plan_is : (c : Catalogued) (put : List Entry) (gone : List Key) (u : Tables) → IsAfter c.tables put gone u → KeepsRules c.shape u
-    → ((entries : List status.Entry) → HasUnits c.shape entries c.tables c.units → (ms : List UnitMap) × HasUnits c.shape entries u ms) → length put + length gone ≤ 64 → is_once put gone ≡ true → IsPlan c put gone u
-plan_is c put gone u after rules units few once = record { after = after; rules = rules; units = units; few = few; items = put_items c.tables u put gone after once }
+    → ((entries : List status.Entry) → HasUnits c.shape entries c.tables c.units → (ms : List UnitMap) × HasUnits c.shape entries u ms) → length put + length gone ≤ 64 → is_once put gone ≡ true → HasRoom c put → IsPlan c put gone u
+plan_is c put gone u after rules units few once room = record { after = after; rules = rules; units = units; few = few; items = put_items c.tables u put gone after once; room = room }

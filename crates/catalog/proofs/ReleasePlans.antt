@@ -25,6 +25,7 @@ use Rattle.catalog.specs.Plans.{IsPlan}
 use Rattle.catalog.specs.Rules.{HasExtents, has_copies}
 use Rattle.catalog.specs.Tables.{AreTables, Catalogued, Tables}
 use Rattle.catalog.proofs.EditLaws.{IsEdited, after_two_gone, changed, edited_plan, extent_in, homes_set, marks_set}
+use Rattle.catalog.proofs.NewRecords.{nothing_room}
 use Rattle.catalog.proofs.EntryLaws.{either}
 use Rattle.catalog.proofs.MarkPlans.{some_of}
 use Rattle.catalog.proofs.UnitEdits.{units_gone}
@@ -97,7 +98,7 @@ module _ (c : Catalogued) (is : IsCatalog c) (f n : ℕ) (may : MayCut c.shape c
       units_gone c.shape.step (unused_maps c.shape es) c.units k c.tables.extents xs is.rules.tables.extents.0.0 edit.extents.0.0 others has w.0 w.1 gone
 
   release_planned : (put : List Entry) (keys : List Key) → put ≡ [] → keys ≡ chunk_key f n ∷ key_of_marks (f, n) ∷ [] → IsPlan c put keys (with_cut c.tables f n 0)
-  release_planned put keys p g = rw (p, g) (edited_plan c k xs ms [] (chunk_key f n ∷ key_of_marks (f, n) ∷ []) is edit after units (omega arith) refl)
+  release_planned put keys p g = rw (p, g) (edited_plan c k xs ms [] (chunk_key f n ∷ key_of_marks (f, n) ∷ []) is edit after units (omega arith) refl (nothing_room c is))
 
 -- where no extent is kept
 pub whole_planned : (c : Catalogued) (f n kept : ℕ) (put : List Entry) (keys : List Key) → IsCatalog c → MayCut c.shape c.tables f n kept → kept ≡ 0 → put ≡ [] → keys ≡ chunk_key f n ∷ key_of_marks (f, n) ∷ [] → IsPlan c put keys (with_cut c.tables f n kept)

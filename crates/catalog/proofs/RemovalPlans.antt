@@ -37,6 +37,7 @@ use Rattle.catalog.proofs.Owners.{of_file}
 use Rattle.catalog.proofs.PlanLaws.{pending_key}
 use Rattle.catalog.proofs.SetLaws.{file_gone, nodes_set, operations_set}
 use Rattle.catalog.proofs.TableItems.{among_found, numbers_exact}
+use Rattle.catalog.proofs.NewRecords.{HasRoom, old_room}
 use Rattle.catalog.proofs.PutItems.{plan_is}
 
 system_of_item : (f : ℕ) (head : FileHead) → is_item (file_item f head) ≡ true → 0 < head.system
@@ -337,6 +338,9 @@ removal_planned c f head put gone is there ok p g = by (eqb head.alias 0) refl w
   table : operations.IsTable (record c.tables.operations { pending = Some (removal_of f) })
   table = operation_laws.operation_allowed c.tables.operations (removal_of f) ok is.rules.tables.operations
 
+  room : HasRoom c put
+  room = rw p (old_room c (item_record (pending_item (removal_of f))) is refl)
+
   make : (ns : List Numbered) → without_names c.tables.nodes head ≡ ns → (AreOwned (without c.tables f ns) → IsPlan c put gone (without c.tables f ns)) → (is_on_file c.tables.files c.tables.operations.pending ≡ true → AreOwned (without c.tables f ns)) → IsRemovalPlan c f put gone
   make ns same plan alone = record {
     head = head;
@@ -359,7 +363,7 @@ removal_planned c f head put gone is there ok p g = by (eqb head.alias 0) refl w
       (record { tables = tables_kept c.shape c.tables f head is.rules there ns (λ m. is_at (nat_cmp head.system) m) goes at items few part table; records = λ k. rw (p, keys) (system_left c.shape c.tables f head is.rules there k ∙ two_go (is_key (file_key f) k) (is_key (node_key head.system) k) (cond (is_key pending_key k) (Some (value (pending_item (removal_of f)))) (records_of c.tables k))) })
       (rules_kept c.shape c.tables f head is.rules there ns (λ m. is_at (nat_cmp head.system) m) goes at items few part table owned)
       (λ es has. (c.units, has))
-      (rw (p, keys) (omega arith)) (rw (p, keys) refl))
+      (rw (p, keys) (omega arith)) (rw (p, keys) refl) room)
       (owned_then c.shape c.tables f head is.rules there ns (λ m. is_at (nat_cmp head.system) m) goes at items few part)
   by false q =
       let ns = without_node (without_node c.tables.nodes head.system) head.alias in
@@ -376,5 +380,5 @@ removal_planned c f head put gone is there ok p g = by (eqb head.alias 0) refl w
       (record { tables = tables_kept c.shape c.tables f head is.rules there ns (λ m. is_either c.shape c.tables f head is.rules there m) goes at items few part table; records = λ k. rw (p, keys) (alias_left c.shape c.tables f head is.rules there k ∙ three_go (is_key (file_key f) k) (is_key (node_key head.system) k) (is_key (node_key head.alias) k) (cond (is_key pending_key k) (Some (value (pending_item (removal_of f)))) (records_of c.tables k))) })
       (rules_kept c.shape c.tables f head is.rules there ns (λ m. is_either c.shape c.tables f head is.rules there m) goes at items few part table owned)
       (λ es has. (c.units, has))
-      (rw (p, keys) (omega arith)) (rw (p, keys) refl))
+      (rw (p, keys) (omega arith)) (rw (p, keys) refl) room)
       (owned_then c.shape c.tables f head is.rules there ns (λ m. is_either c.shape c.tables f head is.rules there m) goes at items few part)

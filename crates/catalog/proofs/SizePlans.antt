@@ -36,6 +36,7 @@ use Rattle.catalog.proofs.Owners.{of_file}
 use Rattle.catalog.proofs.PlanLaws.{or_false, pending_key}
 use Rattle.catalog.proofs.SetLaws.{operations_set}
 use Rattle.catalog.proofs.TreePlans.{head_put}
+use Rattle.catalog.proofs.NewRecords.{HasRoom, head_there, old_room, two_old_room}
 use Rattle.catalog.proofs.PutItems.{is_once, plan_is}
 
 -- ---- the head
@@ -153,11 +154,14 @@ module _ (c : Catalogued) (f : ℕ) (head : FileHead) (size : ℕ) (put : List E
   abbrev to : Option Pending → Tables
   to pending = sized c.tables f head size pending
 
-  plan_of : (pending : Option Pending) → operations.IsTable (record old { pending = pending }) → ((k : Key) → records_of (to pending) k ≡ value_after put gone k (records_of c.tables k)) → length put + length gone ≤ 64 → is_once put gone ≡ true
+  plan_of : (pending : Option Pending) → operations.IsTable (record old { pending = pending }) → ((k : Key) → records_of (to pending) k ≡ value_after put gone k (records_of c.tables k)) → length put + length gone ≤ 64 → is_once put gone ≡ true → HasRoom c put
       → AreOwned (to pending) → IsPlan c put gone (to pending)
-  plan_of pending table after few once owned =
+  plan_of pending table after few once room owned =
       plan_is c put gone (to pending) (record { tables = tables_kept c.shape c.tables f head size pending is.rules there less table; records = after })
-      (rules_kept c.shape c.tables f head size pending is.rules there less table may owned) (λ es has. (c.units, has)) few once
+      (rules_kept c.shape c.tables f head size pending is.rules there less table may owned) (λ es has. (c.units, has)) few once room
+
+  head_room : HasRoom c (entry ∷ [])
+  head_room = old_room c entry is (head_there c.tables f head there)
 
   grown_after : put ≡ entry ∷ [] → gone ≡ pending_key ∷ [] → (k : Key) → records_of (to None) k ≡ value_after put gone k (records_of c.tables k)
   grown_after p g k = rw (p, g) (
@@ -171,7 +175,7 @@ module _ (c : Catalogued) (f : ℕ) (head : FileHead) (size : ℕ) (put : List E
     file = there;
     pending = None;
     operation = record { grown = λ e. refl; shrunk = λ e. absurd (omega arith); as_long = λ e. absurd (omega arith) };
-    plan = plan_of None (operation_laws.no_pending old (record old { pending = None }) refl is.rules.tables.operations) (grown_after p g) (rw (p, g) (omega arith)) (rw (p, g) refl);
+    plan = plan_of None (operation_laws.no_pending old (record old { pending = None }) refl is.rules.tables.operations) (grown_after p g) (rw (p, g) (omega arith)) (rw (p, g) refl) (rw p head_room);
     owned = owned_then c.shape c.tables f head size None is.rules there;
   }
 
@@ -187,7 +191,7 @@ module _ (c : Catalogued) (f : ℕ) (head : FileHead) (size : ℕ) (put : List E
     file = there;
     pending = Some op;
     operation = record { grown = λ e. absurd (omega arith); shrunk = λ e. (op.kept, ap (λ (o : Pending). Some o) same, kept_then); as_long = λ e. absurd (omega arith) };
-    plan = plan_of (Some op) (operation_laws.operation_allowed old op ok is.rules.tables.operations) (shrunk_after op records g) (rw (records, g) (omega arith)) (rw (records, g) refl);
+    plan = plan_of (Some op) (operation_laws.operation_allowed old op ok is.rules.tables.operations) (shrunk_after op records g) (rw (records, g) (omega arith)) (rw (records, g) refl) (rw records (two_old_room c entry (item_record (pending_item op)) is (head_there c.tables f head there) refl));
     owned = owned_then c.shape c.tables f head size (Some op) is.rules there;
   } where
     same : op ≡ record { kind = Shrink; file = f; kept = op.kept }
@@ -205,6 +209,6 @@ module _ (c : Catalogued) (f : ℕ) (head : FileHead) (size : ℕ) (put : List E
     file = there;
     pending = old.pending;
     operation = record { grown = λ e. absurd (omega arith); shrunk = λ e. absurd (omega arith); as_long = λ e. refl };
-    plan = plan_of old.pending is.rules.tables.operations (λ k. rw (p, g) (head_set c.shape c.tables f head size old.pending is.rules there k)) (rw (p, g) (omega arith)) (rw (p, g) refl);
+    plan = plan_of old.pending is.rules.tables.operations (λ k. rw (p, g) (head_set c.shape c.tables f head size old.pending is.rules there k)) (rw (p, g) (omega arith)) (rw (p, g) refl) (rw p head_room);
     owned = owned_then c.shape c.tables f head size old.pending is.rules there;
   }

@@ -14,6 +14,7 @@ use Rattle.template_directory.proofs.ChangeLaws as template_laws
 use Rattle.catalog.specs.Faults.{IsCatalog, templates_key}
 use Rattle.catalog.specs.Plans.{IsPlan, IsTemplatePlan}
 use Rattle.catalog.specs.Tables.{AreTables, Catalogued, Tables}
+use Rattle.catalog.proofs.NewRecords.{old_room, templates_there}
 use Rattle.catalog.proofs.PlanLaws.{after_put}
 use Rattle.catalog.proofs.SetLaws.{templates_set}
 use Rattle.catalog.proofs.PutItems.{plan_is}
@@ -45,7 +46,7 @@ set_planned c put gone is ts ok p g =
       room = r.room;
     })
     (λ es has. (c.units, has))
-    (omega arith) refl)
+    (omega arith) refl (old_room c (item_record (templates_item ts)) is (templates_there c.tables)))
 
 pub edit_planned : (c : Catalogued) (put : List Entry) (gone : List Key) (edit : TemplateEdit) (ts : List Template) → templates_edited c.shape.kind (templates_by_name c.tables.templates.templates) edit ≡ Ok (templates_by_name ts)
     → IsPlan c put gone (record c.tables { templates = record { templates = ts; settings = c.tables.templates.settings } }) → IsTemplatePlan c edit put gone

@@ -35,6 +35,7 @@ use Rattle.catalog.specs.TreePlans.{HasNoAlias, IsNewAlias, KeepsName, aliased_h
 use Rattle.catalog.proofs.NumberedLists.{all_there, either, gone_few, new_longer, number_is, number_itself, put_at, there_all, there_as_long}
 use Rattle.catalog.proofs.PlanLaws.{after_gone, after_put}
 use Rattle.catalog.proofs.SetLaws.{files_set, nodes_set}
+use Rattle.catalog.proofs.NewRecords.{first_room, head_there, no_node, nothing_room, old_room, one_room}
 use Rattle.catalog.proofs.PutItems.{plan_is}
 
 -- ---- entries that are right
@@ -432,7 +433,7 @@ module _ (c : Catalogued) (put : List Entry) (gone : List Key) (is : IsCatalog c
       (after_put t (record t { nodes = with_node t.nodes n x }) (item_record (node_item n x)) are (node_put t n x))
       (after_rules c.shape t (with_node t.nodes n x) t.files r (λ f. like_itself (head_at t.files f)) are (kept_named c.shape t r n x keeps) (kept_has c.shape t r n x keeps) (put_room n x t.files refl room))
       (λ es has. (c.units, has))
-      (omega arith) refl)
+      (omega arith) refl (one_room c (item_record (node_item n x)) is (λ lacks. room (no_node t n lacks))))
 
   -- A new alias is put, and the head of its file has it.
   pub alias_planned : (n : ℕ) (x : Node) (h : FileHead) → nodes.IsTable (with_node t.nodes n x) → n < 2 ^ 32 → node_at t.nodes n ≡ None → x.kind ≡ Alias → head_at t.files x.file ≡ Some h → HasNoAlias t.nodes x.file → blocks_used t + 2 < c.shape.dir_blocks
@@ -450,7 +451,7 @@ module _ (c : Catalogued) (put : List Entry) (gone : List Key) (is : IsCatalog c
       (after_rules c.shape t (with_node t.nodes n x) heads r (like_put t.files x.file h n head) are (alias_named c.shape t r n x x.file h free kind refl head none) (alias_has c.shape t r n x x.file h free kind refl head none)
       (put_room n x heads as_many (λ e. room)))
       (λ es has. (c.units, has))
-      (omega arith) refl)
+      (omega arith) refl (first_room c (item_record (node_item n x)) (item_record (file_item x.file (with_alias h n))) room (head_there t x.file h head)))
 
   -- A directory goes.
   pub dir_gone_planned : (n : ℕ) (x : Node) → nodes.IsTable (without_node t.nodes n) → node_at t.nodes n ≡ Some x → x.kind ≡ Directory → put ≡ [] → gone ≡ node_key n ∷ [] → IsPlan c put gone (record t { nodes = without_node t.nodes n })
@@ -461,7 +462,7 @@ module _ (c : Catalogued) (put : List Entry) (gone : List Key) (is : IsCatalog c
       (after_gone t (record t { nodes = without_node t.nodes n }) (node_key n) are (node_gone t n r.tables))
       (after_rules c.shape t (without_node t.nodes n) t.files r (λ f. like_itself (head_at t.files f)) are (dir_named c.shape t r n x at) (dir_has c.shape t r n x at kind) (gone_room n t.files refl))
       (λ es has. (c.units, has))
-      (omega arith) refl)
+      (omega arith) refl (nothing_room c is))
 
   -- An alias goes, and the head of its file has none.
   pub alias_gone_planned : (n : ℕ) (x : Node) (h : FileHead) → nodes.IsTable (without_node t.nodes n) → node_at t.nodes n ≡ Some x → x.kind ≡ Alias → head_at t.files x.file ≡ Some h
@@ -481,7 +482,7 @@ module _ (c : Catalogued) (put : List Entry) (gone : List Key) (is : IsCatalog c
       (after_rules c.shape t (without_node t.nodes n) heads r (like_put t.files x.file h 0 head) are (unalias_named c.shape t r n x at x.file h kind refl head) (unalias_has c.shape t r n x at x.file h kind refl head)
       (gone_room n heads as_many))
       (λ es has. (c.units, has))
-      (omega arith) refl)
+      (omega arith) refl (old_room c (item_record (file_item x.file (with_alias h 0))) is (head_there t x.file h head)))
 
 -- ---- the same, by what the steps of a plan give
 

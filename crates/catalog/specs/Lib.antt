@@ -10,6 +10,7 @@ pub mod Applying
 pub mod Spares
 pub mod Items
 pub mod Plans
+pub mod Blocks
 pub mod Numbers
 pub mod TreePlans
 pub mod ExtentPlans

@@ -15,20 +15,21 @@ use Rattle.page_map.specs.Contents.{IsItemOf}
 use Rattle.catalog.specs.Changing.{IsAfter}
 use Rattle.catalog.specs.Disks.{Disk, info_at, with_info, without_disk}
 use Rattle.catalog.specs.Placing.{HasUnits}
-use Rattle.catalog.specs.Rules.{KeepsRules, blocks_used, first_wrong, is_owned}
+use Rattle.catalog.specs.Rules.{KeepsRules, blocks_used, first_wrong, is_owned, new_records}
 use Rattle.catalog.specs.Tables.{Catalogued, Tables}
 
 -- each of the records is one of the formats
 abbrev pub ArePutItems : List Entry → Type 0
 ArePutItems put = (e : Entry) → IsAmong put e → (i : Item) × IsItemOf e.0 e.1 i
 
--- The change leads from the catalog to these tables: at each key they give what it leaves there, the rules hold of them, their homes have units where the catalog's have, it has at most 64 keys, and each record that it puts is one of the formats.
+-- The change leads from the catalog to these tables: at each key they give what it leaves there, the rules hold of them, their homes have units where the catalog's have, it has at most 64 keys, each record that it puts is one of the formats, and a block is free for each new one, beside the two that are kept.
 pub record IsPlan (c : Catalogued) (put : List Entry) (gone : List Key) (u : Tables) : Type 0 where
   pub after : IsAfter c.tables put gone u
   pub rules : KeepsRules c.shape u
   pub units : (entries : List status.Entry) → HasUnits c.shape entries c.tables c.units → (ms : List UnitMap) × HasUnits c.shape entries u ms
   pub few : length put + length gone ≤ 64
   pub items : ArePutItems put
+  pub room : new_records c.tables put + blocks_used c.tables + 2 ≤ c.shape.dir_blocks
 
 -- each chunk is one of a file or of the pending operation's
 abbrev pub AreOwned : Tables → Type 0

@@ -1,11 +1,11 @@
 -- The rules that hold across the tables of a group.
-use Rattle.std.specs.Prelude.{◌≡◌, ◌≤◌, ℕ, ◌+◌, Bool, true, false, ◌&&◌, ◌||◌, ◌==◌, not, nat_lt, ◌/◌, ◌%◌, List, [], length, get_or, slice_index_or, find, Option, Some, None, is_some}
+use Rattle.std.specs.Prelude.{◌≡◌, ◌≤◌, ℕ, ◌+◌, Bool, true, false, ◌&&◌, ◌||◌, ◌==◌, not, nat_lt, ◌/◌, ◌%◌, List, [], ◌∷◌, length, get_or, slice_index_or, find, Option, Some, None, is_some}
 use Rattle.std.specs.List.{list_all, zip, AllByRecursion}
 use Rattle.std.specs.Option.{option_map, unwrap_or}
 use Rattle.asm_group.specs.Shape.{Shape}
 use Rattle.asm_group.specs.declared.NodeKind.{NodeKind}
 use Rattle.asm_group.specs.declared.NodeKind.TheVariants.{System, Alias}
-use Rattle.asm_formats.specs.Items.{DiskInfo, chunk_len, FileHead, Home, Homes, Node, Pending}
+use Rattle.asm_formats.specs.Items.{DiskInfo, Key, chunk_len, FileHead, Home, Homes, Node, Pending}
 use Rattle.asm_formats.specs.Among.{IsAmong}
 use Rattle.asm_formats.specs.Sets.{has_bit}
 use Rattle.asm_formats.specs.Status as status
@@ -13,12 +13,15 @@ use Rattle.asm_placement.specs.Copies.{entry_at_home}
 use Rattle.asm_placement.specs.Layout.{has_extent}
 use Rattle.asm_placement.specs.Naming.{is_birth, is_directory, is_named_as, is_pending, names_back}
 use Rattle.asm_placement.specs.Work.{is_regular}
+use Rattle.asm_base.specs.Records.{Entry}
+use Rattle.page_map.specs.Changes.{is_put}
+use Rattle.page_map.specs.Tables.{is_kept, one_if}
 use Rattle.file_directory.specs.Files.{File, head_at, is_file}
 use Rattle.extent_map.specs.Extents.{Chunked, chunk_at, extent_at}
 use Rattle.alias_tree.specs.Nodes.{Numbered, node_at}
 use Rattle.staleness_directory.specs.Marks.{Marked, marks_at}
 use Rattle.catalog.specs.Disks.{info_at}
-use Rattle.catalog.specs.Tables.{AreTables, Tables}
+use Rattle.catalog.specs.Tables.{AreTables, Tables, records_of}
 
 -- the key of the first entry that isn't right
 abbrev pub first_wrong : {K T : Type 0} → (K × T → Bool) → List (K × T) → Option K
@@ -145,6 +148,15 @@ AreOnRegular entries t = first_wrong (is_regular_chunk entries) t.extents ≡ No
 -- blocks that the records take, but for the two that are kept
 abbrev pub blocks_used : Tables → ℕ
 blocks_used t = length t.files + length t.extents + length t.nodes + 2 + length t.stale + length t.disks
+
+-- the key has no record, and isn't one of the two for which blocks are kept
+abbrev pub lacks_record : Tables → Key → Bool
+lacks_record t k = not (is_kept k) && not (is_some (records_of t k))
+
+-- how many new records are put, each counted where it is put last
+abbrev pub new_records : Tables → List Entry → ℕ
+new_records t [] = 0
+new_records t (p ∷ ps) = one_if (lacks_record t p.0 && not (is_put ps p.0)) + new_records t ps
 
 -- ---- all of it
 

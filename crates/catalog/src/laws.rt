@@ -4,6 +4,7 @@ ghost use Rattle.std.specs.Prelude.{List as Items};
 ghost use Rattle.asm_formats.specs.Items.{Key};
 ghost use Rattle.asm_formats.specs.Status.{Entry as StatusEntry};
 ghost use Rattle.asm_base.specs.Records.{Entry};
+ghost use Rattle.catalog.specs.Blocks.{BlocksAreCounted, PlansHaveRoom};
 ghost use Rattle.catalog.specs.Tables.{Catalogued};
 ghost use Rattle.catalog.specs.Faults.{IsAtFault, IsCatalogOf};
 ghost use Rattle.catalog.specs.ExtentPlans.{ClearsItems, MovesItems, StaysInPlace};
@@ -78,6 +79,13 @@ pub fn a_new_file_is_refused_as_its_name()
 pub fn a_checked_name_stays()
     ensures agree { ChecksAgree }
     ensures hold { ChecksHold }
+{}
+
+/// The pages of a store that has the records of a catalog are counted as the blocks of its tables are. So a plan, which finds a
+/// free block for each new record, leaves nothing for the store to refuse as full.
+pub fn blocks_are_counted()
+    ensures counted { BlocksAreCounted }
+    ensures plans { PlansHaveRoom }
 {}
 
 /// Where no home of the tables lies on a disk of a quorum failure group, none that their items name does.

@@ -97,6 +97,8 @@ impl PageMap {
     pub fn room(&self) -> u64
         ensures room { result ≡ room self.now }
         ensures table { IsTable self.now }
+        // No key has two pages.
+        ensures ordered { IsStrictlySortedBy key_cmp (map key_of_place self.now.places) }
     {
         let rebalance = self.place(REBALANCE).is_some();
         let pending = self.place(PENDING).is_some();
