@@ -1,10 +1,11 @@
 -- What a call of a group that takes calls has done, at each of its ends.
-use Rattle.std.proofs.Common.{◌≡◌, inl, inr, ⊎_elim, ℕ, List, refl, sym, ap, subst, ◌∙◌, Result, Ok, Err}
+use Rattle.std.proofs.Common.{◌≡◌, ◌≢◌, inl, inr, ⊎_elim, ℕ, ◌+◌, ◌^◌, ◌<◌, ◌≤◌, List, length, refl, sym, ap, subst, ◌∙◌, Result, Ok, Err, arith}
 use Rattle.bay.specs.State.{BayState, IsSound, KeepsAttached}
 use Rattle.bay.specs.Moments.{Runs}
 use Rattle.bay.proofs.Calls.{attached-trans}
 use Rattle.asm_base.specs.Records.{Entry}
 use Rattle.asm_base.specs.declared.refusal.Refusal.{Refusal}
+use Rattle.asm_base.specs.declared.refusal.Refusal.TheVariants as cause
 use Rattle.asm_formats.specs.Items.{Key}
 use Rattle.asm_formats.specs.Status.{Status}
 use Rattle.catalog.specs.Tables.{Catalogued}
@@ -17,7 +18,7 @@ use Rattle.status_register.specs.Registered.{Registered}
 use Rattle.status_register.specs.Writes.{after_write}
 use Rattle.status_register.specs.declared.error.Dead.{Dead}
 use Rattle.group_engine.specs.Changes.{AppliesChange, CommitsRecords, IsAsBefore}
-use Rattle.group_engine.specs.Commits.{CommitCause, CommitsChange, IsDismountedBy, IsLostIn, KeepsRecord}
+use Rattle.group_engine.specs.Commits.{CommitCause, CommitsChange, IsDismountedBy, IsIdle, IsIdleBut, IsLostIn, KeepsRecord, turns_at_most}
 use Rattle.group_engine.specs.Dropping.{WritesFewer}
 use Rattle.group_engine.specs.Mounts.{IsMounted, IsOwn, IsReady, IsWhole, MountedGroup}
 use Rattle.group_engine.specs.Own.{IsSameGroup, KeepsGroup, OnOwnDisks}
@@ -26,6 +27,7 @@ use Rattle.group_engine.proofs.Causes.{dead_lost, gone_lost, store_own, written_
 use Rattle.group_engine.proofs.Commits.{all_done, all_whole, dropped_done, dropped_moments, fewer_whole, keeps_over_row, one_of, others_none, stored_moments}
 use Rattle.group_engine.proofs.KeptRecords.{record_fewer, record_same, record_stays}
 use Rattle.group_engine.proofs.Mounting.{still_ready}
+use Rattle.group_engine.proofs.Turns.{fewer_copies, one_turn}
 use Rattle.group_engine.proofs.Unchanged.{same_moments, same_mounts, same_whole}
 
 -- ---- a dismounted group takes no calls
@@ -68,6 +70,11 @@ members_same old new next (Err dead) is = ap (λ (r : Registered). r.members) is
 
 -- ---- a commit
 
+-- what did nothing isn't asked for less
+pub idle_but : (old new : MountedGroup) (s t : BayState) (refusal : Refusal) → IsIdle old new s t → IsIdleBut old new s t refusal
+idle_but old new s t (cause.Dismounted by) is = tt
+idle_but old new s t other is = is
+
 module _ (was : MountedGroup) (mounted : IsMounted was) (whole : IsWhole was) (put : List Entry) (gone : List Key) (s t : BayState) (ready : IsReady was s) (new : Stored) (cat : Catalogued) where
   abbrev now : MountedGroup
   now = record was { catalog = cat; store = new }
@@ -98,10 +105,12 @@ module _ (was : MountedGroup) (mounted : IsMounted was) (whole : IsWhole was) (p
               (one_after was.catalog.tables cat.tables to.tables put gone applies.after to.after) copies later,
         );
         refused = λ takes. tt;
+        idle = tt;
+        turns = omega (arith, ap length copies);
       }
 
   -- a record without the copies that failed was written
-  module _ (failed : ℕ) (commits : CommitsRecords was.store new put gone (Ok failed) s t) (applies : AppliesChange was.catalog cat put gone) (w : BayState) (sound : IsSound t)
+  module _ (failed : ℕ) (some : failed ≢ 0) (small : failed < 2 ^ 64) (commits : CommitsRecords was.store new put gone (Ok failed) s t) (applies : AppliesChange was.catalog cat put gone) (w : BayState) (sound : IsSound t)
       (answer : Result ℕ Dead) (reg : Registered) (writes : WritesFewer was.register failed answer reg t w) where
     abbrev next : Status
     next = record was.register.value { directories = writes.fewer }
@@ -124,6 +133,10 @@ module _ (was : MountedGroup) (mounted : IsMounted was) (whole : IsWhole was) (p
 
     runs : Runs (IsOwn was) (OnOwnDisks was) s w
     runs = written_own was whole next answer reg (store_own was whole commits.runs) writes.written
+
+    -- the turn of the record cost a copy
+    fewer_turns : turns_at_most fewer ≤ turns_at_most was
+    fewer_turns = omega (arith, fewer_copies failed was.store.copies s t some small commits.failed, ap length commits.copies, one_turn was.register reg next answer writes.written.register)
 
     record_kept : KeepsRecord was.register.value reg.value
     record_kept = record_fewer was.register reg failed answer t w writes
@@ -149,6 +162,8 @@ module _ (was : MountedGroup) (mounted : IsMounted was) (whole : IsWhole was) (p
           done = λ n g h kept to. dropped_done was put gone n s g h kept to t new (Ok failed) commits commits.after failed commits.copies (one_of new.copies commits.some) w sound answer reg writes cat applies
               (one_after was.catalog.tables cat.tables to.tables put gone applies.after to.after) taken ok later;
           refused = λ takes. tt;
+          idle = tt;
+          turns = fewer_turns;
         }
 
     -- a majority was lost at that record
@@ -166,6 +181,8 @@ module _ (was : MountedGroup) (mounted : IsMounted was) (whole : IsWhole was) (p
               (one_after was.catalog.tables cat.tables to.tables put gone applies.after to.after);
           done = tt;
           refused = λ takes. absurd (out_of_calls fewer after dead.slot refusal by takes);
+          idle = subst (λ (x : Refusal). IsIdleBut was after s w x) (sym by.refusal_is) tt;
+          turns = subst (λ (v : MountedGroup). turns_at_most v ≤ turns_at_most was) (sym by.new_is) fewer_turns;
         }
 
   -- all copies failed
@@ -185,6 +202,8 @@ module _ (was : MountedGroup) (mounted : IsMounted was) (whole : IsWhole was) (p
         moments = λ n g h kept to. stored_moments was put gone n s g h kept to t new (Err (Gone slot)) commits commits.after_gone;
         done = tt;
         refused = λ takes. absurd (out_of_calls now after slot refusal by takes);
+        idle = subst (λ (x : Refusal). IsIdleBut was after s t x) (sym by.refusal_is) tt;
+        turns = subst (λ (v : MountedGroup). turns_at_most v ≤ turns_at_most was) (sym by.new_is) (omega (arith, ap length commits.refused.2));
       }
 
   -- nothing was done
@@ -206,4 +225,6 @@ module _ (was : MountedGroup) (mounted : IsMounted was) (whole : IsWhole was) (p
       moments = λ n g h kept to. same_moments n was s t g kept to.mounts unchanged.calls.runs h;
       done = tt;
       refused = λ takes n g kept mounts. same_mounts n was s t g kept mounts unchanged.calls.runs cat new before unchanged commits.kept commits.attached;
+      idle = idle_but was now s t refusal (record { catalog = before; copies = unchanged.copies; register = refl; access = refl; calls = unchanged.calls });
+      turns = omega (arith, ap length unchanged.copies);
     }

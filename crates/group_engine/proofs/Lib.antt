@@ -30,3 +30,5 @@ pub mod Members
 pub mod MayGet
 pub mod Copied
 pub mod TakingOut
+pub mod Turns
+pub mod PlanAnswers

@@ -1,5 +1,5 @@
 -- What a commit of a mounted group does.
-use Rattle.std.specs.Prelude.{◌≡◌, ◌⊎◌, ⊤, ℕ, ◌+◌, ◌<◌, ◌^◌, true, List, [], ◌∷◌, Some, IfErr, OnErr, OnOk, Result}
+use Rattle.std.specs.Prelude.{◌≡◌, ◌⊎◌, ⊤, ℕ, ◌+◌, ◌<◌, ◌≤◌, ◌^◌, true, List, [], ◌∷◌, length, Some, IfErr, OnErr, OnOk, Result}
 use Rattle.bay.specs.Image.{Image}
 use Rattle.bay.specs.State.{BayState}
 use Rattle.bay.specs.Counts.{Rose}
@@ -18,12 +18,14 @@ use Rattle.catalog.specs.Changing.{IsAfter}
 use Rattle.catalog.specs.Tables.{Tables}
 use Rattle.asm_formats.specs.Sets.{elements, has_bit}
 use Rattle.asm_formats.specs.Status.{Status}
+use Rattle.directory_store.specs.Answers.{NoCalls}
 use Rattle.page_map.specs.Tables.{new_in, room}
 use Rattle.status_register.specs.Holders.{attached_to}
 use Rattle.status_register.specs.Surveys.{AreRead}
 use Rattle.status_register.specs.Writes.{IsLost}
 use Rattle.status_register.specs.declared.member.Member.{Member}
 use Rattle.group_engine.specs.Becoming.{HoldsIn, Leads}
+use Rattle.group_engine.specs.Changes.{IsAsBefore}
 use Rattle.group_engine.specs.Mounts.{IsMounted, MountedGroup, Mounts, slot_at}
 use Rattle.group_engine.specs.Own.{KeepsGroup}
 use Rattle.group_engine.specs.declared.access.Access.TheVariants as access
@@ -87,6 +89,11 @@ CommitCause old put new s t (cause.Dismounted by) = DismountCause old new s t by
 CommitCause old put new s t cause.NoMemory = ⊤
 CommitCause old put new s t _ = ⊥
 
+-- what the refusal is to a plan, which has counted the blocks
+abbrev pub as_planned : Refusal → Refusal
+as_planned (cause.Dismounted by) = cause.Dismounted by
+as_planned _ = cause.NoMemory
+
 -- When the writing of a status record is refused.
 abbrev pub StatusCause : MountedGroup → MountedGroup → BayState → BayState → Refusal → Type 0
 StatusCause old new s t (cause.Dismounted by) = DismountCause old new s t by
@@ -106,6 +113,23 @@ pub record KeepsRecord (old new : Status) : Type 0 where
   -- a disk that has a copy had one before
   pub copies : (d : ℕ) → d < 64 → has_bit new.directories d ≡ true → has_bit old.directories d ≡ true
 
+-- Nothing was done: no call was made, and the group is as it was.
+pub record IsIdle (old new : MountedGroup) (s t : BayState) : Type 0 where
+  pub catalog : IsAsBefore old.catalog new.catalog
+  pub copies : new.store.copies ≡ old.store.copies
+  pub register : new.register ≡ old.register
+  pub access : new.access ≡ old.access
+  pub calls : NoCalls s t
+
+-- A refusal by which the group isn't dismounted did nothing.
+abbrev pub IsIdleBut : MountedGroup → MountedGroup → BayState → BayState → Refusal → Type 0
+IsIdleBut old new s t (cause.Dismounted by) = ⊤
+IsIdleBut old new s t _ = IsIdle old new s t
+
+-- The turns that were taken, and one for each copy that a commit may give up: each turn that it takes costs a copy.
+abbrev pub turns_at_most : MountedGroup → ℕ
+turns_at_most m = m.register.turn + length m.store.copies
+
 -- A commit on a group that takes calls: what it keeps, what the record and the tables are after it, why it is refused, what each image of
 -- each moment is held for, and what is mounted at the end.
 pub record CommitsChange (old : MountedGroup) (put : List Entry) (gone : List Key) (answer : Result (Unit {0}) Refusal) (new : MountedGroup)
@@ -121,6 +145,8 @@ pub record CommitsChange (old : MountedGroup) (put : List Entry) (gone : List Ke
   pub done : OnOk answer ((n : ℕ) (g h : Group) (kept : Kept) → LeadsTo n old put gone s g h kept
       → (later : Kept) × (later.slots ≡ kept.slots) × Mounts n new t h later)
   pub refused : IsMounted new → OnErr answer ((n : ℕ) (g : Group) (kept : Kept) → Mounts n old s g kept → Mounts n new t g kept)
+  pub idle : IfErr answer (IsIdleBut old new s t)
+  pub turns : turns_at_most new ≤ turns_at_most old
 
 -- The commit of a change that a plan gave: it was done, or was refused for a disk that failed or for want of memory. Of a group that takes
 -- calls it does what a commit does.

@@ -1,6 +1,7 @@
 -- A mounted group as contracts see it, and what ties it to the disks between two calls.
 use Rattle.std.specs.Prelude.{◌≡◌, ℕ, Bool, false, true, List, [], ◌∷◌, get_or, Option, Some, None, IsTrue, ◌↔◌}
 use Rattle.std.specs.Option.{option_map}
+use Rattle.bay.specs.Image.{Image}
 use Rattle.bay.specs.State.{BayState}
 use Rattle.bay.specs.Moments.{NowOnly}
 use Rattle.asm_group.specs.Names.{Bytes}
@@ -12,7 +13,7 @@ use Rattle.asm_formats.specs.Status.{Entry, Status, entry_of, is_status}
 use Rattle.asm_base.specs.Records.{record_at}
 use Rattle.asm_placement.specs.Among.{IsAmong}
 use Rattle.asm_images.specs.Describing.{DescribesGroup}
-use Rattle.asm_images.specs.Kept.{Kept, IsHeld}
+use Rattle.asm_images.specs.Kept.{Kept, IsHeld, IsMemberIn}
 use Rattle.change_directory.specs.declared.copy.DirCopy.{DirCopy}
 use Rattle.directory_store.specs.Stores.{Stored}
 use Rattle.directory_store.specs.Stores as stores
@@ -119,6 +120,10 @@ Takes m state = IsMounted m → IsWhole m × IsReady m state
 -- the slots that are kept are those of the attached disks
 abbrev pub AreOwn : MountedGroup → (ℕ → Bool) → Type 0
 AreOwn m slots = (slot : ℕ) → (slots slot ≡ true) ↔ IsOwn m slot
+
+-- each member is attached
+abbrev pub HasOnly : ℕ → Kept → Image → Type 0
+HasOnly id kept image = (slot : ℕ) → IsMemberIn id image slot → kept.slots slot ≡ true
 
 -- What ties a mounted group to the disks of n slots, between two calls: each image that a stop may leave now is held for the group.
 pub record Mounts (n : ℕ) (m : MountedGroup) (state : BayState) (g : Group) (kept : Kept) : Type 0 where

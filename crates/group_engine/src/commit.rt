@@ -8,7 +8,7 @@ ghost use Rattle.catalog.specs.Changing.{IsAfter};
 ghost use Rattle.catalog.specs.Plans.{IsPlan};
 ghost use Rattle.catalog.specs.Tables.{Tables};
 ghost use Rattle.directory_store.specs.Contents.{ArePutItems};
-ghost use Rattle.group_engine.specs.Commits.{CommitCause, CommitsChange, CommitsPlan, IsDismountedBy, KeepsRecord, LeadsTo, StandsIn};
+ghost use Rattle.group_engine.specs.Commits.{CommitCause, CommitsChange, CommitsPlan, IsDismountedBy, IsIdleBut, KeepsRecord, LeadsTo, StandsIn, as_planned, turns_at_most};
 ghost use Rattle.group_engine.specs.Mounts.{IsMounted, IsReady, IsWhole, Mounts, Takes};
 ghost use Rattle.group_engine.specs.Own.{KeepsGroup};
 ghost use Rattle.group_engine.specs.Pending.{GoesOn};
@@ -22,6 +22,16 @@ use asm_base::{Change, DiskRef, Refusal};
 use bay::Bay;
 use directory_store::StoreError;
 use std::alloc::Global;
+
+/// What a commit's refusal is to a plan, which has counted the blocks.
+fn as_planned(refusal: Refusal) -> Refusal
+    ensures { result ≡ as_planned refusal }
+{
+    match refusal {
+        Refusal::Dismounted { disk } => Refusal::Dismounted { disk },
+        _ => Refusal::NoMemory,
+    }
+}
 
 impl Mounted {
     /// Commits a change on every directory copy that Status names. A copy that fails is taken out of Status before the commit is
@@ -55,6 +65,9 @@ impl Mounted {
             → (later : Kept) × (later.slots ≡ kept.slots) × Mounts n self.new (B.state bay.new) h later) }
         // Where it is refused and the group takes calls, nothing has changed.
         ensures refused { IsMounted self.new → OnErr result ((n : ℕ) (g : Group) (kept : Kept) → Mounts n self.old (B.state bay.old) g kept → Mounts n self.new (B.state bay.new) g kept) }
+        ensures idle { IsMounted self.old → IfErr result (IsIdleBut self.old self.new (B.state bay.old) (B.state bay.new)) }
+        // Each turn that it takes costs a copy.
+        ensures turns { turns_at_most self.new ≤ turns_at_most self.old }
     {
         match self.access {
             Access::Mounted => self.commit_mounted(alloc, bay, change),
@@ -83,8 +96,7 @@ impl Mounted {
     {
         match self.commit(alloc, bay, change) {
             Ok(()) => Ok(()),
-            Err(Refusal::Dismounted { disk }) => Err(Refusal::Dismounted { disk }),
-            Err(_) => Err(Refusal::NoMemory),
+            Err(refusal) => Err(as_planned(refusal)),
         }
     }
 

@@ -45,7 +45,7 @@ returns-in-Ok-drop_copies g c =
     let sound : IsSound t = g.met.B.Bay.sound c.commit_change.new.bay in
     subst (λ (v : MountedGroup). CommitsChange v put gone (Ok tt) (record was { catalog = cat; store = new; register = c.drop_copies.new.register }) s w) c.self.view_is
     (ends_fewer was (subst (λ (v : MountedGroup). IsMounted v) (sym c.self.view_is) c.requires.mounted) (subst (λ (v : MountedGroup). IsWhole v) (sym c.self.view_is) c.requires.whole) put gone s t (subst (λ (v : MountedGroup). IsReady v s) (sym c.self.view_is) c.requires.ready)
-    new cat c.in-Ok.failed c.in-Ok.ensures.commits c.in-Ok.ensures.applies w sound c.drop_copies.result c.drop_copies.new.register c.drop_copies.ensures c.in-Ok-drop_copies.field-0 c.in-Ok-drop_copies.is)
+    new cat c.in-Ok.failed (λ none. c.if-bits-eq0.false (c.bits.ensures.bits ∙ none)) c.bits.ensures.small c.in-Ok.ensures.commits c.in-Ok.ensures.applies w sound c.drop_copies.result c.drop_copies.new.register c.drop_copies.ensures c.in-Ok-drop_copies.field-0 c.in-Ok-drop_copies.is)
 
 pub returns-in-Err : goal.returns-in-Err
 returns-in-Err g c =
@@ -60,7 +60,7 @@ returns-in-Err g c =
     let sound : IsSound t = g.met.B.Bay.sound c.commit_change.new.bay in
     subst (λ (v : MountedGroup). CommitsChange v put gone (Err c.dismount.result) c.dismount.new.self s w) c.self.view_is
     (ends_dead was (subst (λ (v : MountedGroup). IsMounted v) (sym c.self.view_is) c.requires.mounted) (subst (λ (v : MountedGroup). IsWhole v) (sym c.self.view_is) c.requires.whole) put gone s t (subst (λ (v : MountedGroup). IsReady v s) (sym c.self.view_is) c.requires.ready)
-    new cat c.in-Ok.failed c.in-Ok.ensures.commits c.in-Ok.ensures.applies w sound c.drop_copies.result c.drop_copies.new.register c.drop_copies.ensures c.in-Err.dead c.dismount.result c.dismount.new.self c.in-Err.is c.dismount.ensures)
+    new cat c.in-Ok.failed (λ none. c.if-bits-eq0.false (c.bits.ensures.bits ∙ none)) c.bits.ensures.small c.in-Ok.ensures.commits c.in-Ok.ensures.applies w sound c.drop_copies.result c.drop_copies.new.register c.drop_copies.ensures c.in-Err.dead c.dismount.result c.dismount.new.self c.in-Err.is c.dismount.ensures)
 
 pub returns-in-Err-Gone : goal.returns-in-Err-Gone
 returns-in-Err-Gone g c =
