@@ -1,5 +1,5 @@
 -- Blocks are counted by the tables as by the pages on which their records stand.
-use Rattle.std.proofs.Common.{◌≡◌, ◌≤◌, ◌+◌, ◌-◌, ℕ, Bool, true, false, List, [], ◌∷◌, ◌++◌, length, map, Option, Some, None, refl, sym, ap, ◌∙◌, arith, inl, inr, ◌⊎◌, length-append}
+use Rattle.std.proofs.Common.{◌≡◌, ◌≤◌, ◌+◌, ◌-◌, ℕ, Bool, true, false, List, [], ◌∷◌, length, map, Option, Some, None, refl, sym, ap, ◌∙◌, arith, inl, inr, ◌⊎◌, length-append}
 use Rattle.std.specs.Prelude.{◌&&◌, not}
 use Rattle.std.specs.List.Sorted.{IsStrictlySortedBy}
 use Rattle.std.specs.Option.{is_some, option_map}
@@ -14,7 +14,7 @@ use Rattle.asm_base.specs.Records.{Entry, key_cmp}
 use Rattle.page_map.specs.Changes.{is_put}
 use Rattle.page_map.specs.Listing.{key_of_place}
 use Rattle.page_map.specs.Tables.{PageTable, is_kept, new_in, one_if, pending_key, place_at, rebalance_key, room, used}
-use Rattle.page_map.proofs.Keys.{key_itself, same_key}
+use Rattle.page_map.proofs.Keys.{key_itself}
 use Rattle.file_directory.specs.Files as files
 use Rattle.extent_map.specs.Extents as extents
 use Rattle.alias_tree.specs.Nodes as nodes

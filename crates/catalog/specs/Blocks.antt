@@ -1,5 +1,5 @@
 -- How many blocks there are for the records that a change puts, by the tables and by the pages of a store.
-use Rattle.std.specs.Prelude.{◌≡◌, ◌≤◌, ℕ, List, map}
+use Rattle.std.specs.Prelude.{◌≡◌, ◌≤◌, List, map}
 use Rattle.std.specs.List.Sorted.{IsStrictlySortedBy}
 use Rattle.asm_formats.specs.Items.{Key}
 use Rattle.asm_base.specs.Records.{Entry, key_cmp, record_at}
