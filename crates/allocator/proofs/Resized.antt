@@ -216,10 +216,13 @@ unused_from first units from words sound unit b free used user = by b free used 
   long = length-map-range_with_len (λ (u : ℕ). leb first u && is_set words u) 0 units
 
   by : (b : Bool) → OnTrue b (IsFreeIn words unit (units - unit)) → OnFalse b (IsFreeIn words unit (units - unit) → ⊥) → IsTrue b ↔ IsUnusedFrom (map_from first units words) unit
-  by true free used = (λ t k low. elim (cases_lt k units) [
+  by true free used = (
+    λ t k low. elim (cases_lt k units) [
       | inl inside ↦ used_at first units words k inside (omega (arith, user, low)) ∙ free k low (omega (arith, low, inside))
       | inr past ↦ get_or_past (used_list first words units) k false (omega (arith, long, past))
-    ], λ all. refl)
+    ],
+    λ all. refl,
+  )
   by false free used = (λ t. absurd (true≢false (sym t)), λ all. absurd (used (λ k low high. sym (used_at first units words k (omega (arith, low, high)) (omega (arith, user, low))) ∙ all k low)))
 
 -- reserved units aren't used

@@ -161,10 +161,9 @@ impl Units {
         self.lowest(n).is_some()
     }
 
-    /// How many units the disk has, reserved ones included. The map tells of each of them.
+    /// How many units the disk has, reserved ones included.
     pub fn size(&self) -> u32
-        ensures value { result ≡ self.now.units }
-        ensures whole { length self.now.used ≡ self.now.units }
+        ensures { result ≡ self.now.units }
     {
         self.units
     }
