@@ -15,14 +15,14 @@ use Rattle.allocator.specs.UnitMaps.{UnitMap, is_free, IsFreeRun, HasNoRun, IsLo
 use Rattle.allocator.specs.Sound.{used_list, AreSound}
 use Rattle.allocator.proofs.Runs.{past_end}
 
-abbrev map_from : ℕ → ℕ → List ℕ → UnitMap
+abbrev pub map_from : ℕ → ℕ → List ℕ → UnitMap
 map_from first units words = record { first = first; units = units; used = used_list first words units }
 
 and_false : (b : Bool) → (b && false) ≡ false
 and_false true = refl
 and_false false = refl
 
-past_is : (first units from : ℕ) (words : List ℕ) → AreSound first units from words → (k : ℕ) → units ≤ k → is_set words k ≡ true
+pub past_is : (first units from : ℕ) (words : List ℕ) → AreSound first units from words → (k : ℕ) → units ≤ k → is_set words k ≡ true
 past_is first units from words sound k beyond = elim (cases_lt k (64 * length words)) [
   | inl inside ↦ sound.past k beyond inside
   | inr past ↦ past_end words k past
@@ -178,7 +178,7 @@ room_found m n None false lowest e = tt
 
 -- ---- a run that is used, or given back
 
-used_at : (first units : ℕ) (words : List ℕ) (k : ℕ) → k < units → first ≤ k → get_or (used_list first words units) k false ≡ is_set words k
+pub used_at : (first units : ℕ) (words : List ℕ) (k : ℕ) → k < units → first ≤ k → get_or (used_list first words units) k false ≡ is_set words k
 used_at first units words k inside user = get_or-map-range_with_len (λ u. leb first u && is_set words u) 0 units k k false inside (omega arith) ∙ rw (le-leb first k user) refl
 
 pub used_at_most : (first units : ℕ) (words : List ℕ) → used_of (map_from first units words) ≤ units

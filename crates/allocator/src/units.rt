@@ -1,11 +1,11 @@
 //! The units of a disk: the reserved ones, and of each user unit whether it is used.
 
-ghost use Rattle.std.specs.Prelude.{◌≡◌, ◌≤◌, ◌<◌, ◌+◌, ◌*◌, ◌^◌, ◌↔◌, IfOk, IsTrue, MatchOption, ℕ, true, false, vec_len, replicate, if◌then◌else◌};
+ghost use Rattle.std.specs.Prelude.{◌≡◌, ◌≤◌, ◌<◌, ◌+◌, ◌*◌, ◌^◌, ◌++◌, ◌-◌, ◌↔◌, IfOk, IsTrue, MatchOption, ℕ, true, false, length, take, vec_len, replicate, if◌then◌else◌};
 ghost use Rattle.std.specs.Bool.{OnFalse, OnTrue};
-ghost use Rattle.allocator.specs.Words.{AreFresh, SetsRun};
-ghost use Rattle.allocator.specs.UnitMaps.{HasNoRun, IsFreeRun, IsLowestRun, IsUsedRun, taken, total_of, unused, used_of, with_run};
+ghost use Rattle.allocator.specs.Words.{AreFresh, AreResized, SetsRun};
+ghost use Rattle.allocator.specs.UnitMaps.{HasNoRun, IsFreeRun, IsLowestRun, IsUnusedFrom, IsUsedRun, resized, taken, total_of, unused, used_of, with_run};
 
-use crate::words::{first_free, is_free, lowest_run, set_run};
+use crate::words::{first_free, is_free, lowest_run, set_run, used_between};
 use asm_base::NoMemory;
 use std::alloc::{AllocError, Global};
 use std::marker::Model;
@@ -51,7 +51,7 @@ impl Units {
         })
     }
 
-    /// An equal value. It and `new` alone take memory.
+    /// An equal value. It, `new` and `resized` alone take memory.
     pub fn copy(&self) -> Result<Units, NoMemory>
         ensures { IfOk result (λ u. u ≡ self.now) }
     {
@@ -63,6 +63,32 @@ impl Units {
             from: self.from,
             words,
         })
+    }
+
+    /// The disk with so many units: each is used where it was, and a new one isn't. What is used behind the last unit is lost.
+    /// Work and memory go by the number of units, a word at a time.
+    pub fn resized(&self, units: u32) -> Result<Units, NoMemory>
+        requires { units ≤ 16777216 }
+        ensures { IfOk result (λ u. u ≡ resized self.now units) }
+    {
+        let alloc = *self.words.allocator();
+        let words = resized_words(alloc, &self.words, self.first, self.units, units)?;
+        let used = used_between(&words, self.first.min(units), units);
+        Ok(Units {
+            first: self.first,
+            units,
+            used,
+            from: self.from.min(self.units).min(units),
+            words,
+        })
+    }
+
+    /// Whether no unit from one on is used.
+    pub fn is_unused_from(&self, unit: u32) -> bool
+        ensures { IsTrue result ↔ IsUnusedFrom self.now unit }
+    {
+        let from = unit.max(self.first);
+        from >= self.units || is_free(&self.words, from, self.units - from)
     }
 
     /// Takes the lowest run of so many free user units. None, with nothing changed, where there is no such run.
@@ -167,6 +193,40 @@ fn fresh_words(alloc: Global, first: u32, units: u32) -> Result<Vec<u64>, NoMemo
     let mut words = zero_words(alloc, count)?;
     set_words(&mut words, 0, first.min(units), true);
     set_words(&mut words, units, count * 64 - units, true);
+    Ok(words)
+}
+
+/// The words of a disk that had `before` units, for another number of units.
+fn resized_words(
+    alloc: Global,
+    old: &[u64],
+    first: u32,
+    before: u32,
+    units: u32,
+) -> Result<Vec<u64>, NoMemory>
+    requires units { units ≤ 16777216 }
+    requires room { before ≤ 64 * length old.now }
+    requires few { 64 * length old.now < 2 ^ 32 }
+    ensures { IfOk result (λ words. AreResized first before units old.now words.items) }
+{
+    let count = units / 64 + 1;
+    let mut words = kept_words(alloc, old, count)?;
+    let kept = before.min(units);
+    let end = units.min(old.len() as u32 * 64);
+    set_words(&mut words, kept, end - kept, false);
+    set_words(&mut words, 0, first.min(units), true);
+    set_words(&mut words, units, count * 64 - units, true);
+    Ok(words)
+}
+
+/// So many words: the first ones of others, and zeros behind them.
+fn kept_words(alloc: Global, old: &[u64], count: u32) -> Result<Vec<u64>, NoMemory>
+    ensures { IfOk result (λ words. words.items ≡ take count old.now ++ replicate (count - length old.now) 0) }
+{
+    let kept = old.len().min(count as usize);
+    let mut words = Vec::with_capacity(alloc, count as usize).map_err(no_memory)?;
+    words.extend_from_slice(&old[..kept]).map_err(no_memory)?;
+    words.resize(count as usize, 0).map_err(no_memory)?;
     Ok(words)
 }
 
