@@ -20,6 +20,7 @@ pub mod Causes
 pub mod KeptRecords
 pub mod Searches
 pub mod Ends
+pub mod Planned
 pub mod StatusEnds
 pub mod NextRecords
 pub mod Forgotten

@@ -1,8 +1,11 @@
 //! A change of a group's records.
-ghost use Rattle.std.specs.Prelude.{◌≡◌, ◌≤◌, ◌+◌, ◌∷◌, [], ℕ, length, IfErr, OnErr, OnOk};
+ghost use Rattle.std.specs.Prelude.{◌≡◌, ◌≤◌, ◌+◌, ◌∷◌, [], ℕ, length, map, IfErr, OnErr, OnOk};
+ghost use Rattle.std.specs.List.Sorted.{IsStrictlySortedBy};
 ghost use Rattle.bay.specs.Moments.{LeavesOnly};
 ghost use Rattle.asm_group.specs.Group.{Group};
 ghost use Rattle.asm_images.specs.Kept.{Kept};
+ghost use Rattle.asm_base.specs.Records.{key_cmp};
+ghost use Rattle.page_map.specs.Listing.{key_of_place};
 ghost use Rattle.catalog.specs.Applying.{Leaves};
 ghost use Rattle.catalog.specs.Changing.{IsAfter};
 ghost use Rattle.catalog.specs.Plans.{IsPlan};
@@ -20,6 +23,7 @@ use crate::mounted::{Mounted, disk_in};
 use crate::search::Search;
 use asm_base::{Change, DiskRef, Refusal};
 use bay::Bay;
+use catalog::blocks_are_counted;
 use directory_store::StoreError;
 use std::alloc::Global;
 
@@ -65,8 +69,8 @@ impl Mounted {
         }
     }
 
-    /// Commits a change that a plan gave. Refusals: Dismounted, as a commit; NoMemory. The plan has counted the blocks, so that
-    /// DirectoryFull doesn't come.
+    /// Commits a change that a plan gave. Refusals: Dismounted, as a commit; NoMemory. The plan has found a free block for each
+    /// new record, so that DirectoryFull doesn't come.
     pub fn commit_plan<B: Bay>(
         &mut self,
         alloc: Global,
@@ -81,11 +85,16 @@ impl Mounted {
         // Whatever it answers, the record that holds has the entries and the sets of the one before, and no directory copy more.
         ensures status { KeepsRecord self.old.register.value self.new.register.value }
     {
-        match self.commit(alloc, bay, change) {
-            Ok(()) => Ok(()),
-            Err(Refusal::Dismounted { disk }) => Err(Refusal::Dismounted { disk }),
-            Err(_) => Err(Refusal::NoMemory),
-        }
+        blocks_are_counted();
+        self.shows_places();
+        self.commit(alloc, bay, change)
+    }
+
+    /// Shows that no key of the store has two blocks, and does nothing.
+    fn shows_places(&self)
+        ensures { IsStrictlySortedBy key_cmp (map key_of_place self.now.store.table.places) }
+    {
+        let _ = self.store.room();
     }
 
     /// Commits a change on a group that takes calls.

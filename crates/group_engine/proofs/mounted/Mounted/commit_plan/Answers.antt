@@ -1,6 +1,6 @@
-use Rattle.std.proofs.Common.{subst}
-use Rattle.asm_base.specs.declared.refusal.Refusal.{Refusal}
-use Rattle.group_engine.specs.Commits.{CommitCause}
+use Rattle.std.specs.Prelude.{IfErr}
+use Rattle.group_engine.specs.Commits.{StatusCause}
+use Rattle.group_engine.proofs.Planned.{planned_answer}
 use Rattle.group_engine.proofs.mounted.Mounted.commit_plan.Goals as goal
 
 pub commit-requires : goal.commit-requires
@@ -14,42 +14,20 @@ commit-requires g c =
       leaves = λ is. (plan.0, record { after = plan.1.after; rules = plan.1.rules; units = plan.1.units });
     }
 
-pub returns-in-Ok-clause-commits : goal.returns-in-Ok-clause-commits
-returns-in-Ok-clause-commits g c = let e = c.in-Ok.ensures in record {
-  cause = tt;
-  applied = e.applied;
-  held = λ is. record { keeps = e.keeps; flight = e.flight; status = e.status; mounted = e.mounted; applied = e.applied; cause = tt; moments = e.moments is; done = e.done is; refused = λ _. tt };
-}
-
-pub returns-in-Ok-clause-goes : goal.returns-in-Ok-clause-goes
-returns-in-Ok-clause-goes g c = record { keeps = c.in-Ok.ensures.keeps; mounted = c.in-Ok.ensures.mounted; cause = tt }
-
-pub returns-in-Err-Dismounted-clause-goes : goal.returns-in-Err-Dismounted-clause-goes
-returns-in-Err-Dismounted-clause-goes g c = record {
-  keeps = c.in-Err-Dismounted.ensures.keeps;
-  mounted = tt;
-  cause = subst (λ (r : Refusal). CommitCause c.args.self.now c.args.change.now.put c.commit.new.self (g.B.Bay.state c.args.bay.now) (g.B.Bay.state c.commit.new.bay) r)
-      c.in-Err-Dismounted.field-0-is c.in-Err-Dismounted.ensures.cause;
-}
-
-pub returns-in-Err-Dismounted-clause-commits : goal.returns-in-Err-Dismounted-clause-commits
-returns-in-Err-Dismounted-clause-commits g c =
-    let e = c.in-Err-Dismounted.ensures in
-    let cause_is = subst (λ (r : Refusal). CommitCause c.args.self.now c.args.change.now.put c.commit.new.self (g.B.Bay.state c.args.bay.now) (g.B.Bay.state c.commit.new.bay) r)
-    c.in-Err-Dismounted.field-0-is e.cause in
-    record {
-      cause = cause_is;
-      applied = tt;
-      held = λ is. record { keeps = e.keeps; flight = e.flight; status = e.status; mounted = tt; applied = tt; cause = cause_is; moments = e.moments is; done = tt; refused = e.refused };
-    }
-
 pub returns : goal.returns
-returns g c = let e = c.in-Err.ensures in record {
-  goes = record { keeps = e.keeps; mounted = tt; cause = tt };
-  commits = record {
-    cause = tt;
-    applied = tt;
-    held = λ is. record { keeps = e.keeps; flight = e.flight; status = e.status; mounted = tt; applied = tt; cause = tt; moments = e.moments is; done = tt; refused = e.refused };
-  };
-  status = e.status;
-}
+returns g c =
+    let e = c.commit.ensures in
+    let s = g.B.Bay.state c.args.bay.now in
+    let t = g.B.Bay.state c.commit.new.bay in
+    let cause : IfErr c.commit.result (StatusCause c.args.self.now c.commit.new.self s t) =
+    planned_answer c.args.self.now c.args.change.now.put c.args.change.now.gone c.requires.plan.0 s c.blocks_are_counted.ensures.plans c.requires.takes c.shows_places.ensures c.requires.plan.1
+    c.commit.new.self t c.commit.result e.cause in
+    record {
+      goes = record { keeps = e.keeps; mounted = e.mounted; cause = cause };
+      commits = record {
+        cause = cause;
+        applied = e.applied;
+        held = λ is. record { keeps = e.keeps; flight = e.flight; status = e.status; mounted = e.mounted; applied = e.applied; cause = e.cause; moments = e.moments is; done = e.done is; refused = e.refused };
+      };
+      status = e.status;
+    }
