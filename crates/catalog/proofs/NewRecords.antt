@@ -1,12 +1,11 @@
 -- How many new records a change puts, and that there are blocks for them.
 use Rattle.std.proofs.Common.{◌≡◌, ◌<◌, ◌≤◌, ◌+◌, ◌-◌, ℕ, Bool, true, false, eqb, List, [], ◌∷◌, ◌++◌, length, Option, Some, None, refl, sym, ap, ◌∙◌, arith}
 use Rattle.std.specs.Prelude.{◌&&◌, not}
-use Rattle.std.specs.Option.{is_some}
 use Rattle.std.proofs.lemmas.Bool.{ne_eqb, true≢false}
-use Rattle.asm_formats.specs.Items.{DiskInfo, FileHead, Homes, Key, Node}
+use Rattle.asm_formats.specs.Items.{DiskInfo, FileHead, Homes, Node}
 use Rattle.asm_base.specs.Records.{Entry}
 use Rattle.page_map.specs.Changes.{is_put}
-use Rattle.page_map.specs.Tables.{is_kept, one_if}
+use Rattle.page_map.specs.Tables.{one_if}
 use Rattle.file_directory.specs.Files.{head_at}
 use Rattle.extent_map.specs.Extents.{Chunk, chunk_at, chunk_key}
 use Rattle.alias_tree.specs.Nodes.{node_at}

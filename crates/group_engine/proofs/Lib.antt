@@ -20,6 +20,7 @@ pub mod Causes
 pub mod KeptRecords
 pub mod Searches
 pub mod Ends
+pub mod Planned
 pub mod StatusEnds
 pub mod NextRecords
 pub mod Forgotten
@@ -31,4 +32,3 @@ pub mod MayGet
 pub mod Copied
 pub mod TakingOut
 pub mod Turns
-pub mod PlanAnswers

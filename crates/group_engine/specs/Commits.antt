@@ -82,17 +82,20 @@ abbrev pub DismountCause : MountedGroup → MountedGroup → BayState → BaySta
 DismountCause old new s t (disk.Number d) = (old.access ≡ access.Dismounted d) ⊎ ((new.access ≡ access.Dismounted d) × IsLostIn old new.register.value d s t)
 DismountCause old new s t (disk.Spelt text) = ⊥
 
+-- The group takes calls and has a directory copy, and more records are new than there are blocks left.
+pub record IsFull (m : MountedGroup) (put : List Entry) (need free : ℕ) : Type 0 where
+  pub mounted : IsMounted m
+  pub copies : 0 < length m.store.copies
+  pub need_is : need ≡ new_in m.store.table put
+  pub free_is : free ≡ room m.store.table
+  pub few : free < need
+
 -- When a commit is refused. Want of memory is free.
 abbrev pub CommitCause : MountedGroup → List Entry → MountedGroup → BayState → BayState → Refusal → Type 0
-CommitCause old put new s t (cause.DirectoryFull need free) = (need ≡ new_in old.store.table put) × (free ≡ room old.store.table) × (free < need)
+CommitCause old put new s t (cause.DirectoryFull need free) = IsFull old put need free
 CommitCause old put new s t (cause.Dismounted by) = DismountCause old new s t by
 CommitCause old put new s t cause.NoMemory = ⊤
 CommitCause old put new s t _ = ⊥
-
--- what the refusal is to a plan, which has counted the blocks
-abbrev pub as_planned : Refusal → Refusal
-as_planned (cause.Dismounted by) = cause.Dismounted by
-as_planned _ = cause.NoMemory
 
 -- When the writing of a status record is refused.
 abbrev pub StatusCause : MountedGroup → MountedGroup → BayState → BayState → Refusal → Type 0

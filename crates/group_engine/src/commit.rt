@@ -1,14 +1,17 @@
 //! A change of a group's records.
-ghost use Rattle.std.specs.Prelude.{◌≡◌, ◌≤◌, ◌+◌, ◌∷◌, [], ℕ, length, IfErr, OnErr, OnOk};
+ghost use Rattle.std.specs.Prelude.{◌≡◌, ◌≤◌, ◌+◌, ◌∷◌, [], ℕ, length, map, IfErr, OnErr, OnOk};
+ghost use Rattle.std.specs.List.Sorted.{IsStrictlySortedBy};
 ghost use Rattle.bay.specs.Moments.{LeavesOnly};
 ghost use Rattle.asm_group.specs.Group.{Group};
 ghost use Rattle.asm_images.specs.Kept.{Kept};
+ghost use Rattle.asm_base.specs.Records.{key_cmp};
+ghost use Rattle.page_map.specs.Listing.{key_of_place};
 ghost use Rattle.catalog.specs.Applying.{Leaves};
 ghost use Rattle.catalog.specs.Changing.{IsAfter};
 ghost use Rattle.catalog.specs.Plans.{IsPlan};
 ghost use Rattle.catalog.specs.Tables.{Tables};
 ghost use Rattle.directory_store.specs.Contents.{ArePutItems};
-ghost use Rattle.group_engine.specs.Commits.{CommitCause, CommitsChange, CommitsPlan, IsDismountedBy, IsIdleBut, KeepsRecord, LeadsTo, StandsIn, as_planned, turns_at_most};
+ghost use Rattle.group_engine.specs.Commits.{CommitCause, CommitsChange, CommitsPlan, IsDismountedBy, IsIdleBut, KeepsRecord, LeadsTo, StandsIn, turns_at_most};
 ghost use Rattle.group_engine.specs.Mounts.{IsMounted, IsReady, IsWhole, Mounts, Takes};
 ghost use Rattle.group_engine.specs.Own.{KeepsGroup};
 ghost use Rattle.group_engine.specs.Pending.{GoesOn};
@@ -20,18 +23,9 @@ use crate::mounted::{Mounted, disk_in};
 use crate::search::Search;
 use asm_base::{Change, DiskRef, Refusal};
 use bay::Bay;
+use catalog::blocks_are_counted;
 use directory_store::StoreError;
 use std::alloc::Global;
-
-/// What a commit's refusal is to a plan, which has counted the blocks.
-fn as_planned(refusal: Refusal) -> Refusal
-    ensures { result ≡ as_planned refusal }
-{
-    match refusal {
-        Refusal::Dismounted { disk } => Refusal::Dismounted { disk },
-        _ => Refusal::NoMemory,
-    }
-}
 
 impl Mounted {
     /// Commits a change on every directory copy that Status names. A copy that fails is taken out of Status before the commit is
@@ -78,8 +72,8 @@ impl Mounted {
         }
     }
 
-    /// Commits a change that a plan gave. Refusals: Dismounted, as a commit; NoMemory. The plan has counted the blocks, so that
-    /// DirectoryFull doesn't come.
+    /// Commits a change that a plan gave. Refusals: Dismounted, as a commit; NoMemory. The plan has found a free block for each
+    /// new record, so that DirectoryFull doesn't come.
     pub fn commit_plan<B: Bay>(
         &mut self,
         alloc: Global,
@@ -94,10 +88,16 @@ impl Mounted {
         // Whatever it answers, the record that holds has the entries and the sets of the one before, and no directory copy more.
         ensures status { KeepsRecord self.old.register.value self.new.register.value }
     {
-        match self.commit(alloc, bay, change) {
-            Ok(()) => Ok(()),
-            Err(refusal) => Err(as_planned(refusal)),
-        }
+        blocks_are_counted();
+        self.shows_places();
+        self.commit(alloc, bay, change)
+    }
+
+    /// Shows that no key of the store has two blocks, and does nothing.
+    fn shows_places(&self)
+        ensures { IsStrictlySortedBy key_cmp (map key_of_place self.now.store.table.places) }
+    {
+        let _ = self.store.room();
     }
 
     /// Commits a change on a group that takes calls.

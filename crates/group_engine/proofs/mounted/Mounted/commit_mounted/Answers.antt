@@ -89,7 +89,8 @@ returns-in-Err-Full g c =
     let why = commits.refused in
     subst (λ (v : MountedGroup). CommitsChange v put gone (Err (cause.DirectoryFull c.in-Err-Full.need c.in-Err-Full.free)) (record was { catalog = cat; store = new }) s t) c.self.view_is
     (ends_unchanged was (subst (λ (v : MountedGroup). IsMounted v) (sym c.self.view_is) c.requires.mounted) (subst (λ (v : MountedGroup). IsWhole v) (sym c.self.view_is) c.requires.whole) put gone s t (subst (λ (v : MountedGroup). IsReady v s) (sym c.self.view_is) c.requires.ready)
-    new cat error commits why.3 c.in-Err-Full.ensures.same (cause.DirectoryFull c.in-Err-Full.need c.in-Err-Full.free) (why.0, why.1, why.2))
+    new cat error commits why.3 c.in-Err-Full.ensures.same (cause.DirectoryFull c.in-Err-Full.need c.in-Err-Full.free)
+    (record { mounted = subst (λ (v : MountedGroup). IsMounted v) (sym c.self.view_is) c.requires.mounted; copies = commits.full; need_is = why.0; free_is = why.1; few = why.2 }))
 
 pub returns-in-Err-NoMemory : goal.returns-in-Err-NoMemory
 returns-in-Err-NoMemory g c =
