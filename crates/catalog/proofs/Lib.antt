@@ -55,3 +55,4 @@ pub mod RecopyItems
 pub mod DiskUnitLaws
 pub mod ToldRecords
 pub mod SameUnits
+pub mod ResizedUnits
