@@ -41,3 +41,41 @@ fn copied(alloc: Global) -> Option<[Option<u32>; 2]> {
 fn a_copy_is_its_own(rt: HostRuntime) {
     assert_eq!(rt; copied(rt.alloc()), Some([Some(3), Some(3)]));
 }
+
+/// The user units of a disk, how many of them are used, and the lowest free one.
+fn told(units: &Units) -> (u32, u32, Option<u32>) {
+    (units.total(), units.used(), units.lowest(1))
+}
+
+/// A disk of three user units of which two are taken, with one less than these and with many more.
+fn resized(alloc: Global) -> Option<[(u32, u32, Option<u32>); 2]> {
+    let mut units = units(alloc, 3, 6)?;
+    units.take(2)?;
+    let fewer = units.resized(4).ok()?;
+    let more = units.resized(200).ok()?;
+    Some([told(&fewer), told(&more)])
+}
+
+#[test]
+fn a_disk_gets_other_units(rt: HostRuntime) {
+    assert_eq!(rt;
+        resized(rt.alloc()),
+        Some([(1, 1, None), (197, 2, Some(5))])
+    );
+}
+
+/// Whether none is used from the last used unit on, from the next one, and past all.
+fn unused_from(alloc: Global) -> Option<[bool; 3]> {
+    let mut units = units(alloc, 3, 6)?;
+    units.take(2)?;
+    Some([
+        units.is_unused_from(4),
+        units.is_unused_from(5),
+        units.is_unused_from(200),
+    ])
+}
+
+#[test]
+fn units_behind_the_last_used_one_may_go(rt: HostRuntime) {
+    assert_eq!(rt; unused_from(rt.alloc()), Some([false, true, true]));
+}

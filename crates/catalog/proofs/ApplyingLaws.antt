@@ -1,6 +1,6 @@
 -- A change of a catalog.
 use Rattle.std.proofs.Common.{◌≡◌, List, Option, Some, None, refl, sym, ap, subst, ◌∙◌}
-use Rattle.std.specs.Prelude.{ℕ, Err, IfNone, IfOk, Ok, Result, Vec}
+use Rattle.std.specs.Prelude.{ℕ, Err, IfOk, Ok, Result, Vec}
 use Rattle.std.specs.declared.alloc.Global.{Global}
 use Rattle.asm_base.proofs.Exact.{some_is}
 use Rattle.asm_base.specs.Records.{Entry}
@@ -11,19 +11,17 @@ use Rattle.asm_group.specs.Shape.{Shape}
 use Rattle.allocator.specs.UnitMaps.{UnitMap}
 use Rattle.catalog.specs.Applying.{AreDisksReady, IsReady, Leaves, next_maps}
 use Rattle.catalog.specs.Changing.{IsAfter}
-use Rattle.extent_map.specs.Extents.{Chunk, Chunked}
-use Rattle.catalog.specs.Placing.{HasUnits, after_chunks, misplaced, unused_maps}
+use Rattle.catalog.specs.Placing.{HasUnits, OthersStay, after_chunks, put_maps}
 use Rattle.catalog.specs.Spares.{IsKept, IsSpareOf, ready_tables, units_in}
 use Rattle.catalog.specs.Tables.{AreTables, Catalogued, Tables}
 use Rattle.catalog.specs.declared.spare.Spare.{Spare}
 use Rattle.catalog.specs.declared.spare.Spare.TheVariants.{Absent, Behind, Ready}
 use Rattle.catalog.proofs.AfterLaws.{one_after}
-use Rattle.catalog.proofs.PlacingLaws.{all_placed}
 
 abbrev Units : Type 0
-Units = Option (List UnitMap)
+Units = Option (List (ℕ × UnitMap))
 
-abbrev pub made : Tables → Shape → List UnitMap → Option Tables → Option (List UnitMap) → Catalogued
+abbrev pub made : Tables → Shape → List UnitMap → Option Tables → Option (List (ℕ × UnitMap)) → Catalogued
 made t s ms o d = record { tables = t; shape = s; units = ms; next = o; next_units = d }
 
 -- the tables that a change leaves are the ones that keep the rules
@@ -117,26 +115,29 @@ pub kept_units : (t : Tables) (s : Shape) (ms new : List UnitMap) (o : Option Ta
 kept_units t s ms new o d e spare entries own has = record { catalog = record { rules = own.catalog.rules; entries = entries; units = has }; shape = own.shape; kept = own.kept }
 
 -- the units that were made ready are those of the homes
-disks_seen : (c : Catalogued) (t : Tables) (s : Shape) (ms : List UnitMap) (o : Option Tables) (next : Option (Vec UnitMap Global)) (entries : List status.Entry) → made t s ms o (units_in next) ≡ c → AreDisksReady c entries
-    → HasUnits s entries t (next_maps ms (units_in next))
-disks_seen c t s ms o next entries view ready = (subst (λ (x : Catalogued). AreDisksReady x entries) (sym view) ready).homes
+disks_seen : (c : Catalogued) (t : Tables) (s : Shape) (ms : List UnitMap) (o : Option Tables) (next : Option (Vec (ℕ × UnitMap) Global)) (entries : List status.Entry) → made t s ms o (units_in next) ≡ c → AreDisksReady c entries
+    → AreDisksReady (made t s ms o (units_in next)) entries
+disks_seen c t s ms o next entries view ready = subst (λ (x : Catalogued). AreDisksReady x entries) (sym view) ready
 
-pub disks_taken : (c : Catalogued) (t : Tables) (s : Shape) (ms : List UnitMap) (o : Option Tables) (next : Option (Vec UnitMap Global)) (units : Vec UnitMap Global) (entries : List status.Entry) → made t s ms o (units_in next) ≡ c → AreDisksReady c entries → Some units ≡ next
-    → HasUnits s entries t units.items
-disks_taken c t s ms o next units entries view ready is =
-    subst (λ (n : Option (Vec UnitMap Global)). HasUnits s entries t (next_maps ms (units_in n))) (sym is) (disks_seen c t s ms o next entries view ready)
+pub disks_made : (c : Catalogued) (t : Tables) (s : Shape) (ms new : List UnitMap) (o : Option Tables) (next : Option (Vec (ℕ × UnitMap) Global)) (changed : Vec (ℕ × UnitMap) Global) → made t s ms o (units_in next) ≡ c → Some changed ≡ next → new ≡ put_maps ms changed.items
+    → new ≡ next_maps c.units c.next_units
+disks_made c t s ms new o next changed view is put =
+    put ∙ ap (λ (n : Option (Vec (ℕ × UnitMap) Global)). next_maps ms (units_in n)) is ∙ ap (λ (x : Catalogued). next_maps x.units x.next_units) view
+
+pub disks_taken : (c : Catalogued) (t : Tables) (s : Shape) (ms new : List UnitMap) (o : Option Tables) (next : Option (Vec (ℕ × UnitMap) Global)) (changed : Vec (ℕ × UnitMap) Global) (entries : List status.Entry) → made t s ms o (units_in next) ≡ c → AreDisksReady c entries → Some changed ≡ next
+    → new ≡ put_maps ms changed.items → HasUnits s entries t new
+disks_taken c t s ms new o next changed entries view ready is put =
+    let made_is : new ≡ next_maps ms (units_in next) = put ∙ ap (λ (n : Option (Vec (ℕ × UnitMap) Global)). next_maps ms (units_in n)) is in
+    subst (λ (xs : List UnitMap). HasUnits s entries t xs) (sym made_is) (disks_seen c t s ms o next entries view ready).homes
+
+pub disks_others : (c : Catalogued) (new : List UnitMap) (entries : List status.Entry) → AreDisksReady c entries → new ≡ next_maps c.units c.next_units → OthersStay entries c.units new
+disks_others c new entries ready is = subst (λ (xs : List UnitMap). OthersStay entries c.units xs) (sym is) ready.others
 
 -- where none were, those of now are
-pub disks_stay : (c : Catalogued) (t : Tables) (s : Shape) (ms : List UnitMap) (o : Option Tables) (next : Option (Vec UnitMap Global)) (entries : List status.Entry) → made t s ms o (units_in next) ≡ c → AreDisksReady c entries → None ≡ next → HasUnits s entries t ms
+pub disks_stay : (c : Catalogued) (t : Tables) (s : Shape) (ms : List UnitMap) (o : Option Tables) (next : Option (Vec (ℕ × UnitMap) Global)) (entries : List status.Entry) → made t s ms o (units_in next) ≡ c → AreDisksReady c entries → None ≡ next → HasUnits s entries t ms
 disks_stay c t s ms o next entries view ready is =
-    subst (λ (n : Option (Vec UnitMap Global)). HasUnits s entries t (next_maps ms (units_in n))) (sym is) (disks_seen c t s ms o next entries view ready)
+    subst (λ (n : Option (Vec (ℕ × UnitMap) Global)). HasUnits s entries t (next_maps ms (units_in n))) (sym is) (disks_seen c t s ms o next entries view ready).homes
 
--- the homes have units, so all of them are placed
-pub units_placed : (s : Shape) (step : ℕ) (entries : List status.Entry) (t : Tables) (extents : List Chunked) (old new : List UnitMap) (fault : Option Chunk) → step ≡ s.step → extents ≡ t.extents → (all : List UnitMap) × HasUnits s entries t all
-    → old ≡ unused_maps s entries → fault ≡ misplaced step old extents → IfNone fault (after_chunks step old extents ≡ Some new) → HasUnits s entries t new
-units_placed s step entries t extents old new fault same_step same_extents there is e placed =
-    let f : fault ≡ misplaced s.step (unused_maps s entries) t.extents =
-    e ∙ (ap (λ (k : ℕ). misplaced k old extents) same_step ∙ (ap (λ (xs : List Chunked). misplaced s.step old xs) same_extents ∙ ap (λ (ms : List UnitMap). misplaced s.step ms t.extents) is)) in
-    let same : after_chunks step old extents ≡ after_chunks s.step (unused_maps s entries) t.extents =
-    ap (λ (k : ℕ). after_chunks k old extents) same_step ∙ (ap (λ (xs : List Chunked). after_chunks s.step old xs) same_extents ∙ ap (λ (ms : List UnitMap). after_chunks s.step ms t.extents) is) in
-    all_placed s.step t.extents (unused_maps s entries) new fault there f (subst (λ (o : Option (List UnitMap)). IfNone fault (o ≡ Some new)) same placed)
+pub disks_kept : (c : Catalogued) (t : Tables) (s : Shape) (ms : List UnitMap) (o : Option Tables) (next : Option (Vec (ℕ × UnitMap) Global)) → made t s ms o (units_in next) ≡ c → None ≡ next → ms ≡ next_maps c.units c.next_units
+disks_kept c t s ms o next view is =
+    ap (λ (n : Option (Vec (ℕ × UnitMap) Global)). next_maps ms (units_in n)) is ∙ ap (λ (x : Catalogued). next_maps x.units x.next_units) view

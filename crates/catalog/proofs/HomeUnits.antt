@@ -50,7 +50,7 @@ replaced xs at n used k d fits =
     ]
 
 -- a map with as many places as units
-abbrev IsWhole : UnitMap → Type 0
+abbrev pub IsWhole : UnitMap → Type 0
 IsWhole m = length m.used ≡ m.units
 
 pub three_true : (a b c : Bool) → (a && b && c) ≡ true → (a ≡ true) × (b ≡ true) × (c ≡ true)
@@ -63,14 +63,14 @@ not_true true e = absurd cc
 not_true false e = refl
 
 -- a run that is free lies in the map
-run_fits : (m : UnitMap) (at n : ℕ) → IsWhole m → is_run_free m at (suc n) ≡ true → at + suc n ≤ length m.used
+pub run_fits : (m : UnitMap) (at n : ℕ) → IsWhole m → is_run_free m at (suc n) ≡ true → at + suc n ≤ length m.used
 run_fits m at n whole free =
     let last = run_is m at (suc n) free (at + n) (omega arith) (omega arith) in
     let p = three_true (leb m.first (at + n)) (ltb (at + n) m.units) (not (get_or m.used (at + n) true)) last in
     omega (arith, ltb-true (at + n) m.units p.1, whole)
 
 -- each unit of it is free
-run_unused : (m : UnitMap) (at n : ℕ) → IsWhole m → is_run_free m at n ≡ true → (k : ℕ) → at ≤ k → k < at + n → get_or m.used k false ≡ false
+pub run_unused : (m : UnitMap) (at n : ℕ) → IsWhole m → is_run_free m at n ≡ true → (k : ℕ) → at ≤ k → k < at + n → get_or m.used k false ≡ false
 run_unused m at n whole free k low high =
     let p = three_true (leb m.first k) (ltb k m.units) (not (get_or m.used k true)) (run_is m at n free k low high) in
     get_or_default m.used k false true (omega (arith, ltb-true k m.units p.1, whole)) ∙ not_true (get_or m.used k true) p.2

@@ -57,3 +57,4 @@ pub mod RecopyItems
 pub mod DiskUnitLaws
 pub mod ToldRecords
 pub mod SameUnits
+pub mod ResizedUnits

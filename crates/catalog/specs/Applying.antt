@@ -1,11 +1,11 @@
 -- When a change may be applied to a catalog.
-use Rattle.std.specs.Prelude.{◌≡◌, List, Option, Some, None}
+use Rattle.std.specs.Prelude.{◌≡◌, ℕ, List, Option, Some, None}
 use Rattle.asm_formats.specs.Items.{Key}
 use Rattle.asm_formats.specs.Status as status
 use Rattle.asm_base.specs.Records.{Entry}
 use Rattle.allocator.specs.UnitMaps.{UnitMap}
 use Rattle.catalog.specs.Changing.{IsAfter}
-use Rattle.catalog.specs.Placing.{HasUnits}
+use Rattle.catalog.specs.Placing.{HasUnits, OthersStay, put_maps}
 use Rattle.catalog.specs.Rules.{KeepsRules}
 use Rattle.catalog.specs.Tables.{Catalogued, Tables}
 
@@ -21,12 +21,14 @@ pub record IsReady (c : Catalogued) (put : List Entry) (gone : List Key) : Type 
   pub next : c.next ≡ Some tables
   pub leaves : Leaves c put gone tables
 
--- the units that were made ready for the next status record, or those of now where none were
-abbrev pub next_maps : List UnitMap → Option (List UnitMap) → List UnitMap
+-- the units with those that were made ready for the next status record, or those of now where none were
+abbrev pub next_maps : List UnitMap → Option (List (ℕ × UnitMap)) → List UnitMap
 next_maps now None = now
-next_maps now (Some next) = next
+next_maps now (Some next) = put_maps now next
 
 -- The memory for the disks of these entries was taken: the next units, or those of now where they stay, are those of the tables'
 -- homes.
 pub record AreDisksReady (c : Catalogued) (entries : List status.Entry) : Type 0 where
   pub homes : HasUnits c.shape entries c.tables (next_maps c.units c.next_units)
+  -- the maps of disks whose units stay do
+  pub others : OthersStay entries c.units (next_maps c.units c.next_units)

@@ -1,5 +1,5 @@
 -- The units of the disks, from the homes that the tables name.
-use Rattle.std.specs.Prelude.{◌≡◌, ℕ, ◌*◌, ◌<◌, ◌==◌, Bool, true, List, find, [], ◌∷◌, map, slice_set, Option, Some, None, if◌then◌else◌}
+use Rattle.std.specs.Prelude.{◌≡◌, ℕ, suc, ◌*◌, ◌<◌, ◌==◌, Bool, true, List, find, [], ◌∷◌, map, flat_map, slice_set, Option, Some, None, if◌then◌else◌}
 use Rattle.std.specs.List.{list_all, range_with_len, slice_get}
 use Rattle.std.specs.Option.{option_and_then}
 use Rattle.asm_group.specs.Shape.{Shape}
@@ -8,7 +8,7 @@ use Rattle.asm_formats.specs.Sets.{most_disks}
 use Rattle.asm_formats.specs.Status as status
 use Rattle.asm_formats.specs.Items.{Home, chunk_len}
 use Rattle.asm_placement.specs.Placed.{Placed, placed_extents}
-use Rattle.allocator.specs.UnitMaps.{UnitMap, is_free, unused, with_run}
+use Rattle.allocator.specs.UnitMaps.{IsUnusedFrom, UnitMap, is_free, resized, unused, with_run}
 use Rattle.extent_map.specs.Extents.{Chunk, Chunked}
 use Rattle.catalog.specs.Tables.{Tables}
 
@@ -92,3 +92,50 @@ HasUnits s entries t ms = after_chunks s.step (unused_maps s entries) t.extents 
 abbrev pub UnitsStay : Type 0
 UnitsStay = (s : Shape) (one other : List status.Entry) (t : Tables) (ms : List UnitMap)
     → HaveSameUnits one other → HasUnits s one t ms → HasUnits s other t ms
+
+-- ---- other units
+
+-- each map with as many units as the entries give its disk, the first of which has this number
+unfoldable pub resized_from : ℕ → List status.Entry → List UnitMap → List UnitMap
+resized_from d entries [] = []
+resized_from d entries (m ∷ ms) = resized m (disk_units entries d) ∷ resized_from (suc d) entries ms
+
+abbrev pub resized_maps : List status.Entry → List UnitMap → List UnitMap
+resized_maps entries ms = resized_from 0 entries ms
+
+-- the map of a disk with this number and other units, where its units change
+abbrev pub changed_map : ℕ → ℕ → Option UnitMap → List (ℕ × UnitMap)
+changed_map d units None = []
+changed_map d units (Some m) = if m.units == units then [] else (d, resized m units) ∷ []
+
+-- the maps of the disks alone whose units the entries change
+unfoldable pub changed_maps : List UnitMap → List status.Entry → List (ℕ × UnitMap)
+changed_maps ms entries = flat_map (λ d. changed_map d (disk_units entries d) (slice_get ms d)) (range_with_len 0 most_disks)
+
+-- maps with others of some disks in their places
+unfoldable pub put_maps : List UnitMap → List (ℕ × UnitMap) → List UnitMap
+put_maps ms [] = ms
+put_maps ms (x ∷ xs) = put_maps (slice_set ms x.0 x.1) xs
+
+-- the maps of disks with as many units as the entries give stay
+abbrev pub OthersStay : List status.Entry → List UnitMap → List UnitMap → Type 0
+OthersStay entries old new = (d : ℕ) → map_units (slice_get old d) ≡ disk_units entries d → slice_get new d ≡ slice_get old d
+
+-- no unit from one on is used
+abbrev pub IsFit : Option UnitMap → ℕ → Type 0
+IsFit None units = Unit {0}
+IsFit (Some m) units = IsUnusedFrom m units
+
+-- no unit that the entries lack is used
+abbrev pub AreFit : List UnitMap → List status.Entry → Type 0
+AreFit ms entries = (d : ℕ) → d < most_disks → IsFit (slice_get ms d) (disk_units entries d)
+
+-- Where no unit is used that other entries lack, the maps with their units are those by them.
+abbrev pub UnitsResize : Type 0
+UnitsResize = (s : Shape) (one other : List status.Entry) (t : Tables) (ms : List UnitMap)
+    → HasUnits s one t ms → AreFit ms other → HasUnits s other t (resized_maps other ms)
+
+-- Units by other entries are those by some with the other units, none of which is used that the others lack.
+abbrev pub UnitsAreResized : Type 0
+UnitsAreResized = (s : Shape) (one other : List status.Entry) (t : Tables) (ms next : List UnitMap)
+    → HasUnits s one t ms → HasUnits s other t next → AreFit ms other × (next ≡ resized_maps other ms)

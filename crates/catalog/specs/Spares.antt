@@ -1,5 +1,5 @@
 -- The tables that a catalog keeps beside its own.
-use Rattle.std.specs.Prelude.{List, Option, Some, None, IsTrue, Vec}
+use Rattle.std.specs.Prelude.{ℕ, List, Option, Some, None, IsTrue, Vec}
 use Rattle.std.specs.declared.alloc.Global.{Global}
 use Rattle.asm_group.specs.Shape.{is_shape}
 use Rattle.allocator.specs.UnitMaps.{UnitMap}
@@ -21,7 +21,7 @@ IsSpareOf Absent t = Unit {0}
 IsSpareOf (Behind parts change) t = AreTables parts × IsAfter parts change.put change.gone t
 IsSpareOf (Ready parts change) t = IsAfter t change.put change.gone parts
 
-abbrev pub units_in : Option (Vec UnitMap Global) → Option (List UnitMap)
+abbrev pub units_in : Option (Vec (ℕ × UnitMap) Global) → Option (List (ℕ × UnitMap))
 units_in None = None
 units_in (Some units) = Some units.items
 

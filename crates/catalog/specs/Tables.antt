@@ -26,13 +26,13 @@ pub record Tables : Type 0 where
   pub disks : List disks.Disk
 
 -- The tables, the group's shape, and of each disk number which units are used; and the tables that the next change gives and the
--- units by the next status record, each where the memory for it was taken.
+-- units of the disks whose number of units the next status record changes, each where the memory for it was taken.
 pub record Catalogued : Type 0 where
   pub tables : Tables
   pub shape : Shape
   pub units : List UnitMap
   pub next : Option Tables
-  pub next_units : Option (List UnitMap)
+  pub next_units : Option (List (ℕ × UnitMap))
 
 -- each table is one: its entries are of the formats, in order, and keep its own rule
 pub record AreTables (t : Tables) : Type 0 where

@@ -26,8 +26,8 @@ pub struct Catalog {
     pub(crate) units: Vec<Units>,
     /// The tables before the last change, or after the one that the memory was taken for.
     pub(crate) spare: Spare,
-    /// The units by the status record that the memory was taken for.
-    pub(crate) next_units: Option<Vec<Units>>,
+    /// The units of the disks whose number of units the status record changes that the memory was taken for.
+    pub(crate) next_units: Option<Vec<(u8, Units)>>,
 }
 
 impl Model for Catalog {

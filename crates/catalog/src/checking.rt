@@ -1,7 +1,6 @@
 //! Whether the tables of a group keep the rules that hold across them.
 
-ghost use Rattle.std.specs.Prelude.{◌≡◌, List as Items, IfErr, IfNone, IfOk, IfSome, IsTrue, None, Ok, true};
-ghost use Rattle.std.specs.Bool.{OnTrue};
+ghost use Rattle.std.specs.Prelude.{◌≡◌, ◌↔◌, List as Items, IfErr, IfNone, IfOk, IfSome, IsTrue, None, true};
 ghost use Rattle.std.specs.List.{list_all};
 ghost use Rattle.asm_group.specs.Shape.{Shape as GroupShape, is_shape};
 ghost use Rattle.asm_formats.specs.Status.{Entry, is_entry};
@@ -15,10 +14,10 @@ ghost use Rattle.catalog.specs.Tables.{AreTables};
 use crate::catalog::Catalog;
 use crate::error::CatalogError;
 use crate::parts::Parts;
-use crate::placing::{have_units, place_in, unused_units};
+use crate::placing::{are_fit, place_in, unused_units};
 use crate::reading::{SETTINGS, chunk_key, node_key};
 use allocator::Units;
-use asm_base::{Key, NoMemory, Shape};
+use asm_base::{Key, Shape};
 use status_table::PstEntry;
 use std::alloc::Global;
 
@@ -132,40 +131,13 @@ impl Parts {
 }
 
 impl Catalog {
-    /// Whether the units of these entries cover the homes that the tables name: all are user units of theirs, and none is used
-    /// twice. They do where the entries give each disk as many units as it has, which takes no memory; otherwise work and memory
-    /// go by the number of homes and of units.
-    pub fn covers(&self, alloc: Global, entries: &[PstEntry]) -> Result<bool, NoMemory>
-        requires entries { IsTrue (list_all is_entry entries.now) }
-        ensures covers { IfOk result (λ covers. OnTrue covers ((ms : Items UnitMap) × HasUnits self.now.shape entries.now self.now.tables ms)) }
-        ensures same { (before : Items Entry) → HasUnits self.now.shape before self.now.tables self.now.units → HaveSameUnits before entries.now → result ≡ Ok true }
+    /// Whether the units of these entries cover the homes that the tables name: all are user units of theirs. They do exactly
+    /// where no unit is used that a disk lacks by its entry. Work goes by the units that the entries take away.
+    pub fn covers(&self, entries: &[PstEntry]) -> bool
+        ensures covers { IsTrue result ↔ ((ms : Items UnitMap) × HasUnits self.now.shape entries.now self.now.tables ms) }
+        ensures same { (before : Items Entry) → HasUnits self.now.shape before self.now.tables self.now.units → HaveSameUnits before entries.now → result ≡ true }
     {
-        if have_units(&self.units, entries) {
-            return Ok(true);
-        }
-        covers_anew(alloc, &self.shape, &self.parts, entries)
-    }
-}
-
-/// Whether the units of these entries, made anew, cover the homes that the tables name.
-fn covers_anew(
-    alloc: Global,
-    shape: &Shape,
-    parts: &Parts,
-    entries: &[PstEntry],
-) -> Result<bool, NoMemory>
-    requires shape { IsTrue (is_shape shape.now) }
-    requires entries { IsTrue (list_all is_entry entries.now) }
-    requires table { extent_table.IsTable parts.now.extents }
-    ensures { IfOk result (λ covers. OnTrue covers ((ms : Items UnitMap) × HasUnits shape.now entries.now parts.now ms)) }
-{
-    match parts.units(alloc, shape, entries) {
-        Ok(units) => {
-            drop(units);
-            Ok(true)
-        }
-        Err(CatalogError::Damaged { .. }) => Ok(false),
-        Err(CatalogError::NoMemory) => Err(NoMemory),
+        are_fit(&self.units, entries)
     }
 }
 

@@ -11,7 +11,7 @@ ghost use Rattle.catalog.specs.ExtentPlans.{ClearsItems, MovesItems, StaysInPlac
 ghost use Rattle.catalog.specs.Items.{ItemsAreOneList, ItemsOfRecords, ItemsSayTables, RecordsAreTold, TablesHaveItems, UnitsOfItems};
 ghost use Rattle.catalog.specs.NameChecks.{ChecksAgree, ChecksHold};
 ghost use Rattle.catalog.specs.NamePlans.{FilesAsWorld, RefusesAsWorld};
-ghost use Rattle.catalog.specs.Placing.{UnitsStay};
+ghost use Rattle.catalog.specs.Placing.{UnitsAreResized, UnitsResize, UnitsStay};
 ghost use Rattle.catalog.specs.RegularHomes.{AppendingKeepsRegular, CopiesAreRegular, CuttingKeepsRegular, HomesAreRegular, MovingKeepsRegular, RegularStays};
 
 /// Where a record is at fault, no value is a catalog of the records.
@@ -48,6 +48,12 @@ pub fn units_are_of_items()
 /// Units by the entries of a status record are those by other entries that give each disk number as many units.
 pub fn units_stay()
     ensures { UnitsStay }
+{}
+
+/// Where no unit is used that other entries lack, the unit maps with their units are those by them, and there are no others.
+pub fn units_resize()
+    ensures there { UnitsResize }
+    ensures alone { UnitsAreResized }
 {}
 
 /// The items after a move of a copy, as a committed move leaves them, are those of the tables that the plan of the move leads

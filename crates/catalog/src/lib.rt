@@ -38,6 +38,6 @@ pub use laws::{
     a_new_name_is_the_worlds, a_planned_clearing_is_a_recopy, a_planned_move_is_a_move,
     blocks_are_counted, homes_are_on_regular_disks, homes_stay_on_regular_disks,
     items_are_of_tables, items_say_tables, tables_have_items, tables_say_records,
-    units_are_of_items, units_stay,
+    units_are_of_items, units_resize, units_stay,
 };
 pub use new_file::{FileBy, NewFile};

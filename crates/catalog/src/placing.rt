@@ -1,13 +1,14 @@
 //! The units of the disks, from the homes that the tables name.
 
-ghost use Rattle.std.specs.Prelude.{◌≡◌, ◌≤◌, ◌<◌, ◌+◌, ◌*◌, ◌∷◌, ◌++◌, [], ◌^◌, length, map, if◌then◌else◌, IfOk, IsTrue, None, OnErr, OnOk, Some, true, IfNone};
+ghost use Rattle.std.specs.Prelude.{◌≡◌, ◌↔◌, ◌≤◌, ◌<◌, ◌+◌, ◌*◌, ◌∷◌, ◌++◌, [], ◌^◌, length, map, if◌then◌else◌, IfOk, IsTrue, None, OnErr, OnOk, Some, true, IfNone};
+ghost use Rattle.std.specs.Bool.{OnFalse, OnTrue};
 ghost use Rattle.std.specs.List.{list_all, slice_get};
 ghost use Rattle.asm_formats.specs.Items.{Home as FormatHome};
 ghost use Rattle.asm_formats.specs.Regions.{reserved_units};
 ghost use Rattle.asm_formats.specs.Status.{is_entry};
 ghost use Rattle.asm_group.specs.Shape.{is_shape};
 ghost use Rattle.asm_placement.specs.Placed.{placed_copies, placed_extents};
-ghost use Rattle.catalog.specs.Placing.{after_chunks, after_homes, disk_units, have_units, home_placed, home_taken, map_units, misplaced, unused_maps};
+ghost use Rattle.catalog.specs.Placing.{AreFit, IsFit, after_chunks, after_homes, disk_units, have_units, home_placed, home_taken, map_units, misplaced, unused_maps};
 
 use allocator::Units;
 use asm_base::{Home, Homes, NoMemory, Shape};
@@ -17,7 +18,7 @@ use std::alloc::Global;
 use striping::units_of;
 
 /// Disk numbers are below this one.
-const MOST_DISKS: u8 = 64;
+pub(crate) const MOST_DISKS: u8 = 64;
 
 /// Makes the units of the homes of all chunks used. The first chunk that has a home whose units aren't free.
 #[tactic(auto, using(crate::proofs::PlacingLaws::next_chunk, crate::proofs::PlacingLaws::no_chunks, crate::proofs::PlacingLaws::chunk_refused))]
@@ -159,6 +160,28 @@ pub(crate) fn have_units(units: &[Units], entries: &[PstEntry]) -> bool
     true
 }
 
+/// Whether no unit is used that a disk lacks by its entry.
+pub(crate) fn are_fit(units: &[Units], entries: &[PstEntry]) -> bool
+    ensures fit { OnTrue result (AreFit units.now entries.now) }
+    ensures not { OnFalse result (¬ AreFit units.now entries.now) }
+{
+    for number in 0..MOST_DISKS {
+        if !is_fit(units, entries, number) {
+            return false;
+        }
+    }
+    true
+}
+
+fn is_fit(units: &[Units], entries: &[PstEntry], number: u8) -> bool
+    ensures { IsTrue result ↔ IsFit (slice_get units.now number) (disk_units entries.now number) }
+{
+    match units.get(number as usize) {
+        Some(map) => map.is_unused_from(units_in(entries, number)),
+        None => true,
+    }
+}
+
 /// The units of a disk by its map, reserved ones included, and 0 where there is no map.
 fn map_units(units: &[Units], number: u8) -> u32
     ensures { result ≡ map_units (slice_get units.now number) }
@@ -180,7 +203,7 @@ fn push(units: &mut Vec<Units>, map: Units) -> Result<(), NoMemory>
 
 /// The units of a disk by its entry, reserved ones included.
 #[tactic(auto, using(crate::proofs::UnusedLaws::few_found))]
-fn disk_units(entries: &[PstEntry], number: u8) -> u32
+pub(crate) fn disk_units(entries: &[PstEntry], number: u8) -> u32
     requires { IsTrue (list_all is_entry entries.now) }
     ensures units { result ≡ disk_units entries.now number }
     ensures few { result ≤ 16777216 }

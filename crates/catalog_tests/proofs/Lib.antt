@@ -3,4 +3,3 @@ pub mod FilesMade
 pub mod NewDisks
 pub mod NewFiles
 pub mod Planned
-pub mod SameHomes

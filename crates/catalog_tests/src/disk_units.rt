@@ -1,40 +1,12 @@
 //! The units of the disks are taken from the next status record.
 
-ghost use Rattle.std.specs.Prelude.{◌≡◌, IfOk, IsTrue, List as Items};
-ghost use Rattle.std.specs.List.{list_all};
-ghost use Rattle.asm_formats.specs.Status.{Entry, is_entry};
-ghost use Rattle.catalog.specs.Faults.{IsCatalogOf};
-ghost use Rattle.catalog.specs.Placing.{HasUnits};
-
-use crate::making::{judged, wrong_in};
+use crate::making::play;
 use crate::steps::{Fact, Step};
-use asm_base::{Records, Shape};
 use catalog::Catalog;
-use sample_group::{SHAPE, disks, usual};
+use sample_group::disks;
 use status_table::{PstRecord, is_status};
 use std::alloc::Global;
 use std::test::Fail;
-
-/// The catalog of some records by a status record, in this shape.
-#[tactic(auto, unfolding(asm_formats::specs::Status::is_status))]
-fn opened(
-    alloc: Global,
-    records: &Records,
-    status: &PstRecord,
-    shape: Shape,
-) -> Result<Catalog, Fail>
-    ensures catalog { IfOk result (IsCatalogOf records.now status.now.entries) }
-    ensures shape { IfOk result (λ c. c.shape ≡ shape) }
-    ensures entries { IfOk result (λ c. IsTrue (list_all is_entry status.now.entries)) }
-{
-    if !shape.is_allowed() || !is_status(status) {
-        return Err(Fail::from("a shape and a status record"));
-    }
-    match Catalog::from_store(alloc, records, status, shape) {
-        Ok(group) => Ok(group),
-        Err(_) => Err(Fail::from("the records are refused")),
-    }
-}
 
 /// The status record by which the second of two disks has so many units, and is in a quorum failure group or not.
 pub fn with_second(units: u32, quorum: bool) -> PstRecord {
@@ -45,96 +17,96 @@ pub fn with_second(units: u32, quorum: bool) -> PstRecord {
     status
 }
 
-/// What is told of the units where the second disk has so many user units.
-fn told(units: u32) -> [Step<'static>; 3] {
+/// The status record by which the two disks have so many units.
+pub fn with_units(units: [u32; 2]) -> PstRecord {
+    let mut status = disks(2);
+    status.entries[0].units = units[0];
+    status.entries[1].units = units[1];
+    status
+}
+
+/// Gives a catalog the units of its disks by a next status record, where they cover its homes. Whether they do; none where the
+/// record isn't one, or where there is no memory.
+#[tactic(auto, unfolding(asm_formats::specs::Status::is_status))]
+pub fn resized(alloc: Global, group: &mut Catalog, next: &PstRecord) -> Option<bool> {
+    if !is_status(next) {
+        return None;
+    }
+    if !group.covers(next.entries()) {
+        return Some(false);
+    }
+    match group.ready_disks(alloc, next) {
+        Ok(()) => {
+            group.apply_disks(next);
+            Some(true)
+        }
+        Err(_) => None,
+    }
+}
+
+/// What is told of the user units of the two disks, on each of which three are used: how many there are, and the lowest free one.
+fn told(first: (u32, Option<u32>), second: (u32, Option<u32>)) -> [Step<'static>; 3] {
     [
-        Step::Tells(Fact::Units(0, Some((62, 3, Some(5))))),
-        Step::Tells(Fact::Units(1, Some((units, 3, Some(5))))),
+        Step::Tells(Fact::Units(0, Some((first.0, 3, first.1)))),
+        Step::Tells(Fact::Units(1, Some((second.0, 3, second.1)))),
         Step::Tells(Fact::Units(63, Some((0, 0, None)))),
     ]
 }
 
-/// Gives a catalog the units of its disks by the next status record, by which another catalog of the same records has units.
-/// The place of the first fact that isn't told then, where the second disk has so many user units.
-fn wrong_by(
+/// Plays a row: the disks get units, and then others, where these cover the homes. What is told is told after each.
+fn play_two(
     alloc: Global,
-    group: &mut Catalog,
-    other: &Catalog,
-    next: &PstRecord,
-    units: u32,
-) -> Result<Option<usize>, Fail>
-    requires entries { IsTrue (list_all is_entry next.now.entries) }
-    requires units { HasUnits group.old.shape next.now.entries group.old.tables other.now.units }
-{
-    match group.ready_disks(alloc, next) {
-        Ok(()) => {
-            group.apply_disks(next);
-            Ok(wrong_in(alloc, group, &told(units)))
-        }
-        Err(_) => Err(Fail::from("memory")),
-    }
+    name: &'static str,
+    units: [([u32; 2], bool); 2],
+    told: [[Step<'static>; 3]; 2],
+) -> Result<(), Fail> {
+    play(
+        alloc,
+        name,
+        &[],
+        0,
+        &[
+            Step::Resize(units[0].0, units[0].1),
+            told[0][0],
+            told[0][1],
+            told[0][2],
+            Step::Resize(units[1].0, units[1].1),
+            told[1][0],
+            told[1][1],
+            told[1][2],
+        ],
+    )
 }
 
-/// Gives the group the units of the next record, by which there is another catalog of its records. The place of the first
-/// fact that isn't told then, where the second disk has so many user units.
-#[tactic(auto, using(crate::proofs::SameHomes::fits))]
-fn wrong_after(
-    alloc: Global,
-    records: &Records,
-    group: &mut Catalog,
-    next: &PstRecord,
-    shape: Shape,
-    units: u32,
-) -> Result<Option<usize>, Fail>
-    requires catalog { (first : Items Entry) × IsCatalogOf records.now first group.old }
-    requires shape { group.old.shape ≡ shape }
-{
-    match opened(alloc, records, next, shape) {
-        Ok(other) => {
-            let wrong = wrong_by(alloc, group, &other, next, units);
-            drop(other);
-            wrong
-        }
-        Err(fail) => Err(fail),
-    }
-}
-
-/// The same of a catalog of the records by the usual status record, and the next one by which the second disk has so many units,
-/// two of them reserved.
-fn wrong_of(alloc: Global, records: &Records, units: u32) -> Result<Option<usize>, Fail> {
-    match opened(alloc, records, &disks(2), SHAPE) {
-        Ok(mut group) => {
-            let next = with_second(units, false);
-            let wrong = wrong_after(
-                alloc,
-                records,
-                &mut group,
-                &next,
-                SHAPE,
-                units.saturating_sub(2),
-            );
-            drop(group);
-            wrong
-        }
-        Err(fail) => Err(fail),
-    }
-}
-
-/// The same where it has as many units as before, fewer, or more.
-fn wrong_units(alloc: Global, units: u32) -> Result<Option<usize>, Fail> {
-    match usual(alloc) {
-        Ok(records) => {
-            let wrong = wrong_of(alloc, &records, units);
-            drop(records);
-            wrong
-        }
-        Err(fail) => Err(fail),
-    }
-}
-
-/// The units are those of the next entries, and those of the homes are used.
+/// The units are those of the next entries, and those of the homes are used. Two units of a disk are reserved, and the homes take
+/// the next three.
 pub fn units_of_a_status_record(alloc: Global) -> Result<(), Fail> {
-    judged("units by as many", wrong_units(alloc, 64)?)?;
-    judged("units by fewer", wrong_units(alloc, 32)?)?;
-    judged("units by more", wrong_units(alloc, 96)?)
+    let usual = told((62, Some(5)), (62, Some(5)));
+    play_two(
+        alloc,
+        "units by as many and by fewer",
+        [([64, 64], true), ([64, 32], true)],
+        [usual, told((62, Some(5)), (30, Some(5)))],
+    )?;
+    play_two(
+        alloc,
+        "units up to the last used one and as before",
+        [([64, 5], true), ([64, 64], true)],
+        [told((62, Some(5)), (3, None)), usual],
+    )?;
+    play_two(
+        alloc,
+        "units below a used one",
+        [([64, 4], false), ([4, 96], false)],
+        [usual, usual],
+    )?;
+    play_two(
+        alloc,
+        "units of both disks",
+        [([5, 130], true), ([6, 4], false)],
+        [
+            told((3, None), (128, Some(5))),
+            told((3, None), (128, Some(5))),
+        ],
+    )
 }

@@ -2,6 +2,7 @@
 
 ghost use Rattle.catalog_tests.specs.Planned.{IsPlanned};
 
+use crate::disk_units::{resized, with_units};
 use crate::facts::is_told;
 use crate::plans::planned;
 use crate::steps::{Answer, Plan, Step};
@@ -47,6 +48,7 @@ fn is_right(alloc: Global, group: &mut Catalog, step: Step<'_>) -> bool {
                 Ok(true)
             )
         }
+        Step::Resize(units, covered) => resized(alloc, group, &with_units(units)) == Some(covered),
         Step::Tells(fact) => is_told(alloc, group, fact),
     }
 }

@@ -9,6 +9,8 @@ pub enum Step<'a> {
     Make(Plan<'a>, Answer),
     /// A copy of an extent moves to a disk and a unit: file, index, copy, disk, unit.
     Move(u32, u32, u8, u8, u32),
+    /// The two disks get so many units by a next status record, where these cover the homes. Whether they do.
+    Resize([u32; 2], bool),
     /// The catalog tells this.
     Tells(Fact<'a>),
 }

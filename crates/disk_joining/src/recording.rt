@@ -5,7 +5,7 @@ ghost use Rattle.group_engine.specs.Mounts.{Takes};
 ghost use Rattle.group_engine.specs.Pending.{GoesOn};
 ghost use Rattle.status_register.specs.Holders.{numbered};
 
-use asm_base::{NoMemory, Refusal};
+use asm_base::Refusal;
 use bay::Bay;
 use group_engine::Mounted;
 use status_table::{PstEntry, PstRecord};
@@ -44,9 +44,8 @@ pub fn write_next<B: Bay>(
     ensures tables { m.new.catalog.tables ≡ m.old.catalog.tables }
     ensures recorded { OnOk result (m.new.register.value ≡ numbered m.old.register next.now) }
 {
-    match m.may_get(alloc, next) {
-        Ok(true) => m.set_status(alloc, bay, next),
-        Ok(false) => Err(Refusal::NoMemory),
-        Err(NoMemory) => Err(Refusal::NoMemory),
+    if !m.may_get(next) {
+        return Err(Refusal::NoMemory);
     }
+    m.set_status(alloc, bay, next)
 }

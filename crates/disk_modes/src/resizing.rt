@@ -14,7 +14,7 @@ ghost use Rattle.disk_modes.specs.Sizes.{HasAsked, PutsUnits, Resizes, entry_cap
 use crate::changing::put_rebalance;
 use crate::checking::{Statement, check_modes};
 use crate::sizes::{Asked, check_sizes, units_asked};
-use asm_base::{DiskSet, NoMemory, Refusal};
+use asm_base::{DiskSet, Refusal};
 use bay::Bay;
 use group_engine::Mounted;
 use status_table::{PstEntry, PstRecord, with_units};
@@ -148,29 +148,8 @@ fn put_next<B: Bay>(
     ensures goes { GoesOn m.old result m.new (B.state bay.old) (B.state bay.new) }
     ensures done { OnOk result (PutsUnits asked.now m.old m.new) }
 {
-    match m.may_get(alloc, next) {
-        Ok(may) => put_if(m, alloc, bay, next, asked, may),
-        Err(NoMemory) => Err(Refusal::NoMemory),
-    }
-}
-
-fn put_if<B: Bay>(
-    m: &mut Mounted,
-    alloc: Global,
-    bay: &mut B,
-    next: &PstRecord,
-    asked: &Asked,
-    may: bool,
-) -> Result<(), Refusal>
-    requires mounted { IsMounted m.old }
-    requires takes { Takes m.old (B.state bay.old) }
-    requires asked { HasAsked asked.now m.old next.now }
-    requires next { OnTrue may (IsNextOf m.old next.now) }
-    ensures goes { GoesOn m.old result m.new (B.state bay.old) (B.state bay.new) }
-    ensures done { OnOk result (PutsUnits asked.now m.old m.new) }
-{
     let _asked = asked.disks;
-    if !may {
+    if !m.may_get(next) {
         // It doesn't come.
         return Err(Refusal::NoMemory);
     }

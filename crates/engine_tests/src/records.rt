@@ -43,9 +43,8 @@ pub fn record<B: Bay>(m: &mut Mounted, alloc: Global, bay: &mut B, next: Next) -
     if !m.is_mounted() {
         return answer_of(m.set_status(alloc, bay, &next));
     }
-    match m.may_get(alloc, &next) {
-        Ok(true) => answer_of(m.set_status(alloc, bay, &next)),
-        Ok(false) => Answer::MayNot,
-        Err(_) => Answer::NoMemory,
+    if !m.may_get(&next) {
+        return Answer::MayNot;
     }
+    answer_of(m.set_status(alloc, bay, &next))
 }

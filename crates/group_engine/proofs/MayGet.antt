@@ -1,6 +1,6 @@
 -- A record that was tried may come next.
-use Rattle.std.proofs.Common.{◌≡◌, ◌≢◌, inl, inr, ⊎_elim, ℕ, suc, ◌<◌, ◌≤◌, Bool, true, false, List, [], ◌∷◌, ◌++◌, length, take, refl, sym, ap, subst, ◌∙◌, Option, Some, None, arith, ◌==◌, ◌||◌, IsTrue, Result, Ok, Err}
-use Rattle.std.specs.Prelude.{All, IfOk, flat_map}
+use Rattle.std.proofs.Common.{◌≡◌, ◌≢◌, inl, inr, ⊎_elim, ℕ, suc, ◌<◌, ◌≤◌, Bool, true, false, List, [], ◌∷◌, ◌++◌, length, take, refl, sym, ap, subst, ◌∙◌, Option, Some, None, arith, ◌==◌, ◌||◌, IsTrue}
+use Rattle.std.specs.Prelude.{All, flat_map, ◌↔◌}
 use Rattle.std.specs.Bool.{OnTrue}
 use Rattle.std.specs.List.{list_any}
 use Rattle.std.specs.Option.{option_map}
@@ -102,9 +102,9 @@ moved_disks ax hi by kj same = (λ t. disks_of (sym ax t) (sym hi t)) ∙ same �
 pub all_taken : {A : Type 0} (P : A → Type 0) (xs ys : List A) (n : ℕ) → length xs ≤ n → xs ≡ ys → All P (take n xs) → All P ys
 all_taken P xs ys n le same all = subst (All P) (take_all n xs le ∙ same) all
 
-pub if_ok_true : {P Q E : Type 0} (r : Result Bool E) → IfOk r (λ b. OnTrue b P) → (P → Q) → IfOk r (λ b. OnTrue b Q)
-if_ok_true (Ok b) is f = on_true_map b is f
-if_ok_true (Err e) is f = tt
+pub on_true_of : {P Q : Type 0} (b : Bool) → IsTrue b ↔ P → (P → Q) → OnTrue b Q
+on_true_of true is f = f (is.0 refl)
+on_true_of false is f = tt
 
 pub next_of : (m : MountedGroup) (next : Status) → IsTrue (is_status next) → IsRecordOf m next → HaveBirths next m.register.members → NamesCopies m next
     → ((us : List UnitMap) × HasUnits m.catalog.shape next.entries m.catalog.tables us) → IsNextOf m next

@@ -54,11 +54,10 @@ impl Mounted {
             return Err(Refusal::NoMemory);
         }
         let next = without_disk(self.status(), disk);
-        match self.may_get(alloc, &next) {
-            Ok(true) => self.end_entry(alloc, bay, disk, &next),
-            Ok(false) => Err(Refusal::NoMemory),
-            Err(_) => Err(Refusal::NoMemory),
+        if !self.may_get(&next) {
+            return Err(Refusal::NoMemory);
         }
+        self.end_entry(alloc, bay, disk, &next)
     }
 
     /// Writes the record without the disk, by which it is attached no more, and takes its disk record away.

@@ -1,5 +1,5 @@
 //! Whether a status record may come next: all that is asked of it, tried.
-ghost use Rattle.std.specs.Prelude.{◌≡◌, ◌<◌, ℕ, All, IfOk, IsTrue};
+ghost use Rattle.std.specs.Prelude.{◌≡◌, ◌<◌, ℕ, All, IsTrue};
 ghost use Rattle.std.specs.Bool.{OnTrue};
 ghost use Rattle.asm_formats.specs.Following.{Follows, disks_of};
 ghost use Rattle.asm_formats.specs.Sets.{elements};
@@ -10,11 +10,10 @@ ghost use Rattle.group_engine.specs.Trying.{HasBirthAt, HasCopy, IsRecordOf, IsR
 
 use crate::births::{has_birth, has_same_birth};
 use crate::mounted::Mounted;
-use asm_base::{DiskSet, NoMemory};
+use asm_base::DiskSet;
 use change_directory::DirCopy;
 use status_register::is_of_entry;
 use status_table::{PstEntry, PstRecord, is_status};
-use std::alloc::Global;
 
 /// Whether two sets have the same numbers, and each of them the same birth by some entries and by others.
 fn are_same_disks(one: &[PstEntry], set: DiskSet, other: &[PstEntry], other_set: DiskSet) -> bool
@@ -51,18 +50,17 @@ fn follows(value: &PstRecord, next: &PstRecord) -> bool
 impl Mounted {
     /// Whether a record may come next, so that `set_status` may write it: it is one of this group and of the formats, not marked gone, may
     /// be written after the one that holds, is reached by the attached disks and has their births, names copies that the group has, and its
-    /// entries have the units of all homes. Work goes by the record where it gives each disk as many units as the one before;
-    /// otherwise work and memory go by the number of homes and of units.
-    pub fn may_get(&self, alloc: Global, next: &PstRecord) -> Result<bool, NoMemory>
-        ensures { IfOk result (λ may. OnTrue may (IsNextOf self.now next.now)) }
+    /// entries have the units of all homes. It takes no memory. Work goes by the record and by the units that it takes away.
+    pub fn may_get(&self, next: &PstRecord) -> bool
+        ensures { OnTrue result (IsNextOf self.now next.now) }
     {
         if !is_status(next) || !self.is_record(next) {
-            return Ok(false);
+            return false;
         }
         if !self.has_births(next) || !self.names_copies(next) {
-            return Ok(false);
+            return false;
         }
-        self.catalog.covers(alloc, next.entries())
+        self.catalog.covers(next.entries())
     }
 
     /// Whether the record is one of the group, not marked gone, may be written after the one that holds, and is reached.

@@ -26,7 +26,7 @@ impl Mounted {
     /// the record failed; NoMemory. NoMemory leaves the value as before.
     ///
     /// Where the record gives each disk as many units as the one before, the unit maps stay, and work goes by the record. Otherwise
-    /// work and memory go by the number of homes and of units.
+    /// work and memory go by the record and by the units of the disks whose number of units it changes.
     pub fn set_status<B: Bay>(
         &mut self,
         alloc: Global,

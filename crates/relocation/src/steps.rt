@@ -9,7 +9,7 @@ ghost use Rattle.resync.specs.Copying.{refusal_of};
 
 use crate::fitting::is_in_place;
 use crate::homes::may_move;
-use asm_base::{Change, DiskSet, ExtentId, Home, NoMemory, Refusal};
+use asm_base::{Change, DiskSet, ExtentId, Home, Refusal};
 use bay::Bay;
 use catalog::Catalog;
 use group_engine::{Flight, Mounted};
@@ -249,13 +249,8 @@ fn put_record<B: Bay>(
     requires takes { Takes m.old (B.state bay.old) }
     ensures { GoesOn m.old result m.new (B.state bay.old) (B.state bay.new) }
 {
-    match m.may_get(alloc, next) {
-        Ok(may) => {
-            if !may {
-                return Err(Refusal::NoMemory);
-            }
-            m.set_status(alloc, bay, next)
-        }
-        Err(NoMemory) => Err(Refusal::NoMemory),
+    if !m.may_get(next) {
+        return Err(Refusal::NoMemory);
     }
+    m.set_status(alloc, bay, next)
 }

@@ -1,6 +1,6 @@
 use Rattle.std.proofs.Common.{◌≡◌, true, false, List, ◌∙◌, sym, ap}
 use Rattle.allocator.specs.UnitMaps.{UnitMap}
-use Rattle.catalog.specs.Placing.{have_units}
+use Rattle.catalog.specs.Placing.{changed_maps, have_units}
 use Rattle.catalog.specs.Spares.{ready_tables, units_in}
 use Rattle.catalog.proofs.DiskUnitLaws.{covered, made_ready, made_stays, not_same}
 use Rattle.catalog.proofs.catalog.Catalog.ready_disks.Goals as goal
@@ -10,18 +10,16 @@ returns-then-have_units-clause-ready c =
     let as_many : have_units c.self.inside.units.items c.entries-entries.result.now ≡ true = sym (ap (λ (ms : List UnitMap). have_units ms c.entries-entries.result.now) c.deref.ensures.value) ∙ sym c.have_units.ensures ∙ c.if-have_units.true in
     made_stays c.self.inside.parts c.self.inside.shape c.self.inside.units.items (ready_tables c.self.inside.spare) (units_in c.self.inside.next_units) c.self.inside.spare c.args.next.now.entries c.entries-entries.result.now c.entries-entries.ensures.entries c.self.invariant as_many
 
-pub units_for-requires-clause-units : goal.units_for-requires-clause-units
-units_for-requires-clause-units c =
-    covered c.args.self.now c.self.inside.parts c.self.inside.shape c.self.inside.units.items (ready_tables c.self.inside.spare) (units_in c.self.inside.next_units) c.args.next.now.entries c.entries-entries.result.now c.self.view_is c.entries-entries.ensures.entries c.requires.units
-
-pub returns-in_err-units-clause-same : goal.returns-in_err-units-clause-same
-returns-in_err-units-clause-same c =
+pub returns-in_err-changed-clause-same : goal.returns-in_err-changed-clause-same
+returns-in_err-changed-clause-same c =
     let other : have_units c.self.inside.units.items c.entries-entries.result.now ≡ false = sym (ap (λ (ms : List UnitMap). have_units ms c.entries-entries.result.now) c.deref.ensures.value) ∙ sym c.have_units.ensures ∙ c.if-have_units.false in
     λ before has same. absurd (not_same c.args.self.now c.self.inside.parts c.self.inside.shape c.self.inside.units.items (ready_tables c.self.inside.spare) (units_in c.self.inside.next_units) before c.args.next.now.entries c.entries-entries.result.now c.self.view_is c.entries-entries.ensures.entries other has same)
 
 pub returns-clause-ready : goal.returns-clause-ready
 returns-clause-ready c =
-    made_ready c.self.inside.parts c.self.inside.shape c.self.inside.units.items c.in_ok-units.units.items (ready_tables c.self.inside.spare) c.args.next.now.entries c.entries-entries.result.now c.entries-entries.ensures.entries c.in_ok-units.ensures
+    let there = covered c.args.self.now c.self.inside.parts c.self.inside.shape c.self.inside.units.items (ready_tables c.self.inside.spare) (units_in c.self.inside.next_units) c.args.next.now.entries c.entries-entries.result.now c.self.view_is c.entries-entries.ensures.entries c.requires.units in
+    let is = c.in_ok-changed.ensures ∙ ap (λ (ms : List UnitMap). changed_maps ms c.entries-entries.result.now) c.deref-2.ensures.value in
+    made_ready c.self.inside.parts c.self.inside.shape c.self.inside.units.items c.in_ok-changed.changed.items (ready_tables c.self.inside.spare) (units_in c.self.inside.next_units) c.self.inside.spare c.args.next.now.entries c.entries-entries.result.now c.entries-entries.ensures.entries c.self.invariant there is
 
 pub returns-clause-same : goal.returns-clause-same
 returns-clause-same c =

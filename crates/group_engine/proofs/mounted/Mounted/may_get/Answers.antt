@@ -1,25 +1,16 @@
 use Rattle.std.proofs.Common.{◌∙◌, List, IsTrue, sym, subst}
-use Rattle.std.specs.List.{list_all}
-use Rattle.asm_formats.specs.Status.{Entry, is_entry, is_status}
+use Rattle.asm_formats.specs.Status.{Entry, is_status}
 use Rattle.catalog.specs.Placing.{HasUnits}
 use Rattle.group_engine.specs.Mounts.{MountedGroup}
-use Rattle.group_engine.proofs.MayGet.{if_ok_true, next_of}
-use Rattle.group_engine.proofs.Records.{record_parts}
+use Rattle.group_engine.proofs.MayGet.{next_of, on_true_of}
 use Rattle.group_engine.proofs.mounted.Mounted.may_get.Goals as goal
-
-pub covers-requires : goal.covers-requires
-covers-requires c =
-    record {
-      entries = subst (λ (es : List Entry). IsTrue (list_all is_entry es)) (sym c.entries.ensures.entries)
-          (record_parts c.args.next.now (sym c.is_status.ensures ∙ c.if-not-is_status.false)).entries;
-    }
 
 pub returns : goal.returns
 returns c =
     let m = c.args.self.now in
     let next = c.args.next.now in
     let allowed : IsTrue (is_status next) = sym c.is_status.ensures ∙ c.if-not-is_status.false in
-    if_ok_true c.covers.result c.covers.ensures.covers
+    on_true_of c.covers.result c.covers.ensures.covers
     (λ units. next_of m next allowed c.if-not-is_record.ensures c.if-not-has_births.ensures c.if-not-names_copies.ensures (
       units.0,
       subst (λ (v : MountedGroup). HasUnits v.catalog.shape next.entries v.catalog.tables units.0) c.self.view_is
