@@ -12,7 +12,7 @@ use crate::pieces::{copy, read, spare, usable, write};
 use crate::records::record;
 use crate::slices::{end, slice_of, sync};
 use crate::statements::state;
-use crate::steps::{Step, answer_of, home_at, is_answer};
+use crate::steps::{Step, Unit, answer_of, home_at, is_answer};
 use asm_base::{ExtentId, Home};
 use bay::Bay;
 use bay_mem::MemBay;
@@ -116,21 +116,35 @@ fn is_of_files<B: Bay>(alloc: Global, m: &mut Mounted, bay: &mut B, step: Step) 
     }
 }
 
+/// The move of a copy of file 256, of which so many bytes are copied.
+fn flight_to(index: u32, copy: u8, to: Unit, copied: u64) -> Flight {
+    Flight {
+        x: ExtentId { file: 256, index },
+        copy,
+        to: home_at(to),
+        copied,
+    }
+}
+
+/// A move is on its way.
+fn fly<B: Bay>(m: &mut Mounted, bay: &B, flight: Flight)
+    requires takes { Takes m.old (B.state bay.now) }
+    ensures takes { Takes m.new (B.state bay.now) }
+{
+    let _bay = bay;
+    m.set_flight(Some(flight));
+}
+
 /// A move is on its way, or the group is closed.
-#[tactic(auto, using(crate::proofs::Taking::flying_takes, crate::proofs::Taking::closed_takes))]
+#[tactic(auto, using(crate::proofs::Taking::closed_takes))]
 fn set<B: Bay>(m: &mut Mounted, bay: &B, step: Step)
     requires takes { Takes m.old (B.state bay.now) }
     ensures takes { Takes m.new (B.state bay.now) }
 {
     let _bay = bay;
     match step {
-        Step::Fly => m.set_flight(Some(FLIGHT)),
-        Step::FlyTo(index, copy, to, copied) => m.set_flight(Some(Flight {
-            x: ExtentId { file: 256, index },
-            copy,
-            to: home_at(to),
-            copied,
-        })),
+        Step::Fly => fly(m, bay, FLIGHT),
+        Step::FlyTo(index, copy, to, copied) => fly(m, bay, flight_to(index, copy, to, copied)),
         Step::Close => m.close(),
         _ => {}
     }
