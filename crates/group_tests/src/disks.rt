@@ -74,7 +74,6 @@ fn size_in<B: Bay>(m: &Mounted, bay: &mut B, slot: u32) -> Option<u64>
 }
 
 /// The byte that a sector of an attached slot has.
-#[tactic(auto, using(crate::proofs::Taking::looked_takes))]
 fn byte_at<B: Bay>(m: &Mounted, bay: &mut B, slot: u32, at: u64) -> Answer
     requires takes { Takes m.now (B.state bay.old) }
     requires attached { IsSome ((B.state bay.old).attached slot) }
