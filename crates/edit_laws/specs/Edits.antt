@@ -1,10 +1,11 @@
 -- An edit of a mounted group is one commit. Which group it leads to in the world, what the images stand for while it is on its way, and
 -- what refuses it.
-use Rattle.std.specs.Prelude.{◌≡◌, ◌≢◌, ℕ, ◌+◌, ◌<◌, ◌^◌, List, [], ◌∷◌, OnErr, OnOk, Option, Result, Ok}
+use Rattle.std.specs.Prelude.{◌≡◌, ◌≢◌, ℕ, ◌+◌, ◌<◌, ◌^◌, true, List, [], ◌∷◌, OnErr, OnOk, Option, Result, Ok}
 use Rattle.bay.specs.State.{BayState}
 use Rattle.bay.specs.Image.{Image}
-use Rattle.bay.specs.Moments.{LeavesOnly, Runs}
-use Rattle.asm_group.specs.Group.{Group}
+use Rattle.bay.specs.Moments.{LeavesOnly, NowOnly, Runs}
+use Rattle.asm_group.specs.Group.{Cell, Group}
+use Rattle.asm_group.specs.Names.{Bytes}
 use Rattle.asm_group.specs.Refusal as r
 use Rattle.asm_formats.specs.Items.{Key}
 use Rattle.asm_base.specs.Records.{Entry}
@@ -13,19 +14,23 @@ use Rattle.asm_formats.specs.Status.{Status}
 use Rattle.asm_images.specs.Bridge.{disks_in}
 use Rattle.asm_images.specs.Kept.{Kept}
 use Rattle.asm_images.specs.Sound.{SoundBy}
+use Rattle.asm_images.specs.Stands.{Standing}
 use Rattle.asm_world.specs.Edits as world
 use Rattle.asm_world.specs.Settings as settings
 use Rattle.alias_tree.specs.Edits as names
 use Rattle.template_directory.specs.Meant as templates
+use Rattle.catalog.specs.Changing.{IsAfter}
+use Rattle.catalog.specs.Tables.{Catalogued, Tables}
 use Rattle.group_engine.specs.Commits.{LeadsTo, StandsIn}
 use Rattle.group_engine.specs.Frames.{SparesGroup}
-use Rattle.group_engine.specs.Mounts.{IsMounted, IsOwn, MountedGroup, Mounts}
+use Rattle.group_engine.specs.Mounts.{HasOnly, IsMounted, IsOwn, MountedGroup, Mounts}
 use Rattle.group_engine.specs.Own.{KeepsGroup}
 use Rattle.group_files.specs.Edits.{IsCommitted}
 use Rattle.group_files.specs.GroupEdits.{IsEditPlan, IsRefusedAs}
 use Rattle.group_files.specs.declared.edit.GroupEdit.{GroupEdit}
 use Rattle.group_files.specs.declared.edit.GroupEdit.TheVariants.{Tree, Templates, SetAttribute}
 use Rattle.group_of.specs.Edits.{IsRefusedBeside, IsWorldsRefusal, attribute_meant}
+use Rattle.group_of.specs.Groups.{HasCells, group_of}
 
 -- The world's group after the edit, or why it is refused.
 abbrev pub edited_by : Group → GroupEdit → Result Group r.Refusal
@@ -54,6 +59,19 @@ IsRefusedIn g (SetAttribute name value) refusal = IsWorldsRefusal (edited_by g (
 abbrev pub EditIsRefused : BayState → Type 0
 EditIsRefused s =
     (n : ℕ) (m : MountedGroup) (g : Group) (kept : Kept) (edit : GroupEdit) (refusal : Refusal) → Mounts n m s g kept → IsRefusedAs m.catalog edit refusal → IsRefusedIn g edit refusal
+
+-- ---- the same of the tables alone, on every bay
+
+-- The tables after a change that is the edit are those of the world's group after it, with the same cells.
+abbrev pub EditIsOfTables : Type 0
+EditIsOfTables =
+    (name : Bytes) (c : Catalogued) (cells : ℕ → List Cell) (edit : GroupEdit) (put : List Entry) (gone : List Key) (u : Tables) → HasCells c.tables cells → IsEditPlan c edit put gone → IsAfter c.tables put gone u
+    → (edited_by (group_of name c.shape c.tables cells) edit ≡ Ok (group_of name c.shape u cells)) × HasCells u cells
+
+-- What refuses the edit of the tables is so in the world.
+abbrev pub RefusalIsOfTables : Type 0
+RefusalIsOfTables =
+    (name : Bytes) (c : Catalogued) (cells : ℕ → List Cell) (edit : GroupEdit) (refusal : Refusal) → IsRefusedAs c edit refusal → IsRefusedIn (group_of name c.shape c.tables cells) edit refusal
 
 -- ---- while it is committed
 
@@ -101,3 +119,16 @@ abbrev pub OthersStayMounted : BayState → BayState → Type 0
 OthersStayMounted s t =
     (c : EditCall) (h : Group) (m : MountedGroup) (g : Group) (kept : Kept) → Mounts c.n c.old s c.g c.kept → KeepsGroup c.old c.new s t → IsHeldOver c h s t → Mounts c.n m s g kept
     → m.register.id ≢ c.old.register.id → Mounts c.n m t g kept
+
+-- ---- with all disks
+
+-- Over a call that changes disks of the group alone, its attached disks are the only members of its id, where they were.
+abbrev pub StaysAlone : BayState → BayState → Type 0
+StaysAlone s t =
+    (c : EditCall) → Mounts c.n c.old s c.g c.kept → KeepsGroup c.old c.new s t → NowOnly s (HasOnly c.old.register.id c.kept) → LeavesOnly s t (HasOnly c.old.register.id c.kept)
+
+-- Then Status and directories are there at each moment with all disks, and not with the attached ones alone.
+abbrev pub StandsWithAll : BayState → BayState → Type 0
+StandsWithAll s t =
+    (c : EditCall) (h : Group) → Mounts c.n c.old s c.g c.kept → KeepsGroup c.old c.new s t → NowOnly s (HasOnly c.old.register.id c.kept) → IsHeldOver c h s t
+    → LeavesOnly s t (λ image. Standing c.old.register.id (disks_in c.n image) (λ any. true))

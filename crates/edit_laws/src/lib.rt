@@ -1,7 +1,7 @@
 //! Edits of a mounted group as the world's. Each function does nothing; its contract is the law.
 #![tactic(auto)]
 
-ghost use Rattle.edit_laws.specs.Edits.{EditIsHeld, EditIsRefused, EditLeadsTo, OthersAreSpared, OthersStayMounted, SparedIsSound};
+ghost use Rattle.edit_laws.specs.Edits.{EditIsHeld, EditIsOfTables, EditIsRefused, EditLeadsTo, OthersAreSpared, OthersStayMounted, RefusalIsOfTables, SparedIsSound, StandsWithAll, StaysAlone};
 
 use bay::Bay;
 
@@ -24,4 +24,18 @@ pub fn others_stay<B: Bay>(start: &B, end: &B)
     ensures spared { OthersAreSpared (B.state start.now) (B.state end.now) }
     ensures sound { SparedIsSound }
     ensures mounted { OthersStayMounted (B.state start.now) (B.state end.now) }
+{}
+
+/// On every bay, the tables after an edit are those of the world's group after it, and what refuses an edit of the tables is so
+/// in the world.
+pub fn edits_of_tables_are_the_worlds()
+    ensures done { EditIsOfTables }
+    ensures refused { RefusalIsOfTables }
+{}
+
+/// While an edit is committed the attached disks stay the only members, where they were, and with all disks Status and
+/// directories are there.
+pub fn edits_stand_with_all_disks<B: Bay>(start: &B, end: &B)
+    ensures alone { StaysAlone (B.state start.now) (B.state end.now) }
+    ensures stands { StandsWithAll (B.state start.now) (B.state end.now) }
 {}
