@@ -17,10 +17,9 @@ use Rattle.asm_formats.proofs.StatusReading.{status_again}
 use Rattle.asm_formats.proofs.Framing.{claims_by_slot, statuses_by_slot}
 use Rattle.asm_images.specs.Bridge.{disk_bytes}
 use Rattle.asm_images.proofs.Bridges.{bytes_are_listed}
-use Rattle.group_disks.specs.Planned.{Plan, IsPlan, header_of_plan, claim_of_plan, record_of_plan, content_of_plan, header_body, claim_body, status_body}
+use Rattle.group_disks.specs.Planned.{Plan, IsPlan, header_of_plan, claim_of_plan, record_of_plan, content_of_plan, header_body, claim_body, status_body, metadata_of_plan}
 use Rattle.group_disks.specs.Stages.{HasAll}
 use Rattle.group_disks.proofs.FirstBodies.{header_ok, claim_ok, status_ok}
-use Rattle.group_disks.proofs.FirstGroup.{metadata_of_plan}
 use Rattle.group_disks.proofs.Shown.{is_shut, is_shown}
 
 module _ (slot : ℕ) (plan : Plan) (is : IsPlan plan) (image : Image) (long : 26214400 ≤ image.size slot) where

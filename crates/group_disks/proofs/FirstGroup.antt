@@ -19,7 +19,6 @@ use Rattle.asm_formats.specs.Regions.{most_units}
 use Rattle.asm_formats.specs.Sets.{has_bit, elements}
 use Rattle.asm_formats.specs.Status.{Status, Entry, entry_of}
 use Rattle.asm_formats.specs.Following.{sets_of, disks_of}
-use Rattle.asm_formats.specs.Metadata.{Metadata}
 use Rattle.asm_formats.specs.Content.{Content}
 use Rattle.asm_images.specs.Tables.{node_of, templates_of, settings_of, info_of}
 use Rattle.asm_formats.specs.Nodes.{entry_of_node}
@@ -31,18 +30,7 @@ use Rattle.asm_images.specs.Stands.{Describes, IsDiskOf, Standing}
 use Rattle.asm_images.specs.Describing.{DescribesGroup, SameFile}
 use Rattle.asm_images.specs.Sound.{IsCovered, SoundBy}
 use Rattle.group_disks.specs.Creating.{made_group}
-use Rattle.group_disks.specs.Planned.{Plan, IsPlan, header_of_plan, claim_of_plan, entry_of_plan, record_of_plan, items_of_plan, content_of_plan}
-
--- what a disk of so many bytes says that has all its parts
-abbrev pub metadata_of_plan : Plan → ℕ → Metadata
-metadata_of_plan plan size = record {
-  size = size;
-  header = Some (header_of_plan plan);
-  claims = Some (claim_of_plan plan) ∷ [];
-  statuses = Some (record_of_plan plan) ∷ [];
-  content = Some (content_of_plan plan);
-  decodes = true;
-}
+use Rattle.group_disks.specs.Planned.{Plan, IsPlan, header_of_plan, entry_of_plan, record_of_plan, items_of_plan, content_of_plan, metadata_of_plan}
 
 module _ (slot size : ℕ) (plan : Plan) where
   abbrev pub only : Member
@@ -134,7 +122,7 @@ module _ (slot size : ℕ) (plan : Plan) where
   unfolding new_group
   no_file f = maps.get-empty nat_cmp f
 
-  describes : DescribesGroup first (items_of_plan plan) group
+  pub describes : DescribesGroup first (items_of_plan plan) group
   unfolding new_group node_at_path templates_of settings_of head_of homes_in marks_in home_of is_stale info_of node_of placed
   describes = record {
     tree = λ path. no_name path ∙ sym (no_path path);

@@ -20,10 +20,10 @@ use Rattle.asm_images.proofs.History.{greatest_is, among_statuses}
 use Rattle.asm_images.proofs.Members.{member_is, among_members}
 use Rattle.asm_images.proofs.Bridges.{disks_are_listed, beyond_is_unseen}
 use Rattle.group_disks.specs.Creating.{Allows, HasMember, Founds, made_group}
-use Rattle.group_disks.specs.Planned.{Plan, IsPlan, header_of_plan, record_of_plan, kept_of_plan}
+use Rattle.group_disks.specs.Planned.{Plan, IsPlan, header_of_plan, record_of_plan, kept_of_plan, metadata_of_plan}
 use Rattle.group_disks.proofs.Outsiders.{nothing_among, no_member_allows}
 use Rattle.group_disks.proofs.Departing.{elsewhere_member}
-use Rattle.group_disks.proofs.FirstGroup.{metadata_of_plan, only, only_is_sound, none_is_sound, only_is_standing}
+use Rattle.group_disks.proofs.FirstGroup.{only, only_is_sound, none_is_sound, only_is_standing}
 
 -- ---- the list of members
 

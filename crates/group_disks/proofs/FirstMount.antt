@@ -31,6 +31,7 @@ use Rattle.status_register.specs.Writes.{first_register}
 use Rattle.status_register.specs.declared.member.Member.{Member}
 use Rattle.group_disks.specs.Creating.{usual_shape}
 use Rattle.group_disks.specs.FirstParts.{IsFirstStore, IsMountedAs, first_disks, first_member}
+use Rattle.group_disks.proofs.FirstItems.{first_items}
 use Rattle.group_disks.specs.Planned.{Plan, IsPlan, record_of_plan}
 use Rattle.group_disks.specs.Stages.{first_copy}
 use Rattle.group_disks.proofs.Births.{birth_of}
@@ -49,7 +50,7 @@ module _ (slot : ℕ) where
   abbrev places : List (Option Member)
   places = Some (first_member slot) ∷ replicate 63 None
 
-  place_at : (i : ℕ) (x : Member) → get_or places i None ≡ Some x → (i ≡ 0) × (x ≡ first_member slot)
+  pub place_at : (i : ℕ) (x : Member) → get_or places i None ≡ Some x → (i ≡ 0) × (x ≡ first_member slot)
   place_at zero x at = (refl, sym (same_Some (first_member slot) x at))
   place_at (suc i) x at = absurd (none-some x (sym (none_at Member 63 i) ∙ at))
 
@@ -164,8 +165,8 @@ module _ (slot : ℕ) where
             subst (λ (l : List (Option Attached)). IsWhole (made name cat store r l)) (sym are)
             (subst (λ (q : Registered). IsWhole (made name cat store q disks)) (sym same) (whole_at (subst (λ (q : Registered). Reaches q.members q.value) same reached)))
 
-        pub first_mounted : (m : MountedGroup) → m ≡ made name cat store r ds → name ≡ plan.name → state.attached slot ≡ Some size → registers.IsReady r state → IsMountedAs slot plan m state
-        first_mounted m is_made named attached ready =
+        pub first_mounted : (m : MountedGroup) → m ≡ made name cat store r ds → name ≡ plan.name → state.attached slot ≡ Some size → registers.IsReady r state → registers.KeepsStanding r state → IsMountedAs slot plan m state
+        first_mounted m is_made named attached ready history =
             let same : r ≡ register = is_first ∙ register_is in
             let all : m ≡ made name cat store register disks = is_made ∙ (λ i. made name cat store (same i) (are i)) in
             subst (λ (g : MountedGroup). IsMountedAs slot plan g state) (sym all) (record {
@@ -175,6 +176,11 @@ module _ (slot : ℕ) where
               value = refl;
               shape = usual;
               own = own_at;
+              has = (0, first_member slot, refl, refl);
               whole = whole_at (subst (λ (q : Registered). Reaches q.members q.value) same reached);
               ready = record { store = first.keeps; register = subst (λ (q : Registered). registers.IsReady q state) same ready; sizes = sizes attached };
+              register = refl;
+              copies = first.copies;
+              items = first_items plan is store.table first.records cat.tables catalog.rules.tables catalog.records;
+              history = subst (λ (q : Registered). registers.KeepsStanding q state) same history;
             })

@@ -17,7 +17,9 @@ pub mod Moments
 pub mod Causes
 pub mod FirstRecords
 pub mod FirstCatalog
+pub mod FirstItems
 pub mod FirstMount
+pub mod FirstMounts
 pub mod FirstSpares
 pub mod Staying
 pub mod Disks

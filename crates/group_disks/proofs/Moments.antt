@@ -42,7 +42,7 @@ forms_creates {m} {t} slot size plan sound attached is room run =
     widened_from (λ image. image.size slot ≡ size) sound (λ image left. sound.sized slot size image attached left)
     (λ x y sized step. forming_creates slot plan x y is (omega (arith, room, sized)) step) run
 
-has_before : (id : ℕ) (x y : Image) → Same x y → HasMember id y → HasMember id x
+pub has_before : (id : ℕ) (x y : Image) → Same x y → HasMember id y → HasMember id x
 has_before id x y same has = record { slots = has.slots; member = has.member; is = subst (λ (i : lists.Image). IsAmong (all_members id i) has.member) (same_is_same has.slots x y same) has.is }
 
 -- a creation from disks that are as they were

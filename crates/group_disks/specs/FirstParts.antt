@@ -1,18 +1,27 @@
 -- The parts of a new group once it is mounted as it was created.
-use Rattle.std.specs.Prelude.{◌≡◌, ◌<◌, ℕ, List, [], ◌∷◌, set, replicate, Option, Some, None}
+use Rattle.std.specs.Prelude.{◌≡◌, ◌<◌, ℕ, false, List, [], ◌∷◌, set, replicate, Option, Some, None}
 use Rattle.bay.specs.Image.{Image}
-use Rattle.bay.specs.Moments.{Runs}
+use Rattle.bay.specs.Moments.{Runs, NowOnly}
 use Rattle.bay.specs.State.{BayState}
+use Rattle.asm_group.specs.Group.{Group}
 use Rattle.asm_group.specs.Names.{Bytes}
+use Rattle.asm_formats.specs.Items.{Item}
+use Rattle.asm_formats.specs.Metadata.{metadata}
+use Rattle.asm_images.specs.Bridge.{disk_bytes}
+use Rattle.asm_images.specs.Kept.{Kept}
+use Rattle.catalog.specs.Items.{AreItemsOf}
 use Rattle.directory_store.specs.Stores.{Keeps, Stored, AreFirst}
+use Rattle.group_engine.specs.Commits.{turns_at_most}
 use Rattle.group_engine.specs.Frames.{SameDisk}
-use Rattle.group_engine.specs.Mounts.{IsMounted, IsOwn, IsReady, IsWhole, MountedGroup}
+use Rattle.group_engine.specs.Mounts.{HasOnly, IsMounted, IsOwn, IsReady, IsWhole, MountedGroup, Mounts}
 use Rattle.group_engine.specs.declared.attached.Attached.{Attached}
+use Rattle.status_register.specs.Keeping.{KeepsStanding}
+use Rattle.status_register.specs.Registered.{Registered}
 use Rattle.status_register.specs.declared.member.Member.{Member}
-use Rattle.group_disks.specs.Creating.{usual_shape}
+use Rattle.group_disks.specs.Creating.{HasMember, usual_shape}
 use Rattle.group_disks.specs.Found.{IsSlotOf}
 use Rattle.group_disks.specs.Holding.{IsHeldSlot}
-use Rattle.group_disks.specs.Planned.{Plan, first_entries, record_of_plan}
+use Rattle.group_disks.specs.Planned.{Plan, first_entries, items_of_plan, metadata_of_plan, record_of_plan}
 use Rattle.group_disks.specs.Stages.{first_copy}
 
 -- disk 0 in this slot
@@ -22,6 +31,14 @@ first_member slot = record { slot = slot; number = 0; birth = 1; sector = 512 }
 -- of the 64 disks the first alone is attached
 abbrev pub first_disks : Attached → List (Option Attached)
 first_disks disk = set (replicate 64 None) 0 (Some disk)
+
+-- the register of a new group, whose first record stands on the disk of this slot
+abbrev pub first_register : ℕ → Plan → Registered
+first_register slot plan = record { id = plan.id; members = Some (first_member slot) ∷ replicate 63 None; value = record_of_plan plan; epoch = 1; turn = 1; is_fresh = false }
+
+-- the disk in the slot says what one does that has all parts of the plan's group
+abbrev pub SaysAll : ℕ → Plan → Image → Type 0
+SaysAll slot plan image = metadata (disk_bytes image slot) ≡ metadata_of_plan plan (image.size slot)
 
 -- The store has the first records on the copy of disk 0, and takes commits.
 pub record IsFirstStore (slot : ℕ) (plan : Plan) (store : Stored) (state : BayState) : Type 0 where
@@ -37,8 +54,14 @@ pub record IsMountedAs (slot : ℕ) (plan : Plan) (m : MountedGroup) (state : Ba
   pub value : m.register.value ≡ record_of_plan plan
   pub shape : m.catalog.shape ≡ usual_shape
   pub own : (s : ℕ) → IsOwn m s → s ≡ slot
+  pub has : IsOwn m slot
   pub whole : IsWhole m
   pub ready : IsReady m state
+  -- its parts are those that were written
+  pub register : m.register ≡ first_register slot plan
+  pub copies : m.store.copies ≡ first_copy slot ∷ []
+  pub items : (items : List Item) → AreItemsOf m.catalog.tables items → items ≡ items_of_plan plan
+  pub history : KeepsStanding m.register state
 
 -- A group of this name and id takes calls, and no slot that others hold is its disk's.
 pub record IsNewlyMounted (held : List ℕ) (name : Bytes) (id : Option ℕ) (m : MountedGroup) (state : BayState) : Type 0 where
@@ -48,6 +71,18 @@ pub record IsNewlyMounted (held : List ℕ) (name : Bytes) (id : Option ℕ) (m 
   pub own : (slot : ℕ) → IsOwn m slot → IsHeldSlot held slot → ⊥
   pub whole : IsWhole m
   pub ready : IsReady m state
+
+-- The group is mounted on the disks of n slots, and each member of its id is attached to it.
+pub record IsAlone (n : ℕ) (g : Group) (m : MountedGroup) (state : BayState) : Type 0 where
+  pub kept : Kept
+  pub mounts : Mounts n m state g kept
+  pub only : NowOnly state (HasOnly m.register.id kept)
+
+-- What a creation on n slots mounted: one turn was taken, and there is one copy. Where no disk was a member of its id before, it is
+-- the group g.
+pub record MountsNew (n : ℕ) (g : Group) (m : MountedGroup) (old new : BayState) : Type 0 where
+  pub turns : turns_at_most m ≡ 2
+  pub alone : NowOnly old (λ image. HasMember m.register.id image → ⊥) → IsAlone n g m new
 
 -- each disk but that of the path stays
 abbrev pub SameBut : List Bytes → Bytes → Image → Image → Type 0

@@ -11,6 +11,7 @@ use Rattle.asm_formats.specs.Status.{Status, Entry, status_spelling}
 use Rattle.asm_formats.specs.Items.{Item, key, disk_item, templates_item, settings_item}
 use Rattle.asm_formats.specs.Values.{value}
 use Rattle.asm_formats.specs.Content.{Content}
+use Rattle.asm_formats.specs.Metadata.{Metadata}
 use Rattle.asm_formats.specs.Regions.{most_units}
 use Rattle.asm_images.specs.Kept.{Kept}
 use Rattle.group_disks.specs.Creating.{usual_shape}
@@ -95,6 +96,17 @@ claim_body plan = claim_spelling (claim_of_plan plan)
 
 abbrev pub status_body : Plan → Bytes
 status_body plan = status_spelling (record_of_plan plan)
+
+-- what a disk of so many bytes says that has all its parts
+abbrev pub metadata_of_plan : Plan → ℕ → Metadata
+metadata_of_plan plan size = record {
+  size = size;
+  header = Some (header_of_plan plan);
+  claims = Some (claim_of_plan plan) ∷ [];
+  statuses = Some (record_of_plan plan) ∷ [];
+  content = Some (content_of_plan plan);
+  decodes = true;
+}
 
 -- What is kept of the new group: its record is complete, none was begun after it, and its one disk is in this slot.
 abbrev pub kept_of_plan : ℕ → Plan → Kept

@@ -4,7 +4,7 @@ ghost use Rattle.asm_group.specs.Names.{is_name};
 ghost use Rattle.std.specs.String.{string_bytes};
 ghost use Rattle.bay.specs.Image.{Same};
 ghost use Rattle.bay.specs.State.{IsSlot, KeepsAttached};
-ghost use Rattle.bay.specs.Moments.{Runs, Ends};
+ghost use Rattle.bay.specs.Moments.{Runs, Ends, NowOnly};
 ghost use Rattle.bay.specs.Counts.{last_count};
 ghost use Rattle.asm_base.specs.Refusals.{said};
 ghost use Rattle.asm_group.specs.Refusal.{NoMemory};
@@ -12,7 +12,7 @@ ghost use Rattle.asm_formats.specs.Regions.{most_units};
 ghost use Rattle.group_disks.specs.Found.{counts_of, Told, AreIdsRead, AreAllRead, IsAboveAll, IsSlotOf, RefusalCause, IsEarly};
 ghost use Rattle.asm_images.specs.Kept.{header_in};
 ghost use Rattle.group_disks.specs.Creating.{Creates, Founds, HasCreated, made_group};
-ghost use Rattle.group_disks.specs.FirstParts.{IsFirstStore, IsNewlyMounted};
+ghost use Rattle.group_disks.specs.FirstParts.{IsFirstStore, IsNewlyMounted, MountsNew, SaysAll};
 ghost use Rattle.group_disks.specs.Holding.{SparesHeld};
 ghost use Rattle.group_engine.specs.Frames.{StaysAttached};
 ghost use Rattle.group_disks.specs.Planned.{IsPlan, kept_of_plan};
@@ -62,6 +62,8 @@ pub fn create_group<B: Bay>(
         (λ id. HasCreated (length paths.now) id (made_group name.now) (is_ok result.1) (B.state bay.old) (B.state bay.new)) }
     // The new group takes calls, on a disk that no other group holds.
     ensures mounted { IfOk result.1 (λ m. IsNewlyMounted held.now name.now result.0 m (B.state bay.new)) }
+    // It is mounted on the disks as they are, where no disk was a member of its id before.
+    ensures stands { IfOk result.1 (λ m. MountsNew (length paths.now) (made_group name.now) m (B.state bay.old) (B.state bay.new)) }
     // Of other groups nothing changes: what was attached stays so, and the disks in these slots do.
     ensures attached { StaysAttached (B.state bay.old) (B.state bay.new) }
     ensures spares { SparesHeld held.now (length paths.now) (B.state bay.old) (B.state bay.new) }
@@ -209,6 +211,7 @@ fn form<B: Bay>(
     ensures attached { KeepsAttached (B.state bay.old) (B.state bay.new) }
     ensures runs { Runs (IsSlot slot) (Creates slot group.now.id (made_group group.now.name)) (B.state bay.old) (B.state bay.new) }
     ensures done { OnOk result (Ends (Founds slots group.now.id (made_group group.now.name) (kept_of_plan slot group.now)) (B.state bay.old) (B.state bay.new)) }
+    ensures says { OnOk result (NowOnly (B.state bay.new) (SaysAll slot group.now)) }
     ensures store { IfOk result (λ store. IsFirstStore slot group.now store (B.state bay.new)) }
     ensures cause { IfErr result (λ refusal. IsFormFault slot group.now.disk (said (λ _. []) refusal) (counts_of (B.state bay.old)) (counts_of (B.state bay.new))) }
 {

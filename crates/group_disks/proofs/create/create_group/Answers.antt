@@ -8,6 +8,7 @@ use Rattle.asm_base.specs.Refusals.{said}
 use Rattle.group_disks.specs.Creating.{made_group}
 use Rattle.group_disks.specs.Found.{counts_of}
 use Rattle.group_disks.proofs.Causes.{memory_cause, memory_is_late}
+use Rattle.group_disks.proofs.FirstMounts.{new_mounts}
 use Rattle.group_disks.proofs.FirstSpares.{creation_spares_held, newly_mounted}
 use Rattle.group_disks.proofs.Looking.{ids_later, all_later}
 use Rattle.group_disks.proofs.Moments.{created_less, has_created, plan_above}
@@ -92,3 +93,9 @@ returns-then-is_held-clause-spares g c = looks_held c.args.held.now (length c.ar
 
 pub returns-in-Err-clause-spares : goal.returns-in-Err-clause-spares
 returns-in-Err-clause-spares g c = looks_held c.args.held.now (length c.args.paths.now) c.prepare.ensures.runs
+
+pub returns-in-Ok-form-clause-stands : goal.returns-in-Ok-form-clause-stands
+returns-in-Ok-form-clause-stands g c =
+    IfOk-weaker c.mount_new.result _ _
+    (λ m is. new_mounts (length c.args.paths.now) c.in-Ok.field-0.slot c.in-Ok.field-0.group c.args.name.now m c.in-Ok.ensures.name c.in-Ok.ensures.slot c.prepare.ensures.runs
+    c.in-Ok-form.ensures.done c.in-Ok-form.ensures.says is) c.mount_new.ensures.mounted

@@ -33,4 +33,4 @@ returns-clause-mounted g c =
     c.standing-register.result c.first_attached-disks.result
     (is_register c.args.disk.slot c.args.group _ c.standing-register.result c.first_status-status.ensures c.standing-register.ensures.register) c.first_attached-disks.ensures
     (stands c.args.disk.slot c.args.group _ c.standing-register.result c.first_status-status.ensures c.standing-register.ensures.reaches)
-    c.new.result c.new.ensures (ap (λ (p : Plan). p.name) c.group.view_is) c.requires.attached c.standing-register.ensures.ready
+    c.new.result c.new.ensures (ap (λ (p : Plan). p.name) c.group.view_is) c.requires.attached c.standing-register.ensures.ready c.standing-register.ensures.history

@@ -1,0 +1,37 @@
+//! Laws over worlds and runs, for commands that write on a mounted group: what mkdir is answered, worlds whose mounted groups are
+//! alone under their ids, and runs up to a premise on their states. Each function does nothing; its contract is the law.
+#![tactic(auto)]
+
+ghost use Rattle.world_steps.specs.Runs.{FromIsRun, FromJoins, FromPremisesJoin, FromStays};
+ghost use Rattle.world_steps.specs.Steps.{MakesDirectories, MakesNone};
+ghost use Rattle.world_steps.specs.Told.{GroupsStayAlone};
+
+use asm_world::{Later, Measure};
+
+/// The answers to mkdir: by the world's edit of the group's names where its path leads into a mounted group, and else by what
+/// isn't there.
+pub fn directories_are_made()
+    ensures inside { MakesDirectories }
+    ensures outside { MakesNone }
+{}
+
+/// In a world whose mounted groups are alone under their ids they stay so over creations, edits and dismounts.
+pub fn groups_stay_alone()
+    ensures { GroupsStayAlone }
+{}
+
+/// A premise on a move and on the state before it, up to the first of which that doesn't meet it something is said.
+pub trait StatePremise<C> {
+    ghost use Rattle.asm_world.specs.Run.{Move, State};
+
+    ghost meets: { State C → Move → Type 0 };
+}
+
+/// Up to the first that doesn't meet a premise, moves are a run in two rows one after another exactly where they are in both;
+/// where all meet it, exactly where they are a run; and what is told later of moments that have ended changes nothing.
+pub fn runs_go_from_states<C, I, M: Measure<C, I>, P: StatePremise<C>, L: Later<I>>()
+    ensures premises { FromPremisesJoin P.meets }
+    ensures join { FromJoins M.outside P.meets }
+    ensures runs { FromIsRun M.outside P.meets }
+    ensures stay { FromStays M.outside P.meets L.leaves }
+{}
