@@ -1,0 +1,216 @@
+-- A group is created beside others.
+use Rattle.std.proofs.Common.{◌≡◌, ◌≢◌, ◌⊎◌, inl, inr, ⊎_elim, ℕ, ◌+◌, ◌<◌, ◌≤◌, Bool, true, List, [], ◌∷◌, refl, sym, ◌∙◌, ap, subst, arith}
+use Rattle.std.proofs.lemmas.Bool.{cases_Bool, cases_eq}
+use Rattle.std.proofs.lemmas.Option.{none-some}
+use Rattle.bay.specs.Image.{Image}
+use Rattle.bay.specs.State.{BayState, IsSound}
+use Rattle.bay.specs.Moments.{Runs}
+use Rattle.asm_group.specs.Group.{Group}
+use Rattle.asm_formats.specs.Metadata.{header_of}
+use Rattle.asm_images.specs.Bridge.{disk_bytes}
+use Rattle.asm_images.specs.Kept.{IsMemberIn}
+use Rattle.asm_images.proofs.Bridges.{same_disk}
+use Rattle.asm_images.proofs.Held.{same_member as same_disk_member}
+use Rattle.asm_world.specs.Between.{groups_between}
+use Rattle.asm_world.specs.Command.{Command}
+use Rattle.asm_world.specs.World.{SessionEntry, World, groups_of, has_mounted, is_mounted}
+use Rattle.group_disks.specs.Creating.{Allows, HasCreated, HasMember, IsFree, MayCreate}
+use Rattle.group_disks.specs.FirstParts.{MountsNew}
+use Rattle.group_disks.proofs.Outsiders.{others_allow}
+use Rattle.group_engine.specs.Frames.{SparesGroup, StaysAttached}
+use Rattle.group_engine.specs.Mounts.{MountedGroup}
+use Rattle.group_engine.proofs.Elsewhere.{mounts_elsewhere, spared_is_held}
+use Rattle.session_claims.specs.Claims.{HasMembersOf, IsMountedAs, IsPaired, IsSettled, IsStanding, IsUntouched, Keeps, StandsFor, single, torn, untouched}
+use Rattle.session_claims.specs.Laws.{CreationKeeps, GoesOn, IsFresh, ReplacesGroups}
+use Rattle.session_claims.proofs.Edited.{member_was, others_stay, replaced}
+use Rattle.session_claims.proofs.Images.{all_stand, among-behind, among-front, more_allows, same_members}
+use Rattle.session_claims.proofs.Looks.{was_single}
+use Rattle.session_claims.proofs.Pairs.{mounted_pair, pair_mounted}
+
+-- calls, with what is known of the images from which they lead
+with_left : {slots : ℕ → Type 0} {step : Image → Image → Type 0} {a b : BayState} → IsSound a → Runs slots step a b → Runs slots (λ x y. a.leaves a.calls x × step x y) a b
+with_left sound run = record {
+  later = run.later;
+  faults = run.faults;
+  other_faults = run.other_faults;
+  other_written = run.other_written;
+  held = λ image holds. let from = run.held image holds in (from.0, from.1, (sound.held from.0 from.1, from.2));
+  ended = run.ended;
+  moments = λ m image low high left. let from = run.moments m image low high left in (from.0, from.1, (from.1, from.2));
+}
+
+module _ (old new : BayState) (sound : IsSound old) (n : ℕ) (known : ℕ → Bool) (given given' made : ℕ) (g : Group) (ok : Bool) (w w' : World) (groups groups' : List MountedGroup) (stands : StandsFor n known given old w groups)
+    (fresh : IsFresh known given made) (more : made + 1 ≤ given') (creation : HasCreated n made g ok old new) (attached : StaysAttached old new) (replaces : ReplacesGroups w made (g ∷ []) w')
+    (is_new : has_mounted w made ≡ true → ⊥) (goes : GoesOn made (λ m. (m.register.id ≡ made) × MountsNew n g m old new) w w' groups groups') where
+  abbrev Step : Image → Image → Type 0
+  Step x y = MayCreate old.holds creation.slot made g x y
+
+  -- no disk is a member of the new id before
+  none_before : (x : Image) → old.leaves old.calls x → HasMember made x → ⊥
+  none_before x left has = ⊎_elim (λ (below : made < given). omega (arith, below, fresh.above)) fresh.unknown (stands.origin x made left has)
+
+  before : (m : ℕ) (image : Image) → old.calls ≤ m → m ≤ new.calls → new.leaves m image → (x : Image) × old.leaves old.calls x × Step x image
+  before m image from to left = creation.moments.moments m image from to left
+
+  made_has : groups_of w' made ≡ g ∷ []
+  made_has = replaced w made (g ∷ []) w' replaces
+
+  others_have : (id : ℕ) → id ≢ made → groups_of w' id ≡ groups_of w id
+  others_have id other = others_stay w made (g ∷ []) w' replaces id other
+
+  now_allows : (x y : Image) → old.leaves old.calls x → Step x y → (id : ℕ) → Allows id (groups_of w' id) y
+  now_allows x y left step id = ⊎_elim
+      (λ (here : id ≡ made). subst (λ (l : List Group). Allows id l y) (sym (ap (λ (i : ℕ). groups_of w' i) here ∙ made_has)) (subst (λ (i : ℕ). Allows i (g ∷ []) y) (sym here) (step.creates.own (none_before x left))))
+      (λ other. subst (λ (l : List Group). Allows id l y) (sym (others_have id other)) (others_allow creation.slot made g x y step.creates id (groups_of w id) other (stands.allows x id left)))
+      (cases_eq id made)
+
+  -- ---- a group that is mounted: the new one's disk was no member of it
+
+  module _ (e : SessionEntry) (m : MountedGroup) (pair : IsPaired w.session groups e m) (is : is_mounted e ≡ true) where
+    k : IsMountedAs n e.id m (groups_of w e.id) old
+    k = stands.mounted e m pair is
+
+    apart : e.id ≢ made
+    apart same = is_new (subst (λ (i : ℕ). has_mounted w i ≡ true) same (pair_mounted w.session groups e m pair is))
+
+    no_member : (x : Image) → old.leaves old.calls x → IsFree old.holds creation.slot → IsMemberIn e.id x creation.slot → ⊥
+    no_member x left free has =
+        let now = sound.told x left in
+        let there = (k.mounts.now.now now.0 (sound.held now.0 now.1)).there creation.slot (k.alone.now x left creation.slot has) in
+        none-some there.0 (sym (free now.0 now.1) ∙ there.1)
+
+    spares : (x y : Image) → old.leaves old.calls x → Step x y → SparesGroup e.id x y
+    spares x y left step slot = ⊎_elim
+        (λ same. inl (record { size = same.size slot; byte = same.byte slot }))
+        (λ free. ⊎_elim
+        (λ (here : slot ≡ creation.slot).
+        let never : IsMemberIn e.id x slot → ⊥ = λ has. no_member x left free (subst (λ (s : ℕ). IsMemberIn e.id x s) here has) in
+        inr (
+          λ h at named. never (h, at, named),
+          λ h at named. no_member x left free (step.creates.joins e.id apart (subst (λ (s : ℕ). IsMemberIn e.id y s) here (h, at, named))),
+        ))
+        (λ differ. inl (record { size = step.creates.elsewhere.size slot differ; byte = λ b. step.creates.elsewhere.byte slot b differ }))
+        (cases_eq slot creation.slot))
+        step.free
+
+    own_spares : (x y : Image) → (old.leaves old.calls x × Step x y) → SparesGroup m.register.id x y
+    own_spares x y at = subst (λ (i : ℕ). SparesGroup i x y) (sym k.same) (spares x y at.0 at.1)
+
+    mounted_now : IsMountedAs n e.id m (groups_of w e.id) new
+    mounted_now = record {
+      same = k.same;
+      group = k.group;
+      only = k.only;
+      kept = k.kept;
+      mounts = mounts_elsewhere n m old new k.group k.kept sound k.mounts attached (with_left sound creation.moments) own_spares;
+      alone = record {
+        now = λ image left slot has.
+            let x = before new.calls image creation.moments.later (omega arith) left in
+            k.alone.now x.0 x.1 slot (member_was e.id slot x.0 image (spares x.0 image x.1 x.2) has);
+      };
+      turns = k.turns;
+    }
+
+    stands_still : (mo : ℕ) (image : Image) → old.calls ≤ mo → mo ≤ new.calls → new.leaves mo image → IsStanding n e.id image
+    stands_still mo image from to left =
+        let x = before mo image from to left in
+        all_stand n e.id m (groups_of w e.id) old k image (spared_is_held n m.register.id (k.group ∷ []) k.kept x.0 image (own_spares x.0 image (x.1, x.2)) (k.mounts.now.now x.0 x.1))
+
+  -- ---- an id whose members are as they were when the run began
+
+  module _ (id : ℕ) (other : id ≢ made) (u : IsUntouched id (groups_of w id) old) (x y : Image) (left : old.leaves old.calls x) (may : Step x y) where
+    -- the disk that the new group gets was no member
+    no_first : IsFree old.holds creation.slot → IsMemberIn id u.first creation.slot → ⊥
+    no_first free has =
+        let now = sound.told x left in
+        let same = u.members now.0 (sound.held now.0 now.1) creation.slot (inl has) in
+        none-some has.0 (sym (free now.0 now.1) ∙ ap header_of same ∙ has.1)
+
+    not_here : IsFree old.holds creation.slot → (s : ℕ) → IsMemberIn id u.first s ⊎ IsMemberIn id y s → s ≢ creation.slot
+    not_here free s (inl has) at = no_first free (subst (λ (k : ℕ). IsMemberIn id u.first k) at has)
+    not_here free s (inr has) at =
+        let was = may.creates.joins id other (subst (λ (k : ℕ). IsMemberIn id y k) at has) in
+        no_first free (same_disk_member id creation.slot x u.first (sym (u.members x left creation.slot (inr was))) was)
+
+    at_others : (s : ℕ) → s ≢ creation.slot → disk_bytes y s ≡ disk_bytes x s
+    at_others s differ = same_disk x y s (may.creates.elsewhere.size s differ) (λ k. may.creates.elsewhere.byte s k differ)
+
+    at_member : (s : ℕ) → s ≢ creation.slot → IsMemberIn id u.first s ⊎ IsMemberIn id y s → disk_bytes x s ≡ disk_bytes u.first s
+    at_member s differ (inl has) = u.members x left s (inl has)
+    at_member s differ (inr has) = u.members x left s (inr (same_disk_member id s y x (sym (at_others s differ)) has))
+
+    stays_members : HasMembersOf id u.first y
+    stays_members s has = ⊎_elim
+        (λ same. same_members id u.first x y same (u.members x left) s has)
+        (λ free. let differ = not_here free s has in at_others s differ ∙ at_member s differ has)
+        may.free
+
+  stays_settled : (id : ℕ) → id ≢ made → IsSettled id (groups_of w id) old → IsSettled id (groups_of w id) new
+  stays_settled id other (single group is) = single group is
+  stays_settled id other (torn a b is) = torn a b is
+  stays_settled id other (untouched u) = untouched (record {
+    completed = u.completed;
+    begun = u.begun;
+    first = u.first;
+    stands = u.stands;
+    sound = λ image left slots.
+        let x = before new.calls image creation.moments.later (omega arith) left in
+        x.2.creates.others id slots (groups_of w id) u.completed u.begun other (u.sound x.0 x.1 slots);
+    members = λ image left.
+        let x = before new.calls image creation.moments.later (omega arith) left in
+        stays_members id other u x.0 image x.1 x.2;
+  })
+
+  settled_now : (id : ℕ) → id ≢ made → IsSettled id (groups_of w id) new
+  settled_now id other = ⊎_elim
+      (λ (was : has_mounted w id ≡ true). let one = was_single n known given old w groups stands id was in single one.0 one.1)
+      (λ no. stays_settled id other (stands.settled id no))
+      (cases_Bool (has_mounted w id))
+
+  -- the new group
+  new_mounted : (m : MountedGroup) → m.register.id ≡ made → MountsNew n g m old new → IsMountedAs n made m (g ∷ []) new
+  new_mounted m same mounts =
+      let is = mounts.alone (record { now = λ image left has. none_before image left (subst (λ (i : ℕ). HasMember i image) same has) }) in
+      record {
+        same = same;
+        group = g;
+        only = refl;
+        kept = is.kept;
+        mounts = is.mounts;
+        alone = record { now = λ image left slot has. is.only.now image left slot (subst (λ (i : ℕ). IsMemberIn i image slot) (sym same) has) };
+        turns = omega (arith, mounts.turns);
+      }
+
+  keeps : (command : Command) → Keeps n known command given' old new w w' groups'
+  keeps command = record {
+    held = λ m image id from to left.
+        let x = before m image from (omega arith) left in
+        more_allows id (groups_of w' id) (groups_between w command w' id) image (λ h is. among-behind (groups_of w id) _ h (among-front (groups_of w' id) _ h is)) (now_allows x.0 image x.1 x.2 id);
+    there = λ m image id from to left was is.
+        let p = mounted_pair w.session groups id stands.entries was in
+        subst (λ (i : ℕ). IsStanding n i image) p.4 (stands_still p.0 p.1 p.2 p.3 m image from (omega arith) left);
+    now = record {
+      entries = goes.entries;
+      ids = goes.ids;
+      allows = λ image id left. let x = before new.calls image creation.moments.later (omega arith) left in now_allows x.0 image x.1 x.2 id;
+      mounted = λ e m pair is. ⊎_elim
+          (λ mine.
+          subst (λ (l : List Group). IsMountedAs n e.id m l new) (sym (ap (λ (i : ℕ). groups_of w' i) mine.0 ∙ made_has))
+          (subst (λ (i : ℕ). IsMountedAs n i m (g ∷ []) new) (sym mine.0) (new_mounted m mine.1.0 mine.1.1)))
+          (λ other. subst (λ (l : List Group). IsMountedAs n e.id m l new) (sym (others_have e.id other.0)) (mounted_now e m other.1 is))
+          (goes.pairs e m pair is);
+      settled = λ id out. ⊎_elim
+          (λ (here : id ≡ made). single g (ap (λ (i : ℕ). groups_of w' i) here ∙ made_has))
+          (λ other. subst (λ (l : List Group). IsSettled id l new) (sym (others_have id other)) (settled_now id other))
+          (cases_eq id made);
+      origin = λ image id left has.
+          let x = before new.calls image creation.moments.later (omega arith) left in
+          ⊎_elim (λ (here : id ≡ made). inl (omega (arith, here, more)))
+          (λ other. ⊎_elim (λ (below : id < given). inl (omega (arith, below, fresh.above, more))) (λ at. inr at) (stands.origin x.0 id x.1 (x.2.creates.members id other has)))
+          (cases_eq id made);
+    };
+  }
+
+pub creations_keep : (s t : BayState) → IsSound s → CreationKeeps s t
+creations_keep s t sound n known given given' made g ok w w' groups groups' command stands fresh more creation attached replaces is_new goes =
+    keeps s t sound n known given given' made g ok w w' groups groups' stands fresh more creation attached replaces is_new goes command

@@ -1,0 +1,99 @@
+-- A command that wrote nothing.
+use Rattle.std.proofs.Common.{◌≡◌, ◌⊎◌, inl, inr, ⊎_elim, ℕ, ◌<◌, ◌≤◌, Bool, true, List, [], ◌∷◌, sym, ◌∙◌, ap, subst, arith}
+use Rattle.std.proofs.lemmas.Bool.{cases_Bool}
+use Rattle.bay.specs.Image.{Image, Same}
+use Rattle.bay.specs.State.{BayState, IsSound}
+use Rattle.bay.specs.Moments.{Runs}
+use Rattle.asm_group.specs.Group.{Group}
+use Rattle.asm_images.proofs.Held.{same_is_held, same_member as same_disk_member}
+use Rattle.asm_world.specs.Between.{groups_between}
+use Rattle.asm_world.specs.Command.{Command}
+use Rattle.asm_world.specs.World.{SessionEntry, World, groups_of, has_mounted, is_mounted}
+use Rattle.group_disks.specs.Creating.{Allows, HasMember}
+use Rattle.group_engine.specs.Frames.{StaysAttached}
+use Rattle.group_engine.specs.Mounts.{MountedGroup}
+use Rattle.group_engine.proofs.Elsewhere.{mounts_elsewhere}
+use Rattle.session_claims.specs.Claims.{IsMountedAs, IsPaired, IsSettled, IsStanding, Keeps, StandsFor, single, torn, untouched}
+use Rattle.session_claims.specs.Laws.{AreSome, LooksKeep}
+use Rattle.session_claims.proofs.Images.{all_stand, among-front, more_allows, same_allows, same_at, same_member, same_members, same_sound}
+use Rattle.session_claims.proofs.Pairs.{mounted_pair}
+
+-- of an id that was mounted the list has one group
+pub was_single : (n : ℕ) (known : ℕ → Bool) (given : ℕ) (bay : BayState) (w : World) (groups : List MountedGroup) → StandsFor n known given bay w groups → (id : ℕ) → has_mounted w id ≡ true
+    → (g : Group) × (groups_of w id ≡ g ∷ [])
+was_single n known given bay w groups stands id is =
+    let p = mounted_pair w.session groups id stands.entries is in
+    let k = stands.mounted p.0 p.1 p.2 p.3 in
+    (k.group, ap (λ (i : ℕ). groups_of w i) (sym p.4) ∙ k.only)
+
+module _ (old new : BayState) (sound : IsSound old) (n : ℕ) (known : ℕ → Bool) (given : ℕ) (slots : ℕ → Type 0) (w : World) (groups : List MountedGroup) (runs : Runs slots Same old new) (attached : StaysAttached old new)
+    (stands : StandsFor n known given old w groups) where
+  -- what an image comes from
+  before : (m : ℕ) (image : Image) → old.calls ≤ m → m ≤ new.calls → new.leaves m image → (x : Image) × old.leaves old.calls x × Same x image
+  before m image from to left = runs.moments m image from to left
+
+  now : (image : Image) → new.leaves new.calls image → (x : Image) × old.leaves old.calls x × Same x image
+  now image left = before new.calls image runs.later (omega arith) left
+
+  settled_same : (id : ℕ) → IsSettled id (groups_of w id) old → IsSettled id (groups_of w id) new
+  settled_same id (single group is) = single group is
+  settled_same id (torn a b is) = torn a b is
+  settled_same id (untouched u) = untouched (record {
+    completed = u.completed;
+    begun = u.begun;
+    first = u.first;
+    stands = u.stands;
+    sound = λ image left. let x = now image left in same_sound id (groups_of w id) u.completed u.begun x.0 image x.2 (u.sound x.0 x.1);
+    members = λ image left. let x = now image left in same_members id u.first x.0 image x.2 (u.members x.0 x.1);
+  })
+
+  pub settled_now : (id : ℕ) → IsSettled id (groups_of w id) new
+  settled_now id = ⊎_elim
+      (λ (was : has_mounted w id ≡ true). let g = was_single n known given old w groups stands id was in single g.0 g.1)
+      (λ no. settled_same id (stands.settled id no))
+      (cases_Bool (has_mounted w id))
+
+  pub mounted_now : (e : SessionEntry) (m : MountedGroup) → IsPaired w.session groups e m → is_mounted e ≡ true → IsMountedAs n e.id m (groups_of w e.id) new
+  mounted_now e m pair is =
+      let k = stands.mounted e m pair is in
+      record {
+        same = k.same;
+        group = k.group;
+        only = k.only;
+        kept = k.kept;
+        mounts = mounts_elsewhere n m old new k.group k.kept sound k.mounts attached runs (λ x y same slot. inl (record { size = same.size slot; byte = same.byte slot }));
+        alone = record { now = λ image left slot has. let x = now image left in k.alone.now x.0 x.1 slot (same_disk_member e.id slot image x.0 (sym (same_at x.0 image slot x.2)) has) };
+        turns = k.turns;
+      }
+
+  pub allows_now : (image : Image) (id : ℕ) → new.leaves new.calls image → Allows id (groups_of w id) image
+  allows_now image id left = let x = now image left in same_allows id (groups_of w id) x.0 image x.2 (stands.allows x.0 id x.1)
+
+  pub origin_now : (given' : ℕ) → given ≤ given' → (image : Image) (id : ℕ) → new.leaves new.calls image → HasMember id image → (id < given') ⊎ (known id ≡ true)
+  origin_now given' more image id left has =
+      let x = now image left in
+      ⊎_elim (λ (below : id < given). inl (omega (arith, below, more))) (λ at. inr at) (stands.origin x.0 id x.1 (same_member id x.0 image x.2 has))
+
+  keeps : (given' : ℕ) → given ≤ given' → (w' : World) (groups' : List MountedGroup) → AreSome w w' groups groups' → (command : Command) → Keeps n known command given' old new w w' groups'
+  keeps given' more w' groups' some command = record {
+    held = λ m image id from to left.
+        let x = before m image from (omega arith) left in
+        more_allows id (groups_of w id) (groups_between w command w' id) image (λ g is. among-front (groups_of w id) _ g is) (same_allows id (groups_of w id) x.0 image x.2 (stands.allows x.0 id x.1));
+    there = λ m image id from to left was is.
+        let x = before m image from (omega arith) left in
+        let p = mounted_pair w.session groups id stands.entries was in
+        let k = stands.mounted p.0 p.1 p.2 p.3 in
+        subst (λ (i : ℕ). IsStanding n i image) p.4
+        (all_stand n p.0.id p.1 (groups_of w p.0.id) old k image (same_is_held n p.1.register.id (k.group ∷ []) k.kept x.0 image x.2 (k.mounts.now.now x.0 x.1)));
+    now = record {
+      entries = some.entries;
+      ids = some.ids;
+      allows = λ image id left. subst (λ (l : List Group). Allows id l image) (sym (some.lists id)) (allows_now image id left);
+      mounted = λ e m pair is. subst (λ (l : List Group). IsMountedAs n e.id m l new) (sym (some.lists e.id)) (mounted_now e m (some.pairs e m pair is) is);
+      settled = λ id out. subst (λ (l : List Group). IsSettled id l new) (sym (some.lists id)) (settled_now id);
+      origin = origin_now given' more;
+    };
+  }
+
+pub looks_keep : (s t : BayState) → IsSound s → LooksKeep s t
+looks_keep s t sound n known given given' slots w w' groups groups' command more runs attached some stands = keeps s t sound n known given slots w groups runs attached stands given' more w' groups' some command

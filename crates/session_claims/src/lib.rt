@@ -1,0 +1,27 @@
+//! How commands keep what the disks stand for, from one to the next. Each function
+//! does nothing; its contract is the law.
+#![tactic(auto)]
+
+ghost use Rattle.session_claims.specs.Laws.{CreationKeeps, EditKeeps, LooksKeep, RefusalKeeps, TearingKeeps};
+
+use bay::Bay;
+
+/// A command that wrote nothing, and after which no more groups are mounted, keeps what the disks stand for.
+pub fn looks_keep<B: Bay>(start: &B, end: &B)
+    ensures { LooksKeep (B.state start.now) (B.state end.now) }
+{}
+
+/// Over an edit of a mounted group each image stands for the group before or the world's group after it, and all other ids for
+/// what they stood for. Once it is done the group after is mounted; where its commit dismounted the group, each image stands for
+/// one of the two; where it was refused otherwise, nothing was done.
+pub fn edits_keep<B: Bay>(start: &B, end: &B)
+    ensures done { EditKeeps (B.state start.now) (B.state end.now) }
+    ensures torn { TearingKeeps (B.state start.now) (B.state end.now) }
+    ensures refused { RefusalKeeps (B.state start.now) (B.state end.now) }
+{}
+
+/// Over the creation of a group on one disk all other ids stand for what they stood for, and once it is done the new group is
+/// mounted.
+pub fn creations_keep<B: Bay>(start: &B, end: &B)
+    ensures { CreationKeeps (B.state start.now) (B.state end.now) }
+{}
