@@ -32,7 +32,7 @@ use Rattle.group_files.specs.declared.edit.GroupEdit.{GroupEdit}
 use Rattle.session_claims.specs.Claims.{HasMembersOf, IsMountedAs, IsPaired, IsSettled, IsStanding, Keeps, StandsFor, single, torn, untouched}
 use Rattle.session_claims.specs.Laws.{Commits, EditKeeps, EditsTo, GoesOn, RefusalKeeps, ReplacesGroups, TearingKeeps}
 use Rattle.session_claims.proofs.Images.{all_stand, among-behind, among-front, has_slot, held_allows, more_allows, slot_has}
-use Rattle.session_claims.proofs.Looks.{allows_now, mounted_now, origin_now, settled_now, was_single}
+use Rattle.session_claims.proofs.Looks.{allows_now, alone_now, mounted_now, origin_now, settled_now, was_single}
 use Rattle.session_claims.proofs.Pairs.{mounted_pair}
 
 abbrev done_as : Group → Result Group r.Refusal
@@ -274,9 +274,9 @@ module _ (s t : BayState) (sound : IsSound s) (later : IsSound t) where
 
 -- it was refused, and nothing was done
 idle_of : (old new : MountedGroup) (s t : BayState) (refusal : Refusal) → StatusCause old new s t refusal → IsIdleBut old new s t refusal → IsMounted old → IsMounted new → IsIdle old new s t
-idle_of old new s t (cause.Dismounted (disk.Number d)) why idle before after = absurd (⊎_elim (λ was. not_mounted old d was before) (λ now. not_mounted new d now.0 after) why)
-idle_of old new s t (cause.Dismounted (disk.Spelt text)) why idle before after = absurd why
-idle_of old new s t other why idle before after = idle
+idle_of old new s t (cause.Dismounted (disk.Number d)) why idle on still = absurd (⊎_elim (λ was. not_mounted old d was on) (λ now. not_mounted new d now.0 still) why)
+idle_of old new s t (cause.Dismounted (disk.Spelt text)) why idle on still = absurd why
+idle_of old new s t other why idle on still = idle
 
 module _ (s t : BayState) (sound : IsSound s) where
   pub refusals_keep : RefusalKeeps s t
@@ -303,7 +303,7 @@ module _ (s t : BayState) (sound : IsSound s) where
                 only = k.only;
                 kept = k.kept;
                 mounts = led.2.refused mounted;
-                alone = (mounted_now s t sound n known given (λ (slot : ℕ). ⊥) w groups runs attached stands e old pair is).alone;
+                alone = alone_now s t sound n known given (λ (slot : ℕ). ⊥) w groups runs attached stands e.id k.kept k.alone;
                 turns = omega (arith, k.turns, held.turns);
               })))
               (λ other. mounted_now s t sound n known given (λ (slot : ℕ). ⊥) w groups runs attached stands f m other.1 yes)

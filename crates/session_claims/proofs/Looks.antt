@@ -3,15 +3,16 @@ use Rattle.std.proofs.Common.{◌≡◌, ◌⊎◌, inl, inr, ⊎_elim, ℕ, ◌
 use Rattle.std.proofs.lemmas.Bool.{cases_Bool}
 use Rattle.bay.specs.Image.{Image, Same}
 use Rattle.bay.specs.State.{BayState, IsSound}
-use Rattle.bay.specs.Moments.{Runs}
+use Rattle.bay.specs.Moments.{NowOnly, Runs}
 use Rattle.asm_group.specs.Group.{Group}
+use Rattle.asm_images.specs.Kept.{Kept}
 use Rattle.asm_images.proofs.Held.{same_is_held, same_member as same_disk_member}
 use Rattle.asm_world.specs.Between.{groups_between}
 use Rattle.asm_world.specs.Command.{Command}
 use Rattle.asm_world.specs.World.{SessionEntry, World, groups_of, has_mounted, is_mounted}
 use Rattle.group_disks.specs.Creating.{Allows, HasMember}
 use Rattle.group_engine.specs.Frames.{StaysAttached}
-use Rattle.group_engine.specs.Mounts.{MountedGroup}
+use Rattle.group_engine.specs.Mounts.{HasOnly, MountedGroup}
 use Rattle.group_engine.proofs.Elsewhere.{mounts_elsewhere}
 use Rattle.session_claims.specs.Claims.{IsMountedAs, IsPaired, IsSettled, IsStanding, Keeps, StandsFor, single, torn, untouched}
 use Rattle.session_claims.specs.Laws.{AreSome, LooksKeep}
@@ -53,6 +54,10 @@ module _ (old new : BayState) (sound : IsSound old) (n : ℕ) (known : ℕ → B
       (λ no. settled_same id (stands.settled id no))
       (cases_Bool (has_mounted w id))
 
+  -- the members of an id are those before
+  pub alone_now : (id : ℕ) (kept : Kept) → NowOnly old (HasOnly id kept) → NowOnly new (HasOnly id kept)
+  alone_now id kept only = record { now = λ image left slot has. let x = now image left in only.now x.0 x.1 slot (same_disk_member id slot image x.0 (sym (same_at x.0 image slot x.2)) has) }
+
   pub mounted_now : (e : SessionEntry) (m : MountedGroup) → IsPaired w.session groups e m → is_mounted e ≡ true → IsMountedAs n e.id m (groups_of w e.id) new
   mounted_now e m pair is =
       let k = stands.mounted e m pair is in
@@ -62,7 +67,7 @@ module _ (old new : BayState) (sound : IsSound old) (n : ℕ) (known : ℕ → B
         only = k.only;
         kept = k.kept;
         mounts = mounts_elsewhere n m old new k.group k.kept sound k.mounts attached runs (λ x y same slot. inl (record { size = same.size slot; byte = same.byte slot }));
-        alone = record { now = λ image left slot has. let x = now image left in k.alone.now x.0 x.1 slot (same_disk_member e.id slot image x.0 (sym (same_at x.0 image slot x.2)) has) };
+        alone = alone_now e.id k.kept k.alone;
         turns = k.turns;
       }
 
@@ -95,5 +100,5 @@ module _ (old new : BayState) (sound : IsSound old) (n : ℕ) (known : ℕ → B
     };
   }
 
-pub looks_keep : (s t : BayState) → IsSound s → LooksKeep s t
-looks_keep s t sound n known given given' slots w w' groups groups' command more runs attached some stands = keeps s t sound n known given slots w groups runs attached stands given' more w' groups' some command
+pub looks_keep : (slots : ℕ → Type 0) (s t : BayState) → IsSound s → LooksKeep slots s t
+looks_keep slots s t sound n known given given' w w' groups groups' command more runs attached some stands = keeps s t sound n known given slots w groups runs attached stands given' more w' groups' some command

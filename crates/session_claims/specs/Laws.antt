@@ -35,10 +35,10 @@ pub record AreSome (w w' : World) (groups groups' : List MountedGroup) : Type 0 
   pub pairs : (e : SessionEntry) (m : MountedGroup) → IsPaired w'.session groups' e m → is_mounted e ≡ true → IsPaired w.session groups e m
   pub lists : (id : ℕ) → groups_of w' id ≡ groups_of w id
 
--- A command that wrote nothing, after which no more groups are mounted.
-abbrev pub LooksKeep : BayState → BayState → Type 0
-LooksKeep old new =
-    (n : ℕ) (known : ℕ → Bool) (given given' : ℕ) (slots : ℕ → Type 0) (w w' : World) (groups groups' : List MountedGroup) (command : Command) → given ≤ given' → Runs slots Same old new → StaysAttached old new
+-- A command that wrote nothing, with calls on these slots, after which no more groups are mounted.
+abbrev pub LooksKeep : (ℕ → Type 0) → BayState → BayState → Type 0
+LooksKeep slots old new =
+    (n : ℕ) (known : ℕ → Bool) (given given' : ℕ) (w w' : World) (groups groups' : List MountedGroup) (command : Command) → given ≤ given' → Runs slots Same old new → StaysAttached old new
     → AreSome w w' groups groups' → StandsFor n known given old w groups → Keeps n known command given' old new w w' groups'
 
 -- ---- an edit of one group

@@ -4,11 +4,11 @@
 
 ghost use Rattle.session_claims.specs.Laws.{CreationKeeps, EditKeeps, LooksKeep, RefusalKeeps, TearingKeeps};
 
-use bay::Bay;
+use bay::{Bay, Slots};
 
 /// A command that wrote nothing, and after which no more groups are mounted, keeps what the disks stand for.
-pub fn looks_keep<B: Bay>(start: &B, end: &B)
-    ensures { LooksKeep (B.state start.now) (B.state end.now) }
+pub fn looks_keep<B: Bay, T: Slots>(start: &B, end: &B)
+    ensures { LooksKeep T.among (B.state start.now) (B.state end.now) }
 {}
 
 /// Over an edit of a mounted group each image stands for the group before or the world's group after it, and all other ids for
