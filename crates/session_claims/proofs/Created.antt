@@ -20,8 +20,8 @@ use Rattle.group_disks.proofs.Outsiders.{others_allow}
 use Rattle.group_engine.specs.Frames.{SparesGroup, StaysAttached}
 use Rattle.group_engine.specs.Mounts.{MountedGroup}
 use Rattle.group_engine.proofs.Elsewhere.{mounts_elsewhere, spared_is_held}
-use Rattle.session_claims.specs.Claims.{HasMembersOf, IsMountedAs, IsPaired, IsSettled, IsStanding, IsUntouched, Keeps, StandsFor, single, torn, untouched}
-use Rattle.session_claims.specs.Laws.{CreationKeeps, GoesOn, IsFresh, ReplacesGroups}
+use Rattle.session_claims.specs.Claims.{HasMembersOf, IsMountedAs, IsPaired, IsSettledId, IsStanding, IsUntouched, KeepsWorlds, StandsFor, single, torn, untouched}
+use Rattle.session_claims.specs.Laws.{CreationKeeps, MountsGoOn, IsFreshId, ReplacesGroups}
 use Rattle.session_claims.proofs.Edited.{member_was, others_stay, replaced}
 use Rattle.session_claims.proofs.Images.{all_stand, among-behind, among-front, more_allows, same_members}
 use Rattle.session_claims.proofs.Looks.{was_single}
@@ -40,8 +40,8 @@ with_left sound run = record {
 }
 
 module _ (old new : BayState) (sound : IsSound old) (n : ℕ) (known : ℕ → Bool) (given given' made : ℕ) (g : Group) (ok : Bool) (w w' : World) (groups groups' : List MountedGroup) (stands : StandsFor n known given old w groups)
-    (fresh : IsFresh known given made) (more : made + 1 ≤ given') (creation : HasCreated n made g ok old new) (attached : StaysAttached old new) (replaces : ReplacesGroups w made (g ∷ []) w')
-    (is_new : has_mounted w made ≡ true → ⊥) (goes : GoesOn made (λ m. (m.register.id ≡ made) × MountsNew n g m old new) w w' groups groups') where
+    (fresh : IsFreshId known given made) (more : made + 1 ≤ given') (creation : HasCreated n made g ok old new) (attached : StaysAttached old new) (replaces : ReplacesGroups w made (g ∷ []) w')
+    (is_new : has_mounted w made ≡ true → ⊥) (goes : MountsGoOn made (λ m. (m.register.id ≡ made) × MountsNew n g m old new) w w' groups groups') where
   abbrev Step : Image → Image → Type 0
   Step x y = MayCreate old.holds creation.slot made g x y
 
@@ -145,7 +145,7 @@ module _ (old new : BayState) (sound : IsSound old) (n : ℕ) (known : ℕ → B
         (λ free. let differ = not_here free s has in at_others s differ ∙ at_member s differ has)
         may.free
 
-  stays_settled : (id : ℕ) → id ≢ made → IsSettled id (groups_of w id) old → IsSettled id (groups_of w id) new
+  stays_settled : (id : ℕ) → id ≢ made → IsSettledId id (groups_of w id) old → IsSettledId id (groups_of w id) new
   stays_settled id other (single group is) = single group is
   stays_settled id other (torn a b is) = torn a b is
   stays_settled id other (untouched u) = untouched (record {
@@ -161,7 +161,7 @@ module _ (old new : BayState) (sound : IsSound old) (n : ℕ) (known : ℕ → B
         stays_members id other u x.0 image x.1 x.2;
   })
 
-  settled_now : (id : ℕ) → id ≢ made → IsSettled id (groups_of w id) new
+  settled_now : (id : ℕ) → id ≢ made → IsSettledId id (groups_of w id) new
   settled_now id other = ⊎_elim
       (λ (was : has_mounted w id ≡ true). let one = was_single n known given old w groups stands id was in single one.0 one.1)
       (λ no. stays_settled id other (stands.settled id no))
@@ -181,7 +181,7 @@ module _ (old new : BayState) (sound : IsSound old) (n : ℕ) (known : ℕ → B
         turns = omega (arith, mounts.turns);
       }
 
-  keeps : (command : Command) → Keeps n known command given' old new w w' groups'
+  keeps : (command : Command) → KeepsWorlds n known command given' old new w w' groups'
   keeps command = record {
     held = λ m image id from to left.
         let x = before m image from (omega arith) left in
@@ -201,7 +201,7 @@ module _ (old new : BayState) (sound : IsSound old) (n : ℕ) (known : ℕ → B
           (goes.pairs e m pair is);
       settled = λ id out. ⊎_elim
           (λ (here : id ≡ made). single g (ap (λ (i : ℕ). groups_of w' i) here ∙ made_has))
-          (λ other. subst (λ (l : List Group). IsSettled id l new) (sym (others_have id other)) (settled_now id other))
+          (λ other. subst (λ (l : List Group). IsSettledId id l new) (sym (others_have id other)) (settled_now id other))
           (cases_eq id made);
       origin = λ image id left has.
           let x = before new.calls image creation.moments.later (omega arith) left in

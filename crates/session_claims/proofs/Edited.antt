@@ -1,5 +1,5 @@
 -- An edit of one mounted group.
-use Rattle.std.proofs.Common.{◌≡◌, ◌≢◌, ◌⊎◌, inl, inr, ⊎_elim, ℕ, ◌≤◌, Bool, true, List, [], ◌∷◌, Result, Ok, Err, refl, sym, ◌∙◌, ap, subst, arith, if◌then◌else◌}
+use Rattle.std.proofs.Common.{◌≡◌, ◌≢◌, inl, inr, ⊎_elim, ℕ, ◌≤◌, Bool, true, List, [], ◌∷◌, Result, Ok, Err, refl, sym, ◌∙◌, ap, subst, arith, if◌then◌else◌}
 use Rattle.std.proofs.lemmas.Bool.{cases_Bool, cases_eq, eq-eqb, ne_eqb}
 use Rattle.bay.specs.Image.{Image, Same}
 use Rattle.bay.specs.State.{BayState, IsSound}
@@ -29,8 +29,8 @@ use Rattle.group_engine.specs.Mounts.{HasOnly, IsMounted, MountedGroup, IsOwn}
 use Rattle.group_engine.proofs.Causes.{not_mounted}
 use Rattle.group_engine.proofs.Elsewhere.{spared_is_held, stays_attached}
 use Rattle.group_files.specs.declared.edit.GroupEdit.{GroupEdit}
-use Rattle.session_claims.specs.Claims.{HasMembersOf, IsMountedAs, IsPaired, IsSettled, IsStanding, Keeps, StandsFor, single, torn, untouched}
-use Rattle.session_claims.specs.Laws.{Commits, EditKeeps, EditsTo, GoesOn, RefusalKeeps, ReplacesGroups, TearingKeeps}
+use Rattle.session_claims.specs.Claims.{HasMembersOf, IsMountedAs, IsPaired, IsSettledId, IsStanding, KeepsWorlds, StandsFor, single, torn, untouched}
+use Rattle.session_claims.specs.Laws.{CommitsEdit, EditKeeps, EditsTo, MountsGoOn, RefusalKeeps, ReplacesGroups, TearingKeeps}
 use Rattle.session_claims.proofs.Images.{all_stand, among-behind, among-front, has_slot, held_allows, more_allows, slot_has}
 use Rattle.session_claims.proofs.Looks.{allows_now, alone_now, mounted_now, origin_now, settled_now, was_single}
 use Rattle.session_claims.proofs.Pairs.{mounted_pair}
@@ -69,7 +69,7 @@ pub others_stay : (w : World) (id : ℕ) (groups : List Group) (w' : World) → 
 others_stay w id groups w' is i differ = is i ∙ ap (λ (b : Bool). if b then groups else groups_of w i) (ne_eqb i id differ)
 
 module _ (s t : BayState) (sound : IsSound s) (later : IsSound t) (n : ℕ) (known : ℕ → Bool) (given : ℕ) (w w' : World) (groups groups' : List MountedGroup) (e : SessionEntry) (edit : GroupEdit) (old new : MountedGroup)
-    (answer : Result (Unit {0}) Refusal) (g h : Group) (stands : StandsFor n known given s w groups) (pair : IsPaired w.session groups e old) (is : is_mounted e ≡ true) (work : Commits edit old answer new s t)
+    (answer : Result (Unit {0}) Refusal) (g h : Group) (stands : StandsFor n known given s w groups) (pair : IsPaired w.session groups e old) (is : is_mounted e ≡ true) (work : CommitsEdit edit old answer new s t)
     (to : EditsTo w e.id edit g h) where
   k : IsMountedAs n e.id old (groups_of w e.id) s
   k = stands.mounted e old pair is
@@ -90,7 +90,7 @@ module _ (s t : BayState) (sound : IsSound s) (later : IsSound t) (n : ℕ) (kno
   led = edit_is_held s t c edit work.mounted (record { mounts = k.mounts; turns = omega (arith, k.turns) }) work.committed
 
   after_is : led.0 ≡ h
-  after_is = ok_is h led.0 (sym to.after ∙ ap (λ (x : Group). edited_by x edit) (sym group_is) ∙ led.1)
+  after_is = sym (ok_is h led.0 (sym to.after ∙ ap (λ (x : Group). edited_by x edit) (sym group_is) ∙ led.1))
 
   over : IsHeldOver c h s t
   over = subst (λ (x : Group). IsHeldOver c x s t) after_is led.2
@@ -149,13 +149,13 @@ module _ (s t : BayState) (sound : IsSound s) (later : IsSound t) (n : ℕ) (kno
         turns = o.turns;
       }
 
-  other_settled : (i : ℕ) → i ≢ own → IsSettled i (groups_of w i) t
+  other_settled : (i : ℕ) → i ≢ own → IsSettledId i (groups_of w i) t
   other_settled i differ = ⊎_elim
       (λ (was : has_mounted w i ≡ true). let one = was_single n known given s w groups stands i was in single one.0 one.1)
       (λ no. go (stands.settled i no))
       (cases_Bool (has_mounted w i))
     where
-      go : IsSettled i (groups_of w i) s → IsSettled i (groups_of w i) t
+      go : IsSettledId i (groups_of w i) s → IsSettledId i (groups_of w i) t
       go (single group one) = single group one
       go (torn a b two) = torn a b two
       go (untouched u) = untouched (record {
@@ -190,15 +190,15 @@ module _ (s t : BayState) (sound : IsSound s) (later : IsSound t) (n : ℕ) (kno
 
   -- ---- all of it
 
-  module _ (command : Command) (list : List Group) (has_after : IsAmong list h) (replaces : ReplacesGroups w e.id list w') (IsNew : MountedGroup → Type 0) (goes : GoesOn e.id IsNew w w' groups groups')
-      (own_now : (image : Image) → t.leaves t.calls image → Allows own list image) (own_mounted : (m : MountedGroup) → IsNew m → IsMountedAs n e.id m list t) (own_settled : IsSettled own list t) where
+  module _ (command : Command) (list : List Group) (has_after : IsAmong list h) (replaces : ReplacesGroups w e.id list w') (IsNew : MountedGroup → Type 0) (goes : MountsGoOn e.id IsNew w w' groups groups')
+      (own_now : (image : Image) → t.leaves t.calls image → Allows own list image) (own_mounted : (m : MountedGroup) → IsNew m → IsMountedAs n e.id m list t) (own_settled : IsSettledId own list t) where
     own_list : groups_of w' own ≡ list
     own_list = ap (λ (i : ℕ). groups_of w' i) k.same ∙ replaced w e.id list w' replaces
 
     other_list : (i : ℕ) → i ≢ own → groups_of w' i ≡ groups_of w i
     other_list i differ = others_stay w e.id list w' replaces i (λ same. differ (same ∙ sym k.same))
 
-    edit_keeps : Keeps n known command given s t w w' groups'
+    edit_keeps : KeepsWorlds n known command given s t w w' groups'
     edit_keeps = record {
       held = λ m image id from until left. ⊎_elim
           (λ (here : id ≡ own).
@@ -231,15 +231,15 @@ module _ (s t : BayState) (sound : IsSound s) (later : IsSound t) (n : ℕ) (kno
             subst (λ (l : List Group). IsMountedAs n f.id m l t) (sym (other_list f.id differ)) (other_mounted f m differ other.1 yes))
             (goes.pairs f m at yes);
         settled = λ id out. ⊎_elim
-            (λ (here : id ≡ own). subst (λ (l : List Group). IsSettled id l t) (sym (ap (λ (i : ℕ). groups_of w' i) here ∙ own_list)) (subst (λ (i : ℕ). IsSettled i list t) (sym here) own_settled))
-            (λ differ. subst (λ (l : List Group). IsSettled id l t) (sym (other_list id differ)) (other_settled id differ))
+            (λ (here : id ≡ own). subst (λ (l : List Group). IsSettledId id l t) (sym (ap (λ (i : ℕ). groups_of w' i) here ∙ own_list)) (subst (λ (i : ℕ). IsSettledId i list t) (sym here) own_settled))
+            (λ differ. subst (λ (l : List Group). IsSettledId id l t) (sym (other_list id differ)) (other_settled id differ))
             (cases_eq id own);
         origin = λ image id left has. let x = was_member image id left has in stands.origin x.0 id x.1 x.2;
       };
     }
 
   -- its commit dismounted the group
-  torn_keeps : (command : Command) → ReplacesGroups w e.id (g ∷ h ∷ []) w' → GoesOn e.id (λ m. ⊥) w w' groups groups' → Keeps n known command given s t w w' groups'
+  torn_keeps : (command : Command) → ReplacesGroups w e.id (g ∷ h ∷ []) w' → MountsGoOn e.id (λ m. ⊥) w w' groups groups' → KeepsWorlds n known command given s t w w' groups'
   torn_keeps command replaces goes =
       edit_keeps command (g ∷ h ∷ []) (inr (inl refl)) replaces (λ m. ⊥) goes (λ image left. own_allows t.calls image spared.later (omega arith) left) (λ m none. absurd none) (torn g h refl)
 
@@ -308,7 +308,7 @@ module _ (s t : BayState) (sound : IsSound s) where
               })))
               (λ other. mounted_now s t sound n known given (λ (slot : ℕ). ⊥) w groups runs attached stands f m other.1 yes)
               (goes.pairs f m at yes));
-          settled = λ id out. subst (λ (l : List Group). IsSettled id l t) (sym (same id)) (settled_now s t sound n known given (λ (slot : ℕ). ⊥) w groups runs attached stands id);
+          settled = λ id out. subst (λ (l : List Group). IsSettledId id l t) (sym (same id)) (settled_now s t sound n known given (λ (slot : ℕ). ⊥) w groups runs attached stands id);
           origin = λ image id left has. origin_now s t sound n known given (λ (slot : ℕ). ⊥) w groups runs attached stands given (omega arith) image id left has;
         };
       }

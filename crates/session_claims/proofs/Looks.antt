@@ -14,7 +14,7 @@ use Rattle.group_disks.specs.Creating.{Allows, HasMember}
 use Rattle.group_engine.specs.Frames.{StaysAttached}
 use Rattle.group_engine.specs.Mounts.{HasOnly, MountedGroup}
 use Rattle.group_engine.proofs.Elsewhere.{mounts_elsewhere}
-use Rattle.session_claims.specs.Claims.{IsMountedAs, IsPaired, IsSettled, IsStanding, Keeps, StandsFor, single, torn, untouched}
+use Rattle.session_claims.specs.Claims.{IsMountedAs, IsPaired, IsSettledId, IsStanding, KeepsWorlds, StandsFor, single, torn, untouched}
 use Rattle.session_claims.specs.Laws.{AreSome, LooksKeep}
 use Rattle.session_claims.proofs.Images.{all_stand, among-front, more_allows, same_allows, same_at, same_member, same_members, same_sound}
 use Rattle.session_claims.proofs.Pairs.{mounted_pair}
@@ -36,7 +36,7 @@ module _ (old new : BayState) (sound : IsSound old) (n : ℕ) (known : ℕ → B
   now : (image : Image) → new.leaves new.calls image → (x : Image) × old.leaves old.calls x × Same x image
   now image left = before new.calls image runs.later (omega arith) left
 
-  settled_same : (id : ℕ) → IsSettled id (groups_of w id) old → IsSettled id (groups_of w id) new
+  settled_same : (id : ℕ) → IsSettledId id (groups_of w id) old → IsSettledId id (groups_of w id) new
   settled_same id (single group is) = single group is
   settled_same id (torn a b is) = torn a b is
   settled_same id (untouched u) = untouched (record {
@@ -48,7 +48,7 @@ module _ (old new : BayState) (sound : IsSound old) (n : ℕ) (known : ℕ → B
     members = λ image left. let x = now image left in same_members id u.first x.0 image x.2 (u.members x.0 x.1);
   })
 
-  pub settled_now : (id : ℕ) → IsSettled id (groups_of w id) new
+  pub settled_now : (id : ℕ) → IsSettledId id (groups_of w id) new
   settled_now id = ⊎_elim
       (λ (was : has_mounted w id ≡ true). let g = was_single n known given old w groups stands id was in single g.0 g.1)
       (λ no. settled_same id (stands.settled id no))
@@ -79,7 +79,7 @@ module _ (old new : BayState) (sound : IsSound old) (n : ℕ) (known : ℕ → B
       let x = now image left in
       ⊎_elim (λ (below : id < given). inl (omega (arith, below, more))) (λ at. inr at) (stands.origin x.0 id x.1 (same_member id x.0 image x.2 has))
 
-  keeps : (given' : ℕ) → given ≤ given' → (w' : World) (groups' : List MountedGroup) → AreSome w w' groups groups' → (command : Command) → Keeps n known command given' old new w w' groups'
+  keeps : (given' : ℕ) → given ≤ given' → (w' : World) (groups' : List MountedGroup) → AreSome w w' groups groups' → (command : Command) → KeepsWorlds n known command given' old new w w' groups'
   keeps given' more w' groups' some command = record {
     held = λ m image id from to left.
         let x = before m image from (omega arith) left in
@@ -95,7 +95,7 @@ module _ (old new : BayState) (sound : IsSound old) (n : ℕ) (known : ℕ → B
       ids = some.ids;
       allows = λ image id left. subst (λ (l : List Group). Allows id l image) (sym (some.lists id)) (allows_now image id left);
       mounted = λ e m pair is. subst (λ (l : List Group). IsMountedAs n e.id m l new) (sym (some.lists e.id)) (mounted_now e m (some.pairs e m pair is) is);
-      settled = λ id out. subst (λ (l : List Group). IsSettled id l new) (sym (some.lists id)) (settled_now id);
+      settled = λ id out. subst (λ (l : List Group). IsSettledId id l new) (sym (some.lists id)) (settled_now id);
       origin = origin_now given' more;
     };
   }

@@ -62,10 +62,10 @@ pub record IsUntouched (id : ℕ) (groups : List Group) (bay : BayState) : Type 
 
 -- What a mount would find of an id that isn't mounted: the members that were there when the run began; or one group, which the run
 -- made or dismounted; or the group before a commit or the one after, which dismounted it.
-pub data IsSettled (id : ℕ) (groups : List Group) (bay : BayState) : Type 0 where
-  untouched : IsUntouched id groups bay → IsSettled id groups bay
-  single : (group : Group) → groups ≡ group ∷ [] → IsSettled id groups bay
-  torn : (before after : Group) → groups ≡ before ∷ after ∷ [] → IsSettled id groups bay
+pub data IsSettledId (id : ℕ) (groups : List Group) (bay : BayState) : Type 0 where
+  untouched : IsUntouched id groups bay → IsSettledId id groups bay
+  single : (group : Group) → groups ≡ group ∷ [] → IsSettledId id groups bay
+  torn : (before after : Group) → groups ≡ before ∷ after ∷ [] → IsSettledId id groups bay
 
 -- ---- all groups
 
@@ -77,12 +77,12 @@ pub record StandsFor (n : ℕ) (known : ℕ → Bool) (given : ℕ) (bay : BaySt
   pub ids : AreIdsApart w.session
   pub allows : (image : Image) (id : ℕ) → bay.leaves bay.calls image → Allows id (groups_of w id) image
   pub mounted : (e : SessionEntry) (m : MountedGroup) → IsPaired w.session groups e m → is_mounted e ≡ true → IsMountedAs n e.id m (groups_of w e.id) bay
-  pub settled : (id : ℕ) → has_mounted w id ≡ false → IsSettled id (groups_of w id) bay
+  pub settled : (id : ℕ) → has_mounted w id ≡ false → IsSettledId id (groups_of w id) bay
   pub origin : (image : Image) (id : ℕ) → bay.leaves bay.calls image → HasMember id image → (id < given) ⊎ (known id ≡ true)
 
 -- In each moment that ends in a command the disks hold groups between, and each group that stays mounted is there; in the one
 -- that lasts they hold those of the world after it.
-pub record Keeps (n : ℕ) (known : ℕ → Bool) (command : Command) (given' : ℕ) (old new : BayState) (w w' : World) (groups' : List MountedGroup) : Type 0 where
+pub record KeepsWorlds (n : ℕ) (known : ℕ → Bool) (command : Command) (given' : ℕ) (old new : BayState) (w w' : World) (groups' : List MountedGroup) : Type 0 where
   pub held : (m : ℕ) (image : Image) (id : ℕ) → old.calls ≤ m → m < new.calls → new.leaves m image → Allows id (groups_between w command w' id) image
   pub there : (m : ℕ) (image : Image) (id : ℕ) → old.calls ≤ m → m < new.calls → new.leaves m image → has_mounted w id ≡ true → has_mounted w' id ≡ true → IsStanding n id image
   pub now : StandsFor n known given' new w' groups'

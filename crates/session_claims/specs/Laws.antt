@@ -16,11 +16,11 @@ use Rattle.group_engine.specs.Own.{KeepsGroup}
 use Rattle.group_files.specs.Edits.{IsCommitted}
 use Rattle.group_files.specs.GroupEdits.{IsEditPlan}
 use Rattle.group_files.specs.declared.edit.GroupEdit.{GroupEdit}
-use Rattle.session_claims.specs.Claims.{IsPaired, Keeps, StandsFor}
+use Rattle.session_claims.specs.Claims.{IsPaired, KeepsWorlds, StandsFor}
 use Rattle.world_steps.specs.Told.{AreIdsApart}
 
 -- Each mounted group was mounted before, under another id than this one, or it is under this id and new.
-pub record GoesOn (id : ℕ) (IsNew : MountedGroup → Type 0) (w w' : World) (groups groups' : List MountedGroup) : Type 0 where
+pub record MountsGoOn (id : ℕ) (IsNew : MountedGroup → Type 0) (w w' : World) (groups groups' : List MountedGroup) : Type 0 where
   pub entries : length groups' ≡ length w'.session
   pub ids : AreIdsApart w'.session
   pub pairs : (e : SessionEntry) (m : MountedGroup) → IsPaired w'.session groups' e m → is_mounted e ≡ true
@@ -39,12 +39,12 @@ pub record AreSome (w w' : World) (groups groups' : List MountedGroup) : Type 0 
 abbrev pub LooksKeep : (ℕ → Type 0) → BayState → BayState → Type 0
 LooksKeep slots old new =
     (n : ℕ) (known : ℕ → Bool) (given given' : ℕ) (w w' : World) (groups groups' : List MountedGroup) (command : Command) → given ≤ given' → Runs slots Same old new → StaysAttached old new
-    → AreSome w w' groups groups' → StandsFor n known given old w groups → Keeps n known command given' old new w w' groups'
+    → AreSome w w' groups groups' → StandsFor n known given old w groups → KeepsWorlds n known command given' old new w w' groups'
 
 -- ---- an edit of one group
 
 -- What a piece of work that is an edit did to a mounted group, where a change was planned.
-pub record Commits (edit : GroupEdit) (old : MountedGroup) (answer : Result (Unit {0}) Refusal) (new : MountedGroup) (s t : BayState) : Type 0 where
+pub record CommitsEdit (edit : GroupEdit) (old : MountedGroup) (answer : Result (Unit {0}) Refusal) (new : MountedGroup) (s t : BayState) : Type 0 where
   pub mounted : IsMounted old
   pub keeps : KeepsGroup old new s t
   pub committed : IsCommitted (IsEditPlan old.catalog edit) old answer new s t
@@ -62,33 +62,33 @@ ReplacesGroups w id groups w' = (i : ℕ) → groups_of w' i ≡ (if i == id the
 abbrev pub EditKeeps : BayState → BayState → Type 0
 EditKeeps s t =
     (n : ℕ) (known : ℕ → Bool) (given : ℕ) (w w' : World) (groups groups' : List MountedGroup) (e : SessionEntry) (edit : GroupEdit) (old new : MountedGroup) (g h : Group) (command : Command)
-    → StandsFor n known given s w groups → IsPaired w.session groups e old → is_mounted e ≡ true → Commits edit old (Ok tt) new s t → EditsTo w e.id edit g h → ReplacesGroups w e.id (h ∷ []) w'
-    → GoesOn e.id (λ m. m ≡ new) w w' groups groups' → Keeps n known command given s t w w' groups'
+    → StandsFor n known given s w groups → IsPaired w.session groups e old → is_mounted e ≡ true → CommitsEdit edit old (Ok tt) new s t → EditsTo w e.id edit g h → ReplacesGroups w e.id (h ∷ []) w'
+    → MountsGoOn e.id (λ m. m ≡ new) w w' groups groups' → KeepsWorlds n known command given s t w w' groups'
 
 -- Where its commit dismounted the group, the disks hold one of them.
 abbrev pub TearingKeeps : BayState → BayState → Type 0
 TearingKeeps s t =
     (n : ℕ) (known : ℕ → Bool) (given : ℕ) (w w' : World) (groups groups' : List MountedGroup) (e : SessionEntry) (edit : GroupEdit) (old new : MountedGroup) (answer : Result (Unit {0}) Refusal) (g h : Group) (command : Command)
-    → StandsFor n known given s w groups → IsPaired w.session groups e old → is_mounted e ≡ true → Commits edit old answer new s t → EditsTo w e.id edit g h → ReplacesGroups w e.id (g ∷ h ∷ []) w'
-    → GoesOn e.id (λ m. ⊥) w w' groups groups' → Keeps n known command given s t w w' groups'
+    → StandsFor n known given s w groups → IsPaired w.session groups e old → is_mounted e ≡ true → CommitsEdit edit old answer new s t → EditsTo w e.id edit g h → ReplacesGroups w e.id (g ∷ h ∷ []) w'
+    → MountsGoOn e.id (λ m. ⊥) w w' groups groups' → KeepsWorlds n known command given s t w w' groups'
 
 -- Where its commit was refused and the group is mounted still, nothing was done.
 abbrev pub RefusalKeeps : BayState → BayState → Type 0
 RefusalKeeps s t =
     (n : ℕ) (known : ℕ → Bool) (given : ℕ) (w w' : World) (groups groups' : List MountedGroup) (e : SessionEntry) (edit : GroupEdit) (old new : MountedGroup) (refusal : Refusal) (command : Command)
-    → StandsFor n known given s w groups → IsPaired w.session groups e old → is_mounted e ≡ true → Commits edit old (Err refusal) new s t → IsMounted new → ((i : ℕ) → groups_of w' i ≡ groups_of w i)
-    → GoesOn e.id (λ m. m ≡ new) w w' groups groups' → Keeps n known command given s t w w' groups'
+    → StandsFor n known given s w groups → IsPaired w.session groups e old → is_mounted e ≡ true → CommitsEdit edit old (Err refusal) new s t → IsMounted new → ((i : ℕ) → groups_of w' i ≡ groups_of w i)
+    → MountsGoOn e.id (λ m. m ≡ new) w w' groups groups' → KeepsWorlds n known command given s t w w' groups'
 
 -- ---- a creation
 
 -- The premises on the id of a new group: it is above those that were given, and no disk of an id that was known has it.
-pub record IsFresh (known : ℕ → Bool) (given id : ℕ) : Type 0 where
+pub record IsFreshId (known : ℕ → Bool) (given id : ℕ) : Type 0 where
   pub above : given ≤ id
   pub unknown : known id ≡ true → ⊥
 
 -- A creation, at any moment, and once it is done or refused. The id is the new group's alone.
 abbrev pub CreationKeeps : BayState → BayState → Type 0
 CreationKeeps old new =
-    (n : ℕ) (known : ℕ → Bool) (given given' made : ℕ) (g : Group) (ok : Bool) (w w' : World) (groups groups' : List MountedGroup) (command : Command) → StandsFor n known given old w groups → IsFresh known given made
+    (n : ℕ) (known : ℕ → Bool) (given given' made : ℕ) (g : Group) (ok : Bool) (w w' : World) (groups groups' : List MountedGroup) (command : Command) → StandsFor n known given old w groups → IsFreshId known given made
     → made + 1 ≤ given' → HasCreated n made g ok old new → StaysAttached old new → ReplacesGroups w made (g ∷ []) w' → (has_mounted w made ≡ true → ⊥)
-    → GoesOn made (λ m. (m.register.id ≡ made) × MountsNew n g m old new) w w' groups groups' → Keeps n known command given' old new w w' groups'
+    → MountsGoOn made (λ m. (m.register.id ≡ made) × MountsNew n g m old new) w w' groups groups' → KeepsWorlds n known command given' old new w w' groups'
