@@ -20,8 +20,10 @@ pub fn with_second(units: u32, quorum: bool) -> PstRecord {
 /// The status record by which the two disks have so many units.
 pub fn with_units(units: [u32; 2]) -> PstRecord {
     let mut status = disks(2);
-    status.entries[0].units = units[0];
-    status.entries[1].units = units[1];
+    let first = &mut status.entries[0];
+    first.units = units[0];
+    let second = &mut status.entries[1];
+    second.units = units[1];
     status
 }
 

@@ -33,7 +33,7 @@ are_apart a b c on_a on_b on_c = (
       (λ more. ⊎_elim (λ second. apart_on 0 2 p q (λ e. omega (arith, e)) (on_a p is) (on_c q (sym second))) (λ none. absurd none) more) among,
   (
     λ p q is among. ⊎_elim (λ second. apart_on 1 2 p q (λ e. omega (arith, e)) (on_b p is) (on_c q (sym second))) (λ none. absurd none) among,
-    (λ p q is among. absurd among, unit),
+    (λ p q is among. absurd among, tt),
   ),
 )
 
