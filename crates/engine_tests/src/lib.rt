@@ -1,0 +1,23 @@
+//! Tests of a mounted group on four disks in memory: its commits and status records, directory copies that come and go, disks that
+//! are attached and leave, the end of what was pending, and what each call leaves and answers where disks fail. Each case is a row of
+//! steps, which one function plays.
+#![tactic(auto)]
+
+#[cfg(test)]
+mod changes;
+#[cfg(test)]
+mod disks;
+#[cfg(test)]
+mod facts;
+#[cfg(test)]
+mod forming;
+#[cfg(test)]
+mod playing;
+#[cfg(test)]
+mod records;
+#[cfg(test)]
+mod rows;
+#[cfg(test)]
+mod steps;
+#[cfg(test)]
+mod trials;
