@@ -1,5 +1,5 @@
 -- What a copy says rests on the bytes of its directory region alone.
-use Rattle.std.proofs.Common.{◌≡◌, ◌≢◌, inl, inr, ⊎_elim, ℕ, zero, suc, ◌+◌, ◌*◌, ◌<◌, ◌≤◌, Bool, cond, List, length, find, refl, sym, ap, ◌∙◌, Option, Some, None, arith, ◌==◌}
+use Rattle.std.proofs.Common.{◌≡◌, ◌≢◌, inl, inr, ⊎_elim, ℕ, zero, suc, ◌+◌, ◌*◌, ◌<◌, ◌≤◌, Bool, cond, List, length, find, refl, sym, ap, ◌∙◌, Option, Some, None, arith}
 use Rattle.std.specs.Prelude.{◌&&◌, ◌||◌, not}
 use Rattle.std.specs.List.{range_with_len}
 use Rattle.std.specs.Option.{is_some, option_map, option_or}
@@ -10,7 +10,7 @@ use Rattle.asm_group.specs.Names.{Bytes}
 use Rattle.asm_formats.specs.Bytes.{block_size, block, is_open}
 use Rattle.asm_formats.specs.Regions.{region_start, region_end, first_log, second_log, log_blocks, page_home, has_region}
 use Rattle.asm_formats.specs.Content.{is_page}
-use Rattle.asm_formats.specs.Logs.{Log, LogHead, log_head_at, decoded_log_head, open_logs, image_in}
+use Rattle.asm_formats.specs.Logs.{Log, LogHead, decoded_log_head, open_logs, image_in}
 use Rattle.asm_formats.specs.Pages.{home_page}
 use Rattle.asm_formats.specs.Damage.{is_bad_page, head_damage, log_damage, directory_damage}
 use Rattle.asm_formats.proofs.Among.{cond_same}
@@ -23,11 +23,11 @@ use Rattle.change_directory.specs.declared.copy.DirCopy.{DirCopy}
 use Rattle.change_directory.specs.declared.copy.LogSlot.{LogSlot}
 use Rattle.change_directory.specs.declared.copy.LogSlot.TheVariants.{First, Second}
 use Rattle.change_directory.specs.Places.{gate_of}
-use Rattle.change_directory.specs.Logs.{is_open_at, number_at}
+use Rattle.change_directory.specs.Logs.{SameLogSlots, is_open_at, number_at}
 use Rattle.change_directory.specs.Changes.{disk, content_in, IsAtHome, DecodesIn}
 use Rattle.change_directory.specs.StoreLaws.{IsShaped, HasRegion, RegionOf, counted, HasPages, HasDue, SameRegion, SameCopy}
 use Rattle.change_directory.proofs.Copies.{still_above}
-use Rattle.change_directory.proofs.Spares.{gate_listed, slot_inside}
+use Rattle.change_directory.proofs.Spares.{gate_listed, low_gate, region_logs, slot_inside}
 
 -- two searches of a range that agree
 find_same : (f g : ℕ → Bool) (a n : ℕ) → ((k : ℕ) → a ≤ k → k < a + n → f k ≡ g k) → find f (range_with_len a n) ≡ find g (range_with_len a n)
@@ -63,22 +63,17 @@ module _ (copy : DirCopy) (shaped : IsShaped copy) (x y : Image) (sized : HasReg
       ∙ window-same (x.byte copy.slot) (y.byte copy.slot) (j * block_size) block_size (λ k from to. same.bytes k (omega (arith, low, from)) (omega (arith, high, to)))
       ∙ sym ((bytes_are_listed x copy.slot).2 (j * block_size) block_size (omega (arith, sized, high)))
 
-  low_gate : (log : LogSlot) → region_start + d ≤ gate_of copy log
-  low_gate First = omega arith
-  low_gate Second = omega arith
+  slots_same : SameLogSlots copy x y
+  slots_same = region_logs copy x y shaped.least same
 
   gates : (log : LogSlot) → is_open_at copy log y ≡ is_open_at copy log x
-  gates log =
-      ap (λ (b : ℕ). b == 165) (same.bytes (gate_of copy log * block_size) (omega (arith, low_gate log)) (omega (arith, slot_inside copy log shaped.least)))
+  gates = slots_same.gates
 
   numbers : (log : LogSlot) → number_at copy log y ≡ number_at copy log x
-  numbers log =
-      ap (λ (l : List ℕ). (log_head_at l).commit)
-      (window-same (x.byte copy.slot) (y.byte copy.slot) ((gate_of copy log + 1) * block_size) block_size
-      (λ k from to. same.bytes k (omega (arith, low_gate log, from)) (omega (arith, slot_inside copy log shaped.least, to))))
+  numbers = slots_same.numbers
 
   in_slot : (log : LogSlot) (j : ℕ) → gate_of copy log < j → j < gate_of copy log + log_blocks → block (disk copy y) j ≡ block (disk copy x) j
-  in_slot log j low high = block_same j (omega (arith, low_gate log, low)) (omega (arith, slot_inside copy log shaped.least, high))
+  in_slot log j low high = block_same j (omega (arith, low_gate copy log, low)) (omega (arith, slot_inside copy log shaped.least, high))
 
   gate_same : (log : LogSlot) → is_open (disk copy y) (gate_of copy log) ≡ is_open (disk copy x) (gate_of copy log)
   gate_same log = gate_listed copy shaped.least y sized_after log ∙ gates log ∙ sym (gate_listed copy shaped.least x sized log)

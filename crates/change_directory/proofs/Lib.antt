@@ -5,6 +5,7 @@ pub mod Spares
 pub mod Usable
 pub mod Contents
 pub mod Runs
+pub mod Settled
 pub mod Homing
 pub mod Keeping
 pub mod Zeroing

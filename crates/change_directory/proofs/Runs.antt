@@ -1,5 +1,5 @@
 -- What the putting of a log does to the content.
-use Rattle.std.proofs.Common.{◌≡◌, ◌⊎◌, inl, inr, ⊎_elim, ℕ, ◌+◌, ◌-◌, ◌*◌, ◌<◌, ◌≤◌, Bool, true, false, cond, List, length, get_or, refl, sym, ap, subst, ◌∙◌, Option, Some, None, arith}
+use Rattle.std.proofs.Common.{◌≡◌, ◌⊎◌, inl, inr, ⊎_elim, ℕ, ◌+◌, ◌-◌, ◌*◌, ◌<◌, ◌≤◌, Bool, true, false, cond, List, length, get_or, refl, sym, ap, ◌∙◌, Option, Some, None, arith}
 use Rattle.std.specs.Prelude.{IsSome, unwrap_or, Result, Ok, Err, OnOk}
 use Rattle.std.proofs.lemmas.Bool.{cases_lt, cases_Bool, cond-true, cond-false, le-leb, false≢true}
 use Rattle.std.proofs.lemmas.Option.{same_Some, none-some}
@@ -8,10 +8,10 @@ use Rattle.bay.specs.Image.{Image, Same, ChangesOnly, Range, window}
 use Rattle.bay.specs.State.{BayState, IsSound}
 use Rattle.bay.specs.Moments.{Runs, Ends, Joins}
 use Rattle.bay.proofs.Calls.{goes_on, both_done}
-use Rattle.bay.proofs.Images.{window-same, changes-within, changes-same, changes-trans, same-trans, length-window, get_or-window}
+use Rattle.bay.proofs.Images.{window-same, changes-within, changes-same, changes-trans, length-window, get_or-window}
 use Rattle.gate_slot.proofs.Steps.{shown-elsewhere}
 use Rattle.gate_slot.specs.declared.place.Place.{Place}
-use Rattle.gate_slot.specs.Slot.{PlaceOf, MayPut, HasPut, FromHeld, WaitsFor, shown, body_in}
+use Rattle.gate_slot.specs.Slot.{PlaceOf, MayPut, HasPut, shown, body_in}
 use Rattle.asm_base.specs.declared.block.Block.{Block}
 use Rattle.asm_group.specs.Names.{Bytes}
 use Rattle.asm_formats.specs.Bytes.{block_size, is_open}
@@ -30,7 +30,7 @@ use Rattle.change_directory.specs.Changes.{disk, content_in, MayLog, HasLogged, 
 use Rattle.change_directory.specs.Laws.{IsReady}
 use Rattle.change_directory.proofs.Bodies.{holds_body}
 use Rattle.change_directory.proofs.Contents.{put_content, moment_content}
-use Rattle.change_directory.proofs.Spares.{spare_same, slot_inside, gate_listed, may_close, is_above}
+use Rattle.change_directory.proofs.Spares.{slot_inside, gate_listed, may_close, is_above}
 
 -- a run with a larger step from such images as there may be
 pub widened_from : {slots : ℕ → Type 0} {step whole : Image → Image → Type 0} {a b : BayState} (P : Image → Type 0) → IsSound a → ((image : Image) → a.leaves a.calls image → P image)
@@ -108,15 +108,15 @@ has_size {state} {copy} sound is image left = go (state.attached copy.slot) refl
 
 -- ---- steps of a put, as steps of a commit
 
-module _ (copy : DirCopy) (number : ℕ) (pages : List (ℕ × Block)) (some : 0 < copy.sector) where
+module _ (copy : DirCopy) (number : ℕ) (pages : List (ℕ × Block)) where
   abbrev body_of : Bytes
   body_of = log_body (log_of number pages)
 
   abbrev place_of : LogSlot → Place
   place_of l = log_place copy l (length pages + 1)
 
-  same_put : (l : LogSlot) (x w y : Image) → Same x w → MayPut (place_of l) copy.slot body_of w y → MayPut (place_of l) copy.slot body_of x y
-  same_put l x w y same put =
+  pub same_put : (some : 0 < copy.sector) (l : LogSlot) (x w y : Image) → Same x w → MayPut (place_of l) copy.slot body_of w y → MayPut (place_of l) copy.slot body_of x y
+  same_put some l x w y same put =
       let shown_same : shown (place_of l) copy.slot w ≡ shown (place_of l) copy.slot x =
       shown-elsewhere (place_of l) copy.slot some (λ s k. ⊥) x w (λ k mine none. none) (changes-same (λ s k. ⊥) x w same) in
       record {
@@ -124,24 +124,11 @@ module _ (copy : DirCopy) (number : ℕ) (pages : List (ℕ × Block)) (some : 0
         elsewhere = changes-trans (PlaceOf (place_of l) copy.slot) x w y (changes-same (PlaceOf (place_of l) copy.slot) x w same) put.elsewhere;
       }
 
-  module _ (held : Image) (log : LogSlot) (place : Place) (body : Bytes) (is : log ≡ spare_in copy held) (at : place ≡ place_of log) (has : body ≡ body_of) where
-    -- the spare slot of what is held is that of the image before
-    here : (x w : Image) → Same x w → ((k : ℕ) → w.byte copy.slot k ≡ held.byte copy.slot k) → log ≡ spare_in copy x
-    here x w same disk_ = is ∙ sym (spare_same copy x held (λ k. sym (same.byte copy.slot k) ∙ disk_ k))
-
-    pub logs_from_held : (x w y : Image) → Same x w → WaitsFor copy.slot held (MayPut place copy.slot body) w y → MayLog copy number pages x y
-    logs_from_held x w y same (inl still) = inl (same-trans x w y same still)
-    logs_from_held x w y same (inr from) =
-        inr (subst (λ (l : LogSlot). MayPut (place_of l) copy.slot body_of x y) (here x w same from.disk)
-        (same_put log x w y same (subst (λ (p : Place). MayPut p copy.slot body_of w y) at (subst (λ (b : Bytes). MayPut place copy.slot b w y) has from.steps))))
-
-    pub logged_from_held : (x w y : Image) → Same x w → FromHeld copy.slot held (HasPut place copy.slot body) w y → HasLogged copy number pages x y
-    logged_from_held x w y same from =
-        let put = subst (λ (p : Place). HasPut p copy.slot body_of w y) at (subst (λ (b : Bytes). HasPut place copy.slot b w y) has from.steps) in
-        subst (λ (l : LogSlot). HasPut (place_of l) copy.slot body_of x y) (here x w same from.disk) (record {
-          shows = put.shows;
-          elsewhere = changes-trans (PlaceOf (place_of log) copy.slot) x w y (changes-same (PlaceOf (place_of log) copy.slot) x w same) put.elsewhere;
-        })
+  pub same_has : (l : LogSlot) (x w y : Image) → Same x w → HasPut (place_of l) copy.slot body_of w y → HasPut (place_of l) copy.slot body_of x y
+  same_has l x w y same put = record {
+    shows = put.shows;
+    elsewhere = changes-trans (PlaceOf (place_of l) copy.slot) x w y (changes-same (PlaceOf (place_of l) copy.slot) x w same) put.elsewhere;
+  }
 
 pub same_disk : (copy : DirCopy) (x y : Image) → Same x y → disk copy y ≡ disk copy x
 same_disk copy x y same =

@@ -5,7 +5,7 @@ use Rattle.std.proofs.lemmas.Bool.{cases_lt, lt-ltb, le-ltb}
 use Rattle.bay.specs.Image.{Image, Same, window}
 use Rattle.bay.proofs.Images.{window-same}
 use Rattle.asm_formats.specs.Bytes.{block_size, is_open}
-use Rattle.asm_formats.specs.Regions.{region_end, first_log, second_log}
+use Rattle.asm_formats.specs.Regions.{region_start, region_end, first_log, second_log}
 use Rattle.asm_formats.specs.Logs.{log_at, log_head_at}
 use Rattle.asm_formats.specs.Slots.{ArePair}
 use Rattle.asm_formats.specs.LogSlots.{IsFree, MayClose}
@@ -14,8 +14,9 @@ use Rattle.change_directory.specs.declared.copy.DirCopy.{DirCopy}
 use Rattle.change_directory.specs.declared.copy.LogSlot.{LogSlot}
 use Rattle.change_directory.specs.declared.copy.LogSlot.TheVariants.{First, Second}
 use Rattle.change_directory.specs.Places.{gate_of, other_of}
-use Rattle.change_directory.specs.Logs.{is_open_at, number_at, open_number, spare_of, spare_in}
+use Rattle.change_directory.specs.Logs.{SameLogSlots, is_open_at, number_at, open_number, spare_of, spare_in}
 use Rattle.change_directory.specs.Changes.{disk, IsAtHome, DecodesIn, IsAbove}
+use Rattle.change_directory.specs.StoreLaws.{SameRegion}
 
 -- ---- the choice
 
@@ -31,13 +32,20 @@ chosen true true n m = ⊎_elim
     (λ (above : m ≤ n). subst (λ (x : Bool). IsSpare (cond x First Second) true true n m) (sym (le-ltb n m above)) (inr (refl, above)))
     (cases_lt n m)
 
--- the same bytes have the same spare slot
+-- the same log slots have the same spare one
+pub spare_logs : (copy : DirCopy) (x y : Image) → SameLogSlots copy x y → spare_in copy y ≡ spare_in copy x
+spare_logs copy x y same = λ i. spare_of (cond (same.gates First i) (Some (same.numbers First i)) None) (cond (same.gates Second i) (Some (same.numbers Second i)) None)
+
+-- the same bytes have the same log slots
+pub same_logs : (copy : DirCopy) (x y : Image) → ((k : ℕ) → y.byte copy.slot k ≡ x.byte copy.slot k) → SameLogSlots copy x y
+same_logs copy x y same = record {
+  gates = λ log. ap (λ (b : ℕ). b == 165) (same (gate_of copy log * block_size));
+  numbers = λ log.
+      ap (λ (l : List ℕ). (log_head_at l).commit) (window-same (x.byte copy.slot) (y.byte copy.slot) ((gate_of copy log + 1) * block_size) block_size (λ k low high. same k));
+}
+
 pub spare_same : (copy : DirCopy) (x held : Image) → ((k : ℕ) → x.byte copy.slot k ≡ held.byte copy.slot k) → spare_in copy x ≡ spare_in copy held
-spare_same copy x held same =
-    let opens : (log : LogSlot) → is_open_at copy log x ≡ is_open_at copy log held = λ log. ap (λ (b : ℕ). b == 165) (same (gate_of copy log * block_size)) in
-    let numbers : (log : LogSlot) → number_at copy log x ≡ number_at copy log held = λ log.
-    ap (λ (l : List ℕ). (log_head_at l).commit) (window-same (held.byte copy.slot) (x.byte copy.slot) ((gate_of copy log + 1) * block_size) block_size (λ k low high. same k)) in
-    λ i. spare_of (cond (opens First i) (Some (numbers First i)) None) (cond (opens Second i) (Some (numbers Second i)) None)
+spare_same copy x held same = spare_logs copy held x (same_logs copy held x same)
 
 -- ---- as it is read
 
@@ -76,6 +84,21 @@ pair_of copy Second = inr (refl, refl)
 pub slot_inside : (copy : DirCopy) (log : LogSlot) → 128 ≤ copy.dir_blocks → gate_of copy log + 66 ≤ region_end copy.dir_blocks
 slot_inside copy First least = omega arith
 slot_inside copy Second least = omega arith
+
+pub low_gate : (copy : DirCopy) (log : LogSlot) → region_start + copy.dir_blocks ≤ gate_of copy log
+low_gate copy First = omega arith
+low_gate copy Second = omega arith
+
+-- the same directory region has the same log slots
+pub region_logs : (copy : DirCopy) (x y : Image) → 128 ≤ copy.dir_blocks → SameRegion copy x y → SameLogSlots copy x y
+region_logs copy x y least same = record {
+  gates = λ log.
+      ap (λ (b : ℕ). b == 165) (same.bytes (gate_of copy log * block_size) (omega (arith, low_gate copy log)) (omega (arith, slot_inside copy log least)));
+  numbers = λ log.
+      ap (λ (l : List ℕ). (log_head_at l).commit)
+      (window-same (x.byte copy.slot) (y.byte copy.slot) ((gate_of copy log + 1) * block_size) block_size
+      (λ k from to. same.bytes k (omega (arith, low_gate copy log, from)) (omega (arith, slot_inside copy log least, to))));
+}
 
 module _ (copy : DirCopy) (least : 128 ≤ copy.dir_blocks) (x : Image) (sized : region_end copy.dir_blocks * block_size ≤ x.size copy.slot) where
   pub gate_listed : (log : LogSlot) → is_open (disk copy x) (gate_of copy log) ≡ is_open_at copy log x

@@ -1,7 +1,8 @@
 -- What the log slots of a copy show, and which of them a commit writes.
-use Rattle.std.specs.Prelude.{ℕ, ◌+◌, ◌*◌, Bool, ◌&&◌, List, ◌++◌, map, flat_map, if◌then◌else◌, ◌==◌, nat_lt, Option, Some, None}
+use Rattle.std.specs.Prelude.{◌≡◌, ℕ, ◌+◌, ◌*◌, Bool, ◌&&◌, List, ◌++◌, map, flat_map, if◌then◌else◌, ◌==◌, nat_lt, Option, Some, None}
 use Rattle.std.specs.List.{list_all}
 use Rattle.bay.specs.Image.{Image, window}
+use Rattle.bay.specs.State.{BayState}
 use Rattle.asm_group.specs.Names.{Bytes}
 use Rattle.std.specs.Int.{w32}
 use Rattle.asm_formats.specs.Bytes.{block_size, number}
@@ -35,6 +36,17 @@ spare_of (Some a) (Some b) = if nat_lt a b then First else Second
 
 abbrev pub spare_in : DirCopy → Image → LogSlot
 spare_in copy image = spare_of (open_number copy First image) (open_number copy Second image)
+
+-- ---- in each image that a stop may leave
+
+-- both log slots are open where they were, and have the commit numbers that they had
+pub record SameLogSlots (copy : DirCopy) (old new : Image) : Type 0 where
+  pub gates : (log : LogSlot) → is_open_at copy log new ≡ is_open_at copy log old
+  pub numbers : (log : LogSlot) → number_at copy log new ≡ number_at copy log old
+
+-- each image that a stop now may leave has both log slots as they are held
+pub record AreLogsSettled (copy : DirCopy) (state : BayState) : Type 0 where
+  pub as_held : (image held : Image) → state.leaves state.calls image → state.holds ≡ Some held → SameLogSlots copy held image
 
 -- ---- what is written
 

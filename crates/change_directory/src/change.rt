@@ -7,7 +7,7 @@ ghost use Rattle.bay.specs.Moments.{Runs, Ends, NowOnly};
 ghost use Rattle.asm_formats.specs.Content.{is_page};
 ghost use Rattle.asm_formats.specs.Logs.{head_of, is_log_head};
 ghost use Rattle.change_directory.specs.Places.{IsCopy};
-ghost use Rattle.change_directory.specs.Logs.{log_of, bytes_of_page};
+ghost use Rattle.change_directory.specs.Logs.{AreLogsSettled, log_of, bytes_of_page};
 ghost use Rattle.change_directory.specs.Changes.{IsAtHome, DecodesIn, IsAbove, MayLog, HasLogged, MayCommit, HasCommitted};
 
 use crate::copy::{DirCopy, log_place};
@@ -15,7 +15,7 @@ use crate::head::{LOG_BODY, fill_body};
 use crate::spare::spare_slot;
 use asm_base::Block;
 use bay::{Bay, Fault};
-use gate_slot::put;
+use gate_slot::put_settled;
 
 /// Puts changed pages, by their numbers, into the log slot that doesn't hold the content, under a commit number. With its
 /// gate the copy has the content with them. A fault leaves the content before or after.
@@ -31,8 +31,10 @@ pub fn commit<B: Bay>(
     requires above { number < 2 ^ 64 - 1 → NowOnly (B.state bay.old) (IsAbove copy number) }
     // The checkpoint of the open log slots is done, and synced.
     requires home { NowOnly (B.state bay.old) (IsAtHome copy) }
+    // So are both log slots.
+    requires logs { AreLogsSettled copy (B.state bay.old) }
     ensures attached { KeepsAttached (B.state bay.old) (B.state bay.new) }
-    ensures calls { (B.state bay.new).calls ≤ (B.state bay.old).calls + 12 }
+    ensures calls { (B.state bay.new).calls ≤ (B.state bay.old).calls + 11 }
     ensures written { (B.state bay.new).written copy.slot ≤ (B.state bay.old).written copy.slot + 2 * copy.sector + (length pages.now + 1) * 4096 }
     ensures runs { Runs (IsSlot copy.slot) (MayLog copy number pages.now) (B.state bay.old) (B.state bay.new) }
     ensures done { OnOk result (Ends (HasLogged copy number pages.now) (B.state bay.old) (B.state bay.new)) }
@@ -54,8 +56,9 @@ fn put_log<B: Bay>(
 ) -> Result<(), Fault>
     requires copy { IsCopy (B.state bay.old) copy }
     requires pages { length pages.now ≤ 64 }
+    requires logs { AreLogsSettled copy (B.state bay.old) }
     ensures attached { KeepsAttached (B.state bay.old) (B.state bay.new) }
-    ensures calls { (B.state bay.new).calls ≤ (B.state bay.old).calls + 12 }
+    ensures calls { (B.state bay.new).calls ≤ (B.state bay.old).calls + 11 }
     ensures written { (B.state bay.new).written copy.slot ≤ (B.state bay.old).written copy.slot + 2 * copy.sector + (length pages.now + 1) * 4096 }
     ensures runs { Runs (IsSlot copy.slot) (MayLog copy number pages.now) (B.state bay.old) (B.state bay.new) }
     ensures done { OnOk result (Ends (HasLogged copy number pages.now) (B.state bay.old) (B.state bay.new)) }
@@ -66,5 +69,5 @@ fn put_log<B: Bay>(
     fill_body(number, pages, &mut body);
     let blocks = pages.len() + 1;
     let place = log_place(copy, log, blocks as u32);
-    put(bay, copy.slot, place, &body[..blocks * 4096])
+    put_settled(bay, copy.slot, place, &body[..blocks * 4096])
 }

@@ -3,7 +3,7 @@ ghost use Rattle.std.specs.Prelude.{◌≡◌, ◌≤◌, ◌<◌, ◌+◌, ◌*
 ghost use Rattle.bay.specs.Image.{ChangesOnly};
 ghost use Rattle.bay.specs.State.{KeepsAttached, IsSlot};
 ghost use Rattle.bay.specs.Counts.{Rose};
-ghost use Rattle.bay.specs.Moments.{Runs, Ends, Holds, NowOnly};
+ghost use Rattle.bay.specs.Moments.{Runs, Ends, Holds, Durable, NowOnly};
 ghost use Rattle.change_directory.specs.Places.{IsCopy, HomesAt};
 ghost use Rattle.change_directory.specs.Changes.{IsAtHome, DecodesIn};
 ghost use Rattle.change_directory.specs.Formatting.{MayShut, HasShutSpare, HasShut, MayFormat, HasFormatted, Zeroes, MayLoseContent, Loses};
@@ -33,6 +33,7 @@ pub fn format<B: Bay>(bay: &mut B, copy: DirCopy) -> Result<(), Fault>
     ensures content { NowOnly (B.state bay.old) (DecodesIn copy) → NowOnly (B.state bay.old) (IsAtHome copy)
         → Runs (IsSlot copy.slot) (MayLoseContent copy) (B.state bay.old) (B.state bay.new) }
     ensures done { OnOk result (Ends (HasFormatted copy) (B.state bay.old) (B.state bay.new)) }
+    ensures durable { OnOk result (Durable copy.slot (B.state bay.new)) }
     ensures cause { OnErr result (Rose ((B.state bay.old).faults copy.slot) ((B.state bay.new).faults copy.slot)) }
 {
     erase(bay, copy)
@@ -47,6 +48,7 @@ fn erase<B: Bay>(bay: &mut B, copy: DirCopy) -> Result<(), Fault>
     ensures runs { Runs (IsSlot copy.slot) (MayFormat copy) (B.state bay.old) (B.state bay.new) }
     ensures loses { Runs (IsSlot copy.slot) (Loses copy) (B.state bay.old) (B.state bay.new) }
     ensures done { OnOk result (Ends (HasFormatted copy) (B.state bay.old) (B.state bay.new)) }
+    ensures durable { OnOk result (Durable copy.slot (B.state bay.new)) }
     ensures cause { OnErr result (Rose ((B.state bay.old).faults copy.slot) ((B.state bay.new).faults copy.slot)) }
 {
     close_logs(bay, copy)?;
@@ -93,6 +95,7 @@ fn zero_pages<B: Bay>(bay: &mut B, copy: DirCopy) -> Result<(), Fault>
     ensures written { (B.state bay.new).written copy.slot ≤ (B.state bay.old).written copy.slot + copy.dir_blocks * 4096 }
     ensures runs { Runs (IsSlot copy.slot) (ChangesOnly (HomesAt copy)) (B.state bay.old) (B.state bay.new) }
     ensures done { OnOk result (Ends (Zeroes copy (copy.dir_blocks * 4096)) (B.state bay.old) (B.state bay.new)) }
+    ensures durable { OnOk result (Durable copy.slot (B.state bay.new)) }
     ensures cause { OnErr result (Rose ((B.state bay.old).faults copy.slot) ((B.state bay.new).faults copy.slot)) }
 {
     let zeros = [0; PIECE];

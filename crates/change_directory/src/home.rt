@@ -3,7 +3,7 @@ ghost use Rattle.std.specs.Prelude.{◌≡◌, ◌≤◌, ◌<◌, ◌+◌, ◌*
 ghost use Rattle.bay.specs.Image.{ChangesOnly};
 ghost use Rattle.bay.specs.State.{KeepsAttached, IsSlot};
 ghost use Rattle.bay.specs.Counts.{Rose};
-ghost use Rattle.bay.specs.Moments.{Runs, Ends, Holds, NowOnly};
+ghost use Rattle.bay.specs.Moments.{Runs, Ends, Holds, Durable, NowOnly};
 ghost use Rattle.change_directory.specs.Places.{IsCopy};
 ghost use Rattle.change_directory.specs.Logs.{are_pages};
 ghost use Rattle.change_directory.specs.Homes.{HomesOf, HasHomed, AreDue, KeepsContent, is_row, first_number};
@@ -31,6 +31,7 @@ pub fn checkpoint<B: Bay>(bay: &mut B, copy: DirCopy, pages: &[(u32, Block)]) ->
     ensures runs { Runs (IsSlot copy.slot) (ChangesOnly (HomesOf copy pages.now)) (B.state bay.old) (B.state bay.new) }
     ensures content { Runs (IsSlot copy.slot) (KeepsContent copy) (B.state bay.old) (B.state bay.new) }
     ensures done { OnOk result (Ends (HasHomed copy pages.now) (B.state bay.old) (B.state bay.new)) }
+    ensures durable { OnOk result (Durable copy.slot (B.state bay.new)) }
     ensures cause { OnErr result (Rose ((B.state bay.old).faults copy.slot) ((B.state bay.new).faults copy.slot)) }
 {
     write_synced(bay, copy, pages)
@@ -45,6 +46,7 @@ fn write_synced<B: Bay>(bay: &mut B, copy: DirCopy, pages: &[(u32, Block)]) -> R
     ensures written { (B.state bay.new).written copy.slot ≤ (B.state bay.old).written copy.slot + length pages.now * 4096 }
     ensures runs { Runs (IsSlot copy.slot) (ChangesOnly (HomesOf copy pages.now)) (B.state bay.old) (B.state bay.new) }
     ensures done { OnOk result (Ends (HasHomed copy pages.now) (B.state bay.old) (B.state bay.new)) }
+    ensures durable { OnOk result (Durable copy.slot (B.state bay.new)) }
     ensures cause { OnErr result (Rose ((B.state bay.old).faults copy.slot) ((B.state bay.new).faults copy.slot)) }
 {
     write_home(bay, copy, pages)?;

@@ -1,9 +1,8 @@
 -- A copy that is brought up: how it is read.
-use Rattle.std.proofs.Common.{◌≡◌, inl, inr, ⊎_elim, ℕ, ◌+◌, ◌<◌, ◌≤◌, Bool, true, false, List, [], ◌∷◌, ◌++◌, length, map, take, drop, get_or, refl, sym, ap, subst, ◌∙◌, Option, Some, None, arith}
+use Rattle.std.proofs.Common.{◌≡◌, inl, inr, ⊎_elim, ℕ, ◌+◌, ◌≤◌, Bool, true, false, List, [], ◌∷◌, length, map, refl, sym, ap, subst, ◌∙◌, Option, Some, None, arith}
 use Rattle.std.specs.Prelude.{◌&&◌, nat_le, nat_lt, IsSome, IsTrue}
 use Rattle.std.specs.List.{flat_map, list_all, range_with_len}
 use Rattle.std.proofs.lemmas.Bool.{true≢false, and_parts, leb-true, ltb-true}
-use Rattle.std.proofs.lemmas.List.{length-drop, map-append, map_more}
 use Rattle.std.proofs.lemmas.Option.{none-some}
 use Rattle.bay.specs.Image.{Image, Same, ChangesOnly, window}
 use Rattle.bay.specs.State.{BayState, IsSound, IsSlot}
@@ -35,7 +34,6 @@ use Rattle.directory_store.specs.Copying.{IsReadable, IsRenewable, MayRenew}
 use Rattle.directory_store.proofs.CopyLaws.{homed_settles}
 use Rattle.directory_store.proofs.Renewing.{ends_knowing, knowing, shut_is}
 use Rattle.directory_store.proofs.Rows.{copy_stays}
-use Rattle.directory_store.proofs.Steps.{empty_list}
 
 -- ---- pages in order
 

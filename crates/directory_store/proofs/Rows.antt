@@ -17,10 +17,11 @@ use Rattle.asm_formats.specs.Pages.{with_images}
 use Rattle.asm_formats.specs.Sets.{has_bit}
 use Rattle.change_directory.specs.declared.copy.DirCopy.{DirCopy}
 use Rattle.change_directory.specs.Changes.{content_in}
-use Rattle.change_directory.specs.Logs.{image_of_page}
+use Rattle.change_directory.specs.Logs.{AreLogsSettled, image_of_page}
 use Rattle.change_directory.specs.StoreLaws.{IsShaped, HasRegion, SameRegion, SameCopy, RegionOf, content_with}
+use Rattle.change_directory.proofs.Settled.{logs_off}
 use Rattle.change_directory.proofs.Usable.{still_copy}
-use Rattle.directory_store.specs.Copies.{AreApart, AreKept, AreNamed, AreSettledBut, FailedAlone, HasEither, HaveEither, IsApartFrom, IsKept, IsSettled, IsSlotOf, RegionsOf, WritesFew, calls_for, due_of}
+use Rattle.directory_store.specs.Copies.{AllLogsSettled, AreApart, AreKept, AreNamed, AreSettledBut, FailedAlone, HasEither, HaveEither, IsApartFrom, IsKept, IsSettled, IsSlotOf, LogsSettledBut, RegionsOf, WritesFew, calls_for, due_of}
 use Rattle.directory_store.specs.declared.due.Due.{Due}
 use Rattle.directory_store.proofs.CopyLaws.{region_is_same}
 use Rattle.directory_store.proofs.Steps.{both_run, shaped}
@@ -118,6 +119,10 @@ module _ (first : DirCopy) (rest : List DirCopy) (dues : List Due) (number : ℕ
   pub first_kept : (before : ℕ) (page : ℕ → Bytes) → NowOnly s (AreKept (first ∷ rest) dues before page) → NowOnly s (IsKept first (due_of dues first.slot) before page)
   first_kept before page now = record { now = λ x left. now.now x left first (inl refl) }
 
+  -- so are their log slots settled
+  pub rest_logs : AllLogsSettled (first ∷ rest) s → AllLogsSettled rest t
+  rest_logs logs c among = logs_off c (off_region c first (λ e. (apart.0 c among).0 (sym e))) one.runs (logs c (inr among))
+
   pub rest_named : AreNamed rest dues t
   rest_named c among =
       let is = named c (inr among) in
@@ -189,6 +194,21 @@ module _ (first : DirCopy) (rest : List DirCopy) (dues : List Due) (number : ℕ
       pub rest_settled : NowOnly u (AreSettledBut rest failed_rest number (with_images (map image_of_page pages) page))
       rest_settled = others.done before page less (rest_kept before page now)
 
+    set_first : (failed : ℕ) → ((k : ℕ) → k < 64 → has_bit failed k ≡ ((k == first.number) || has_bit failed_rest k)) → (c : DirCopy) → c ≡ first → has_bit failed c.number ≡ true
+    set_first failed bits c same =
+        bits c.number (named c (inl same)).number ∙ ap (λ (b : Bool). b || has_bit failed_rest c.number) (eq-eqb c.number first.number (ap (λ (d : DirCopy). d.number) same))
+
+    -- the log slots of those that took it are settled
+    pub all_logs : AreLogsSettled first t → LogsSettledBut rest failed_rest u → LogsSettledBut (first ∷ rest) failed_rest u
+    all_logs here there c among out = ⊎_elim
+        (λ (same : c ≡ first). subst (λ (d : DirCopy). AreLogsSettled d u) (sym same) (logs_off first (off_regions first rest apart.0) others.runs here))
+        (λ (inside : IsAmong rest c). there c inside out) among
+
+    pub other_logs : (failed : ℕ) → ((k : ℕ) → k < 64 → has_bit failed k ≡ ((k == first.number) || has_bit failed_rest k)) → LogsSettledBut rest failed_rest u → LogsSettledBut (first ∷ rest) failed u
+    other_logs failed bits there c among out = ⊎_elim
+        (λ (same : c ≡ first). absurd (true≢false (sym (set_first failed bits c same) ∙ out)))
+        (λ (inside : IsAmong rest c). there c inside (still_out first.number c.number (has_bit failed_rest c.number) (sym (bits c.number (named c (inr inside)).number) ∙ out))) among
+
     later_rose : (c : DirCopy) → Rose (t.faults c.slot) (u.faults c.slot) → Rose (s.faults c.slot) (u.faults c.slot)
     later_rose c rose = omega (arith, rose, one.runs.faults c.slot)
 
@@ -226,7 +246,7 @@ module _ (first : DirCopy) (rest : List DirCopy) (dues : List Due) (number : ℕ
       moments = all_moments;
       done = λ before page less now. record {
         now = λ x left c among out. ⊎_elim
-            (λ (same : c ≡ first). absurd (true≢false (sym (set_first c same) ∙ out)))
+            (λ (same : c ≡ first). absurd (true≢false (sym (set_first failed bits c same) ∙ out)))
             (λ (inside : IsAmong rest c). (rest_settled before page less now).now x left c inside
             (still_out first.number c.number (has_bit failed_rest c.number) (sym (bits c.number (named c (inr inside)).number) ∙ out))) among;
       };
@@ -236,9 +256,6 @@ module _ (first : DirCopy) (rest : List DirCopy) (dues : List Due) (number : ℕ
           (in_or_one first.number k (k == first.number) (has_bit failed_rest k) (sym (bits k small) ∙ is));
     }
       where
-        set_first : (c : DirCopy) → c ≡ first → has_bit failed c.number ≡ true
-        set_first c same = bits c.number (named c (inl same)).number ∙ ap (λ (b : Bool). b || has_bit failed_rest c.number) (eq-eqb c.number first.number (ap (λ (d : DirCopy). d.number) same))
-
         same_number : (k : ℕ) → (k == first.number) ≡ true → k ≡ first.number
         same_number k is = eqb-true k first.number is
 

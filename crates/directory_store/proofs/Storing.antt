@@ -20,13 +20,15 @@ use Rattle.asm_formats.proofs.Among.{among_filter, filter_among}
 use Rattle.change_directory.specs.declared.copy.DirCopy.{DirCopy}
 use Rattle.change_directory.specs.Logs.{image_of_page}
 use Rattle.change_directory.specs.StoreLaws.{SameRegion}
+use Rattle.change_directory.proofs.Settled.{logs_stay}
+use Rattle.change_directory.proofs.Spares.{region_logs}
 use Rattle.change_directory.proofs.Usable.{still_copy, short_sector}
 use Rattle.page_map.specs.Tables.{PageTable, IsTable, SameTable, Shows, block_of}
 use Rattle.page_map.specs.Contents.{AreItems}
 use Rattle.page_map.specs.Applying.{Applies}
 use Rattle.directory_store.specs.Answers.{NoCalls}
 use Rattle.directory_store.specs.Contents.{ArePutItems}
-use Rattle.directory_store.specs.Copies.{AreApart, AreKept, AreNamed, Earlier, FailedAlone, HaveEither, MayPutOn, WritesFew, calls_for, due_of}
+use Rattle.directory_store.specs.Copies.{AreApart, AreKept, AreNamed, Earlier, FailedAlone, HaveEither, LogsSettledBut, MayPutOn, WritesFew, calls_for, due_of}
 use Rattle.directory_store.specs.Stores.{Stored, Keeps, HaveRecords, HaveEitherRecords, off, others, without}
 use Rattle.directory_store.specs.declared.due.Due.{Due}
 use Rattle.directory_store.proofs.Records.{items_after, pages_decode, is_head, has_records}
@@ -101,7 +103,7 @@ same_items old new same items = λ k v found. items k v (sym (same.records k) �
 
 -- the same store but for equal records keeps
 pub unchanged_keeps : (old : Stored) (table : PageTable) (s : BayState) → Keeps old s → SameTable old.table table → IsTable table
-    → Keeps (record { table = table; number = old.number; copies = old.copies; due = old.due; read = old.read }) s
+    → Keeps (record { table = table; number = old.number; copies = old.copies; due = old.due; read = old.read; settled = old.settled }) s
 unchanged_keeps old table s keeps same sound = record {
   table = sound;
   items = same_items old.table table same keeps.items;
@@ -111,6 +113,7 @@ unchanged_keeps old table s keeps same sound = record {
   page = keeps.page;
   shows = same_shows old.table table keeps.page same keeps.shows;
   now = keeps.now;
+  logs = keeps.logs;
 }
 
 pub kept_have_records : (stored : Stored) (s : BayState) → Keeps stored s → NowOnly s (HaveRecords stored)
@@ -150,8 +153,8 @@ module _ (old : Stored) (table : PageTable) (put : List Entry) (gone : List Key)
   pub earlier : Earlier next (λ before page. NowOnly s (AreKept old.copies old.due before page))
   earlier = record { before = old.number; page = keeps.page; smaller = less; holds = keeps.now }
 
-  module _ (failed : ℕ) (t : BayState) (commits : Commits old.copies old.due next pages failed s t) where
-    pub commit_keeps : Keeps (record { table = table; number = next; copies = others failed old.copies; due = []; read = old.read }) t
+  module _ (failed : ℕ) (t : BayState) (commits : Commits old.copies old.due next pages failed s t) (logs : LogsSettledBut old.copies failed t) where
+    pub commit_keeps : Keeps (record { table = table; number = next; copies = others failed old.copies; due = []; read = old.read; settled = true }) t
     commit_keeps = record {
       table = sound;
       items = new_items;
@@ -169,12 +172,13 @@ module _ (old : Stored) (table : PageTable) (put : List Entry) (gone : List Key)
               due_are = record { ascend = refl; due = inr (λ p inside. absurd inside); others = λ p lt none. settled.home p lt };
             };
       };
+      logs = λ settled c among. let left_in = left_is failed old.copies c among in logs c left_in.0 left_in.1;
     }
 
-    pub commit_moments : (copies : List DirCopy) (due : List Due) → LeavesOnly s t (HaveEitherRecords old (record { table = table; number = next; copies = copies; due = due; read = old.read }))
+    pub commit_moments : (copies : List DirCopy) (due : List Due) → LeavesOnly s t (HaveEitherRecords old (record { table = table; number = next; copies = copies; due = due; read = old.read; settled = true }))
     commit_moments copies due = leaves_less
         {P = HaveEither old.copies old.number next keeps.page (with_images (map image_of_page pages) keeps.page)}
-        {Q = HaveEitherRecords old (record { table = table; number = next; copies = copies; due = due; read = old.read })}
+        {Q = HaveEitherRecords old (record { table = table; number = next; copies = copies; due = due; read = old.read; settled = true })}
         (λ x either c among. ⊎_elim
         (λ before. inl (has_records old.table old.number c keeps.page x keeps.table keeps.shows keeps.items (keeps.pages c among) before))
         (λ now. inr (has_records table next c (with_images (map image_of_page pages) keeps.page) x sound new_shows new_items (new_units c among) now))
@@ -197,6 +201,9 @@ pub may_put_are : (copies copies' : List DirCopy) (number : ℕ) (pages pages' :
 may_put_are copies copies' number pages pages' e p h =
     subst (λ (l : List DirCopy). MayPutOn l number pages') (sym e) (subst (λ (l : List (ℕ × Block)). MayPutOn copies number l) (sym p) h)
 
+pub logs_are : (copies copies' : List DirCopy) (failed : ℕ) (t : BayState) → copies ≡ copies' → LogsSettledBut copies failed t → LogsSettledBut copies' failed t
+logs_are copies copies' failed t e h = subst (λ (l : List DirCopy). LogsSettledBut l failed t) e h
+
 -- what a commit has done to the store and its copies, some of which may have failed
 pub record HasCommitted (old new : Stored) (keys failed : ℕ) (s t : BayState) : Type 0 where
   pub keeps : Keeps new t
@@ -208,17 +215,17 @@ pub record HasCommitted (old new : Stored) (keys failed : ℕ) (s t : BayState) 
 
 pub has_committed : (old was : Stored) (table : PageTable) (put : List Entry) (gone : List Key) (pages : List (ℕ × Block)) (s t : BayState) (next failed : ℕ) (copies : List DirCopy)
     → was ≡ old → Keeps old s → Applies was.table table put gone pages → IsTable table → ArePutItems put → length put + length gone ≤ 64 → was.number < next → next < 2 ^ 64 - 1
-    → Commits was.copies was.due next pages failed s t → copies ≡ others failed was.copies
-    → HasCommitted old (record { table = table; number = next; copies = copies; due = []; read = was.read }) (length put + length gone) failed s t
-has_committed old was table put gone pages s t next failed copies is keeps applies sound puts few less small commits left =
+    → Commits was.copies was.due next pages failed s t → LogsSettledBut was.copies failed t → copies ≡ others failed was.copies
+    → HasCommitted old (record { table = table; number = next; copies = copies; due = []; read = was.read; settled = true }) (length put + length gone) failed s t
+has_committed old was table put gone pages s t next failed copies is keeps applies sound puts few less small commits logs left =
     let keeps_was = subst (λ (o : Stored). Keeps o s) (sym is) keeps in
-    let kept = subst (λ (l : List DirCopy). Keeps (record { table = table; number = next; copies = l; due = []; read = was.read }) t) (sym left)
-    (commit_keeps was table put gone pages s next keeps_was applies sound puts few less small failed t commits) in
-    subst (λ (o : Stored). HasCommitted o (record { table = table; number = next; copies = copies; due = []; read = was.read }) (length put + length gone) failed s t) is
+    let kept = subst (λ (l : List DirCopy). Keeps (record { table = table; number = next; copies = l; due = []; read = was.read; settled = true }) t) (sym left)
+    (commit_keeps was table put gone pages s next keeps_was applies sound puts few less small failed t commits logs) in
+    subst (λ (o : Stored). HasCommitted o (record { table = table; number = next; copies = copies; due = []; read = was.read; settled = true }) (length put + length gone) failed s t) is
     (record {
       keeps = kept;
-      moments = commit_moments was table put gone pages s next keeps_was applies sound puts few less small failed t commits copies [];
-      done = kept_have_records (record { table = table; number = next; copies = copies; due = []; read = was.read }) t kept;
+      moments = commit_moments was table put gone pages s next keeps_was applies sound puts few less small failed t commits logs copies [];
+      done = kept_have_records (record { table = table; number = next; copies = copies; due = []; read = was.read; settled = true }) t kept;
       calls = omega (arith, commits.calls, few_calls was.copies was.due (length pages) (length put + length gone) applies.few);
       written = λ c among. omega (arith, commits.written c among, applies.few);
       gone = λ none. all_failed was.copies was.due failed s t keeps_was.apart keeps_was.named commits.failed_alone none;
@@ -241,6 +248,7 @@ forgotten_keeps store slot s keeps = record {
   page = keeps.page;
   shows = keeps.shows;
   now = record { now = λ x left c among. keeps.now.now x left c (was c among) };
+  logs = λ settled c among. keeps.logs settled c (was c among);
 }
   where
     was : (c : DirCopy) → IsAmong (off slot store.copies) c → IsAmong store.copies c
@@ -261,4 +269,5 @@ keeps_elsewhere {slots} {step} {s} {t} store same attached run keeps = record {
       let is = kept c among in
       let copy = region_is_same c x y (shaped (keeps.named c among).copy_is) is.content.pages.sized (same x y c among here) in
       record { content = copy.has_content store.number keeps.page is.content; due_are = copy.has_due (due_of store.due c.slot) is.due_are }) (stops run) keeps.now;
+  logs = λ settled c among. logs_stay c (λ x y here. region_logs c x y (keeps.named c among).copy_is.least (same x y c among here)) run (keeps.logs settled c among);
 }

@@ -9,7 +9,7 @@ use Rattle.asm_formats.specs.Among.{IsAmong}
 use Rattle.asm_formats.specs.Sets.{has_bit}
 use Rattle.change_directory.specs.declared.copy.DirCopy.{DirCopy}
 use Rattle.change_directory.specs.Places.{IsCopy}
-use Rattle.change_directory.specs.Logs.{are_pages}
+use Rattle.change_directory.specs.Logs.{AreLogsSettled, are_pages}
 use Rattle.change_directory.specs.Changes.{content_in, DecodesIn, IsAtHome}
 use Rattle.change_directory.specs.Formatting.{AreShut, MayLoseContent}
 use Rattle.change_directory.specs.Laws.{ArePut}
@@ -66,6 +66,14 @@ HaveEither copies before next page after x = (c : DirCopy) → IsAmong copies c 
 -- each copy whose disk isn't in the set has these pages as its content, each as it stands at home
 abbrev pub AreSettledBut : List DirCopy → ℕ → ℕ → (ℕ → Bytes) → Image → Type 0
 AreSettledBut copies failed number page x = (c : DirCopy) → IsAmong copies c → has_bit failed c.number ≡ false → IsSettled c number page x
+
+-- each image that a stop now may leave has the log slots of each copy as they are held
+abbrev pub AllLogsSettled : List DirCopy → BayState → Type 0
+AllLogsSettled copies state = (c : DirCopy) → IsAmong copies c → AreLogsSettled c state
+
+-- so it has those of each copy whose disk isn't in the set
+abbrev pub LogsSettledBut : List DirCopy → ℕ → BayState → Type 0
+LogsSettledBut copies failed state = (c : DirCopy) → IsAmong copies c → has_bit failed c.number ≡ false → AreLogsSettled c state
 
 -- a disk is in the set only where it is that of one of the copies and its slot failed
 abbrev pub FailedAlone : List DirCopy → ℕ → BayState → BayState → Type 0

@@ -1,5 +1,5 @@
 -- A copy that is brought up beside those of a store.
-use Rattle.std.specs.Prelude.{◌≡◌, ◌⊎◌, ◌==◌, ℕ, ◌+◌, Bool, true, ◌&&◌, not, nat_le, nat_lt, filter, List, [], ◌∷◌, None}
+use Rattle.std.specs.Prelude.{◌≡◌, ◌⊎◌, ◌==◌, ℕ, not, filter, List, None}
 use Rattle.bay.specs.Image.{Image, ChangesOnly}
 use Rattle.asm_group.specs.Names.{Bytes}
 use Rattle.asm_base.specs.declared.block.Block.{Block}

@@ -8,7 +8,7 @@ use Rattle.bay.proofs.Calls.{stops, as_held}
 use Rattle.bay.specs.State.{BayState, IsSound, IsSlot}
 use Rattle.bay.specs.Moments.{Runs, Ends, Durable}
 use Rattle.gate_slot.specs.declared.place.Place.{Place}
-use Rattle.gate_slot.specs.Slot.{IsUsable, GateOf, PlaceOf, is_open_in, body_in, shown, SetsGate, FoundGate, Closes, MayClose, Opens, MayOpen, HasPut, MayPut, FromHeld, WaitsFor}
+use Rattle.gate_slot.specs.Slot.{IsUsable, IsGateSettled, GateOf, PlaceOf, is_open_in, body_in, shown, SetsGate, FoundGate, Closes, MayClose, Opens, MayOpen, HasPut, MayFillShut, MayPut, FromHeld, WaitsFor}
 
 -- where the gate is and what the body is says what is shown
 shown-open : (place : Place) (slot : ℕ) (image : Image) → is_open_in place slot image ≡ true → shown place slot image ≡ Some (body_in place slot image)
@@ -102,6 +102,10 @@ module _ {state : BayState} {place : Place} {slot : ℕ} (usable : IsUsable stat
   pub closes-found : (x y : Image) → FoundGate place slot false x y → Closes place slot x y
   closes-found x y found = record { shows = shown-closed place slot y found.gate; elsewhere = changes-same (GateOf place slot) x y found.same }
 
+  pub closes-still : (x y z : Image) → FoundGate place slot false x y → Same y z → Closes place slot x z
+  closes-still x y z found same =
+      closes-found x z (record { gate = ap (λ (n : ℕ). n == 165) (same.byte slot place.gate) ∙ found.gate; same = same-trans x y z found.same same })
+
   -- opening
   pub may_open : (x y : Image) → ChangesOnly (GateOf place slot) x y → MayOpen place slot x y
   may_open x y step = record {
@@ -125,31 +129,40 @@ module _ {state : BayState} {place : Place} {slot : ℕ} (usable : IsUsable stat
     elsewhere = in_place x y step.elsewhere;
   }
 
+  pub put-then : (body : List ℕ) (x y z : Image) → Closes place slot x y → MayFillShut place slot body y z → MayPut place slot body x z
+  put-then body x y z closed step = record {
+    shows = inr (step.shows closed.shows);
+    elsewhere = changes-trans (PlaceOf place slot) x y z (in_place x y closed.elsewhere) step.elsewhere;
+  }
+
+  pub then_put : (body : List ℕ) (x y z : Image) → Closes place slot x y → HasPut place slot body y z → HasPut place slot body x z
+  then_put body x y z closed step = record {
+    shows = step.shows;
+    elsewhere = changes-trans (PlaceOf place slot) x y z (in_place x y closed.elsewhere) step.elsewhere;
+  }
+
   -- the body of a closed slot is written
   module _ (body : List ℕ) (at : ℕ) (begins : at ≡ place.body) (whole : length body ≡ place.len) where
     filled_place : (x y : Image) → ChangesOnly (Range slot at (length body)) x y → ChangesOnly (PlaceOf place slot) x y
     filled_place x y step = changes-within (PlaceOf place slot) (Range slot at (length body)) x y (λ s k inside. inr (inside.0, omega (arith, inside.1), omega (arith, inside.2))) step
 
-    stays_shut : (x y z : Image) → Closes place slot x y → ChangesOnly (Range slot at (length body)) y z → shown place slot z ≡ None
-    stays_shut x y z closed step =
+    stays_shut : (x y : Image) → shown place slot x ≡ None → ChangesOnly (Range slot at (length body)) x y → shown place slot y ≡ None
+    stays_shut x y none step =
         let gate_stays = step.byte slot place.gate (λ inside. gate_apart place.gate refl (inside.0, omega (arith, inside.1), omega (arith, inside.2))) in
-        shown-closed place slot z (ap (λ (b : ℕ). b == 165) gate_stays ∙ shown-shut place slot y closed.shows)
+        shown-closed place slot y (ap (λ (b : ℕ). b == 165) gate_stays ∙ shown-shut place slot x none)
 
-    pub put-fill : (x y z : Image) → Closes place slot x y → ChangesOnly (Range slot at (length body)) y z → MayPut place slot body x z
-    put-fill x y z closed step = record {
-      shows = inr (inl (stays_shut x y z closed step));
-      elsewhere = changes-trans (PlaceOf place slot) x y z (in_place x y closed.elsewhere) (filled_place y z step);
+    pub may_fill : (x y : Image) → ChangesOnly (Range slot at (length body)) x y → MayFillShut place slot body x y
+    may_fill x y step = record { shows = λ none. inl (stays_shut x y none step); elsewhere = filled_place x y step }
+
+    pub filled : (x y : Image) → Puts slot at body x y → HasFilled place slot body x y
+    filled x y step = record {
+      is = ap (λ (n : ℕ). window (y.byte slot) n place.len) (sym begins) ∙ ap (λ (n : ℕ). window (y.byte slot) at n) (sym whole) ∙ step.here;
+      elsewhere = filled_place x y step.elsewhere;
     }
 
-    pub filled : (x y z : Image) → Closes place slot x y → Puts slot at body y z → HasFilled place slot body x z
-    filled x y z closed step = record {
-      is = ap (λ (n : ℕ). window (z.byte slot) n place.len) (sym begins) ∙ ap (λ (n : ℕ). window (z.byte slot) at n) (sym whole) ∙ step.here;
-      elsewhere = changes-trans (PlaceOf place slot) x y z (in_place x y closed.elsewhere) (filled_place y z step.elsewhere);
-    }
-
-  pub put-open : (body : List ℕ) (x y z : Image) → HasFilled place slot body x y → MayOpen place slot y z → MayPut place slot body x z
-  put-open body x y z filled step = record {
-    shows = inr (⊎_elim inl (λ shows. inr (shows ∙ ap Some filled.is)) step.shows);
+  pub fill-open : (body : List ℕ) (x y z : Image) → HasFilled place slot body x y → MayOpen place slot y z → MayFillShut place slot body x z
+  fill-open body x y z filled step = record {
+    shows = λ none. ⊎_elim inl (λ shows. inr (shows ∙ ap Some filled.is)) step.shows;
     elsewhere = changes-trans (PlaceOf place slot) x y z filled.elsewhere (in_place y z step.elsewhere);
   }
 
@@ -182,6 +195,22 @@ found_gate place slot answer a b c sound synced durable read answered = record {
   where
     gate_as : (x y : Image) → x.byte slot place.gate ≡ y.byte slot place.gate → is_open_in place slot x ≡ is_open_in place slot y
     gate_as x y is = ap (λ (n : ℕ). n == 165) is
+
+-- what a read gives of a gate that each image has as it is held is so in each image
+pub found_as_held : (place : Place) (slot : ℕ) (answer : Bool) (a b : BayState) → IsSound a → IsGateSettled place slot a → Runs (IsSlot slot) Same a b
+    → ((image : Image) → a.holds ≡ Some image → answer ≡ is_open_in place slot image) → Ends (FoundGate place slot answer) a b
+found_as_held place slot answer a b sound settled read answered = record {
+  held = λ image holds.
+      let start = read.held image holds in
+      (start.0, start.1, record { gate = same_gate start.0 image start.2 ∙ sym (answered start.0 start.1); same = start.2 });
+  now = λ image left.
+      let start = (stops read).now image left in
+      let held = sound.told start.0 start.1 in
+      (start.0, start.1, record { gate = same_gate start.0 image start.2 ∙ settled.gate start.0 held.0 start.1 held.1 ∙ sym (answered held.0 held.1); same = start.2 });
+}
+  where
+    same_gate : (x y : Image) → Same x y → is_open_in place slot y ≡ is_open_in place slot x
+    same_gate x y same = ap (λ (n : ℕ). n == 165) (same.byte slot place.gate)
 
 -- and each image has on the slot's disk what the disks held before
 pub found_settled : (place : Place) (slot : ℕ) (answer : Bool) (a b c : BayState) → IsSound b → Runs (IsSlot slot) Same a b → Durable slot b → Runs (IsSlot slot) Same b c

@@ -31,6 +31,10 @@ AreApart place slot other other_slot = (s k : ℕ) → PlaceOf place slot s k �
 abbrev pub is_open_in : Place → ℕ → Image → Bool
 is_open_in place slot image = image.byte slot place.gate == 165
 
+-- each image that a stop now may leave has the gate as it is held
+pub record IsGateSettled (place : Place) (slot : ℕ) (state : BayState) : Type 0 where
+  pub gate : (image held : Image) → state.leaves state.calls image → state.holds ≡ Some held → is_open_in place slot image ≡ is_open_in place slot held
+
 -- the bytes of a body
 abbrev pub body_in : Place → ℕ → Image → List ℕ
 body_in place slot image = window (image.byte slot) place.body place.len
@@ -77,6 +81,11 @@ pub record HasPut (place : Place) (slot : ℕ) (body : List ℕ) (old new : Imag
 -- while a body is put, the slot shows what it did, nothing, or the new body
 pub record MayPut (place : Place) (slot : ℕ) (body : List ℕ) (old new : Image) : Type 0 where
   pub shows : (shown place slot new ≡ shown place slot old) ⊎ ((shown place slot new ≡ None) ⊎ (shown place slot new ≡ Some body))
+  pub elsewhere : ChangesOnly (PlaceOf place slot) old new
+
+-- while a closed slot is filled and opened, it shows nothing or the body
+pub record MayFillShut (place : Place) (slot : ℕ) (body : List ℕ) (old new : Image) : Type 0 where
+  pub shows : shown place slot old ≡ None → (shown place slot new ≡ None) ⊎ (shown place slot new ≡ Some body)
   pub elsewhere : ChangesOnly (PlaceOf place slot) old new
 
 -- the step comes from an image that has on the slot's disk what the held one has

@@ -5,7 +5,7 @@ ghost use Rattle.bay.specs.Image.{window, Same, ChangesOnly, Range, Puts};
 ghost use Rattle.bay.specs.State.{IsSlot, KeepsAttached, IsOnSectors, size_of};
 ghost use Rattle.bay.specs.Counts.{Rose};
 ghost use Rattle.bay.specs.Moments.{Runs, Ends};
-ghost use Rattle.gate_slot.specs.Slot.{IsUsable, is_open_in, GateOf, SetsGate, FoundGate, MayClose, Closes, MayOpen, Opens, MayPut, HasPut, shown, FromHeld, WaitsFor};
+ghost use Rattle.gate_slot.specs.Slot.{IsUsable, IsGateSettled, is_open_in, GateOf, SetsGate, FoundGate, MayClose, Closes, MayOpen, Opens, MayFillShut, MayPut, HasPut, shown, FromHeld, WaitsFor};
 
 use crate::Place;
 use bay::{Bay, Fault};
@@ -125,6 +125,24 @@ pub fn close_gate<B: Bay>(bay: &mut B, slot: u32, place: Place) -> Result<(), Fa
     write_gate(bay, slot, place, CLOSED)
 }
 
+// Closes a gate that each image has as it is held. The sync before the body comes in either case.
+fn close_settled<B: Bay>(bay: &mut B, slot: u32, place: Place) -> Result<(), Fault>
+    requires usable { IsUsable (B.state bay.old) slot place }
+    requires settled { IsGateSettled place slot (B.state bay.old) }
+    ensures attached { KeepsAttached (B.state bay.old) (B.state bay.new) }
+    ensures calls { (B.state bay.new).calls ≤ (B.state bay.old).calls + 3 }
+    ensures written { (B.state bay.new).written slot ≤ (B.state bay.old).written slot + place.sector }
+    ensures runs { Runs (IsSlot slot) (MayClose place slot) (B.state bay.old) (B.state bay.new) }
+    ensures done { OnOk result (Ends (Closes place slot) (B.state bay.old) (B.state bay.new)) }
+    ensures cause { OnErr result (Rose ((B.state bay.old).faults slot) ((B.state bay.new).faults slot)) }
+{
+    if is_open(bay, slot, place)? {
+        write_gate(bay, slot, place, CLOSED)
+    } else {
+        bay.sync(slot)
+    }
+}
+
 /// Writes a part of the body of a closed slot.
 pub fn fill_body<B: Bay>(
     bay: &mut B,
@@ -160,6 +178,22 @@ pub fn open_gate<B: Bay>(bay: &mut B, slot: u32, place: Place) -> Result<(), Fau
     write_gate(bay, slot, place, OPEN)
 }
 
+// Writes the body of a closed slot, and opens the gate.
+fn fill_and_open<B: Bay>(bay: &mut B, slot: u32, place: Place, body: &[u8]) -> Result<(), Fault>
+    requires usable { IsUsable (B.state bay.old) slot place }
+    requires closed { ForSome (B.state bay.old).holds (λ image. shown place slot image ≡ None) }
+    requires whole { length body.now ≡ place.len }
+    ensures attached { KeepsAttached (B.state bay.old) (B.state bay.new) }
+    ensures calls { (B.state bay.new).calls ≤ (B.state bay.old).calls + 4 }
+    ensures written { (B.state bay.new).written slot ≤ (B.state bay.old).written slot + place.sector + place.len }
+    ensures runs { Runs (IsSlot slot) (MayFillShut place slot body.now) (B.state bay.old) (B.state bay.new) }
+    ensures done { OnOk result (Ends (HasPut place slot body.now) (B.state bay.old) (B.state bay.new)) }
+    ensures cause { OnErr result (Rose ((B.state bay.old).faults slot) ((B.state bay.new).faults slot)) }
+{
+    fill_body(bay, slot, place, 0, body)?;
+    open_gate(bay, slot, place)
+}
+
 /// Puts a body in the place of the one that is there. At each moment the slot shows the old body, nothing or the new one.
 pub fn put<B: Bay>(bay: &mut B, slot: u32, place: Place, body: &[u8]) -> Result<(), Fault>
     requires usable { IsUsable (B.state bay.old) slot place }
@@ -175,6 +209,21 @@ pub fn put<B: Bay>(bay: &mut B, slot: u32, place: Place, body: &[u8]) -> Result<
     ensures cause { OnErr result (Rose ((B.state bay.old).faults slot) ((B.state bay.new).faults slot)) }
 {
     close_gate(bay, slot, place)?;
-    fill_body(bay, slot, place, 0, body)?;
-    open_gate(bay, slot, place)
+    fill_and_open(bay, slot, place, body)
+}
+
+/// The same where each image has the gate as it is held, as after a sync of the disk. It takes a sync less.
+pub fn put_settled<B: Bay>(bay: &mut B, slot: u32, place: Place, body: &[u8]) -> Result<(), Fault>
+    requires usable { IsUsable (B.state bay.old) slot place }
+    requires settled { IsGateSettled place slot (B.state bay.old) }
+    requires whole { length body.now ≡ place.len }
+    ensures attached { KeepsAttached (B.state bay.old) (B.state bay.new) }
+    ensures calls { (B.state bay.new).calls ≤ (B.state bay.old).calls + 7 }
+    ensures written { (B.state bay.new).written slot ≤ (B.state bay.old).written slot + 2 * place.sector + place.len }
+    ensures runs { Runs (IsSlot slot) (MayPut place slot body.now) (B.state bay.old) (B.state bay.new) }
+    ensures done { OnOk result (Ends (HasPut place slot body.now) (B.state bay.old) (B.state bay.new)) }
+    ensures cause { OnErr result (Rose ((B.state bay.old).faults slot) ((B.state bay.new).faults slot)) }
+{
+    close_settled(bay, slot, place)?;
+    fill_and_open(bay, slot, place, body)
 }

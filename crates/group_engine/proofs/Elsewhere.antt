@@ -178,6 +178,7 @@ module _ (m : MountedGroup) (whole : IsWhole m) {s t : BayState} (stays : KeepsO
         page = kept.page;
         shows = kept.shows;
         now = record { now = kept.now.now };
+        logs = λ settled c among. record { as_held = (kept.logs settled c among).as_held };
       }
 
   ready_stays : {on : ℕ → Type 0} {step : bay.Image → bay.Image → Type 0} → ((x y : bay.Image) (c : DirCopy) → IsAmong m.store.copies c → step x y → SameRegion c x y)

@@ -25,6 +25,7 @@ fn syncs_of(
     requires kept { Keeps store.old (state_of bay.old.disks) }
     requires items { ArePutItems change.now.put }
     requires few { length change.now.put + length change.now.gone ≤ 64 }
+    ensures { Keeps store.new (state_of bay.new.disks) }
 {
     let first = bay.first;
     let second = bay.second;
@@ -34,12 +35,28 @@ fn syncs_of(
     Some((first, second, failed))
 }
 
+/// The same of two commits, one behind the other.
+fn syncs_of_two(
+    alloc: Global,
+    bay: &mut CountingBay,
+    store: &mut Store,
+    change: &Change,
+) -> Option<(Syncs, Syncs)>
+    requires kept { Keeps store.old (state_of bay.old.disks) }
+    requires items { ArePutItems change.now.put }
+    requires few { length change.now.put + length change.now.gone ≤ 64 }
+{
+    let first = syncs_of(alloc, bay, store, change)?;
+    let second = syncs_of(alloc, bay, store, change)?;
+    Some((first, second))
+}
+
 /// The same of a rebalance in a store without records.
-fn syncs_on(alloc: Global, bay: &mut CountingBay) -> Option<Syncs> {
+fn syncs_on(alloc: Global, bay: &mut CountingBay) -> Option<(Syncs, Syncs)> {
     match rebalance(alloc) {
         Ok(change) => match create_on_two(alloc, bay) {
             Some(mut store) => {
-                let syncs = syncs_of(alloc, bay, &mut store, &change);
+                let syncs = syncs_of_two(alloc, bay, &mut store, &change);
                 drop(store);
                 drop(change);
                 syncs
@@ -53,7 +70,7 @@ fn syncs_on(alloc: Global, bay: &mut CountingBay) -> Option<Syncs> {
     }
 }
 
-fn syncs(alloc: Global) -> Option<Syncs> {
+fn syncs(alloc: Global) -> Option<(Syncs, Syncs)> {
     match two_disks(alloc) {
         Some(disks) => {
             let mut bay = CountingBay {
@@ -69,15 +86,22 @@ fn syncs(alloc: Global) -> Option<Syncs> {
     }
 }
 
-fn is_few(syncs: u64) -> bool {
-    1 <= syncs && syncs <= 5
+fn are_few(syncs: Syncs, most: u64) -> bool {
+    let (first, second, failed) = syncs;
+    1 <= first && first <= most && 1 <= second && second <= most && failed == 0
 }
 
 fn commit_syncs_each_copy_at_most_five_times(alloc: Global) -> Result<(), Wrong> {
     match syncs(alloc) {
-        Some((first, second, failed)) => {
-            let are_few = is_few(first) && is_few(second) && failed == 0;
-            row("commit syncs each copy at most five times", are_few)
+        Some((first, second)) => {
+            row(
+                "commit syncs each copy at most five times",
+                are_few(first, 5),
+            )?;
+            row(
+                "commit behind one syncs at most four times",
+                are_few(second, 4),
+            )
         }
         None => Err(("a commit", 0)),
     }

@@ -2,6 +2,7 @@ use Rattle.std.proofs.lemmas.Result.{on_ok_weaker}
 use Rattle.bay.proofs.Calls.{widened}
 use Rattle.change_directory.proofs.Afterwards.{head_pages}
 use Rattle.change_directory.proofs.Regions.{steps_stay_inside}
+use Rattle.change_directory.proofs.Settled.{durable_logs}
 use Rattle.directory_store.proofs.Steps.{shaped, both_run, logging_moments, logged_now, commit_moments, commit_done}
 use Rattle.directory_store.proofs.commit.log_and_home.Goals as goal
 
@@ -34,3 +35,6 @@ returns-clause-moments g c = λ before page less now.
 pub returns-clause-done : goal.returns-clause-done
 returns-clause-done g c = on_ok_weaker c.checkpoint.result
     (λ ends before page less now. commit_done c.args.copy c.args.number c.args.pages.now (shaped c.requires.copy) c.requires.put before page less c.in_ok-commit.ensures.done ends now) c.checkpoint.ensures.done
+
+pub returns-clause-logs : goal.returns-clause-logs
+returns-clause-logs g c = on_ok_weaker c.checkpoint.result (durable_logs c.args.copy _) c.checkpoint.ensures.durable
