@@ -20,7 +20,6 @@ ghost use Rattle.group_mount.specs.Writing.{FrontOf, RenewCause};
 use crate::choosing::member_of;
 use crate::error::MountError;
 use crate::finding::Headed;
-use crate::majorities::missing;
 use crate::missing::has_units;
 use crate::quorum::Quorate;
 use crate::record::next_record;
@@ -29,7 +28,7 @@ use asm_base::{Name, NoMemory, Shape};
 use bay::Bay;
 use catalog::Catalog;
 use directory_store::Store;
-use status_register::{Member, Register, Survey, is_of_entry};
+use status_register::{Member, Register, Survey, is_of_entry, missing};
 use status_table::{PstEntry, PstRecord};
 use std::alloc::Global;
 

@@ -33,6 +33,7 @@ pub use laws::{
     ordered_puts_are_a_row, records_keep_members, shown_claim_is_seen, stored_claims_fit,
     stored_record_completes, stored_records_fit, surveyed_epoch_is_above, surveyed_record_counts,
 };
+pub use majorities::missing;
 pub use member::Member;
 pub use register::Register;
 pub use survey::Survey;
