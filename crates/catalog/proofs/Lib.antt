@@ -48,6 +48,7 @@ pub mod EditLaws
 pub mod MarkPlans
 pub mod UnitEdits
 pub mod MovePlans
+pub mod MovedHomes
 pub mod ReleasePlans
 pub mod AppendPlans
 pub mod CutPlans

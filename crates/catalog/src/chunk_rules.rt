@@ -115,7 +115,7 @@ fn are_within_all(copies: u8, homes: &[Homes]) -> bool
 }
 
 /// Whether the extent has no home at a copy number that isn't below this one.
-fn are_within(copies: u8, homes: &Homes) -> bool
+pub fn are_within(copies: u8, homes: &Homes) -> bool
     ensures { result ≡ are_within copies homes.now }
 {
     let homes = *homes;
@@ -131,7 +131,7 @@ fn are_on_disks_all(homes: &[Homes]) -> bool
 }
 
 /// Whether the homes of an extent lie on different disks.
-fn are_on_disks(homes: &Homes) -> bool
+pub fn are_on_disks(homes: &Homes) -> bool
     ensures { result ≡ are_on_disks homes.now }
 {
     let homes = *homes;

@@ -18,6 +18,7 @@ mod laws;
 mod listing;
 mod mark_rules;
 mod marked;
+mod moving;
 mod name_rules;
 mod new_file;
 mod next_file;
@@ -31,6 +32,7 @@ mod spare;
 
 pub use catalog::Catalog;
 pub use changing::a_change_leaves_one_set_of_tables;
+pub use chunk_rules::{are_on_disks, are_within};
 pub use disk_info::DiskInfo;
 pub use error::CatalogError;
 pub use laws::{

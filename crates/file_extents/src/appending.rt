@@ -1,13 +1,13 @@
 // Extents that were filled are put behind those of a file: whether they may, and their commit.
 ghost use Rattle.std.specs.Bool.{OnTrue};
-ghost use Rattle.std.specs.Prelude.{◌≡◌, ◌||◌, ◌<◌, ◌≤◌, ◌+◌, ◌/◌, ◌^◌, IfOk, None, Some, is_some, length, nat_lt, not, true};
+ghost use Rattle.std.specs.Prelude.{◌≡◌, ◌||◌, ◌<◌, ◌+◌, ◌/◌, ◌^◌, IfOk, None, Some, is_some, length, nat_lt, not, true};
 ghost use Rattle.std.specs.List.{list_all};
 ghost use Rattle.asm_formats.specs.Sets.{has_bit};
 ghost use Rattle.asm_placement.specs.Placed.{placed_extents};
 ghost use Rattle.catalog.specs.ExtentPlans.{MayAppend};
 ghost use Rattle.catalog.specs.NamePlans.{is_within_file};
 ghost use Rattle.catalog.specs.Placing.{after_homes};
-ghost use Rattle.catalog.specs.Rules.{are_marks_of, are_on_disks, are_on_two, are_within, first_wrong, has_copies};
+ghost use Rattle.catalog.specs.Rules.{are_marks_of, are_on_disks, are_within, first_wrong, has_copies};
 ghost use Rattle.extent_map.specs.Extents.{chunk_or_blank, count_in, extent_at, follows, has_extent};
 ghost use Rattle.group_engine.specs.Mounts.{IsMounted, Takes};
 ghost use Rattle.group_engine.specs.Pending.{GoesOn};
@@ -17,7 +17,7 @@ use crate::placing::{copy_units, place_row};
 use crate::rows::{CHUNK, MOST_EXTENTS};
 use asm_base::{ExtentId, Home, Homes, NoMemory, Refusal};
 use bay::Bay;
-use catalog::Catalog;
+use catalog::{Catalog, are_on_disks, are_within};
 use group_engine::Mounted;
 use std::alloc::Global;
 
@@ -40,50 +40,12 @@ fn has_copies(homes: &Homes, copies: u8) -> bool
         && is_copied(homes.third, 2, copies)
 }
 
-/// Whether there is no home where the number isn't that of a copy.
-fn is_within(home: Option<Home>, number: u8, copies: u8) -> bool
-    ensures { result ≡ (nat_lt number copies || not (is_some home)) }
-{
-    number < copies || home.is_none()
-}
-
-fn are_within(homes: &Homes, copies: u8) -> bool
-    ensures { result ≡ are_within copies homes.now }
-{
-    let homes = *homes;
-    is_within(homes.first, 0, copies)
-        && is_within(homes.second, 1, copies)
-        && is_within(homes.third, 2, copies)
-}
-
-fn are_on_two(one: Option<Home>, other: Option<Home>) -> bool
-    ensures { result ≡ are_on_two one other }
-{
-    match one {
-        Some(one) => match other {
-            Some(other) => one.disk != other.disk,
-            None => true,
-        },
-        None => true,
-    }
-}
-
-/// Whether the homes lie on different disks.
-fn are_on_disks(homes: &Homes) -> bool
-    ensures { result ≡ are_on_disks homes.now }
-{
-    let homes = *homes;
-    are_on_two(homes.first, homes.second)
-        && are_on_two(homes.first, homes.third)
-        && are_on_two(homes.second, homes.third)
-}
-
 /// Whether each extent of a row has its copies and no others, on different disks.
 fn are_all_copies(row: &[Homes], copies: u8) -> bool
     ensures { result ≡ are_all_copies copies row.now }
 {
     row.iter().all(|homes| {
-        has_copies(homes, copies) && are_within(homes, copies) && are_on_disks(homes)
+        has_copies(homes, copies) && are_within(copies, homes) && are_on_disks(homes)
     })
 }
 
@@ -186,7 +148,7 @@ pub fn is_within_file(catalog: &Catalog, file: u32, copies: u8) -> bool
 fn are_all_within(extents: &[Homes], copies: u8) -> bool
     ensures { result ≡ list_all (are_within copies) extents.now }
 {
-    extents.iter().all(|homes| are_within(homes, copies))
+    extents.iter().all(|homes| are_within(copies, homes))
 }
 
 /// Whether the file has so many extents of a chunk, from the chunk's first on, and not the next one.

@@ -1,3 +1,2 @@
-pub mod MovedHomes
 pub mod Chains
 pub mod Leaving

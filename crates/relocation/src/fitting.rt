@@ -4,7 +4,6 @@ ghost use Rattle.std.specs.Prelude.{◌<◌, IsTrue};
 ghost use Rattle.asm_group.specs.Shape.{is_shape};
 ghost use Rattle.catalog.specs.ExtentPlans.{MayMark};
 
-use crate::homes::may_move;
 use asm_base::{ExtentId, Home};
 use catalog::Catalog;
 use group_engine::{Flight, Mounted};
@@ -57,5 +56,5 @@ pub(crate) fn can_go_on(m: &Mounted, flight: Flight) -> bool
     let catalog = m.catalog();
     copied < extent_bytes(catalog.shape(), x.index)
         && !is_lost(m, x)
-        && (is_in_place(catalog, x, copy, to) || may_move(catalog, x, copy, to))
+        && (is_in_place(catalog, x, copy, to) || catalog.may_move(x, copy, to))
 }

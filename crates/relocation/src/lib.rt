@@ -6,7 +6,6 @@
 mod asking;
 mod ending;
 mod fitting;
-mod homes;
 mod slicing;
 mod steps;
 

@@ -8,7 +8,6 @@ ghost use Rattle.relocation.specs.Slices.{Goes, HasFault};
 ghost use Rattle.resync.specs.Copying.{refusal_of};
 
 use crate::fitting::is_in_place;
-use crate::homes::may_move;
 use asm_base::{Change, DiskSet, ExtentId, Home, Refusal};
 use bay::Bay;
 use catalog::Catalog;
@@ -158,7 +157,7 @@ fn plan_of(catalog: &Catalog, alloc: Global, flight: Flight) -> Result<Change, R
     if is_in_place(catalog, x, copy, to) {
         return catalog.plan_marks(alloc, x, 0, 1 << copy);
     }
-    if may_move(catalog, x, copy, to) {
+    if catalog.may_move(x, copy, to) {
         return catalog.plan_move(alloc, x, copy, to);
     }
     // One of them held when the step began, and nothing was changed since.

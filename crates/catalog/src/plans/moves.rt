@@ -1,6 +1,6 @@
 //! The plan of a copy's new home.
 
-ghost use Rattle.std.specs.Prelude.{◌≡◌, ◌<◌, ◌/◌, ◌%◌, ◌^◌, ◌∷◌, [], IfErr, IfOk, Some, get_or, slice_set};
+ghost use Rattle.std.specs.Prelude.{◌≡◌, ◌<◌, ◌/◌, ◌%◌, ◌^◌, [], IfErr, IfOk, Some, get_or, slice_set};
 ghost use Rattle.asm_formats.specs.Sets.{has_bit};
 ghost use Rattle.asm_base.specs.declared.refusal.Refusal.TheVariants.{NoMemory as WithoutMemory};
 ghost use Rattle.asm_placement.specs.Moves.{without_bit};
@@ -9,8 +9,9 @@ ghost use Rattle.catalog.specs.ExtentPlans.{MayMove, with_move};
 ghost use Rattle.catalog.specs.Plans.{IsPlan};
 
 use crate::catalog::Catalog;
+use crate::moving::with_home;
 use crate::plans::making::{no_memory, one_put, two_put};
-use asm_base::{Change, ExtentId, Home, Homes, Key, NoMemory, Refusal, Value};
+use asm_base::{Change, ExtentId, Home, Key, NoMemory, Refusal, Value};
 use extent_map::{Chunk, chunk_record};
 use std::alloc::Global;
 
@@ -83,35 +84,6 @@ impl Catalog {
             Some(chunk) => Ok(chunk),
             None => Chunk::blank(alloc),
         }
-    }
-}
-
-/// The homes of an extent with this one of a copy.
-fn with_home(homes: Homes, copy: u8, home: Home) -> Homes
-    requires { copy < 3 }
-    ensures { result ≡ slice_set homes copy (Some home) }
-{
-    let Homes {
-        first,
-        second,
-        third,
-    } = homes;
-    match copy {
-        0 => Homes {
-            first: Some(home),
-            second,
-            third,
-        },
-        1 => Homes {
-            first,
-            second: Some(home),
-            third,
-        },
-        _ => Homes {
-            first,
-            second,
-            third: Some(home),
-        },
     }
 }
 

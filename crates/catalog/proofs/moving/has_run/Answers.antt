@@ -5,8 +5,8 @@ use Rattle.std.proofs.lemmas.Option.{slice_get-get_or}
 use Rattle.asm_formats.specs.Items.{Home}
 use Rattle.allocator.specs.UnitMaps.{UnitMap}
 use Rattle.catalog.specs.Placing.{home_taken}
-use Rattle.sample_group.proofs.MovedHomes.{run_taken}
-use Rattle.sample_group.proofs.moving.has_run.Goals as goal
+use Rattle.catalog.proofs.MovedHomes.{run_taken}
+use Rattle.catalog.proofs.moving.has_run.Goals as goal
 
 pub returns : goal.returns
 returns c =

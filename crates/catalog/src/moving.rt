@@ -1,4 +1,5 @@
-// Whether a copy of an extent may have a home.
+//! Whether a copy of an extent may have a home.
+
 ghost use Rattle.std.specs.Bool.{OnTrue};
 ghost use Rattle.std.specs.Prelude.{◌≡◌, ◌<◌, IsTrue, Some, is_some, slice_set};
 ghost use Rattle.asm_placement.specs.Layout.{units_of};
@@ -7,20 +8,21 @@ ghost use Rattle.extent_map.specs.Extents.{HasExtent};
 ghost use Rattle.file_directory.specs.Files.{head_at};
 ghost use Rattle.catalog.specs.ExtentPlans.{MayMove, homes_moved, is_copy_of};
 ghost use Rattle.catalog.specs.Placing.{home_taken};
-ghost use Rattle.catalog.specs.Rules.{are_on_disks, are_on_two};
+ghost use Rattle.catalog.specs.Rules.{are_on_disks};
 
+use crate::catalog::Catalog;
+use crate::chunk_rules::are_on_disks;
 use allocator::Units;
 use asm_base::{ExtentId, Home, Homes};
-use catalog::Catalog;
 
-/// Whether a copy of an extent may move to a home: the extent is there and may have the copy, its other copies are on other disks, and
-/// the disk's lowest run of free units that is long enough begins at the unit.
-pub(crate) fn may_move(catalog: &Catalog, x: ExtentId, copy: u8, to: Home) -> bool
-    ensures { OnTrue result (MayMove catalog.now x.file x.index copy to) }
-{
-    is_copy(catalog, x.file, copy)
-        && is_apart(catalog, x, copy, to)
-        && is_free(catalog, x.index, to)
+impl Catalog {
+    /// Whether a copy of an extent may move to a home: the extent is there and may have the copy, its other copies are on
+    /// other disks, and the disk's lowest run of free units that is long enough begins at the unit.
+    pub fn may_move(&self, x: ExtentId, copy: u8, to: Home) -> bool
+        ensures { OnTrue result (MayMove self.now x.file x.index copy to) }
+    {
+        is_copy(self, x.file, copy) && is_apart(self, x, copy, to) && is_free(self, x.index, to)
+    }
 }
 
 /// Whether a file, where it has a head, has a copy of this number.
@@ -42,13 +44,13 @@ fn is_apart(catalog: &Catalog, x: ExtentId, copy: u8, to: Home) -> bool
     ensures apart { OnTrue result (IsTrue (are_on_disks (homes_moved catalog.now.tables x.file x.index copy to))) }
 {
     match catalog.homes(x) {
-        Some(homes) => are_on_disks(with_home(homes, copy, to)),
+        Some(homes) => are_on_disks(&with_home(homes, copy, to)),
         None => false,
     }
 }
 
 /// The homes of an extent with this one of a copy.
-fn with_home(homes: Homes, copy: u8, home: Home) -> Homes
+pub(crate) fn with_home(homes: Homes, copy: u8, home: Home) -> Homes
     requires { copy < 3 }
     ensures { result ≡ slice_set homes copy (Some home) }
 {
@@ -76,24 +78,6 @@ fn with_home(homes: Homes, copy: u8, home: Home) -> Homes
     }
 }
 
-/// Whether the homes of an extent lie on different disks.
-fn are_on_disks(homes: Homes) -> bool
-    ensures { result ≡ are_on_disks homes }
-{
-    are_on_two(homes.first, homes.second)
-        && are_on_two(homes.first, homes.third)
-        && are_on_two(homes.second, homes.third)
-}
-
-fn are_on_two(a: Option<Home>, b: Option<Home>) -> bool
-    ensures { result ≡ are_on_two a b }
-{
-    match (a, b) {
-        (Some(a), Some(b)) => a.disk != b.disk,
-        _ => true,
-    }
-}
-
 /// Whether the disk's lowest run of free units for an extent of this index begins at the unit.
 fn is_free(catalog: &Catalog, index: u32, to: Home) -> bool
     ensures { OnTrue result (IsTrue (is_some (home_taken catalog.now.units to (units_of catalog.now.shape.step index)))) }
@@ -101,6 +85,7 @@ fn is_free(catalog: &Catalog, index: u32, to: Home) -> bool
     has_run(catalog.units(), to, catalog.units_of(index))
 }
 
+/// Whether the lowest run of so many free units of a home's disk begins at its unit.
 fn has_run(units: &[Units], home: Home, n: u32) -> bool
     requires { 0 < n }
     ensures { OnTrue result (IsTrue (is_some (home_taken units.now home n))) }

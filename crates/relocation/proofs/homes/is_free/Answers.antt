@@ -1,5 +1,0 @@
-use Rattle.catalog.proofs.PlacingLaws.{units_some}
-use Rattle.relocation.proofs.homes.is_free.Goals as goal
-
-pub has_run-requires : goal.has_run-requires
-has_run-requires c = units_some _ _ c.units_of.result c.units_of.ensures
