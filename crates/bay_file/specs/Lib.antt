@@ -1,5 +1,6 @@
 pub mod FileBays
 pub mod FileSound
+pub mod Opening
 pub mod PathFaults
 pub mod Places
 pub mod Slots

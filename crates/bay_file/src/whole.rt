@@ -1,8 +1,10 @@
 // Whole reads and writes at a place, and answers of the system with their faults counted.
-ghost use Rattle.std.specs.Prelude.{◌≡◌, ◌≤◌, Ok, IfOk, OnOk, OnErr, IsErr, IsErrOf};
+ghost use Rattle.std.specs.Prelude.{◌≡◌, ◌≤◌, ◌↔◌, Ok, IfOk, IfErr, OnOk, OnErr, IsErr, IsTrue};
+ghost use Rattle.std.specs.IoError.{error_kind};
+ghost use Rattle.std.specs.declared.io.ErrorKind.TheVariants.{OutOfMemory};
 ghost use Rattle.std.specs.Io.KnownBytes.{Appends, Consumes};
 ghost use Rattle.bay.specs.Counts.{counted};
-ghost use Rattle.bay.specs.declared.fault.BayError.TheVariants.{Fault};
+ghost use Rattle.bay_file.specs.Opening.{IsTold};
 ghost use Rattle.bay_file.specs.Places.{IsPlacedAt};
 
 use bay::{BayError, Fault};
@@ -27,8 +29,7 @@ pub fn passed<T: Drop>(answer: io::Result<T>, faults: &mut u64) -> Result<T, Fau
 // Passes on what the system answered where an image was opened or made. Want of memory is told apart, and isn't counted.
 pub fn opened<T: Drop>(answer: io::Result<T>, faults: &mut u64) -> Result<T, BayError>
     ensures ok { IfOk answer (λ value. (result ≡ Ok value) × (faults.new ≡ faults.old)) }
-    ensures err { OnErr answer (IsErr result) }
-    ensures cause { IsErrOf result BayError.Fault → faults.new ≡ counted faults.old 1 }
+    ensures err { IfErr answer (λ error. IsTold error result faults.old faults.new) }
     ensures later { faults.old ≤ faults.new }
 {
     match answer {
@@ -44,7 +45,9 @@ pub fn opened<T: Drop>(answer: io::Result<T>, faults: &mut u64) -> Result<T, Bay
 }
 
 // Whether no memory was found, by the system or for the words of the call.
-pub fn lacks_memory(error: &io::Error) -> bool {
+pub fn lacks_memory(error: &io::Error) -> bool
+    ensures { IsTrue result ↔ error_kind error.now ≡ OutOfMemory }
+{
     error.kind() == ErrorKind::OutOfMemory
 }
 
