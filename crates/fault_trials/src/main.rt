@@ -73,8 +73,8 @@ struct Numbers {
     inner_first: usize,
 }
 
-// What the words ask for: a word for what is tried, and the numbers of its cuts.
-fn choice_of(word: &str, numbers: Numbers) -> Choice {
+// What the words ask for: a word for what is tried, and the numbers of its cuts. None where there is no such word.
+fn choice_of(word: &str, numbers: Numbers) -> Option<Choice> {
     let Numbers {
         step,
         first,
@@ -92,7 +92,7 @@ fn choice_of(word: &str, numbers: Numbers) -> Choice {
         },
     };
     let cut = Cut { step, first };
-    match word {
+    Some(match word {
         "once" => Choice { once: true, ..none },
         "all" => Choice {
             stops: Cut { step: 1, first: 0 },
@@ -113,8 +113,8 @@ fn choice_of(word: &str, numbers: Numbers) -> Choice {
             mounts: cut,
             ..none
         },
-        _ => SOME,
-    }
+        _ => return None,
+    })
 }
 
 fn script_text(alloc: Global) -> Result<String, AllocError> {
@@ -125,27 +125,31 @@ fn script_text(alloc: Global) -> Result<String, AllocError> {
     Ok(text)
 }
 
-// A word as a number.
-fn number_of(word: Option<String>, other: usize) -> usize {
+// A word as a number, and another number where there is no word. None where it is no number.
+fn number_of(word: Option<&String>, other: usize) -> Option<usize> {
     match word {
-        Some(text) => text.parse::<usize>().unwrap_or(other),
-        None => other,
+        Some(text) => text.parse::<usize>().ok(),
+        None => Some(other),
     }
 }
 
-fn read_choice(rt: &HostRuntime) -> io::Result<Choice> {
-    let mut words = env::args(rt)?.skip(1);
-    let word = words.next();
-    let numbers = Numbers {
-        step: number_of(words.next(), 1),
-        first: number_of(words.next(), 0),
-        inner_step: number_of(words.next(), 1),
-        inner_first: number_of(words.next(), 0),
+// What the words ask for. None where they aren't those of the program.
+fn read_choice(words: &[String]) -> Option<Choice> {
+    let [word, numbers @ ..] = words else {
+        return Some(SOME);
     };
-    Ok(match word {
-        Some(word) => choice_of(&word, numbers),
-        None => SOME,
-    })
+    if numbers.len() > 4 {
+        return None;
+    }
+    choice_of(
+        word,
+        Numbers {
+            step: number_of(numbers.first(), 1)?,
+            first: number_of(numbers.get(1), 0)?,
+            inner_step: number_of(numbers.get(2), 1)?,
+            inner_first: number_of(numbers.get(3), 0)?,
+        },
+    )
 }
 
 fn try_all(
@@ -191,12 +195,25 @@ fn words_of(alloc: Global, rt: &HostRuntime) -> io::Result<Vec<String>> {
     Ok(words)
 }
 
+// Says which words the program takes, where those that were given are others.
+fn refuse_words(rt: &HostRuntime) -> io::Result<()> {
+    println!(rt;
+        "words: none, once, all, script, stops|faults|mounts N M [N M], or judge N and four images"
+    )?;
+    Err(io::Error::from(io::ErrorKind::InvalidInput))
+}
+
 // Judges images by the words behind `judge`.
 fn judge_words(alloc: Global, rt: &HostRuntime, words: &[String]) -> io::Result<()> {
     let [commands, paths @ ..] = words else {
-        return println!(rt; "judge wants a number and four images");
+        return refuse_words(rt);
     };
-    let commands = commands.parse::<usize>().unwrap_or(0);
+    let Ok(commands) = commands.parse::<usize>() else {
+        return refuse_words(rt);
+    };
+    if paths.len() != 4 {
+        return refuse_words(rt);
+    }
     let mut bay = FileBay::new(rt.clone()?);
     match judge_images(alloc, &mut bay, commands, paths)? {
         Some(tally) => tell(rt, 0, &tally),
@@ -213,13 +230,15 @@ fn main(rt: HostRuntime) -> io::Result<()> {
             rt.print(&text)
         }
         Some("judge") => judge_words(alloc, &rt, &words[1..]),
-        _ => try_by_words(alloc, &rt),
+        _ => try_by_words(alloc, &rt, &words),
     }
 }
 
 // Tries what the words choose.
-fn try_by_words(alloc: Global, rt: &HostRuntime) -> io::Result<()> {
-    let choice = read_choice(rt)?;
+fn try_by_words(alloc: Global, rt: &HostRuntime, words: &[String]) -> io::Result<()> {
+    let Some(choice) = read_choice(words) else {
+        return refuse_words(rt);
+    };
     let text = script_text(alloc)?;
     let played = match four_disks(alloc) {
         Some(disks) => play(alloc, text.as_bytes(), disks),
