@@ -150,6 +150,20 @@ const FULL: [Step; 12] = [
     HAS_A,
 ];
 
+/// The change of a plan is committed where it takes the last free block. Where none is free the plan is refused, but for one that
+/// puts no new record, or that of an operation.
+const LAST_BLOCK: [Step; 9] = [
+    Step::MakeDirs(119),
+    Step::Tells(Fact::FreeBlocks(1)),
+    MAKE_A,
+    Step::Tells(Fact::FreeBlocks(0)),
+    Step::MakeDir(b"+D/y", Answer::DirectoryFull(1, 0)),
+    IS_MOUNTED,
+    Step::Begin(Answer::Done),
+    Step::EndPending(Answer::Done),
+    HAS_A,
+];
+
 /// The record without the two copies stands on disk 0, and is the greatest that a mount reads.
 const ONE_COPY: Then = Then::Mount(MountOption::NoForce, &[HAS_A, Step::Tells(Fact::Dirs(0b1))]);
 
@@ -492,7 +506,8 @@ fn play_commits(alloc: Global) -> Result<(), Wrong> {
     play(alloc, "first call fails", &CALL_FAILS, Then::Ends)?;
     play(alloc, "too few disks take the record", &CALLS, ONE_COPY)?;
     play(alloc, "all copies fail", &ALL_COPIES, Then::Ends)?;
-    play(alloc, "no blocks are free", &FULL, Then::Ends)
+    play(alloc, "no blocks are free", &FULL, Then::Ends)?;
+    play(alloc, "last block", &LAST_BLOCK, FOUND)
 }
 
 fn play_records(alloc: Global) -> Result<(), Wrong> {
