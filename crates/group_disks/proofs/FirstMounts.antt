@@ -137,6 +137,7 @@ module _ {s mid t : BayState} (n slot : ℕ) (plan : Plan) (m : MountedGroup) (i
 pub new_mounts : {s mid t : BayState} (n slot : ℕ) (plan : Plan) (name : Bytes) (m : MountedGroup) → plan.name ≡ name → slot < n → Runs (λ k. k < n) Same s mid
     → Ends (Founds n plan.id (made_group plan.name) (kept_of_plan slot plan)) mid t → NowOnly t (SaysAll slot plan) → IsMountedAs slot plan m t → MountsNew n (made_group name) m s t
 new_mounts {s} {mid} {t} n slot plan name m named inside looks founds says mounted = record {
+  represents = subst (λ (l : Bytes). Represents m (made_group l)) named (represents slot n plan m t inside mounted);
   turns = ap (λ (r : Registered). r.turn + length m.store.copies) mounted.register ∙ ap (λ (l : List DirCopy). 1 + length l) mounted.copies;
   alone = λ none. subst (λ (l : Bytes). IsAlone n (made_group l) m t) named (alone {s = s} {mid = mid} {t = t} n slot plan m inside looks founds says mounted none);
 }

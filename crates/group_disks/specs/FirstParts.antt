@@ -13,7 +13,7 @@ use Rattle.catalog.specs.Items.{AreItemsOf}
 use Rattle.directory_store.specs.Stores.{Keeps, Stored, AreFirst}
 use Rattle.group_engine.specs.Commits.{turns_at_most}
 use Rattle.group_engine.specs.Frames.{SameDisk}
-use Rattle.group_engine.specs.Mounts.{HasOnly, IsMounted, IsOwn, IsReady, IsWhole, MountedGroup, Mounts}
+use Rattle.group_engine.specs.Mounts.{HasOnly, IsMounted, IsOwn, IsReady, IsWhole, MountedGroup, Mounts, Represents}
 use Rattle.group_engine.specs.declared.attached.Attached.{Attached}
 use Rattle.status_register.specs.Keeping.{KeepsStanding}
 use Rattle.status_register.specs.Registered.{Registered}
@@ -78,9 +78,10 @@ pub record IsAlone (n : ℕ) (g : Group) (m : MountedGroup) (state : BayState) :
   pub mounts : Mounts n m state g kept
   pub only : NowOnly state (HasOnly m.register.id kept)
 
--- What a creation on n slots mounted: one turn was taken, and there is one copy. Where no disk was a member of its id before, it is
--- the group g.
+-- What a creation on n slots mounted: its tables say that it is the group g, one turn was taken, and there is one copy. Where no disk was
+-- a member of its id before, it is mounted on the disks as they are.
 pub record MountsNew (n : ℕ) (g : Group) (m : MountedGroup) (old new : BayState) : Type 0 where
+  pub represents : Represents m g
   pub turns : turns_at_most m ≡ 2
   pub alone : NowOnly old (λ image. HasMember m.register.id image → ⊥) → IsAlone n g m new
 

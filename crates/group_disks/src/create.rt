@@ -62,7 +62,8 @@ pub fn create_group<B: Bay>(
         (λ id. HasCreated (length paths.now) id (made_group name.now) (is_ok result.1) (B.state bay.old) (B.state bay.new)) }
     // The new group takes calls, on a disk that no other group holds.
     ensures mounted { IfOk result.1 (λ m. IsNewlyMounted held.now name.now result.0 m (B.state bay.new)) }
-    // It is mounted on the disks as they are, where no disk was a member of its id before.
+    // Its tables are those of the new group, and it is mounted on the disks as they are, where no disk was a member of its id
+    // before.
     ensures stands { IfOk result.1 (λ m. MountsNew (length paths.now) (made_group name.now) m (B.state bay.old) (B.state bay.new)) }
     // Of other groups nothing changes: what was attached stays so, and the disks in these slots do.
     ensures attached { StaysAttached (B.state bay.old) (B.state bay.new) }

@@ -1,5 +1,7 @@
 -- What an edit of a mounted group does that is one commit.
 use Rattle.std.specs.Prelude.{◌≡◌, ◌⊎◌, List, Result, Err}
+use Rattle.bay.specs.Image.{Same}
+use Rattle.bay.specs.Moments.{Runs}
 use Rattle.bay.specs.State.{BayState}
 use Rattle.asm_group.specs.NewGroup.{templates_by_name}
 use Rattle.asm_group.specs.TemplateEdits.{TemplateEdit, templates_edited}
@@ -11,7 +13,7 @@ use Rattle.template_directory.specs.Meant.{IsRefusal}
 use Rattle.group_engine.specs.Commits.{CommitsPlan}
 use Rattle.group_engine.specs.Mounts.{MountedGroup}
 
--- No change is the edit, and nothing was done: no call on a disk was made.
+-- No change is the edit, and nothing was done: no call on a disk was made, and each image is as it was.
 pub record IsUnplanned (IsCause : Refusal → Type 0) (old : MountedGroup) (answer : Result (Unit {0}) Refusal) (new : MountedGroup)
     (s t : BayState) : Type 0 where
   pub refusal : Refusal
@@ -19,6 +21,7 @@ pub record IsUnplanned (IsCause : Refusal → Type 0) (old : MountedGroup) (answ
   pub cause : IsCause refusal
   pub group : new ≡ old
   pub calls : t.calls ≡ s.calls
+  pub runs : Runs (λ slot. ⊥) Same s t
 
 -- A change that is the edit was committed, or its commit was refused.
 pub record IsCommitted (IsChange : List Entry → List Key → Type 0) (old : MountedGroup) (answer : Result (Unit {0}) Refusal)

@@ -49,7 +49,7 @@ fn keeps_files(edit: &TreeEdit) -> bool
 }
 
 /// Edits a group. NoName where the edit isn't allowed; then the refusals of `edit_tree`, `edit_template` or `edit_attribute`.
-#[tactic(auto, using(crate::proofs::Edits::nothing_done))]
+#[tactic(auto, using(crate::proofs::Edits::nothing_done, crate::proofs::Edits::none_run))]
 pub fn edit_group<B: Bay>(
     m: &mut Mounted,
     alloc: Global,

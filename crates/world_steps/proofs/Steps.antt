@@ -43,22 +43,22 @@ behind_tests ((false, first) ∷ ts) rest cause none is = behind_tests ts rest c
 
 -- ---- edits
 
-passes : {A : Type 0} (o : Option r.Refusal) (x h : A) → unless_refused o x ≡ Ok h → (o ≡ None) × (x ≡ h)
+pub passes : {A : Type 0} (o : Option r.Refusal) (x h : A) → unless_refused o x ≡ Ok h → (o ≡ None) × (x ≡ h)
 passes None x h is = (refl, cc)
 passes (Some cause) x h is = absurd cc
 
-fails : {A : Type 0} (o : Option r.Refusal) (x : A) (cause : r.Refusal) → unless_refused o x ≡ Err cause → o ≡ Some cause
+pub fails : {A : Type 0} (o : Option r.Refusal) (x : A) (cause : r.Refusal) → unless_refused o x ≡ Err cause → o ≡ Some cause
 fails None x cause is = absurd cc
 fails (Some first) x cause is = cc
 
 -- what refuses a directory leaves the world
-abbrev plain : r.Refusal → Bool
+abbrev pub plain : r.Refusal → Bool
 plain r.NoName = true
 plain r.NameTaken = true
 plain r.NotDirectory = true
 plain other = false
 
-new_name_plain : (a b c : Bool) (cause : r.Refusal) → first_cause ((a, r.NoName) ∷ (b, r.NameTaken) ∷ (c, r.NotDirectory) ∷ []) ≡ Some cause → plain cause ≡ true
+pub new_name_plain : (a b c : Bool) (cause : r.Refusal) → first_cause ((a, r.NoName) ∷ (b, r.NameTaken) ∷ (c, r.NotDirectory) ∷ []) ≡ Some cause → plain cause ≡ true
 new_name_plain true b c cause is = ap plain (sym (same_Some r.NoName cause is))
 new_name_plain false true c cause is = ap plain (sym (same_Some r.NameTaken cause is))
 new_name_plain false false true cause is = ap plain (sym (same_Some r.NotDirectory cause is))

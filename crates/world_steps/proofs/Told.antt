@@ -31,11 +31,11 @@ one_after w id other h one = ⊎_elim
 
 -- ---- entries
 
-among_either : (xs ys : List SessionEntry) (e : SessionEntry) → IsAmong (xs ++ ys) e → IsAmong xs e ⊎ IsAmong ys e
+pub among_either : (xs ys : List SessionEntry) (e : SessionEntry) → IsAmong (xs ++ ys) e → IsAmong xs e ⊎ IsAmong ys e
 among_either [] ys e is = inr is
 among_either (x ∷ xs) ys e is = ⊎_elim (λ here. inl (inl here)) (λ later. ⊎_elim (λ front. inl (inr front)) (λ back. inr back) (among_either xs ys e later)) is
 
-apart_joined : (xs : List SessionEntry) (x : SessionEntry) → AreIdsApart xs → ((e : SessionEntry) → IsAmong xs e → e.id ≢ x.id) → AreIdsApart (xs ++ x ∷ [])
+pub apart_joined : (xs : List SessionEntry) (x : SessionEntry) → AreIdsApart xs → ((e : SessionEntry) → IsAmong xs e → e.id ≢ x.id) → AreIdsApart (xs ++ x ∷ [])
 apart_joined [] x all new = (λ f none. absurd none, tt)
 apart_joined (y ∷ xs) x all new = (
   λ f is mounted_y mounted_f. ⊎_elim
@@ -46,7 +46,7 @@ apart_joined (y ∷ xs) x all new = (
 )
 
 -- entries that are mounted under one id are one
-one_entry : (es : List SessionEntry) (a b : SessionEntry) → AreIdsApart es → IsAmong es a → IsAmong es b → is_mounted a ≡ true → is_mounted b ≡ true → a.id ≡ b.id → a ≡ b
+pub one_entry : (es : List SessionEntry) (a b : SessionEntry) → AreIdsApart es → IsAmong es a → IsAmong es b → is_mounted a ≡ true → is_mounted b ≡ true → a.id ≡ b.id → a ≡ b
 one_entry [] a b apart at_a at_b mounted_a mounted_b same = absurd at_a
 one_entry (x ∷ es) a b apart at_a at_b mounted_a mounted_b same = ⊎_elim
     (λ (here : a ≡ x). ⊎_elim
@@ -59,14 +59,14 @@ one_entry (x ∷ es) a b apart at_a at_b mounted_a mounted_b same = ⊎_elim
     at_b)
     at_a
 
-all_among : (es : List SessionEntry) (P : SessionEntry → Type 0) → All P es → (e : SessionEntry) → IsAmong es e → P e
+pub all_among : (es : List SessionEntry) (P : SessionEntry → Type 0) → All P es → (e : SessionEntry) → IsAmong es e → P e
 all_among [] P all e is = absurd is
 all_among (x ∷ es) P all e is = ⊎_elim
     (λ (here : e ≡ x). subst P (sym here) (all 0 x (omega arith)))
     (λ later. all_among es P (λ k d below. all (suc k) d (omega (arith, below))) e later)
     is
 
-named_among : (es : List SessionEntry) (name : Bytes) (entry : SessionEntry) → entry_among es name ≡ Some entry → IsAmong es entry × (is_same_name entry.name name ≡ true)
+pub named_among : (es : List SessionEntry) (name : Bytes) (entry : SessionEntry) → entry_among es name ≡ Some entry → IsAmong es entry × (is_same_name entry.name name ≡ true)
 named_among [] name entry is = absurd cc
 named_among (e ∷ es) name entry is = ⊎_elim
     (λ (yes : is_same_name e.name name ≡ true).
@@ -77,7 +77,7 @@ named_among (e ∷ es) name entry is = ⊎_elim
 
 -- ---- without entries
 
-fewer_among : (es : List SessionEntry) (name : Bytes) (e : SessionEntry) → IsAmong (without_entry es name) e → IsAmong es e
+pub fewer_among : (es : List SessionEntry) (name : Bytes) (e : SessionEntry) → IsAmong (without_entry es name) e → IsAmong es e
 fewer_among [] name e is = absurd is
 fewer_among (x ∷ es) name e is = ⊎_elim
     (λ (yes : is_same_name x.name name ≡ true). inr (fewer_among es name e (subst (λ (l : List SessionEntry). IsAmong l e) (cond-true (is_same_name x.name name) (without_entry es name) (x ∷ without_entry es name) yes) is)))
@@ -85,7 +85,7 @@ fewer_among (x ∷ es) name e is = ⊎_elim
     (subst (λ (l : List SessionEntry). IsAmong l e) (cond-false (is_same_name x.name name) (without_entry es name) (x ∷ without_entry es name) no) is))
     (cases_Bool (is_same_name x.name name))
 
-fewer_apart : (es : List SessionEntry) (name : Bytes) → AreIdsApart es → AreIdsApart (without_entry es name)
+pub fewer_apart : (es : List SessionEntry) (name : Bytes) → AreIdsApart es → AreIdsApart (without_entry es name)
 fewer_apart [] name apart = tt
 fewer_apart (x ∷ es) name apart = ⊎_elim
     (λ (yes : is_same_name x.name name ≡ true). subst (λ (l : List SessionEntry). AreIdsApart l) (sym (cond-true (is_same_name x.name name) (without_entry es name) (x ∷ without_entry es name) yes)) (fewer_apart es name apart.1))
@@ -112,7 +112,7 @@ module _ (name disk : Bytes) where
       (λ later. let s = was_among es e later mounted in (inr s.0, s.1))
       is
 
-  torn_apart : (es : List SessionEntry) → AreIdsApart es → AreIdsApart (with_dismounted es name disk)
+  pub torn_apart : (es : List SessionEntry) → AreIdsApart es → AreIdsApart (with_dismounted es name disk)
   torn_apart [] apart = tt
   torn_apart (x ∷ es) apart = (
     λ f is mounted_x mounted_f.

@@ -2,6 +2,7 @@ use Rattle.std.proofs.Common.{inl, refl, subst}
 use Rattle.alias_tree.specs.Edits.{edit_meant}
 use Rattle.catalog.specs.Tables.{Catalogued}
 use Rattle.catalog.specs.TreePlans.{IsTreeRefusal}
+use Rattle.group_files.proofs.Edits.{none_run}
 use Rattle.group_files.proofs.names.edit_tree.Goals as goal
 
 pub returns-in-Err-clause-edits : goal.returns-in-Err-clause-edits
@@ -11,4 +12,5 @@ returns-in-Err-clause-edits g c = inl (record {
   cause = subst (λ (k : Catalogued). IsTreeRefusal k (edit_meant c.args.edit.now) c.in-Err.refusal) c.catalog.ensures c.in-Err.ensures.refused;
   group = refl;
   calls = refl;
+  runs = none_run _;
 })
