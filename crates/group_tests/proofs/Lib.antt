@@ -1,0 +1,2 @@
+pub mod ThreePlaces
+pub mod Taking
