@@ -1,7 +1,6 @@
 -- From what a run holds to what a stop in it may leave.
-use Rattle.std.proofs.Common.{◌≡◌, ◌&&◌, ◌==◌, ℕ, ◌<◌, ◌≤◌, Bool, true, List, [], ◌∷◌, ◌++◌, length, inl, inr, refl, sym, ◌∙◌, ap, subst, arith}
-use Rattle.std.proofs.lemmas.Bool.{cases_lt, false≢true}
-use Rattle.std.specs.List.{list_any}
+use Rattle.std.proofs.Common.{◌≡◌, ℕ, ◌<◌, ◌≤◌, Bool, true, List, [], ◌∷◌, ◌++◌, length, inl, inr, refl, sym, ◌∙◌, ap, subst, arith}
+use Rattle.std.proofs.lemmas.Bool.{cases_lt}
 use Rattle.bay.specs.Image.{Image}
 use Rattle.bay.specs.State.{BayState}
 use Rattle.asm_group.specs.Group.{Group}
@@ -9,19 +8,25 @@ use Rattle.asm_group.specs.Names.{Bytes}
 use Rattle.asm_images.proofs.Spans.{widen_keeps}
 use Rattle.asm_images.specs.Bridge.{disks_in}
 use Rattle.asm_placement.proofs.Membership.{among_left}
-use Rattle.asm_world.proofs.Histories.{split, end_append, moments, mounted_are_there, quiet_leaves, quiet_held, between, while_front, while_run}
+use Rattle.asm_world.proofs.Histories.{split, end_append, moments, mounted_are_there, quiet_leaves, quiet_held, between}
 use Rattle.asm_world.specs.Below.{Found}
 use Rattle.asm_world.specs.Between.{groups_between}
 use Rattle.asm_world.specs.Reply.{Reply}
-use Rattle.asm_world.specs.Run.{State, Entry, Move, AllMoves, Answers, IsMove, IsRun, IsRunWhile, IsHeldNow, end_of}
+use Rattle.asm_world.specs.Run.{State, Entry, Move, Answers, IsMove, IsRun, IsHeldNow, end_of}
 use Rattle.asm_world.specs.RunLaws.{Grows, IsQuiet}
-use Rattle.asm_world.specs.World.{World, SessionEntry, groups_of, has_mounted, is_mounted}
+use Rattle.asm_world.specs.World.{World, SessionEntry, groups_of, has_mounted}
 use Rattle.group_disks.specs.Creating.{Allows}
 use Rattle.group_disks.specs.Found.{Counts}
 use Rattle.session.specs.Acts.{Holding}
-use Rattle.session.proofs.Creation.{same_sound, same_members, same_member, all_stand}
-use Rattle.session.specs.Claims.{held_outside, untouched, StandsFor, IsProvedApart}
+use Rattle.session.specs.Claims.{held_outside, IsProvedApartIn}
 use Rattle.session.specs.Meaning.{meaning}
+use Rattle.session.specs.Sessions.{Roster}
+use Rattle.session_claims.specs.Claims.{IsPaired, IsStanding, StandsFor, untouched}
+use Rattle.session_claims.proofs.Images.{same_sound, same_members, same_member, all_stand}
+use Rattle.session_claims.proofs.Pairs.{mounted_pair}
+use Rattle.world_steps.specs.Runs.{AllFrom, IsRunFrom}
+use Rattle.world_steps.specs.Told.{AreIdsApart}
+use Rattle.world_steps.proofs.Runs.{is_run, joins}
 use Rattle.asm_run.specs.Crash.{StartsAs, AreHeld, IsCrashSafe}
 
 -- an image that stands for some groups stands for more
@@ -35,9 +40,11 @@ allows-more paths leaves id groups more image allowed slots =
     }
 
 -- what is known of the disks before a run
-pub starts-stands : (n : ℕ) (known : ℕ → Bool) (bay : BayState) (w : World) → w.session ≡ [] → StartsAs known bay w → StandsFor n known 0 bay w
+pub starts-stands : (n : ℕ) (known : ℕ → Bool) (bay : BayState) (w : World) → w.session ≡ [] → StartsAs known bay w → StandsFor n known 0 bay w []
 starts-stands n known bay w none s = record {
-  mounted = λ id is. absurd (false≢true (ap (λ (l : List SessionEntry). list_any (λ (e : SessionEntry). is_mounted e && (e.id == id)) l) (sym none) ∙ is));
+  entries = ap (λ (l : List SessionEntry). length l) (sym none);
+  ids = subst (λ (l : List SessionEntry). AreIdsApart l) (sym none) tt;
+  mounted = λ e m pair is. absurd (subst (λ (l : List SessionEntry). IsPaired l [] e m) none pair);
   allows = λ image id left slots.
       let by = s.stands id in
       record { completed = by.completed; begun = by.begun; holds = same_sound id (groups_of w id) by.completed by.begun s.first image (s.one image left) by.sound slots };
@@ -103,18 +110,18 @@ are-held paths leaves first history run =
           mounted_are_there (held_outside paths leaves) first before rest e m image (subst R cut run) from to left id was is;
     }
 
-pub held-before : (paths : List Bytes) (new : BayState) (first : State Counts) (history : List (Entry Counts)) (known : ℕ → Bool) (given : ℕ) (w : World)
-    → Holding known paths first history given new w → (before rest : List (Entry Counts)) → history ≡ before ++ rest → AllMoves (IsProvedApart known) before
+pub held-before : (paths : List Bytes) (new : BayState) (first : State Counts) (history : List (Entry Counts)) (known : ℕ → Bool) (roster : Roster) (w : World)
+    → Holding known paths first history roster new w → (before rest : List (Entry Counts)) → history ≡ before ++ rest → AllFrom (IsProvedApartIn known) first before
     → AreHeld paths new.leaves first before
-held-before paths new first history known given w h before rest cut all =
-    let R : List (Entry Counts) → Type 0 = λ es. IsRunWhile (held_outside paths new.leaves) (IsProvedApart known) first es in
-    are-held paths new.leaves first before (while_run (held_outside paths new.leaves) (IsProvedApart known) first before all
-    (while_front (held_outside paths new.leaves) (IsProvedApart known) first before rest (subst R cut h.held)))
+held-before paths new first history known roster w h before rest cut all =
+    let R : List (Entry Counts) → Type 0 = λ es. IsRunFrom (held_outside paths new.leaves) (IsProvedApartIn known) first es in
+    let front = (joins (held_outside paths new.leaves) (IsProvedApartIn known) first before rest).1 (subst R cut h.held) in
+    are-held paths new.leaves first before ((is_run (held_outside paths new.leaves) (IsProvedApartIn known) first before all).0 front.0)
 
-pub crash-safe : (paths : List Bytes) (new : BayState) (first end : State Counts) (history : List (Entry Counts)) (known : ℕ → Bool) (given : ℕ)
-    → end_of first history ≡ end → end.calls ≡ new.calls → AllMoves (IsProvedApart known) history → Holding known paths first history given new end.world → IsCrashSafe paths new.leaves first history
-crash-safe paths new first end history known given ends calls all h =
-    let run = while_run (held_outside paths new.leaves) (IsProvedApart known) first history all h.held in
+pub crash-safe : (paths : List Bytes) (new : BayState) (first end : State Counts) (history : List (Entry Counts)) (known : ℕ → Bool) (roster : Roster)
+    → end_of first history ≡ end → end.calls ≡ new.calls → AllFrom (IsProvedApartIn known) first history → Holding known paths first history roster new end.world → IsCrashSafe paths new.leaves first history
+crash-safe paths new first end history known roster ends calls all h =
+    let run = (is_run (held_outside paths new.leaves) (IsProvedApartIn known) first history all).0 h.held in
     let stands = h.now all in
     let now : IsHeldNow (held_outside paths new.leaves) (end_of first history) = λ image id left.
     let N : State Counts → Type 0 = λ s. new.leaves s.calls image in
@@ -132,7 +139,9 @@ crash-safe paths new first end history known given ends calls all h =
           let N : State Counts → Type 0 = λ s. new.leaves s.calls image in
           let L : ℕ → Type 0 = λ n. new.leaves n image in
           let M : State Counts → Type 0 = λ s. has_mounted s.world id ≡ true in
-          let k = stands.mounted id (subst M ends is) in
-          all_stand (length paths) id (groups_of end.world id) new k image (k.held image (subst L calls (subst N ends left)));
+          let p = mounted_pair end.world.session roster.groups id stands.entries (subst M ends is) in
+          let k = stands.mounted p.0 p.1 p.2 p.3 in
+          subst (λ (i : ℕ). IsStanding (length paths) i image) p.4
+          (all_stand (length paths) p.0.id p.1 (groups_of end.world p.0.id) new k image (k.mounts.now.now image (subst L calls (subst N ends left))));
       now = now;
     }

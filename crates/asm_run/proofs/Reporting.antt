@@ -14,11 +14,13 @@ use Rattle.group_disks.specs.Found.{Counts, counts_of}
 use Rattle.script.specs.Script.{cut, commands_of, ended_commands}
 use Rattle.session.specs.declared.stop.Stop.{Stop}
 use Rattle.session.specs.declared.stop.Stop.TheVariants.{ReadFault, WriteFault, NoMemory, TooLong}
+use Rattle.group_engine.specs.Mounts.{MountedGroup}
 use Rattle.session.specs.declared.manner.Manner.{Manner}
 use Rattle.session.specs.declared.manner.Manner.TheVariants.{InShort}
 use Rattle.session.specs.Acts.{scene}
 use Rattle.session.specs.Manners.{AreTold}
 use Rattle.session.specs.Quiet.{quiet}
+use Rattle.session.specs.Sessions.{Roster, SessionView, roster, roster_of}
 use Rattle.session.specs.Serves.{limit, IsFront, IsAnswered, Serves, is_whole}
 use Rattle.asm_run.specs.Headline.{first_state, status_number, GeneratedRun, Outcome, Transcript}
 use Rattle.asm_run.proofs.Counting.{count-generated}
@@ -145,12 +147,19 @@ outcome-of (Err NoMemory) refused script commands history left end a e printed r
 
 -- ---- the transcript
 
+-- a session without groups that gave no id
+pub first_roster : (session : SessionView) → session.groups ≡ [] → session.given ≡ 0 → roster_of session ≡ roster [] 0
+first_roster session none zero = ap (λ (groups : List MountedGroup). roster groups session.given) none ∙ ap (λ (given : ℕ). roster [] given) zero
+
 pub transcript-of : {C : Type 0} (gives : C → ℕ → C → Type 0) (paths : List Bytes) (Told : List (Entry Counts) → Type 0) (served : Result (Unit {0}) Stop) (status : ℕ) (marks : List ℕ) (left left' taken taken' : Option Bytes)
-    (clock clock' : C) (old new : BayState) (given' time' : ℕ) (phase : Phase) (w w' : World) (below' : ℕ → GroupBelow) (marks' : List ℕ) (refused : Bool) (manner manner' : Manner) →
-    w.session ≡ [] → status ≡ status_number served refused → marks ≡ marks' → (is_whole served ≡ true → phase ≡ Resting) → ((history : List (Entry Counts)) → AreTold manner history → Told history) →
-    Serves gives paths served left left' (scene w quiet Resting 0 0 old taken clock [] false manner) (scene w' below' phase time' given' new taken' clock' marks' refused manner') →
+    (clock clock' : C) (old new : BayState) (before last : Roster) (time' : ℕ) (phase : Phase) (w w' : World) (below' : ℕ → GroupBelow) (marks' : List ℕ) (refused : Bool) (manner manner' : Manner) →
+    w.session ≡ [] → before ≡ roster [] 0 → status ≡ status_number served refused → marks ≡ marks' → (is_whole served ≡ true → phase ≡ Resting) → ((history : List (Entry Counts)) → AreTold manner history → Told history) →
+    Serves gives paths served left left' (scene w quiet Resting 0 before old taken clock [] false manner) (scene w' below' phase time' last new taken' clock' marks' refused manner') →
     Transcript gives paths Told status marks left left' taken taken' clock clock' old new w
-transcript-of gives paths Told served status marks left left' taken taken' clock clock' old new given' time' phase w w' below' marks' refused manner manner' none is_status is_marks rest tells s =
+transcript-of gives paths Told served status marks left left' taken taken' clock clock' old new before last time' phase w w' below' marks' refused manner manner' none is_first is_status is_marks rest tells serves =
+    let S : Roster → Type 0 = λ r.
+    Serves gives paths served left left' (scene w quiet Resting 0 r old taken clock [] false manner) (scene w' below' phase time' last new taken' clock' marks' refused manner') in
+    let s = subst S is_first serves in
     let p = s.acts in
     let end : State Counts = record { world = w'; below = below'; phase = phase; time = time'; calls = new.calls; counts = counts_of new } in
     let all : marks ≡ marks_of p.history = is_marks ∙ p.marks_grow in
@@ -173,9 +182,9 @@ transcript-of gives paths Told served status marks left left' taken taken' clock
       marks_are = all;
       marks_rise = subst P (sym all) (marks_rise_by (first_state w old) p.history p.calls_rise);
       crash_before = λ known starts before rest cut.
-          held-before paths new (first_state w old) p.history known given' w' (p.holds known (starts-stands (length paths) known old w none starts)) before rest cut;
+          held-before paths new (first_state w old) p.history known last w' (p.holds known (starts-stands (length paths) known old w none starts)) before rest cut;
       crash = λ known starts all.
-          crash-safe paths new (first_state w old) end p.history known given' p.ends refl all (p.holds known (starts-stands (length paths) known old w none starts));
+          crash-safe paths new (first_state w old) end p.history known last p.ends refl all (p.holds known (starts-stands (length paths) known old w none starts));
       outcome = subst Q (sym is_status) (outcome-of served refused s.taken s.commands p.history left' end s.are_answered p.commands_are p.printed rest p.refusal);
     }
 
@@ -207,9 +216,9 @@ transcript-none gives paths Told status marks left taken clock bay w first is no
       marks_are = none;
       marks_rise = subst P (sym none) tt;
       crash_before = λ known starts before rest cut.
-          held-before paths bay (first_state w bay) [] known 0 w (record { held = tt; now = λ all. starts-stands (length paths) known bay w first starts }) before rest cut;
+          held-before paths bay (first_state w bay) [] known (roster [] 0) w (record { held = tt; now = λ all. starts-stands (length paths) known bay w first starts }) before rest cut;
       crash = λ known starts all.
-          crash-safe paths bay (first_state w bay) (first_state w bay) [] known 0 refl refl all (record { held = tt; now = λ all. starts-stands (length paths) known bay w first starts });
+          crash-safe paths bay (first_state w bay) (first_state w bay) [] known (roster [] 0) refl refl all (record { held = tt; now = λ all. starts-stands (length paths) known bay w first starts });
       outcome = record {
         usage = λ _. (refl, refl);
         short = omega arith;
@@ -238,15 +247,15 @@ answers-all gives number paths Told status marks rest taken taken' clock clock' 
     t.outcome.all_answered small ∙ ap commands_of (sym whole) ∙ commands-are number paths unquoted
 
 pub generated-of : {C : Type 0} (gives : C → ℕ → C → Type 0) (number : ℕ) (paths : List Bytes) (served : Result (Unit {0}) Stop) (status : ℕ) (marks : List ℕ) (text rest : Bytes) (taken taken' : Option Bytes)
-    (clock clock' : C) (old new : BayState) (given' time' : ℕ) (phase : Phase) (w w' : World) (below' : ℕ → GroupBelow) (marks' : List ℕ) (refused : Bool) (manner' : Manner) →
-    w.session ≡ [] → status ≡ status_number served refused → marks ≡ marks' → (is_whole served ≡ true → phase ≡ Resting) → length paths ≡ 4 → has_quote paths ≡ false → text ≡ generated_script number paths →
-    Serves gives paths served (Some text) (Some rest) (scene w quiet Resting 0 0 old taken clock [] false (InShort 1023)) (scene w' below' phase time' given' new taken' clock' marks' refused manner') →
+    (clock clock' : C) (old new : BayState) (before last : Roster) (time' : ℕ) (phase : Phase) (w w' : World) (below' : ℕ → GroupBelow) (marks' : List ℕ) (refused : Bool) (manner' : Manner) →
+    w.session ≡ [] → before ≡ roster [] 0 → status ≡ status_number served refused → marks ≡ marks' → (is_whole served ≡ true → phase ≡ Resting) → length paths ≡ 4 → has_quote paths ≡ false → text ≡ generated_script number paths →
+    Serves gives paths served (Some text) (Some rest) (scene w quiet Resting 0 before old taken clock [] false (InShort 1023)) (scene w' below' phase time' last new taken' clock' marks' refused manner') →
     GeneratedRun gives number paths status marks taken taken' clock clock' old new w
-generated-of gives number paths served status marks text rest taken taken' clock clock' old new given' time' phase w w' below' marks' refused manner' none is_status is_marks rests four unquoted is s =
+generated-of gives number paths served status marks text rest taken taken' clock clock' old new before last time' phase w w' below' marks' refused manner' none is_first is_status is_marks rests four unquoted is s =
     let Told : List (Entry Counts) → Type 0 = IsGenerated (length (generated number paths)) in
     let T : Bytes → Type 0 = λ bytes. Transcript gives paths Told status marks (Some bytes) (Some rest) taken taken' clock clock' old new w in
-    let all = subst T is (transcript-of gives paths Told served status marks (Some text) (Some rest) taken taken' clock clock' old new given' time' phase w w' below' marks' refused (InShort 1023) manner'
-    none is_status is_marks rests (λ history told. let G : ℕ → Type 0 = λ n. IsGenerated n history in subst G (sym (count-generated number paths four)) (all-generated 1023 history told)) s) in
+    let all = subst T is (transcript-of gives paths Told served status marks (Some text) (Some rest) taken taken' clock clock' old new before last time' phase w w' below' marks' refused (InShort 1023) manner'
+    none is_first is_status is_marks rests (λ history told. let G : ℕ → Type 0 = λ n. IsGenerated n history in subst G (sym (count-generated number paths four)) (all-generated 1023 history told)) s) in
     record { rest = rest; transcript = all; all_answered = answers-all gives number paths Told status marks rest taken taken' clock clock' old new w all unquoted }
 
 pub generated-none : {C : Type 0} (gives : C → ℕ → C → Type 0) (number : ℕ) (paths : List Bytes) (status : ℕ) (marks : List ℕ) (taken : Option Bytes) (clock : C) (bay : BayState) (w : World) →

@@ -7,7 +7,7 @@ use Rattle.bay.specs.Readings.{Readings}
 use Rattle.bay.specs.State.{BayState}
 use Rattle.asm_group.specs.Names.{Bytes}
 use Rattle.asm_world.specs.Generator.{generated, generated_script}
-use Rattle.asm_world.specs.Run.{State, Resting, Entry, AllMoves, IsRunWhile, IsGenerated, IsPrinted, IsPrintedToCut, end_of, output_of, answered, times_of, marks_of, has_refusal}
+use Rattle.asm_world.specs.Run.{State, Resting, Entry, IsGenerated, IsPrinted, IsPrintedToCut, end_of, output_of, answered, times_of, marks_of, has_refusal}
 use Rattle.asm_world.specs.RunLaws.{RisesFrom}
 use Rattle.asm_world.specs.World.{World}
 use Rattle.command_line.specs.Command.{number_in}
@@ -16,11 +16,12 @@ use Rattle.group_disks.specs.Found.{Counts, counts_of}
 use Rattle.script.specs.Script.{commands_of, ended_commands}
 use Rattle.session.specs.declared.stop.Stop.{Stop}
 use Rattle.session.specs.declared.stop.Stop.TheVariants.{ReadFault, WriteFault, NoMemory, TooLong}
-use Rattle.session.specs.Claims.{outside, IsProvedApart}
+use Rattle.session.specs.Claims.{outside, IsProvedApartIn}
 use Rattle.session.specs.Effects.{Past}
-use Rattle.session.specs.Proved.{IsProved}
+use Rattle.session.specs.Proved.{IsProvedIn}
 use Rattle.session.specs.Quiet.{quiet}
 use Rattle.session.specs.Serves.{limit, IsFront}
+use Rattle.world_steps.specs.Runs.{AllFrom, IsRunFrom}
 use Rattle.asm_run.specs.Crash.{StartsAs, AreHeld, IsCrashSafe}
 
 -- the status of a script that was read
@@ -79,8 +80,9 @@ pub record Transcript {C : Type 0} (gives : C → ℕ → C → Type 0) (paths :
   pub written : Appends taken taken' (output_of history)
   pub told : Told history
   pub printed : IsPrintedToCut history
-  -- Up to the first that isn't proved, each move is one that the world may make, and each reply has its cause.
-  pub run : IsRunWhile (outside paths new.leaves) IsProved (first_state w old) history
+  -- Up to the first that isn't proved, each move is one that the world may make, and each reply has its cause. An edit counts as proved in
+  -- a state in which each mounted group is alone under its id.
+  pub run : IsRunFrom (outside paths new.leaves) IsProvedIn (first_state w old) history
   pub ends : end_of (first_state w old) history ≡ end
   pub times : Readings gives clock (times_of history) clock'
   pub calls_are : end.calls ≡ new.calls
@@ -90,10 +92,10 @@ pub record Transcript {C : Type 0} (gives : C → ℕ → C → Type 0) (paths :
   pub marks_rise : RisesFrom old.calls marks
   -- Where the images at the start stand for the world, each stop in the first moves leaves groups between, as long as these are proved,
   -- and each creation among them keeps the premises.
-  pub crash_before : (known : ℕ → Bool) → StartsAs known old w → (before rest : List (Entry Counts)) → history ≡ before ++ rest → AllMoves (IsProvedApart known) before
+  pub crash_before : (known : ℕ → Bool) → StartsAs known old w → (before rest : List (Entry Counts)) → history ≡ before ++ rest → AllFrom (IsProvedApartIn known) (first_state w old) before
       → AreHeld paths new.leaves (first_state w old) before
   -- the same of all moves, and of what a stop now leaves
-  pub crash : (known : ℕ → Bool) → StartsAs known old w → AllMoves (IsProvedApart known) history → IsCrashSafe paths new.leaves (first_state w old) history
+  pub crash : (known : ℕ → Bool) → StartsAs known old w → AllFrom (IsProvedApartIn known) (first_state w old) history → IsCrashSafe paths new.leaves (first_state w old) history
   pub outcome : Outcome status script history left' end
 
 -- Under --generate the generator's text stands for the bytes that a source has left, and a rest of it for those that are left at the

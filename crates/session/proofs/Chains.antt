@@ -9,15 +9,18 @@ use Rattle.bay.specs.Image.{Image}
 use Rattle.bay.specs.Readings.{Readings}
 use Rattle.bay.proofs.Known.{Appends-none, Appends-more}
 use Rattle.asm_group.specs.Names.{Bytes}
-use Rattle.asm_world.specs.Run.{Outside, State, Entry, Move, AllMoves, IsMove, end_of, entry_text, text_of, IsPrinted, IsPrintedToCut, output_of, commands_at, answered, times_at, times_of, marks_at, marks_of, refuses, has_refusal}
-use Rattle.asm_world.proofs.Histories.{end_append, rise_calls, rise_joined, moves_split, while_joined, while_past}
+use Rattle.asm_world.specs.Run.{State, Entry, Move, AllMoves, IsMove, end_of, entry_text, text_of, IsPrinted, IsPrintedToCut, output_of, commands_at, answered, times_at, times_of, marks_at, marks_of, refuses, has_refusal}
+use Rattle.asm_world.proofs.Histories.{end_append, rise_calls, rise_joined}
 use Rattle.group_disks.specs.Found.{Counts}
-use Rattle.session.specs.Claims.{outside, held_outside, StandsFor, IsProvedApart}
+use Rattle.session.specs.Claims.{outside, held_outside, IsProvedApartIn}
 use Rattle.session.specs.declared.manner.Manner.{Manner}
 use Rattle.session.specs.Effects.{Past}
 use Rattle.session.specs.Manners.{AreTold, after_move, after_moves, style_of}
-use Rattle.session.specs.Proved.{IsProved, is_proved_move}
+use Rattle.session.specs.Proved.{IsProved, IsProvedIn, is_proved_move}
 use Rattle.session.specs.Acts.{Scene, state_of, Acts}
+use Rattle.session_claims.specs.Claims.{StandsFor}
+use Rattle.world_steps.specs.Runs.{AllFrom}
+use Rattle.world_steps.proofs.Runs.{joins, premises_join, stays}
 
 told-append : (manner : Manner) (h k : List (Entry Counts)) → AreTold manner h → AreTold (after_moves manner h) k → AreTold manner (h ++ k)
 told-append manner [] k p q = q
@@ -88,8 +91,8 @@ acts-then gives paths whole xs ys a b c p q =
     let reaches : a.bay.calls ≤ b.bay.calls = omega (arith, rise_calls (state_of a) p.history p.calls_rise) in
     record {
       history = p.history ++ q.history;
-      run = while_joined (outside paths c.bay.leaves) IsProved (state_of a) p.history q.history
-          (while_past (outside paths b.bay.leaves) c.bay.leaves IsProved (state_of a) p.history past p.calls_rise p.run) (λ all. rw p.ends q.run);
+      run = (joins (outside paths c.bay.leaves) IsProvedIn (state_of a) p.history q.history).0
+          (stays (outside paths b.bay.leaves) IsProvedIn c.bay.leaves (state_of a) p.history past p.calls_rise p.run, λ all. rw p.ends q.run);
       calls_rise = rise_joined (state_of a) p.history q.history p.calls_rise (rw p.ends q.calls_rise);
       ends = end_append (state_of a) p.history q.history ∙ ap (λ s. end_of s q.history) p.ends ∙ q.ends;
       commands_are = flat_map-append (λ e. commands_at e.move) p.history q.history ∙ ap (λ zs. zs ++ answered q.history) p.commands_are ∙ ap (λ zs. xs ++ zs) q.commands_are;
@@ -97,12 +100,11 @@ acts-then gives paths whole xs ys a b c p q =
       holds = λ known stands.
           let first = p.holds known stands in
           record {
-            held = while_joined (held_outside paths c.bay.leaves) (IsProvedApart known) (state_of a) p.history q.history
-                (while_past (held_outside paths b.bay.leaves) c.bay.leaves (IsProvedApart known) (state_of a) p.history past p.calls_rise first.held)
-                (λ all. rw p.ends (q.holds known (first.now all)).held);
+            held = (joins (held_outside paths c.bay.leaves) (IsProvedApartIn known) (state_of a) p.history q.history).0
+                (stays (held_outside paths b.bay.leaves) (IsProvedApartIn known) c.bay.leaves (state_of a) p.history past p.calls_rise first.held, λ all. rw p.ends (q.holds known (first.now all)).held);
             now = λ all.
-                let split = moves_split (IsProvedApart known) p.history q.history all in
-                (q.holds known (first.now split.0)).now split.1;
+                let split = (premises_join (held_outside paths c.bay.leaves) (IsProvedApartIn known) (state_of a) p.history q.history).1 all in
+                (q.holds known (first.now split.0)).now (subst (λ (s : State Counts). AllFrom (IsProvedApartIn known) s q.history) p.ends split.1);
           };
       told = let T : Manner → Type 0 = λ manner. AreTold manner q.history in told-append a.manner p.history q.history p.told (subst T p.manner_is q.told);
       manner_is = q.manner_is ∙ ap (λ manner. after_moves manner q.history) p.manner_is ∙ sym (after-append a.manner p.history q.history);
@@ -145,11 +147,11 @@ one-printed false manner move printed after e = inr (e.0, e.1, refl)
 
 -- what one move needs to be one of a part of the program
 pub record OneMove {C : Type 0} (gives : C → ℕ → C → Type 0) (paths : List Bytes) (whole : Bool) (move : Move) (text : List ℕ) (old new : Scene C) : Type 0 where
-  pub does : IsProved move → IsMove (outside paths new.bay.leaves) (state_of old) move (state_of new)
+  pub does : IsProvedIn (state_of old) move → IsMove (outside paths new.bay.leaves) (state_of old) move (state_of new)
   pub calls : old.bay.calls ≤ new.bay.calls
   pub past : Past old.bay new.bay
-  pub holds : (known : ℕ → Bool) → StandsFor (length paths) known old.given old.bay old.world → IsProvedApart known move
-      → IsMove (held_outside paths new.bay.leaves) (state_of old) move (state_of new) × StandsFor (length paths) known new.given new.bay new.world
+  pub holds : (known : ℕ → Bool) → StandsFor (length paths) known old.roster.given old.bay old.world old.roster.groups → IsProvedApartIn known (state_of old) move
+      → IsMove (held_outside paths new.bay.leaves) (state_of old) move (state_of new) × StandsFor (length paths) known new.roster.given new.bay new.world new.roster.groups
   pub texts : MatchBool whole (text ≡ entry_text (entry old.manner move text (state_of new))) ((rest : List ℕ) × (entry_text (entry old.manner move text (state_of new)) ≡ text ++ rest))
   pub written : Appends old.taken new.taken text
   pub readings : Readings gives old.clock (times_at move) new.clock
@@ -161,7 +163,7 @@ pub acts-one : {C : Type 0} (gives : C → ℕ → C → Type 0) (paths : List B
     OneMove gives paths whole move text old new → Acts gives paths whole (commands_at move) old new
 acts-one gives paths whole move text old new one = record {
   history = entry old.manner move text (state_of new) ∷ [];
-  run = λ proved. (one.does proved, tt);
+  run = λ met. (one.does met, tt);
   calls_rise = (one.calls, tt);
   ends = refl;
   commands_are = append-nil (commands_at move);
@@ -194,12 +196,12 @@ acts-silent gives paths whole move text old new is calls past texts written cloc
     let never : IsProved move → ⊥ = λ proved. false≢true (sym is.unproved ∙ proved) in
     record {
       history = entry old.manner move text (state_of new) ∷ [];
-      run = λ proved. absurd (never proved);
+      run = λ met. absurd (never met.0);
       calls_rise = (calls, tt);
       ends = refl;
       commands_are = append-nil (commands_at move) ∙ is.commands;
       past = past;
-      holds = λ known stands. record { held = λ meets. absurd (never meets.0); now = λ all. absurd (never all.0.0) };
+      holds = λ known stands. record { held = λ meets. absurd (never meets.0.0); now = λ all. absurd (never all.0.0.0) };
       told = (refl, tt);
       manner_is = manner ∙ sym (is.stays old.manner);
       printed = one-printed whole old.manner move text (state_of new) texts;

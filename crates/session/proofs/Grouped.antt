@@ -5,7 +5,7 @@ use Rattle.std.specs.List.{cons_option, filter_map}
 use Rattle.std.specs.Map.{lookup, set_value}
 use Rattle.std.proofs.lemmas.Bool.{false≢true, le-leb}
 use Rattle.std.proofs.lemmas.Bool.Decides.{nat_tests}
-use Rattle.std.proofs.lemmas.List.{map-append}
+use Rattle.std.proofs.lemmas.List.{length-map, map-append}
 use Rattle.indexmap.proofs.CallerLemmas.{insert_entry-new}
 use Rattle.indexmap.specs.IndexMap.{IndexMap, insert_entry, shift_remove_entry}
 use Rattle.bay.specs.Counts.{last_count}
@@ -24,6 +24,10 @@ use Rattle.session.proofs.Entries.{absent_by_name, added, all-cons, found_by_nam
 
 abbrev pub Pairs : Type 0
 Pairs = List (GroupName × Entry)
+
+-- the two lists of the session go together
+pub paired : (es : Pairs) → length (map group_view es) ≡ length (map entry_view es)
+paired es = length-map es group_view ∙ sym (length-map es entry_view)
 
 -- ---- those that are found
 

@@ -4,6 +4,7 @@ pub mod Reading
 pub mod Languages
 pub mod Creations
 pub mod Chains
+pub mod Knowing
 pub mod Creation
 pub mod Causes
 pub mod Outcomes
@@ -36,3 +37,6 @@ pub mod Telling
 pub mod GroupLists
 pub mod Turning
 pub mod Stories
+pub mod EditedEntries
+pub mod EditedSession
+pub mod EditedGroups

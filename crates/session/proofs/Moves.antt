@@ -23,16 +23,20 @@ use Rattle.asm_world.specs.Waits.{HasLines}
 use Rattle.group_disks.specs.Found.{Counts, counts_of}
 use Rattle.session.specs.Meaning.{meaning}
 use Rattle.session.specs.Effects.{HasEffect, IsServed, below_with}
+use Rattle.session.specs.Families.{is_edit}
+use Rattle.session.specs.Proved.{is_proved_as}
 use Rattle.session.specs.Manners.{after_reply, reply_style}
 use Rattle.session.specs.Quiet.{quiet}
 use Rattle.session.specs.Desks.{paths_on}
 use Rattle.session.specs.Programs.{scene_of, AnswersOne, RunsOne, TellsEvents}
+use Rattle.session.specs.Sessions.{Roster, roster_of}
 use Rattle.session.specs.Stops.{IsReplyOrNoMemory}
 use Rattle.session.specs.Turns.{AfterReply, BeforeText}
 use Rattle.session.specs.declared.manner.Manner.{Manner}
 use Rattle.session.specs.declared.program.Program.{Program}
 use Rattle.session.specs.declared.stop.Stop.{Stop}
 use Rattle.session.proofs.Chains.{acts-none, acts-one, acts-then, acts-cut, or-false}
+use Rattle.session.proofs.Languages.{other_is_proved, short_is_no_edit}
 use Rattle.session.proofs.Pieces.{at-paths, at-phase}
 use Rattle.asm_world.proofs.Memory.{no_lines}
 
@@ -84,10 +88,10 @@ pushed marks marks' x calls (Err y) e ok is = absurd cc
 
 -- ---- the moves
 
-pub acts-starts : {C : Type 0} (gives : C → ℕ → C → Type 0) (paths : List Bytes) (w : World) (below : ℕ → GroupBelow) (time time' given : ℕ) (bay : BayState) (taken : Option (List ℕ)) (clock clock' : C) (marks : List ℕ) (refused : Bool) (manner : Manner)
-    → gives clock time' clock' → Acts gives paths true [] (scene w below Resting time given bay taken clock marks refused manner) (scene w below (Expiring (mounted_groups w.session)) time' given bay taken clock' marks refused manner)
-acts-starts gives paths w below time time' given bay taken clock clock' marks refused manner g = acts-one gives paths true (Starts time') []
-    (scene w below Resting time given bay taken clock marks refused manner) (scene w below (Expiring (mounted_groups w.session)) time' given bay taken clock' marks refused manner) (record {
+pub acts-starts : {C : Type 0} (gives : C → ℕ → C → Type 0) (paths : List Bytes) (w : World) (below : ℕ → GroupBelow) (time time' : ℕ) (roster : Roster) (bay : BayState) (taken : Option (List ℕ)) (clock clock' : C) (marks : List ℕ) (refused : Bool) (manner : Manner)
+    → gives clock time' clock' → Acts gives paths true [] (scene w below Resting time roster bay taken clock marks refused manner) (scene w below (Expiring (mounted_groups w.session)) time' roster bay taken clock' marks refused manner)
+acts-starts gives paths w below time time' roster bay taken clock clock' marks refused manner g = acts-one gives paths true (Starts time') []
+    (scene w below Resting time roster bay taken clock marks refused manner) (scene w below (Expiring (mounted_groups w.session)) time' roster bay taken clock' marks refused manner) (record {
       does = λ _. record { does = record { before = refl; after = refl; world = refl; time_is = refl }; caused = tt; calls = omega arith; images = λ m image from before left id. tt; there = λ m image from before left id was is. tt };
       calls = omega arith;
       past = λ m image before left. left;
@@ -100,10 +104,10 @@ acts-starts gives paths w below time time' given bay taken clock clock' marks re
       manner_is = refl;
     })
 
-pub acts-rests : {C : Type 0} (gives : C → ℕ → C → Type 0) (paths : List Bytes) (w : World) (below : ℕ → GroupBelow) (time given : ℕ) (bay : BayState) (taken : Option (List ℕ)) (clock : C) (marks : List ℕ) (refused : Bool) (manner : Manner)
-    → next_slice w below (slices_of (mounted_groups w.session)) ≡ None → Acts gives paths true [] (scene w below (Slicing (slices_of (mounted_groups w.session))) time given bay taken clock marks refused manner) (scene w below Resting time given bay taken clock marks refused manner)
-acts-rests gives paths w below time given bay taken clock marks refused manner due = acts-one gives paths true Rests []
-    (scene w below (Slicing (slices_of (mounted_groups w.session))) time given bay taken clock marks refused manner) (scene w below Resting time given bay taken clock marks refused manner) (record {
+pub acts-rests : {C : Type 0} (gives : C → ℕ → C → Type 0) (paths : List Bytes) (w : World) (below : ℕ → GroupBelow) (time : ℕ) (roster : Roster) (bay : BayState) (taken : Option (List ℕ)) (clock : C) (marks : List ℕ) (refused : Bool) (manner : Manner)
+    → next_slice w below (slices_of (mounted_groups w.session)) ≡ None → Acts gives paths true [] (scene w below (Slicing (slices_of (mounted_groups w.session))) time roster bay taken clock marks refused manner) (scene w below Resting time roster bay taken clock marks refused manner)
+acts-rests gives paths w below time roster bay taken clock marks refused manner due = acts-one gives paths true Rests []
+    (scene w below (Slicing (slices_of (mounted_groups w.session))) time roster bay taken clock marks refused manner) (scene w below Resting time roster bay taken clock marks refused manner) (record {
       does = λ _. record { does = record { slices = slices_of (mounted_groups w.session); before = refl; none_due = due; after = refl; world = refl; time = refl }; caused = tt; calls = omega arith; images = λ m image from before left id. tt; there = λ m image from before left id was is. tt };
       calls = omega arith;
       past = λ m image before left. left;
@@ -116,20 +120,20 @@ acts-rests gives paths w below time given bay taken clock marks refused manner d
       manner_is = refl;
     })
 
-pub acts-answers : {C : Type 0} (gives : C → ℕ → C → Type 0) (paths : List Bytes) (whole : Bool) (found : Found) (text : Bytes) (reply : Reply) (sent : Bytes) (w w' : World) (below below' : ℕ → GroupBelow) (time given given' : ℕ) (old new : BayState)
-    (taken taken' : Option (List ℕ)) (clock : C) (marks marks' : List ℕ) (refused refused' : Bool) (manner manner' : Manner) → next_expiry w below (mounted_groups w.session) ≡ None → IsServed paths found text reply given given' old new below w w' → Appends taken taken' sent
+pub acts-answers : {C : Type 0} (gives : C → ℕ → C → Type 0) (paths : List Bytes) (whole : Bool) (found : Found) (text : Bytes) (reply : Reply) (sent : Bytes) (w w' : World) (below below' : ℕ → GroupBelow) (time : ℕ) (was now : Roster) (old new : BayState)
+    (taken taken' : Option (List ℕ)) (clock : C) (marks marks' : List ℕ) (refused refused' : Bool) (manner manner' : Manner) → next_expiry w below (mounted_groups w.session) ≡ None → IsServed paths found text reply was now old new below w w' → Appends taken taken' sent
     → marks' ≡ marks ++ (if bytes_eq sent (reply_in (reply_style manner) reply) then new.calls ∷ [] else []) → refused' ≡ (refused || is_refusal reply) → manner' ≡ after_reply manner
     → MatchBool whole (sent ≡ reply_in (reply_style manner) reply) ((rest : List ℕ) × (reply_in (reply_style manner) reply ≡ sent ++ rest))
-    → Acts gives paths whole (text ∷ []) (scene w below (Expiring (mounted_groups w.session)) time given old taken clock marks refused manner) (scene w' below' (phase_after reply w') time given' new taken' clock marks' refused' manner')
-acts-answers gives paths whole found text reply sent w w' below below' time given given' old new taken taken' clock marks marks' refused refused' manner manner' none served written marked refusal told texts =
+    → Acts gives paths whole (text ∷ []) (scene w below (Expiring (mounted_groups w.session)) time was old taken clock marks refused manner) (scene w' below' (phase_after reply w') time now new taken' clock marks' refused' manner')
+acts-answers gives paths whole found text reply sent w w' below below' time was now old new taken taken' clock marks marks' refused refused' manner manner' none served written marked refusal told texts =
     let move = Answers found text reply in
-    let answers : HasEffect paths found text reply given given' old new below w w' → AnswersAt meaning found text reply (state_of (scene w below (Expiring (mounted_groups w.session)) time given old taken clock marks refused manner)) (state_of (scene w' below' (phase_after reply w') time given' new taken' clock marks' refused' manner')) = λ effect. record { groups = mounted_groups w.session; before = refl; none_expires = none; step = effect.step; cause = effect.cause; lines = effect.lines; after = refl; time = refl } in
-    acts-one gives paths whole move sent (scene w below (Expiring (mounted_groups w.session)) time given old taken clock marks refused manner) (scene w' below' (phase_after reply w') time given' new taken' clock marks' refused' manner') (record {
-      does = λ proved. let effect = served.effect proved in
+    let answers : HasEffect paths found text reply was now old new below w w' → AnswersAt meaning found text reply (state_of (scene w below (Expiring (mounted_groups w.session)) time was old taken clock marks refused manner)) (state_of (scene w' below' (phase_after reply w') time now new taken' clock marks' refused' manner')) = λ effect. record { groups = mounted_groups w.session; before = refl; none_expires = none; step = effect.step; cause = effect.cause; lines = effect.lines; after = refl; time = refl } in
+    acts-one gives paths whole move sent (scene w below (Expiring (mounted_groups w.session)) time was old taken clock marks refused manner) (scene w' below' (phase_after reply w') time now new taken' clock marks' refused' manner') (record {
+      does = λ met. let effect = served.effect met.0 met.1 in
           record { does = answers effect; caused = (effect.ids_read, effect.made, effect.counted, effect.worked); calls = served.calls; images = λ m image from before left id. tt; there = λ m image from before left id was is. tt };
       calls = served.calls;
       past = served.past;
-      holds = λ known stands meets. let effect = served.effect meets.0 in let keeps = effect.keeps known stands meets.1 in
+      holds = λ known stands meets. let effect = served.effect meets.0.0 meets.1 in let keeps = effect.keeps known stands meets.0.1 in
           (record { does = answers effect; caused = (effect.ids_read, effect.made, effect.counted, effect.worked); calls = served.calls; images = λ m image from before left id. keeps.held m image id from before left; there = λ m image from before left id was is. keeps.there m image id from before left was is }, keeps.now);
       texts = texts;
       written = written;
@@ -140,11 +144,11 @@ acts-answers gives paths whole found text reply sent w w' below below' time give
     })
 
 -- want of memory in place of a refusal
-short-effect : (paths : List Bytes) (found : Found) (text : Bytes) (reply : Reply) (given given' : ℕ) (old new : BayState) {below : ℕ → GroupBelow} (w w' : World) → is_refusal reply ≡ true
-    → HasEffect paths found text reply given given' old new below w w' → HasEffect paths found text (Refused [] r.NoMemory) given given' old new below w w'
-short-effect paths found text reply given given' old new {below = below} w w' refuses effect = record {
-  step = effect.no_memory refuses;
-  no_memory = λ is. effect.no_memory refuses;
+short-effect : (paths : List Bytes) (found : Found) (text : Bytes) (reply : Reply) (was now : Roster) (old new : BayState) {below : ℕ → GroupBelow} (w w' : World) → is_refusal reply ≡ true → is_edit (meaning text) ≡ false
+    → HasEffect paths found text reply was now old new below w w' → HasEffect paths found text (Refused [] r.NoMemory) was now old new below w w'
+short-effect paths found text reply was now old new {below = below} w w' refuses other effect = record {
+  step = effect.no_memory refuses other;
+  no_memory = λ is same. effect.no_memory refuses other;
   cause = tt;
   lines = no_lines (below_with below found) w (meaning text);
   ids_read = effect.ids_read;
@@ -157,31 +161,36 @@ short-effect paths found text reply given given' old new {below = below} w w' re
 }
 
 -- the reply that was printed, where it isn't the one that the command was given
-pub effect-printed : (paths : List Bytes) (found : Found) (text : Bytes) (reply printed : Reply) (given given' : ℕ) (old new : BayState) {below : ℕ → GroupBelow} (w w' : World) → IsReplyOrNoMemory reply printed
-    → IsServed paths found text reply given given' old new below w w' → IsServed paths found text printed given given' old new below w w'
-effect-printed paths found text reply printed given given' old new w w' (inl e) served = rw e served
-effect-printed paths found text reply printed given given' old new w w' (inr (refuses, e)) served = record {
+pub effect-printed : (paths : List Bytes) (found : Found) (text : Bytes) (reply printed : Reply) (was now : Roster) (old new : BayState) {below : ℕ → GroupBelow} (w w' : World) → IsReplyOrNoMemory reply printed
+    → IsServed paths found text reply was now old new below w w' → IsServed paths found text printed was now old new below w w'
+effect-printed paths found text reply printed was now old new w w' (inl e) served = rw e served
+effect-printed paths found text reply printed was now old new w w' (inr (refuses, e)) served = record {
   calls = served.calls;
   past = served.past;
-  effect = λ proved. rw e (short-effect paths found text reply given given' old new w w' refuses (served.effect proved));
+  effect = λ proved met.
+      let none = short_is_no_edit (meaning text) (subst (λ (p : Reply). is_proved_as (meaning text) p ≡ true) e proved) in
+      rw e (short-effect paths found text reply was now old new w w' refuses none.0 (served.effect (other_is_proved (meaning text) reply none.0 none.1) met));
 }
 
 -- ---- a whole command
 
 -- nothing was done, and the marks are the same
-pub acts-unmarked : {C : Type 0} (gives : C → ℕ → C → Type 0) (paths : List Bytes) (w : World) (below : ℕ → GroupBelow) (phase : Phase) (time given : ℕ) (bay : BayState) (taken : Option (List ℕ)) (clock : C) (marks marks' : List ℕ) (refused : Bool) (manner : Manner)
-    → marks' ≡ marks → Acts gives paths false [] (scene w below phase time given bay taken clock marks refused manner) (scene w below phase time given bay taken clock marks' refused manner)
-acts-unmarked gives paths w below phase time given bay taken clock marks marks' refused manner same =
-    let P : List ℕ → Type 0 = λ ms. Acts gives paths false [] (scene w below phase time given bay taken clock marks refused manner) (scene w below phase time given bay taken clock ms refused manner) in
-    subst P (sym same) (acts-cut gives paths [] _ _ (acts-none gives paths (scene w below phase time given bay taken clock marks refused manner)))
+pub acts-unmarked : {C : Type 0} (gives : C → ℕ → C → Type 0) (paths : List Bytes) (w : World) (below : ℕ → GroupBelow) (phase : Phase) (time : ℕ) (roster : Roster) (bay : BayState) (taken : Option (List ℕ)) (clock : C) (marks marks' : List ℕ) (refused : Bool) (manner : Manner)
+    → marks' ≡ marks → Acts gives paths false [] (scene w below phase time roster bay taken clock marks refused manner) (scene w below phase time roster bay taken clock marks' refused manner)
+acts-unmarked gives paths w below phase time roster bay taken clock marks marks' refused manner same =
+    let P : List ℕ → Type 0 = λ ms. Acts gives paths false [] (scene w below phase time roster bay taken clock marks refused manner) (scene w below phase time roster bay taken clock ms refused manner) in
+    subst P (sym same) (acts-cut gives paths [] _ _ (acts-none gives paths (scene w below phase time roster bay taken clock marks refused manner)))
 
 -- A command and the moves around it. The clock was read, which leads from the program as it was to the one that begins.
 module _ {B H K C : Type 0} {bay : Bay.Ghosts B} {host : Host.Ghosts H} {sink : Sink.Ghosts K} {clock : Clock.Ghosts C} (text : Bytes) (w : World) (below : ℕ → GroupBelow) (time time' : ℕ) (old start : Program B H K C bay host sink clock)
-    (g : clock.gives old.clock time' start.clock) (paths : paths_on start.desk ≡ paths_on old.desk) (given : start.desk.session.given ≡ old.desk.session.given) (at_bay : bay.state start.desk.bay ≡ bay.state old.desk.bay)
+    (g : clock.gives old.clock time' start.clock) (paths : paths_on start.desk ≡ paths_on old.desk) (roster : roster_of start.desk.session ≡ roster_of old.desk.session) (at_bay : bay.state start.desk.bay ≡ bay.state old.desk.bay)
     (at_sink : sink.taken start.sink ≡ sink.taken old.sink) (marks : start.marks.items ≡ old.marks.items) (refused : start.refused ≡ old.refused) (manner : start.manner ≡ old.manner) where
   started : Acts clock.gives (paths_on old.desk) true [] (scene_of w below Resting time old) (scene_of w below (Expiring (mounted_groups w.session)) time' start)
-  started = rw (given, at_bay, at_sink, marks, refused, manner)
-      (acts-starts clock.gives (paths_on old.desk) w below time time' old.desk.session.given (bay.state old.desk.bay) (sink.taken old.sink) old.clock start.clock old.marks.items old.refused old.manner g)
+  started =
+      let P : Roster → Type 0 = λ x. Acts clock.gives (paths_on old.desk) true [] (scene_of w below Resting time old)
+      (scene w below (Expiring (mounted_groups w.session)) time' x (bay.state start.desk.bay) (sink.taken start.sink) start.clock start.marks.items start.refused start.manner) in
+      subst P (sym roster) (rw (at_bay, at_sink, marks, refused, manner)
+      (acts-starts clock.gives (paths_on old.desk) w below time time' (roster_of old.desk.session) (bay.state old.desk.bay) (sink.taken old.sink) old.clock start.clock old.marks.items old.refused old.manner g))
 
   -- the program stopped before the text
   pub ends-expiring : (stop : Stop) (new : Program B H K C bay host sink clock) → TellsEvents {T = Unit {0}} (Err stop) BeforeText start new w below time' → RunsOne (Err stop) text old new w below time
@@ -227,7 +236,7 @@ module _ {B H K C : Type 0} {bay : Bay.Ghosts B} {host : Host.Ghosts H} {sink : 
       ends-slicing (Ok done) new s =
           let all = acts-then clock.gives (paths_on old.desk) true (text ∷ []) [] _ _ _ answered
           (at-paths clock.gives _ _ true [] _ _ (late_paths ∙ mid_paths ∙ paths) (at-phase clock.gives _ true [] _ _ _ _ _ _ _ _ _ _ _ _ _ s.rests s.acts)) in
-          let rest = acts-rests clock.gives (paths_on old.desk) s.w' s.below' time' new.desk.session.given (bay.state new.desk.bay) (sink.taken new.sink) new.clock new.marks.items new.refused new.manner (rw s.knows.still (none_due s.w' (mounted_groups s.w'.session))) in
+          let rest = acts-rests clock.gives (paths_on old.desk) s.w' s.below' time' (roster_of new.desk.session) (bay.state new.desk.bay) (sink.taken new.sink) new.clock new.marks.items new.refused new.manner (rw s.knows.still (none_due s.w' (mounted_groups s.w'.session))) in
           record {
             w' = s.w';
             below' = s.below';

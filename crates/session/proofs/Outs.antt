@@ -14,14 +14,11 @@ use Rattle.group_engine.specs.Mounts.{MountedGroup}
 use Rattle.group_engine.specs.declared.access.Access.{Access}
 use Rattle.group_engine.specs.declared.access.Access.TheVariants as access
 use Rattle.session.specs.declared.entry.Entry.{Entry}
+use Rattle.session.specs.Editing.{Spells}
 use Rattle.session.specs.Entries.{by_disk, disk_name, entry_view}
 use Rattle.session.specs.Naming.{IsOutCause, in_state, of_entry}
 use Rattle.session.proofs.Entries.{sought}
 use Rattle.session.proofs.Grouped.{Pairs, entry_found, none_found}
-
--- the refusal as a command has it, with the disk spelt, or want of memory
-abbrev pub Spells : MountedGroup → Refusal → Refusal → Type 0
-Spells m raw refusal = (said (λ _. []) refusal ≡ said (disk_name m) raw) ⊎ (said (λ _. []) refusal ≡ r.NoMemory)
 
 shut_by : (m : MountedGroup) (a : Access) (raw refusal : Refusal) → IsShut a raw → Spells m raw refusal → in_state (by_disk m (dismounted_by a)) (said (λ _. []) refusal) ⊎ (said (λ _. []) refusal ≡ r.NoMemory)
 unfolding said

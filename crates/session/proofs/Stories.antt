@@ -1,6 +1,7 @@
 -- Turns of groups, as the program takes them.
 use Rattle.std.proofs.Common.{◌≡◌, ℕ, ◌≤◌, Bool, true, false, MatchBool, List, [], ◌++◌, Option, Result, Ok, Err, is_ok, refl, sym, ◌∙◌, ap, subst, arith, Vec, Global}
 use Rattle.std.specs.Prelude.{OnOk}
+use Rattle.std.specs.FinMap as maps
 use Rattle.std.specs.Io.KnownBytes.{Appends}
 use Rattle.bay.specs.declared.disk.Bay as Bay
 use Rattle.bay.specs.declared.host.Host as Host
@@ -19,7 +20,7 @@ use Rattle.session.specs.Desks.{paths_on}
 use Rattle.session.specs.Manners.{line_in, style_of}
 use Rattle.session.specs.Naming.{CarriesOn}
 use Rattle.session.specs.Programs.{Tells, scene_of}
-use Rattle.session.specs.Sessions.{AreReady, Knows}
+use Rattle.session.specs.Sessions.{AreReady, Knows, Roster, roster_of}
 use Rattle.session.specs.Stops.{IsOutputStop, StopsByOutput}
 use Rattle.session.specs.Turns.{AfterReply, BeforeText, HasLine, IsTurnMove, When, move_at, phase_at}
 use Rattle.session.specs.declared.manner.Manner.{Manner}
@@ -27,6 +28,7 @@ use Rattle.session.specs.declared.manner.Manner.TheVariants.{InFull, InShort}
 use Rattle.session.specs.declared.program.Program.{Program}
 use Rattle.session.specs.declared.stop.Stop.{Stop}
 use Rattle.session.specs.declared.stop.Stop.TheVariants.{ReadFault, WriteFault, NoMemory, TooLong}
+use Rattle.session.proofs.Knowing.{none_told}
 use Rattle.session.proofs.Chains.{IsSilent, acts-none, acts-silent, acts-then, none-moves, silent-moves, then-moves}
 
 -- ---- the moves
@@ -62,11 +64,11 @@ story_then gives paths whole when a b c p q = (acts-then gives paths whole [] []
 story_paths : {C : Type 0} (gives : C → ℕ → C → Type 0) (paths paths' : List Bytes) (whole : Bool) (when : When) (a b : Scene C) → paths ≡ paths' → Story gives paths whole when a b → Story gives paths' whole when a b
 story_paths gives paths paths' whole when a b e story = let P : List Bytes → Type 0 = λ ps. Story gives ps whole when a b in subst P e story
 
-story_phase : {C : Type 0} (gives : C → ℕ → C → Type 0) (paths : List Bytes) (whole : Bool) (when : When) (old : Scene C) (world : World) (below : ℕ → GroupBelow) (phase phase' : Phase) (time given : ℕ) (bay : BayState)
-    (taken : Option (List ℕ)) (clock : C) (marks : List ℕ) (refused : Bool) (manner : Manner) → phase ≡ phase' → Story gives paths whole when old (scene world below phase time given bay taken clock marks refused manner)
-    → Story gives paths whole when old (scene world below phase' time given bay taken clock marks refused manner)
-story_phase gives paths whole when old world below phase phase' time given bay taken clock marks refused manner e story =
-    let P : Phase → Type 0 = λ p. Story gives paths whole when old (scene world below p time given bay taken clock marks refused manner) in subst P e story
+story_phase : {C : Type 0} (gives : C → ℕ → C → Type 0) (paths : List Bytes) (whole : Bool) (when : When) (old : Scene C) (world : World) (below : ℕ → GroupBelow) (phase phase' : Phase) (time : ℕ) (roster : Roster) (bay : BayState)
+    (taken : Option (List ℕ)) (clock : C) (marks : List ℕ) (refused : Bool) (manner : Manner) → phase ≡ phase' → Story gives paths whole when old (scene world below phase time roster bay taken clock marks refused manner)
+    → Story gives paths whole when old (scene world below phase' time roster bay taken clock marks refused manner)
+story_phase gives paths whole when old world below phase phase' time roster bay taken clock marks refused manner e story =
+    let P : Phase → Type 0 = λ p. Story gives paths whole when old (scene world below p time roster bay taken clock marks refused manner) in subst P e story
 
 on_ok : {T P : Type 0} (result : Result T Stop) → P → OnOk result P
 on_ok (Ok given) p = p
@@ -127,12 +129,12 @@ module _ {B H K C : Type 0} {bay : Bay.Ghosts B} {host : Host.Ghosts H} {sink : 
 
   module _ (old new : Program B H K C bay host sink clock) (carries : CarriesOn old.desk.session new.desk.session (bay.state old.desk.bay) (bay.state new.desk.bay))
       (paths : paths_on new.desk ≡ paths_on old.desk) (host_is : new.desk.host ≡ old.desk.host) (clock_is : new.clock ≡ old.clock) (marks : new.marks ≡ old.marks) (refused : new.refused ≡ old.refused) (manner : new.manner ≡ old.manner) where
-    -- the world with the groups as they are then
+    -- a world with the session's groups as they are then, of which nothing more is known
     abbrev after : World → World
-    after w = record w { session = new.desk.session.entries }
+    after w = record w { groups = maps.empty; session = new.desk.session.entries }
 
     known : (w : World) (below : ℕ → GroupBelow) → Knows old.desk.session w below → Knows new.desk.session (after w) below
-    known w below knows = record { entries_are = refl; place_is = knows.place_is ∙ sym carries.place; still = knows.still }
+    known w below knows = record { entries_are = refl; place_is = knows.place_is ∙ sym carries.place; still = knows.still; told = λ same. none_told (after w) refl new.desk.session.groups }
 
     -- by a move of which nothing is proved, and this text
     tells_move : {T : Type 0} (result : Result T Stop) (move : Move) (sent : Bytes) → IsSilent move → IsTurnMove when move → MatchBool (is_ok result) (sent ≡ text_of (style_of old.manner move) move) ((rest : List ℕ) × (text_of (style_of old.manner move) move ≡ sent ++ rest))
@@ -182,7 +184,7 @@ module _ {B H K C : Type 0} {bay : Bay.Ghosts B} {host : Host.Ghosts H} {sink : 
     tells = λ w below time knows.
         let x = p.tells w below time knows in
         let y = q.tells x.w' x.below' time x.knows in
-        let first = story_phase clock.gives (paths_on a.desk) true when (scene_of w below (phase_at when w.session) time a) x.w' x.below' x.phase (phase_at when x.w'.session) time b.desk.session.given (bay.state b.desk.bay) (sink.taken b.sink) b.clock b.marks.items b.refused b.manner x.rests (x.acts, x.events) in
+        let first = story_phase clock.gives (paths_on a.desk) true when (scene_of w below (phase_at when w.session) time a) x.w' x.below' x.phase (phase_at when x.w'.session) time (roster_of b.desk.session) (bay.state b.desk.bay) (sink.taken b.sink) b.clock b.marks.items b.refused b.manner x.rests (x.acts, x.events) in
         let rest = story_paths clock.gives (paths_on b.desk) (paths_on a.desk) (is_ok result) when (scene_of x.w' x.below' (phase_at when x.w'.session) time b) (scene_of y.w' y.below' y.phase time c) p.paths (y.acts, y.events) in
         let all = story_then clock.gives (paths_on a.desk) (is_ok result) when (scene_of w below (phase_at when w.session) time a) (scene_of x.w' x.below' (phase_at when x.w'.session) time b) (scene_of y.w' y.below' y.phase time c) first rest in
         record { w' = y.w'; below' = y.below'; phase = y.phase; knows = y.knows; rests = y.rests; acts = all.0; events = all.1 };

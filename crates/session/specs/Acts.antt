@@ -5,24 +5,27 @@ use Rattle.bay.specs.State.{BayState}
 use Rattle.bay.specs.Readings.{Readings}
 use Rattle.asm_group.specs.Names.{Bytes}
 use Rattle.asm_world.specs.World.{World}
-use Rattle.asm_world.specs.Run.{State, Phase, Entry, AllMoves, IsRunWhile, CallsRise, end_of, IsPrinted, IsPrintedToCut, output_of, answered, times_of, marks_of, has_refusal}
+use Rattle.asm_world.specs.Run.{State, Phase, Entry, CallsRise, end_of, IsPrinted, IsPrintedToCut, output_of, answered, times_of, marks_of, has_refusal}
 use Rattle.group_disks.specs.Found.{Counts, counts_of}
-use Rattle.session.specs.Claims.{outside, held_outside, StandsFor, IsProvedApart}
+use Rattle.session.specs.Claims.{outside, held_outside, IsProvedApartIn}
 use Rattle.session.specs.declared.manner.Manner.{Manner}
 use Rattle.session.specs.Effects.{Past}
 use Rattle.session.specs.Manners.{AreTold, after_moves}
-use Rattle.session.specs.Proved.{IsProved}
+use Rattle.session.specs.Proved.{IsProvedIn}
+use Rattle.session.specs.Sessions.{Roster}
+use Rattle.session_claims.specs.Claims.{StandsFor}
+use Rattle.world_steps.specs.Runs.{AllFrom, IsRunFrom}
 use Rattle.asm_world.specs.Below.{GroupBelow}
 
--- All that a part of the program may change: the session, the least id that it hasn't given, the disks, what the sink has taken,
--- the clock, the marks, whether a reply was a refusal, and how texts are told.
+-- All that a part of the program may change: the session, its groups as they are mounted and the least id that it hasn't given, the disks,
+-- what the sink has taken, the clock, the marks, whether a reply was a refusal, and how texts are told.
 pub record Scene (C : Type 0) : Type 1 where
   pub world : World
   -- of the groups that are mounted, by their ids
   pub below : ℕ → GroupBelow
   pub phase : Phase
   pub time : ℕ
-  pub given : ℕ
+  pub roster : Roster
   pub bay : BayState
   pub taken : Option (List ℕ)
   pub clock : C
@@ -30,9 +33,9 @@ pub record Scene (C : Type 0) : Type 1 where
   pub refused : Bool
   pub manner : Manner
 
-abbrev pub scene : {C : Type 0} → World → (ℕ → GroupBelow) → Phase → ℕ → ℕ → BayState → Option (List ℕ) → C → List ℕ → Bool → Manner → Scene C
-scene world below phase time given bay taken clock marks refused manner =
-    record { world = world; below = below; phase = phase; time = time; given = given; bay = bay; taken = taken; clock = clock; marks = marks; refused = refused; manner = manner }
+abbrev pub scene : {C : Type 0} → World → (ℕ → GroupBelow) → Phase → ℕ → Roster → BayState → Option (List ℕ) → C → List ℕ → Bool → Manner → Scene C
+scene world below phase time roster bay taken clock marks refused manner =
+    record { world = world; below = below; phase = phase; time = time; roster = roster; bay = bay; taken = taken; clock = clock; marks = marks; refused = refused; manner = manner }
 
 -- the session's state in a scene
 abbrev pub state_of : {C : Type 0} → Scene C → State Counts
@@ -40,20 +43,20 @@ state_of s = record { world = s.world; below = s.below; phase = s.phase; time = 
 
 -- Up to the first move that isn't proved, the images of each moment that ends in these moves stand for groups between; where all are
 -- proved, those of the moment that lasts stand for the world's.
-pub record Holding (known : ℕ → Bool) (paths : List Bytes) (s : State Counts) (history : List (Entry Counts)) (given : ℕ) (new : BayState) (world : World) : Type 0 where
-  pub held : IsRunWhile (held_outside paths new.leaves) (IsProvedApart known) s history
-  pub now : AllMoves (IsProvedApart known) history → StandsFor (length paths) known given new world
+pub record Holding (known : ℕ → Bool) (paths : List Bytes) (s : State Counts) (history : List (Entry Counts)) (roster : Roster) (new : BayState) (world : World) : Type 0 where
+  pub held : IsRunFrom (held_outside paths new.leaves) (IsProvedApartIn known) s history
+  pub now : AllFrom (IsProvedApartIn known) s history → StandsFor (length paths) known roster.given new world roster.groups
 
 -- Moves that answer these commands lead from old to new, and those before the first that isn't proved are a run. Their texts were
 -- told in the manner of the program, whole or up to a cut.
 pub record Acts {C : Type 0} (gives : C → ℕ → C → Type 0) (paths : List Bytes) (whole : Bool) (commands : List Bytes) (old new : Scene C) : Type 0 where
   pub history : List (Entry Counts)
-  pub run : IsRunWhile (outside paths new.bay.leaves) IsProved (state_of old) history
+  pub run : IsRunFrom (outside paths new.bay.leaves) IsProvedIn (state_of old) history
   pub calls_rise : CallsRise (state_of old) history
   pub ends : end_of (state_of old) history ≡ state_of new
   pub commands_are : answered history ≡ commands
   pub past : Past old.bay new.bay
-  pub holds : (known : ℕ → Bool) → StandsFor (length paths) known old.given old.bay old.world → Holding known paths (state_of old) history new.given new.bay new.world
+  pub holds : (known : ℕ → Bool) → StandsFor (length paths) known old.roster.given old.bay old.world old.roster.groups → Holding known paths (state_of old) history new.roster new.bay new.world
   pub told : AreTold old.manner history
   pub manner_is : new.manner ≡ after_moves old.manner history
   pub printed : MatchBool whole (IsPrinted history) (IsPrintedToCut history)

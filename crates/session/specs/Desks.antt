@@ -10,7 +10,7 @@ use Rattle.asm_world.specs.World.{World}
 use Rattle.session.specs.declared.answer.Answer.{Answer}
 use Rattle.session.specs.declared.desk.Desk.{Desk}
 use Rattle.session.specs.Effects.{IsServed}
-use Rattle.session.specs.Sessions.{AreReady, Knows}
+use Rattle.session.specs.Sessions.{AreReady, Knows, roster_of}
 use Rattle.session.specs.Views.{reply_view, found_view}
 use Rattle.asm_world.specs.Below.{GroupBelow}
 
@@ -31,4 +31,4 @@ pub record IsAnswered {B H : Type 0} {bay : Bay.Ghosts B} {host : Host.Ghosts H}
   pub ready : AreReady new.session.groups (bay.state new.bay)
   -- whatever world the session knew, it knows one now
   pub served : (w : World) (below : ℕ → GroupBelow) → Knows old.session w below → (w' : World) × (below' : ℕ → GroupBelow) × Knows new.session w' below'
-      × IsServed (paths_on old) (found_view answer.found) text (reply_view answer.reply) old.session.given new.session.given (bay.state old.bay) (bay.state new.bay) below w w'
+      × IsServed (paths_on old) (found_view answer.found) text (reply_view answer.reply) (roster_of old.session) (roster_of new.session) (bay.state old.bay) (bay.state new.bay) below w w'

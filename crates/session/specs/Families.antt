@@ -141,6 +141,15 @@ is_served c = served_in (family_of c) c
 abbrev pub is_proved : Command → Bool
 is_proved c = if is_served c then proved_in (family_of c) c else true
 
+abbrev pub edits_in : Family → Bool
+edits_in Names = true
+edits_in Settings = true
+edits_in other = false
+
+-- whether it is an edit of the names or the settings of a mounted group
+abbrev pub is_edit : Command → Bool
+is_edit c = edits_in (family_of c)
+
 -- an id that a command gave is that of a group that it made
 abbrev pub IsMade : Command → Option ℕ → World → Type 0
 IsMade c None w = ⊤

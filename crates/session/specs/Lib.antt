@@ -21,6 +21,7 @@ pub mod Acts
 pub mod Sessions
 pub mod Mounting
 pub mod Naming
+pub mod Editing
 pub mod Joining
 pub mod Copying
 pub mod Lines

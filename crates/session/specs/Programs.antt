@@ -13,14 +13,14 @@ use Rattle.session.specs.declared.stop.Stop.{Stop}
 use Rattle.session.specs.Acts.{Scene, scene, Acts}
 use Rattle.session.specs.Desks.{paths_on}
 use Rattle.session.specs.Serves.{BeginsFrom, Serves, is_whole}
-use Rattle.session.specs.Sessions.{AreReady, Knows}
+use Rattle.session.specs.Sessions.{AreReady, Knows, roster_of}
 use Rattle.session.specs.Stops.{IsPart, StopsByOutput}
 use Rattle.session.specs.Turns.{When, IsTurnMove, phase_at}
 use Rattle.asm_world.specs.Below.{GroupBelow}
 
 -- the program with the world that it works on
 abbrev pub scene_of : {B H K C : Type 0} {bay : Bay.Ghosts B} {host : Host.Ghosts H} {sink : Sink.Ghosts K} {clock : Clock.Ghosts C} → World → (ℕ → GroupBelow) → Phase → ℕ → Program B H K C bay host sink clock → Scene C
-scene_of {bay = bay} {sink = sink} w below phase time p = scene w below phase time p.desk.session.given (bay.state p.desk.bay) (sink.taken p.sink) p.clock p.marks.items p.refused p.manner
+scene_of {bay = bay} {sink = sink} w below phase time p = scene w below phase time (roster_of p.desk.session) (bay.state p.desk.bay) (sink.taken p.sink) p.clock p.marks.items p.refused p.manner
 
 -- for whatever world the program knows, with what is below its groups, and whatever time
 abbrev pub EachWorld : {B H K C : Type 0} {bay : Bay.Ghosts B} {host : Host.Ghosts H} {sink : Sink.Ghosts K} {clock : Clock.Ghosts C} → Program B H K C bay host sink clock → (World → (ℕ → GroupBelow) → ℕ → Type 0) → Type 0

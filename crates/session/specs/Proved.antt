@@ -1,13 +1,31 @@
 -- Moves of which it is proved what they do to the world and to the disks. What is said of all others are the bytes: what was read and
 -- printed, the marks and the statuses. Of a stop for want of memory it isn't proved that something was due, nor what it left: it ends the
 -- run, so nothing comes behind it.
-use Rattle.std.specs.Prelude.{◌≡◌, Bool, true, false}
-use Rattle.asm_world.specs.Run.{Move, Starts, Expires, Answers, Slices, Rests, Stops}
-use Rattle.session.specs.Families.{is_proved}
+use Rattle.std.specs.Prelude.{◌≡◌, ◌&&◌, ⊤, ◌∷◌, [], Bool, true, false, if◌then◌else◌}
+use Rattle.asm_group.specs.Group.{Group}
+use Rattle.asm_group.specs.Refusal as r
+use Rattle.asm_placement.specs.Among.{IsAmong}
+use Rattle.asm_world.specs.Command.{Command}
+use Rattle.asm_world.specs.Reply.{Reply, Refused}
+use Rattle.asm_world.specs.Run.{State, Move, Starts, Expires, Answers, Slices, Rests, Stops}
+use Rattle.asm_world.specs.World.{SessionEntry, World, groups_of, is_mounted}
+use Rattle.group_disks.specs.Found.{Counts}
+use Rattle.session.specs.Families.{is_edit, is_proved}
 use Rattle.session.specs.Meaning.{meaning}
+use Rattle.world_steps.specs.Told.{HasGroups}
+
+-- memory was short
+abbrev pub is_short : Reply → Bool
+is_short (Refused lines r.NoMemory) = true
+is_short other = false
+
+-- Whether it is proved what a command does that gets this reply. Of an edit for which memory was short it isn't: that ends the run, and the
+-- edit may have dismounted its group before there was no memory to tell by which disk.
+abbrev pub is_proved_as : Command → Reply → Bool
+is_proved_as c reply = if is_edit c && is_short reply then false else is_proved c
 
 abbrev pub is_proved_move : Move → Bool
-is_proved_move (Answers found text reply) = is_proved (meaning text)
+is_proved_move (Answers found text reply) = is_proved_as (meaning text) reply
 is_proved_move (Starts time) = true
 is_proved_move (Expires event) = false
 is_proved_move (Slices event) = false
@@ -16,3 +34,25 @@ is_proved_move Stops = false
 
 abbrev pub IsProved : Move → Type 0
 IsProved move = is_proved_move move ≡ true
+
+-- Each mounted group is alone under its id, and has the entry's name. This is so in each run, but where ids run out: then a creation may
+-- give an id that is taken, and the world has the new group under it alone.
+pub record HasOwnGroups (w : World) : Type 0 where
+  pub alone : HasGroups w
+  pub named : (e : SessionEntry) (g : Group) → IsAmong w.session e → is_mounted e ≡ true → groups_of w e.id ≡ g ∷ [] → g.name ≡ e.name
+
+-- the premise of an edit on the world before it
+abbrev pub IsMet : Command → World → Type 0
+IsMet c w = is_edit c ≡ true → HasOwnGroups w
+
+abbrev pub IsMetIn : World → Move → Type 0
+IsMetIn w (Answers found text reply) = IsMet (meaning text) w
+IsMetIn w (Starts time) = ⊤
+IsMetIn w (Expires event) = ⊤
+IsMetIn w (Slices event) = ⊤
+IsMetIn w Rests = ⊤
+IsMetIn w Stops = ⊤
+
+-- a move that is proved, in a state that meets the premise of an edit
+abbrev pub IsProvedIn : State Counts → Move → Type 0
+IsProvedIn s move = IsProved move × IsMetIn s.world move

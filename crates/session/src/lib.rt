@@ -7,6 +7,7 @@ mod copying;
 mod desk;
 mod disk_works;
 mod disks;
+mod editing;
 mod entry;
 mod events;
 mod expiring;

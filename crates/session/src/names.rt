@@ -9,6 +9,8 @@ ghost use Rattle.asm_world.specs.Statement.{Alter, AddDirectory, DropDirectory, 
 ghost use Rattle.asm_world.specs.Step.{on_path, on_paths};
 ghost use Rattle.session.specs.Desks.{IsAnswered};
 ghost use Rattle.session.specs.Families.{is_proved};
+ghost use Rattle.session.specs.Leading.{IsLedTo};
+ghost use Rattle.session.specs.Meaning.{meaning};
 ghost use Rattle.session.specs.NameEdits.{edit_at, edit_between};
 ghost use Rattle.session.specs.Sessions.{AreReady};
 ghost use Rattle.session.specs.Views.{found_view, nothing_found};
@@ -16,10 +18,9 @@ ghost use Rattle.session.specs.declared.reply.Reply.TheVariants.{Done, Refused};
 
 use crate::answer::Answer;
 use crate::desk::Desk;
-use crate::files::{AtFile, work_by_verb};
-use crate::refusing::{no_memory, refuse};
+use crate::files::{AtFile, path_of_verb, work_by_verb};
+use crate::refusing::{no_memory, refuse, refused};
 use crate::reply::Reply;
-use crate::works::Edit;
 use alias_tree::TreeEdit;
 use asm_base::{List, Name, NoMemory, Path, Refusal, Text};
 use bay::{Bay, Host};
@@ -133,9 +134,7 @@ pub(crate) fn edit_named<B: Bay, H: Host>(
     if let Err(refusal) = desk.session.mounted(desk.alloc, group) {
         return refuse(desk, text, refusal);
     }
-    let done = desk
-        .session
-        .work(desk.alloc, &mut desk.bay, group, Edit { edit });
+    let done = desk.session.edit(desk.alloc, &mut desk.bay, group, edit);
     answer_of(desk.alloc, done)
 }
 
@@ -334,13 +333,39 @@ pub fn rename_alias<B: Bay, H: Host>(
     edit_clause(desk, text, &group, edit)
 }
 
-/// mkdir.
+/// mkdir. Its refusals in order: NoGroup, also where the path comes to `+`, Dismounted, those of the edit, and Dismounted by its
+/// commit.
 pub fn make_directory<B: Bay, H: Host>(desk: &mut Desk<B, H>, text: &[u8], path: Text) -> Answer
     requires asked { command_of text.now ≡ Asked (MakeDir path) }
     requires ready { AreReady desk.old.session.groups (B.state desk.old.bay) }
     ensures answers { IsAnswered text.now result desk.old desk.new }
 {
-    edit_verb(desk, text, path.as_slice(), AtPath::MakeDir)
+    match path_of_verb(desk.alloc, desk.session.place(), path.as_slice()) {
+        Ok(led) => make_at(desk, text, path.as_slice(), led),
+        Err(refusal) => refused(desk.alloc, refusal),
+    }
+}
+
+/// The directory at a path of the group that it names.
+fn make_at<B: Bay, H: Host>(desk: &mut Desk<B, H>, text: &[u8], _path: &[u8], led: Path) -> Answer
+    requires says { meaning text.now ≡ Asked (MakeDir _path.now) }
+    requires leads { IsLedTo desk.old.session.place _path.now led }
+    requires ready { AreReady desk.old.session.groups (B.state desk.old.bay) }
+    ensures answers { IsAnswered text.now result desk.old desk.new }
+{
+    let Ok(group) = led.group.copy() else {
+        return no_memory(desk, text);
+    };
+    if let Err(refusal) = desk.session.mounted(desk.alloc, &group) {
+        return refused(desk.alloc, refusal);
+    }
+    let edit = GroupEdit::Tree(TreeEdit::MakeDir { path: led });
+    // a place and the paths of verbs have no other parts
+    if !edit.is_allowed() {
+        return no_memory(desk, text);
+    }
+    let done = desk.session.edit(desk.alloc, &mut desk.bay, &group, &edit);
+    answer_of(desk.alloc, done)
 }
 
 /// rmalias.

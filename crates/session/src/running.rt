@@ -30,6 +30,7 @@ impl<B: Bay, H: Host, K: Sink, C: Clock> Program<B, H, K, C> {
     ) -> Program<B, H, K, C>
         requires few { length paths.items ≤ 512 }
         ensures session { (result.desk.session.entries ≡ []) × (result.desk.session.given ≡ 0) }
+        ensures groups { result.desk.session.groups ≡ [] }
         ensures place { result.desk.session.place ≡ [] }
         ensures ready { AreReady result.desk.session.groups (B.state result.desk.bay) }
         ensures marks { result.marks.items ≡ [] }

@@ -1,5 +1,5 @@
 // The groups of the session, and its place.
-ghost use Rattle.std.specs.Prelude.{◌≡◌, ◌⊎◌, max, min, ◌≤◌, ◌+◌, ◌++◌, [], ◌∷◌, false, is_some, nat_le, IfSome, OnOk, OnErr};
+ghost use Rattle.std.specs.Prelude.{◌≡◌, ◌⊎◌, max, min, ◌≤◌, ◌+◌, ◌++◌, [], ◌∷◌, false, is_some, length, nat_le, IfSome, OnOk, OnErr};
 ghost use Rattle.indexmap.specs.IndexMap.{insert_entry};
 ghost use Rattle.bay.specs.Counts.{last_count};
 ghost use Rattle.asm_world.specs.Causes.{mounted_count, is_mounted_as};
@@ -237,6 +237,7 @@ impl Session {
         ensures found { result ≡ is_some (entry_among self.old.entries name.now) }
         ensures left { self.new.entries ≡ without_entry self.old.entries name.now }
         ensures groups { self.new.groups ≡ without_groups self.old.entries self.old.groups name.now }
+        ensures paired { length self.old.groups ≡ length self.old.entries }
         ensures place { self.new.place ≡ self.old.place }
         ensures given { self.new.given ≡ self.old.given }
     {

@@ -1,4 +1,4 @@
-// What commands do to one group: an edit, its drop, and work on its files.
+// What commands do to one group: its drop, and work on its files.
 ghost use Rattle.std.specs.Prelude.{⊤, ◌≡◌};
 ghost use Rattle.group_engine.specs.Mounts.{MountedGroup};
 ghost use Rattle.group_contents.specs.Creating.{NamesFile};
@@ -12,28 +12,7 @@ use file_extents::{Contents, Filling, put_next};
 use group_contents::{FileWork, begin_new, create, finish_new, give_up, work_on_file};
 use group_disks::drop_group;
 use group_engine::Mounted;
-use group_files::{GroupEdit, edit_group};
 use std::alloc::Global;
-
-/// Its names, templates or attributes are edited.
-#[derive(Clone, Copy)]
-pub struct Edit<'a> {
-    pub edit: &'a GroupEdit,
-}
-
-impl GroupWork for Edit<'_> {
-    type Given = ();
-
-    ghost does = { λ work old given new. ⊤ };
-
-    #[tactic(auto, using(crate::proofs::Keeping::lets_go))]
-    fn run<B: Bay>(self, m: &mut Mounted, alloc: Global, bay: &mut B) -> Result<(), Refusal> {
-        match edit_group(m, alloc, bay, self.edit) {
-            Ok(()) => Ok(()),
-            Err(refusal) => Err(refusal),
-        }
-    }
-}
 
 /// It is dropped, with its files or only where it has none.
 #[derive(Clone, Copy)]

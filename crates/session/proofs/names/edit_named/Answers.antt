@@ -3,4 +3,4 @@ use Rattle.session.proofs.Desks.{answered-carried}
 use Rattle.session.proofs.names.edit_named.Goals as goal
 
 pub returns : goal.returns
-returns g c = record { answers = answered-carried c.args.text.now _ c.args.desk.now _ c.requires.unproved refl (λ is. refl) c.work-done.ensures.carries }
+returns g c = record { answers = answered-carried c.args.text.now _ c.args.desk.now _ c.requires.unproved refl (λ is. refl) c.edit-done.ensures.carries }

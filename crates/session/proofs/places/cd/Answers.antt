@@ -24,7 +24,7 @@ returns g c =
         served = λ w below knows. (
           record w { place = [] },
           below,
-          rw (c.go.ensures, c.new.ensures) (record { entries_are = knows.entries_are; place_is = refl; still = knows.still }),
+          rw (c.go.ensures, c.new.ensures) (record { entries_are = knows.entries_are; place_is = refl; still = knows.still; told = knows.told }),
           rw (c.plain.ensures.reply, c.plain.ensures.found, c.new-2.ensures, c.go.ensures) (moved _ c.args.text.now [] _ _ w [] (rw says (refl, refl)) (rw says refl) (rw says tt) (rw says tt)),
         );
       };
