@@ -1,6 +1,7 @@
 pub mod FileBays
 pub mod FileSound
 pub mod Opening
+pub mod Outside
 pub mod PathFaults
 pub mod Places
 pub mod Slots

@@ -1,8 +1,9 @@
 // The folder outside as std's files.
-ghost use Rattle.std.specs.Prelude.{◌≡◌, ◌≤◌, ℕ, List, Ok, Err, IfOk, OnOk, OnErr, IsErrOf};
+ghost use Rattle.std.specs.Prelude.{◌≡◌, ◌≤◌, ℕ, List, Ok, Err, IfErr, IfOk, OnOk, OnErr, IsErrOf};
 ghost use Rattle.bay.specs.Counts.{Rose};
 ghost use Rattle.bay.specs.declared.fault.HostError.TheVariants.{Fault};
 ghost use Rattle.bay.specs.Hosts.{CountsAt, untold};
+ghost use Rattle.bay_file.specs.Outside.{IsFaultTold};
 ghost use Rattle.bay_file.specs.PathFaults.{faults_of};
 
 use crate::path_faults::{PathFaults, count_fault};
@@ -37,6 +38,7 @@ impl FileHost {
     fn passed<T: Drop>(&mut self, answer: io::Result<T>, path: &str) -> Result<T, HostError>
         ensures ok { IfOk answer (λ value. result ≡ Ok value) }
         ensures counts { CountsAt path.now (faults_of self.old.faults) (faults_of self.new.faults) }
+        ensures err { IfErr answer (λ error. IsFaultTold error path.now result (faults_of self.old.faults) (faults_of self.new.faults)) }
         ensures cause { IsErrOf result HostError.Fault → Rose (faults_of self.old.faults path.now) (faults_of self.new.faults path.now) }
     {
         match answer {

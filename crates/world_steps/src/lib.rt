@@ -1,18 +1,28 @@
-//! Laws over worlds and runs, for commands that write on a mounted group: what mkdir is answered, worlds whose mounted groups are
-//! alone under their ids, and runs up to a premise on their states. Each function does nothing; its contract is the law.
+//! Laws over worlds and runs, for commands that write on a mounted group: what an edit of its names or settings is answered, worlds
+//! whose mounted groups are alone under their ids, and runs up to a premise on their states. Each function does nothing; its contract is the law.
 #![tactic(auto)]
 
 ghost use Rattle.world_steps.specs.Runs.{FromIsRun, FromJoins, FromPremisesJoin, FromStays};
-ghost use Rattle.world_steps.specs.Steps.{MakesDirectories, MakesNone};
+ghost use Rattle.world_steps.specs.Said.{AttributesHaveParts, PathsHaveParts, TemplatesHaveNames};
+ghost use Rattle.world_steps.specs.Steps.{AnswersEdits, AnswersNone, TellsNoDisk};
 ghost use Rattle.world_steps.specs.Told.{GroupsStayAlone};
 
 use asm_world::{Later, Measure};
 
-/// The answers to mkdir: by the world's edit of the group's names where its path leads into a mounted group, and else by what
+/// The answers to an edit of names or settings: by the world's edit where the command names a mounted group, and else by what
 /// isn't there.
-pub fn directories_are_made()
-    ensures inside { MakesDirectories }
-    ensures outside { MakesNone }
+pub fn edits_are_answered()
+    ensures inside { AnswersEdits }
+    ensures outside { AnswersNone }
+    ensures disks { TellsNoDisk }
+{}
+
+/// The names and paths of commands: templates have names of the grammar, paths parts of at most 80 bytes, and attributes no other
+/// names than parts.
+pub fn commands_have_parts()
+    ensures templates { TemplatesHaveNames }
+    ensures paths { PathsHaveParts }
+    ensures attributes { AttributesHaveParts }
 {}
 
 /// In a world whose mounted groups are alone under their ids they stay so over creations, edits and dismounts.
