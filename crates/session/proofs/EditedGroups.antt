@@ -1,5 +1,5 @@
--- mkdir: what an edit of a mounted group was, as the world's.
-use Rattle.std.proofs.Common.{◌≡◌, ◌≢◌, ◌⊎◌, ⊎_elim, inl, inr, ℕ, ◌≤◌, ◌==◌, Bool, true, false, cond, List, [], ◌∷◌, length, map, Option, Some, None, Result, Ok, Err, refl, sym, ◌∙◌, ap, subst, arith, if◌then◌else◌}
+-- What an edit of a mounted group was, as the world's.
+use Rattle.std.proofs.Common.{◌≡◌, ◌≢◌, ⊎_elim, inl, inr, ℕ, ◌≤◌, ◌==◌, Bool, true, false, cond, List, [], ◌∷◌, length, Option, Some, None, Result, Ok, Err, refl, sym, ◌∙◌, ap, subst, arith, if◌then◌else◌}
 use Rattle.std.specs.Prelude.{IfErr, OnOk, unwrap_or}
 use Rattle.std.specs.FinMap as maps
 use Rattle.std.specs.Str.{bytes_eq}
@@ -12,32 +12,22 @@ use Rattle.bay.specs.Image.{Same}
 use Rattle.bay.specs.Moments.{Runs}
 use Rattle.bay.specs.State.{BayState, IsSound}
 use Rattle.asm_base.specs.Refusals.{said}
-use Rattle.asm_base.specs.declared.refusal.DiskRef.{DiskRef}
 use Rattle.asm_base.specs.declared.refusal.DiskRef.TheVariants as disk
 use Rattle.asm_base.specs.declared.refusal.Refusal.{Refusal}
 use Rattle.asm_base.specs.declared.refusal.Refusal.TheVariants as cause
-use Rattle.asm_group.specs.Causes.{first_cause}
-use Rattle.asm_group.specs.Group.{Cell, Group}
-use Rattle.asm_group.specs.Names.{Bytes, ByNumber, Path, is_same_name}
+use Rattle.asm_group.specs.Group.{Group}
+use Rattle.asm_group.specs.Names.{Bytes, ByNumber, is_same_name}
 use Rattle.asm_group.specs.Refusal as r
 use Rattle.asm_placement.specs.Among.{IsAmong}
 use Rattle.asm_world.specs.Below.{GroupBelow}
-use Rattle.asm_world.specs.Causes.{HasCause}
-use Rattle.asm_world.specs.Command.{Command, Asked, MakeDir}
-use Rattle.asm_world.specs.Edits as e
-use Rattle.asm_world.specs.Paths.{target_from}
 use Rattle.asm_world.specs.Reply.{Reply, Done, Refused}
-use Rattle.asm_world.specs.Step.{Step}
-use Rattle.asm_world.specs.Waits.{HasLines}
-use Rattle.asm_world.specs.World.{SessionEntry, SessionState, World, Mounted, DismountedBy, entry_among, entry_in, groups_of, is_mounted, with_group}
-use Rattle.alias_tree.specs.Edits as names
-use Rattle.alias_tree.specs.declared.editing.TreeEdit.{TreeEdit}
+use Rattle.asm_world.specs.World.{SessionEntry, SessionState, World, Mounted, DismountedBy, entry_among, groups_of, is_mounted, with_group}
 use Rattle.catalog.specs.Changing.{IsAfter}
 use Rattle.catalog.specs.Tables.{Tables}
 use Rattle.catalog.proofs.AfterLaws.{one_after}
-use Rattle.edit_laws.specs.Edits.{IsRefusedIn, edited_by}
-use Rattle.edit_laws.proofs.OfTables.{edit_is_of_tables, refusal_is_of_tables}
-use Rattle.group_disks.specs.Found.{Counts, counts_of}
+use Rattle.edit_laws.specs.Edits.{edited_by}
+use Rattle.edit_laws.proofs.OfTables.{edit_is_of_tables}
+use Rattle.group_disks.specs.Found.{counts_of}
 use Rattle.group_engine.specs.Commits.{CommitsChange, StatusCause}
 use Rattle.group_engine.specs.Frames.{StaysAttached}
 use Rattle.group_engine.proofs.Elsewhere.{stays_attached}
@@ -49,102 +39,37 @@ use Rattle.group_engine.specs.declared.access.Access.TheVariants as access
 use Rattle.group_files.specs.Edits.{Edits, IsCommitted, IsUnplanned}
 use Rattle.group_files.specs.GroupEdits.{IsEditPlan, IsEditRefusal, is_group_edit}
 use Rattle.group_files.specs.declared.edit.GroupEdit.{GroupEdit}
-use Rattle.group_files.specs.declared.edit.GroupEdit.TheVariants.{Tree}
-use Rattle.group_of.specs.Edits.{IsRefusedBeside, IsWorldsRefusal, full, no_memory, refused, with_tree, worlds}
+use Rattle.group_of.specs.Edits.{IsWorldsRefusal, no_memory, refused}
 use Rattle.group_of.specs.Groups.{HasCells, group_of}
 use Rattle.session_claims.specs.Claims.{IsPaired, KeepsWorlds, StandsFor}
 use Rattle.session_claims.specs.Laws.{CommitsEdit, EditsTo, ReplacesGroups}
 use Rattle.session_claims.proofs.Edited.{edits_keep, tearing_keeps}
 use Rattle.session_claims.proofs.Looks.{looks_keep}
-use Rattle.world_steps.specs.Steps.{LeadsInto, MayAnswer, made_in, torn_world}
+use Rattle.world_steps.specs.Steps.{EditAt, MayAnswer, asks_edit, edited_in, tells_disk, torn_world}
 use Rattle.world_steps.specs.Told.{AreIdsApart}
-use Rattle.world_steps.proofs.Steps.{fails, makes_directories, makes_none, new_name_plain, plain}
+use Rattle.world_steps.proofs.Steps.{answers_edits, tells_no_disk}
 use Rattle.world_steps.proofs.Told.{named_among, one_entry, torn_apart}
 use Rattle.session.specs.Counts.{ReplyCause}
 use Rattle.session.specs.declared.reply.Reply as code
 use Rattle.session.specs.declared.reply.Reply.TheVariants as replies
-use Rattle.session.specs.Editing.{AreNamesApart, EditsGroup, IsSpelt, with_state}
-use Rattle.session.specs.Effects.{HasEffect, IsServed, Past, below_with}
+use Rattle.session.specs.Editing.{AreNamesApart, AsksFor, EditsGroup, IsSpelt, with_state}
+use Rattle.session.specs.Effects.{IsServed, Past, below_with}
 use Rattle.session.specs.Entries.{by_disk, disk_name, state_view}
 use Rattle.session.specs.Families.{is_edit}
-use Rattle.session.specs.Leading.{IsNoTarget}
 use Rattle.session.specs.Meaning.{meaning}
 use Rattle.session.specs.Naming as session
-use Rattle.session.specs.Naming.{CarriesOn, group_among, in_state, of_entry}
-use Rattle.session.specs.OnDisks.{ReplyWork, work_of}
-use Rattle.session.specs.Proved.{HasOwnGroups, IsMet, is_proved_as}
+use Rattle.session.specs.Naming.{CarriesOn, group_among}
+use Rattle.session.specs.OnDisks.{DiskWork, IsWorkDone, ReplyWork, work_of}
+use Rattle.session.specs.Proved.{HasOwnGroups}
 use Rattle.session.specs.Sessions.{AreToldBy, IsToldBy, Knows, Roster, SessionView, roster_of}
 use Rattle.session.specs.Views.{reply_view}
+use Rattle.session.proofs.AskedEdits.{edit_alone}
 use Rattle.session.proofs.Creation.{groups_after, same_some}
+use Rattle.session.proofs.EditPlans.{IsRefusedBy, as_is, planned, planned_after, refused_by}
 use Rattle.session.proofs.EditedEntries.{one_named, paired_of, paired_torn, paired_with, same_group, same_state, with_length}
 use Rattle.session.proofs.Knowing.{cons_same, none_told, paired_among}
-use Rattle.session.proofs.Languages.{short_is_no_edit}
-use Rattle.session.proofs.Outcomes as outcomes
-use Rattle.session.proofs.Outcomes.{none_read, served, still, unread}
-
--- ---- refusals that tell no disk
-
-abbrev tells_disk : r.Refusal → Bool
-tells_disk (r.NoDisk text) = true
-tells_disk (r.TooSmall name need) = true
-tells_disk (r.MissingDisks name) = true
-tells_disk (r.ReadFault name) = true
-tells_disk (r.WriteFault name) = true
-tells_disk (r.Dismounted name) = true
-tells_disk (r.DiskState name mode) = true
-tells_disk (r.HoldsStatus name) = true
-tells_disk (r.HoldsDirectories name) = true
-tells_disk other = false
-
--- such a refusal says the same whatever the names of disks
-as_is : (names : ℕ → Bytes) (raw : Refusal) → tells_disk (said (λ _. []) raw) ≡ false → said names raw ≡ said (λ _. []) raw
-unfolding said
-as_is names (cause.NoDisk x) none = absurd (true≢false none)
-as_is names (cause.TooSmall x n) none = absurd (true≢false none)
-as_is names (cause.MissingDisks x) none = absurd (true≢false none)
-as_is names (cause.ReadFault x) none = absurd (true≢false none)
-as_is names (cause.WriteFault x) none = absurd (true≢false none)
-as_is names (cause.Dismounted x) none = absurd (true≢false none)
-as_is names (cause.DiskState x mode) none = absurd (true≢false none)
-as_is names (cause.HoldsStatus x) none = absurd (true≢false none)
-as_is names (cause.HoldsDirectories x) none = absurd (true≢false none)
-as_is names other none = refl
-
-plain_tells_none : (c : r.Refusal) → plain c ≡ true → tells_disk c ≡ false
-plain_tells_none r.NoName is = refl
-plain_tells_none r.NameTaken is = refl
-plain_tells_none r.NotDirectory is = refl
-plain_tells_none other is = absurd (false≢true is)
-
--- what refuses a directory tells no disk
-made_tells_none : (g : Group) (inside : Path) (c : r.Refusal) → e.edited g (e.MakeDir inside) ≡ Err c → tells_disk c ≡ false
-made_tells_none g inside c is = plain_tells_none c (new_name_plain _ _ _ c (fails (first_cause (e.edit_causes g (e.MakeDir inside))) (e.changed g (e.MakeDir inside)) c is))
-
--- ---- what is counted of mkdir
-
-module _ (paths : List Bytes) (text path : Bytes) (says : meaning text ≡ Asked (MakeDir path)) where
-  no_counts : (c : r.Refusal) (s t : Counts) → ReplyCause paths text (Refused [] c) s t
-  no_counts r.NoMemory s t = tt
-  no_counts other s t = rw says tt
-
-  edits : is_edit (meaning text) ≡ true
-  edits = ap is_edit says
-
-  -- before any call
-  pub refused_still : (c : r.Refusal) (was : Roster) (s : BayState) {below : ℕ → GroupBelow} (w : World) → MayAnswer (below_with below unread) w (Asked (MakeDir path)) (Refused [] c) w → IsServed paths unread text (Refused [] c) was was s s below w w
-  refused_still c was s {below = below} w may = still paths text c was s w (subst (λ (x : Command). Step (below_with below unread) w x (Refused [] c) w) (sym says) may.step)
-      (subst (λ (x : Command). HasCause (below_with below unread) w x (Refused [] c)) (sym says) may.cause) (subst (λ (x : Command). HasLines (below_with below unread) w x (Refused [] c)) (sym says) may.lines)
-      (no_counts c (counts_of s) (counts_of s))
-
-  -- nothing more is said of it
-  module _ (was now : Roster) (s t : BayState) (calls : s.calls ≤ t.calls) (past : Past s t) (below : ℕ → GroupBelow) (w : World) where
-    -- memory was short
-    pub short : (w' : World) → IsServed paths unread text (Refused [] r.NoMemory) was now s t below w w'
-    short w' = record { calls = calls; past = past; effect = λ proved met. absurd (true≢false (sym edits ∙ (short_is_no_edit (meaning text) proved).0)) }
-
-    -- the mounted groups aren't alone under their ids
-    pub unmet : (reply : Reply) (w' : World) → (HasOwnGroups w → ⊥) → IsServed paths unread text reply was now s t below w w'
-    unmet reply w' never = record { calls = calls; past = past; effect = λ proved met. absurd (never (met edits)) }
+use Rattle.session.proofs.Outcomes.{none_read, served, unread}
+use Rattle.session.proofs.RefusedEdits.{edits, no_counts, short, unmet}
 
 -- ---- the group of the name
 
@@ -182,12 +107,12 @@ at_id w w' id list is = is id ∙ ap (λ (b : Bool). if b then list else groups_
 elsewhere : (w w' : World) (id : ℕ) (list : List Group) → ReplacesGroups w id list w' → (other : ℕ) → other ≢ id → groups_of w' other ≡ groups_of w other
 elsewhere w w' id list is other differ = is other ∙ ap (λ (b : Bool). if b then list else groups_of w other) (ne_eqb other id differ)
 
-module _ (paths : List Bytes) (text path : Bytes) (says : meaning text ≡ Asked (MakeDir path)) (name : Bytes) (inside : Path) (w : World) (below : ℕ → GroupBelow) (leads : target_from w.place path ≡ Some (name, inside))
-    (tree : TreeEdit) (meant : names.edit_meant tree ≡ e.MakeDir inside) (allowed : is_group_edit (Tree tree) ≡ true) (was now : Roster) (same_given : now.given ≡ was.given) (entries' : List SessionEntry) (s t : BayState) (sound : IsSound s) (later : IsSound t)
+module _ (paths : List Bytes) (text name : Bytes) (edit : GroupEdit) (allowed : is_group_edit edit ≡ true) (w : World) (below : ℕ → GroupBelow) (asks : AsksFor w.place (meaning text) name edit)
+    (was now : Roster) (same_given : now.given ≡ was.given) (entries' : List SessionEntry) (s t : BayState) (sound : IsSound s) (later : IsSound t)
     (calls : s.calls ≤ t.calls) (past : Past s t) (all_told : AreToldBy w was.groups) (before after : MountedGroup) (entry : SessionEntry) (edited : IsEdited w.session entries' was.groups now.groups name before after entry)
     (on : entry.state ≡ Mounted) (mounted : IsMounted before) (keeps : KeepsGroup before after s t) where
-  abbrev edit : GroupEdit
-  edit = Tree tree
+  asks_edit_so : asks_edit (meaning text) ≡ true
+  asks_edit_so = asks.asks.is_edit
 
   -- a world that the session knows after such a reply
   abbrev pub Ends : Reply → Type 0
@@ -223,13 +148,13 @@ module _ (paths : List Bytes) (text path : Bytes) (says : meaning text ≡ Asked
   attached : StaysAttached s t
   attached = stays_attached keeps.attached
 
-  effect : (reply : Reply) (w' : World) → MayAnswer (below_with below unread) w (Asked (MakeDir path)) reply w' → ReplyCause paths text reply (counts_of s) (counts_of t) → ReplyWork paths (work_of (meaning text) w below) reply (counts_of s) (counts_of t)
+  effect : (reply : Reply) (w' : World) → MayAnswer (below_with below unread) w (meaning text) reply w' → ReplyCause paths text reply (counts_of s) (counts_of t) → ReplyWork paths (work_of (meaning text) w below) reply (counts_of s) (counts_of t)
       → ((known : ℕ → Bool) → StandsFor (length paths) known was.given s w was.groups → KeepsWorlds (length paths) known (meaning text) was.given s t w w' now.groups) → IsServed paths unread text reply was now s t below w w'
   effect reply w' may counted worked keeps_all = served paths unread text reply was now s t w w' (record {
-    step = subst (λ (x : Command). Step (below_with below unread) w x reply w') (sym says) may.step;
-    no_memory = λ is other. absurd (true≢false (sym (ap is_edit says) ∙ other));
-    cause = subst (λ (x : Command). HasCause (below_with below unread) w x reply) (sym says) may.cause;
-    lines = subst (λ (x : Command). HasLines (below_with below unread) w x reply) (sym says) may.lines;
+    step = may.step;
+    no_memory = λ is other. absurd (true≢false (sym (edits paths text asks_edit_so) ∙ other));
+    cause = may.cause;
+    lines = may.lines;
     ids_read = none_read (counts_of s) (counts_of t);
     made = tt;
     counted = counted;
@@ -245,15 +170,20 @@ module _ (paths : List Bytes) (text path : Bytes) (says : meaning text ≡ Asked
     abbrev told : IsToldBy before g
     told = all_told entry before g pair is_on list called
 
-    abbrev at : LeadsInto w path
+    abbrev at : EditAt w (meaning text)
     at = record {
+      is_edit = asks_edit_so;
       name = name;
-      inside = inside;
-      leads = leads;
+      change = asks.change;
+      asks = asks.asks.asks;
       id = entry.id;
       group = g;
       has = record { entry = entry; named = edited.named; is = refl; mounted = on; only = get_only (maps.get w.groups entry.id) g list };
     }
+
+    -- the world's edit is this one
+    as_asked : edited_in at ≡ edited_by g edit
+    as_asked = asks.same g (ap (λ (n : Bytes). is_same_name n name) called ∙ entry_named)
 
     -- ---- no change was planned, and nothing was done
 
@@ -261,60 +191,60 @@ module _ (paths : List Bytes) (text path : Bytes) (says : meaning text ≡ Asked
       groups_stay : now.groups ≡ was.groups
       groups_stay = edited.groups_are ∙ ap (λ (m : MountedGroup). session.with_group w.session was.groups name m) same ∙ same_group w.session was.groups name before edited.found
 
-      idle : (c : r.Refusal) → MayAnswer (below_with below unread) w (Asked (MakeDir path)) (Refused [] c) w → Ends (Refused [] c)
+      idle : (c : r.Refusal) → MayAnswer (below_with below unread) w (meaning text) (Refused [] c) w → Ends (Refused [] c)
       idle c may = (
         w,
         on_session (subst (λ (m : MountedGroup). IsMounted m) (sym same) mounted),
         refl,
         subst (λ (l : List MountedGroup). AreToldBy w l) (sym groups_stay) all_told,
-        effect (Refused [] c) w may (no_counts paths text path says c (counts_of s) (counts_of t)) tt (λ known stands.
+        effect (Refused [] c) w may (no_counts paths text asks_edit_so c (counts_of s) (counts_of t)) tt (λ known stands.
             subst (λ (l : List MountedGroup). KeepsWorlds (length paths) known (meaning text) was.given s t w w l) (sym groups_stay)
             (looks_keep (λ (slot : ℕ). ⊥) s t sound (length paths) known was.given was.given w w was.groups was.groups (meaning text) (omega arith) runs attached (same_some (length paths) known was.given s w was.groups stands) stands)),
       )
-
-      made_same : edited_by g edit ≡ made_in at
-      made_same = ap (e.edited g) meant
 
       by_worlds : (raw : Refusal) → IsWorldsRefusal (edited_by g edit) raw → Ends (Refused [] (said (disk_name after) raw))
       unfolding said
       by_worlds raw (no_memory is) =
           let none : said (disk_name after) raw ≡ r.NoMemory = as_is (disk_name after) raw (ap tells_disk is) ∙ is in
-          subst (λ (c : r.Refusal). Ends (Refused [] c)) (sym none) (unknown (Refused [] r.NoMemory) (short paths text path says was now s t calls past below w))
+          subst (λ (c : r.Refusal). Ends (Refused [] c)) (sym none) (unknown (Refused [] r.NoMemory) (short paths text asks_edit_so was now s t calls past below w))
       by_worlds raw (refused is) =
-          let made : made_in at ≡ Err (said (λ n. []) raw) = sym made_same ∙ is in
-          let same_said = as_is (disk_name after) raw (made_tells_none g inside (said (λ n. []) raw) made) in
-          subst (λ (c : r.Refusal). Ends (Refused [] c)) (sym same_said) (idle (said (λ n. []) raw) (makes_directories.refused (below_with below unread) w path at (said (λ n. []) raw) made))
+          let world_is : edited_in at ≡ Err (said (λ n. []) raw) = as_asked ∙ is in
+          let same_said = as_is (disk_name after) raw (tells_no_disk w.place (meaning text) name asks.change g (said (λ n. []) raw) asks_edit_so asks.asks.asks world_is) in
+          subst (λ (c : r.Refusal). Ends (Refused [] c)) (sym same_said) (idle (said (λ n. []) raw) (answers_edits.refused (below_with below unread) w (meaning text) at (said (λ n. []) raw) world_is))
 
-      by_tables : (raw : Refusal) → IsRefusedBeside (edited_by g edit) raw → Ends (Refused [] (said (disk_name after) raw))
+      by_tables : (raw : Refusal) → IsRefusedBy (edited_by g edit) edit raw → Ends (Refused [] (said (disk_name after) raw))
       unfolding said
-      by_tables raw (worlds why) = by_worlds raw why
-      by_tables raw (full need free h is few made) =
-          subst (λ (x : Refusal). Ends (Refused [] (said (disk_name after) x))) (sym is)
-          (idle (r.DirectoryFull need free) (makes_directories.full (below_with below unread) w path at h need free (sym made_same ∙ made)))
+      by_tables raw (inl why) = by_worlds raw why
+      by_tables raw (inr lacks) =
+          subst (λ (x : Refusal). Ends (Refused [] (said (disk_name after) x))) (sym lacks.is)
+          (idle (r.DirectoryFull lacks.need lacks.free) (answers_edits.full (below_with below unread) w (meaning text) at lacks.done lacks.need lacks.free (asks.makes lacks.wants) (as_asked ∙ lacks.answer_is)))
 
       unplanned : (raw : Refusal) → IsEditRefusal before.catalog edit raw → Ends (Refused [] (said (disk_name after) raw))
       unplanned raw (inl never) = absurd (true≢false (sym allowed ∙ never.0))
       unplanned raw (inr why) =
-          by_tables raw (subst (λ (x : Group). IsRefusedIn x edit raw) (sym told.is) (refusal_is_of_tables before.name before.catalog told.cells edit raw why))
+          by_tables raw (subst (λ (x : Group). IsRefusedBy (edited_by x edit) edit raw) (sym told.is) (refused_by before.name before.catalog told.cells edit raw why))
 
     -- ---- a change was planned
 
     module _ (answer : Result (Unit {0}) Refusal) (c : IsCommitted (IsEditPlan before.catalog edit) before answer after s t) where
       abbrev u : Tables
-      u = with_tree before.catalog.tables (names.edit_meant tree) c.change.nodes
+      u = planned before.catalog edit c.put c.gone c.change
 
-      planned : (edited_by (group_of before.name before.catalog.shape before.catalog.tables told.cells) edit ≡ Ok (group_of before.name before.catalog.shape u told.cells)) × HasCells u told.cells
-      planned = edit_is_of_tables before.name before.catalog told.cells edit c.put c.gone u told.has c.change c.change.plan.after
+      u_after : IsAfter before.catalog.tables c.put c.gone u
+      u_after = planned_after before.catalog edit c.put c.gone c.change
+
+      done_so : (edited_by (group_of before.name before.catalog.shape before.catalog.tables told.cells) edit ≡ Ok (group_of before.name before.catalog.shape u told.cells)) × HasCells u told.cells
+      done_so = edit_is_of_tables before.name before.catalog told.cells edit c.put c.gone u told.has c.change u_after
 
       abbrev h : Group
       h = group_of before.name before.catalog.shape u told.cells
 
       h_is : edited_by g edit ≡ Ok h
       unfolding group_of
-      h_is = ap (λ (x : Group). edited_by x edit) told.is ∙ planned.0
+      h_is = ap (λ (x : Group). edited_by x edit) told.is ∙ done_so.0
 
-      made_is : made_in at ≡ Ok h
-      made_is = sym (ap (e.edited g) meant) ∙ h_is
+      world_is : edited_in at ≡ Ok h
+      world_is = as_asked ∙ h_is
 
       work : CommitsEdit edit before answer after s t
       work = record { mounted = mounted; keeps = keeps; committed = c }
@@ -347,7 +277,7 @@ module _ (paths : List Bytes) (text path : Bytes) (says : meaning text ≡ Asked
         tables_are : after.catalog.tables ≡ u
         tables_are =
             let applied : IsAfter before.catalog.tables c.put c.gone after.catalog.tables = on_done answer done_is c.commits.applied in
-            one_after before.catalog.tables after.catalog.tables u c.put c.gone applied c.change.plan.after
+            one_after before.catalog.tables after.catalog.tables u c.put c.gone applied u_after
           where
             on_done : {P : Type 0} (x : Result (Unit {0}) Refusal) → x ≡ Ok tt → OnOk x P → P
             on_done (Ok given) is p = p
@@ -363,7 +293,7 @@ module _ (paths : List Bytes) (text path : Bytes) (says : meaning text ≡ Asked
         unfolding group_of
         told_done = record {
           cells = told.cells;
-          has = subst (λ (x : Tables). HasCells x told.cells) (sym tables_are) planned.1;
+          has = subst (λ (x : Tables). HasCells x told.cells) (sym tables_are) done_so.1;
           is = λ i. group_of (sym keeps.same.name i) (sym keeps.same.shape i) (sym tables_are i) told.cells;
         }
 
@@ -392,7 +322,7 @@ module _ (paths : List Bytes) (text path : Bytes) (says : meaning text ≡ Asked
           on_session held.mounted,
           refl,
           all_done,
-          effect (Done []) w_done (makes_directories.done (below_with below unread) w path at h made_is) tt (rw says tt) (λ known stands.
+          effect (Done []) w_done (answers_edits.done (below_with below unread) w (meaning text) at h world_is) tt (subst (λ (x : DiskWork). IsWorkDone paths x (counts_of s) (counts_of t)) (sym ((edit_alone (meaning text) asks_edit_so).works w below)) tt) (λ known stands.
               edits_keep s t sound later (length paths) known was.given w w_done was.groups now.groups entry edit before after g h (meaning text) stands pair is_on ok_work to replaces (record {
                 entries = lengths_done;
                 ids = stands.ids;
@@ -441,7 +371,7 @@ module _ (paths : List Bytes) (text path : Bytes) (says : meaning text ≡ Asked
           torn_session,
           refl,
           all_torn,
-          effect (Refused [] (r.Dismounted by)) w_torn (makes_directories.dismounted (below_with below unread) w path at h by made_is) (no_counts paths text path says (r.Dismounted by) (counts_of s) (counts_of t)) tt (λ known stands.
+          effect (Refused [] (r.Dismounted by)) w_torn (answers_edits.dismounted (below_with below unread) w (meaning text) at h by world_is) (no_counts paths text asks_edit_so (r.Dismounted by) (counts_of s) (counts_of t)) tt (λ known stands.
               tearing_keeps s t sound later (length paths) known was.given w w_torn was.groups now.groups entry edit before after answer g h (meaning text) stands pair is_on work to torn_lists (record {
                 entries = ap (λ (l : List MountedGroup). length l) edited.groups_are ∙ with_length w.session was.groups name after ∙ edited.lengths ∙ sym (length-map w.session _);
                 ids = torn_apart name by w.session stands.ids;
@@ -459,7 +389,7 @@ module _ (paths : List Bytes) (text path : Bytes) (says : meaning text ≡ Asked
           (λ now_off. torn_end d now_off.0)
           why
       refused_commit (cause.Dismounted (disk.Spelt x)) why = absurd why
-      refused_commit cause.NoMemory why = unknown (Refused [] r.NoMemory) (short paths text path says was now s t calls past below w)
+      refused_commit cause.NoMemory why = unknown (Refused [] r.NoMemory) (short paths text asks_edit_so was now s t calls past below w)
       refused_commit other why = absurd why
 
     -- ---- all of it
@@ -468,7 +398,7 @@ module _ (paths : List Bytes) (text path : Bytes) (says : meaning text ≡ Asked
     committed (Ok given) result spelt c = subst (λ (x : Result (Unit {0}) Refusal). Ends (reply_of x)) (sym spelt) (done_end (Ok given) c refl)
     committed (Err raw) result spelt c = subst (λ (x : Result (Unit {0}) Refusal). Ends (reply_of x)) (sym spelt.1) (⊎_elim
         (λ same. subst (λ (x : r.Refusal). Ends (Refused [] x)) (sym same) (refused_commit (Err raw) c raw c.commits.cause))
-        (λ none. subst (λ (x : r.Refusal). Ends (Refused [] x)) (sym none) (unknown (Refused [] r.NoMemory) (short paths text path says was now s t calls past below w)))
+        (λ none. subst (λ (x : r.Refusal). Ends (Refused [] x)) (sym none) (unknown (Refused [] r.NoMemory) (short paths text asks_edit_so was now s t calls past below w)))
         spelt.2)
 
     not_planned : (answer result : Result (Unit {0}) Refusal) → IsSpelt after answer result → IsUnplanned (IsEditRefusal before.catalog edit) before answer after s t → Ends (reply_of result)
@@ -476,7 +406,7 @@ module _ (paths : List Bytes) (text path : Bytes) (says : meaning text ≡ Asked
         let said_so = subst (λ (x : Result (Unit {0}) Refusal). IsSpelt after x result) p.answer_is spelt in
         subst (λ (x : Result (Unit {0}) Refusal). Ends (reply_of x)) (sym said_so.1) (⊎_elim
         (λ same. subst (λ (x : r.Refusal). Ends (Refused [] x)) (sym same) (unplanned p.group p.runs p.refusal p.cause))
-        (λ none. subst (λ (x : r.Refusal). Ends (Refused [] x)) (sym none) (unknown (Refused [] r.NoMemory) (short paths text path says was now s t calls past below w)))
+        (λ none. subst (λ (x : r.Refusal). Ends (Refused [] x)) (sym none) (unknown (Refused [] r.NoMemory) (short paths text asks_edit_so was now s t calls past below w)))
         said_so.2)
 
   -- ---- by the world's list of the id
@@ -493,14 +423,14 @@ module _ (paths : List Bytes) (text path : Bytes) (says : meaning text ≡ Asked
           let named = (bytes_decides g.name entry.name).0 called in
           ⊎_elim (λ none. not_planned g is named answer result spelt none) (λ some. committed g is named answer result spelt some) edits_it
       by_name g is false called =
-          unknown (reply_of result) (λ w'. unmet paths text path says was now s t calls past below w (reply_of result) w'
+          unknown (reply_of result) (λ w'. unmet paths text asks_edit_so was now s t calls past below w (reply_of result) w'
           (λ met. false≢true (sym called ∙ (bytes_decides g.name entry.name).1 (met.named entry g among is_on is))))
 
       decide : (list : List Group) → groups_of w entry.id ≡ list → Ends (reply_of result)
-      decide [] is = unknown (reply_of result) (λ w'. unmet paths text path says was now s t calls past below w (reply_of result) w'
+      decide [] is = unknown (reply_of result) (λ w'. unmet paths text asks_edit_so was now s t calls past below w (reply_of result) w'
           (λ met. let one = has_one met in let bad : [] ≡ one.0 ∷ [] = sym is ∙ one.1 in absurd cc))
       decide (g ∷ []) is = by_name g is (bytes_eq g.name entry.name) refl
-      decide (g ∷ h ∷ more) is = unknown (reply_of result) (λ w'. unmet paths text path says was now s t calls past below w (reply_of result) w'
+      decide (g ∷ h ∷ more) is = unknown (reply_of result) (λ w'. unmet paths text asks_edit_so was now s t calls past below w (reply_of result) w'
           (λ met. let one = has_one met in let bad : g ∷ h ∷ more ≡ one.0 ∷ [] = sym is ∙ one.1 in absurd cc))
 
 pub reply_is : (done : Result (Unit {0}) Refusal) (reply : code.Reply) → OnOk done (reply ≡ replies.Done []) → IfErr done (λ refusal. reply ≡ replies.Refused refusal) → reply_view reply ≡ reply_of done
@@ -509,49 +439,16 @@ reply_is (Err refusal) reply ok err = ap reply_view err
 
 -- ---- on the session
 
-pub edited_session : (paths : List Bytes) (text path : Bytes) → meaning text ≡ Asked (MakeDir path) → (old new : SessionView) (s t : BayState) → IsSound s → IsSound t → (name : Bytes) (inside : Path) → target_from old.place path ≡ Some (name, inside)
-    → (tree : TreeEdit) → names.edit_meant tree ≡ e.MakeDir inside → is_group_edit (Tree tree) ≡ true → AreNamesApart old.entries → length old.groups ≡ length old.entries → CarriesOn old new s t
-    → (result : Result (Unit {0}) Refusal) → EditsGroup name (Tree tree) result old new s t → (w : World) (below : ℕ → GroupBelow) → Knows old w below
+pub edited_session : (paths : List Bytes) (text name : Bytes) (edit : GroupEdit) → is_group_edit edit ≡ true → (old new : SessionView) → AsksFor old.place (meaning text) name edit → (s t : BayState) → IsSound s → IsSound t
+    → AreNamesApart old.entries → length old.groups ≡ length old.entries → CarriesOn old new s t
+    → (result : Result (Unit {0}) Refusal) → EditsGroup name edit result old new s t → (w : World) (below : ℕ → GroupBelow) → Knows old w below
     → (w' : World) × (below' : ℕ → GroupBelow) × Knows new w' below' × IsServed paths unread text (reply_of result) (roster_of old) (roster_of new) s t below w w'
-edited_session paths text path says old new s t sound later name inside leads tree meant allowed apart paired carries result done w below knows =
+edited_session paths text name edit allowed old new asks s t sound later apart paired carries result done w below knows =
     let edited : IsEdited w.session new.entries old.groups new.groups name done.before done.after done.entry =
     subst (λ (es : List SessionEntry). IsEdited es new.entries old.groups new.groups name done.before done.after done.entry) (sym knows.entries_are)
     (record { named = done.named; found = done.is.named; apart = apart; lengths = paired; groups_are = done.groups; entries_are = done.entries }) in
     let on : done.entry.state ≡ Mounted = done.state ∙ ap (λ (a : Access). by_disk done.before (dismounted_by a)) done.is.mounted in
-    let x = ends paths text path says name inside w below (ap (λ (p : List Bytes). target_from p path) knows.place_is ∙ leads) tree meant allowed (roster_of old) (roster_of new) carries.given new.entries s t sound later carries.calls carries.past
+    let asks_there = subst (λ (p : List Bytes). AsksFor p (meaning text) name edit) (sym knows.place_is) asks in
+    let x = ends paths text name edit allowed w below asks_there (roster_of old) (roster_of new) carries.given new.entries s t sound later carries.calls carries.past
     (knows.told (paired ∙ ap (λ (l : List SessionEntry). length l) (sym knows.entries_are))) done.before done.after done.entry edited on done.is.mounted done.keeps done.answer result done.spelt done.edits in
     (x.0, below, record { entries_are = x.1; place_is = x.2 ∙ knows.place_is ∙ sym carries.place; still = knows.still; told = λ lengths. x.3 }, x.4)
-
--- ---- a path that leads into no mounted group
-
-module _ (paths : List Bytes) (text path : Bytes) (says : meaning text ≡ Asked (MakeDir path)) (was : Roster) (s : BayState) {below : ℕ → GroupBelow} (w : World) where
-  pub leads_nowhere : target_from w.place path ≡ None → IsServed paths unread text (Refused [] r.NoGroup) was was s s below w w
-  leads_nowhere none = refused_still paths text path says r.NoGroup was s w (makes_none.nowhere (below_with below unread) w path none)
-
-  by_entry : (name : Bytes) (inside : Path) → target_from w.place path ≡ Some (name, inside) → (o : Option SessionEntry) → entry_in w name ≡ o → (c : r.Refusal) → of_entry o c → IsServed paths unread text (Refused [] c) was was s s below w w
-  by_entry name inside leads None named c why =
-      subst (λ (x : r.Refusal). IsServed paths unread text (Refused [] x) was was s s below w w) (sym why)
-      (refused_still paths text path says r.NoGroup was s w (makes_none.absent (below_with below unread) w path name inside leads named))
-  by_entry name inside leads (Some entry) named c why = by_state entry.state refl why
-    where
-      by_state : (x : SessionState) → entry.state ≡ x → in_state x c → IsServed paths unread text (Refused [] c) was was s s below w w
-      by_state Mounted is out = absurd out
-      by_state (DismountedBy disk) is out =
-          subst (λ (x : r.Refusal). IsServed paths unread text (Refused [] x) was was s s below w w) (sym out)
-          (refused_still paths text path says (r.Dismounted disk) was s w (makes_none.out (below_with below unread) w path name inside entry disk leads named is))
-
-  -- the group isn't in the session, or is dismounted
-  pub out_refused : (name : Bytes) (inside : Path) → target_from w.place path ≡ Some (name, inside) → (refusal : Refusal) → of_entry (entry_in w name) (said (λ _. []) refusal) ⊎ (said (λ _. []) refusal ≡ r.NoMemory)
-      → IsServed paths unread text (Refused [] (said (λ _. []) refusal)) was was s s below w w
-  out_refused name inside leads refusal why = ⊎_elim
-      (λ out. by_entry name inside leads (entry_in w name) refl (said (λ _. []) refusal) out)
-      (λ none. subst (λ (x : r.Refusal). IsServed paths unread text (Refused [] x) was was s s below w w) (sym none) (outcomes.no_memory paths text was s w))
-      why
-
-  -- the path comes to no group
-  pub no_target : (place : List Bytes) → w.place ≡ place → (refusal : Refusal) → IsNoTarget place path refusal → IsServed paths unread text (Refused [] (said (λ _. []) refusal)) was was s s below w w
-  unfolding said
-  no_target place at refusal why = ⊎_elim
-      (λ short_is. subst (λ (x : Refusal). IsServed paths unread text (Refused [] (said (λ _. []) x)) was was s s below w w) (sym short_is) (outcomes.no_memory paths text was s w))
-      (λ none. subst (λ (x : Refusal). IsServed paths unread text (Refused [] (said (λ _. []) x)) was was s s below w w) (sym none.0) (leads_nowhere (ap (λ (p : List Bytes). target_from p path) at ∙ none.1)))
-      why

@@ -37,6 +37,9 @@ pub mod Telling
 pub mod GroupLists
 pub mod Turning
 pub mod Stories
+pub mod AskedEdits
+pub mod RefusedEdits
+pub mod EditPlans
 pub mod EditedEntries
 pub mod EditedSession
 pub mod EditedGroups

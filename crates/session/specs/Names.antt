@@ -1,8 +1,8 @@
--- Directories and aliases. All of these commands are served; of mkdir it is proved what it does.
+-- Directories and aliases. All of these commands are served; of each but rm, which takes files away too, it is proved what it does.
 use Rattle.std.specs.Prelude.{⊤, ℕ, Bool, true, false, List}
 use Rattle.asm_group.specs.Names.{Bytes}
 use Rattle.asm_group.specs.Refusal as r
-use Rattle.asm_world.specs.Command.{Command, Asked, MakeDir}
+use Rattle.asm_world.specs.Command.{Command, Asked, Remove}
 use Rattle.asm_world.specs.World.{World}
 use Rattle.group_disks.specs.Found.{Counts}
 
@@ -12,8 +12,8 @@ is_served c = true
 
 -- of which it is proved what they do
 abbrev pub is_proved : Command → Bool
-is_proved (Asked (MakeDir path)) = true
-is_proved other = false
+is_proved (Asked (Remove path)) = false
+is_proved other = true
 
 -- none makes a group
 abbrev pub IsMade : Command → ℕ → World → Type 0

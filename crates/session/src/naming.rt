@@ -1,5 +1,7 @@
 // Groups of the session by their names, and what is done to one of them.
-ghost use Rattle.std.specs.Prelude.{◌≡◌, ◌⊎◌, IfErr, IfOk, OnOk};
+ghost use Rattle.std.specs.Prelude.{◌≡◌, ◌⊎◌, true, IfErr, IfOk, OnOk};
+ghost use Rattle.asm_world.specs.Causes.{is_mounted_as};
+ghost use Rattle.asm_world.specs.World.{entry_among};
 ghost use Rattle.group_engine.specs.Making.{IsShut};
 ghost use Rattle.group_engine.specs.Mounts.{IsMounted, MountedGroup, Takes};
 ghost use Rattle.group_engine.specs.Members.{LetsGo};
@@ -58,6 +60,7 @@ impl Session {
     /// The mounted group of a name. NoGroup where it isn't in the session, and Dismounted where it is so.
     pub fn mounted(&self, alloc: Global, name: &Name) -> Result<&Mounted, Refusal>
         ensures found { IfOk result (λ m. IsGroupOf self.now name.now m.now) }
+        ensures entered { OnOk result (is_mounted_as (entry_among self.now.entries name.now) ≡ true) }
         ensures cause { IfErr result (IsOutCause self.now.entries name.now) }
     {
         let Some(entry) = self.groups.get(SoughtName { name }) else {

@@ -1,7 +1,10 @@
-use Rattle.std.proofs.Common.{refl, sym}
+use Rattle.std.proofs.Common.{refl, sym, ap, ◌∙◌}
+use Rattle.std.specs.Prelude.{is_none}
 use Rattle.asm_base.specs.Refusals.{said}
 use Rattle.asm_base.specs.declared.refusal.Refusal.TheVariants.{NoGroup}
-use Rattle.session.proofs.Grouped.{group_found}
+use Rattle.group_engine.specs.Making.{dismounted_by}
+use Rattle.group_engine.specs.declared.access.Access.{Access}
+use Rattle.session.proofs.Grouped.{group_found, mounted_found}
 use Rattle.session.proofs.Outs.{absent_out, shut_out}
 use Rattle.session.proofs.session.Session.mounted.Goals as goal
 
@@ -14,6 +17,10 @@ returns-in-Ok-clause-found c = rw (← c.self.view_is) (record {
   named = group_found c.args.name.now c.self.inside.groups.entries c.in-Some.entry.now (sym c.in-Some.ensures.value);
   mounted = c.in-Ok.ensures.ok;
 })
+
+pub returns-in-Ok-clause-entered : goal.returns-in-Ok-clause-entered
+returns-in-Ok-clause-entered c = rw (← c.self.view_is)
+    (mounted_found c.args.name.now c.self.inside.groups.entries c.in-Some.entry.now (sym c.in-Some.ensures.value) ∙ ap (λ (a : Access). is_none (dismounted_by a)) c.in-Ok.ensures.ok)
 
 pub returns-in-Err-clause-cause : goal.returns-in-Err-clause-cause
 returns-in-Err-clause-cause c = rw (← c.self.view_is)
