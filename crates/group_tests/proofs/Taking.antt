@@ -12,11 +12,12 @@ use Rattle.group_engine.specs.Frames.{StaysAttached}
 use Rattle.group_disks.specs.FirstParts.{IsNewlyMounted}
 use Rattle.group_disks.specs.Mounting.{IsMountedBy}
 use Rattle.group_engine.specs.Making.{closed}
-use Rattle.group_engine.specs.Members.{LetsGo}
+use Rattle.group_engine.specs.Members.{HasImage, LetsGo}
 use Rattle.group_engine.specs.Mounts.{MountedGroup, Takes}
 use Rattle.group_engine.specs.Own.{KeepsGroup}
 use Rattle.group_engine.specs.declared.flight.Flight.{Flight}
 use Rattle.group_pieces.specs.Bytes.{WritesBytes}
+use Rattle.status_register.specs.declared.member.Member.{Member}
 use Rattle.group_engine.proofs.Endings.{closed_takes_none}
 use Rattle.group_engine.proofs.Elsewhere.{ready_elsewhere, stays_attached}
 
@@ -114,3 +115,15 @@ is_inside s slot size at is before room = subst (λ (o : Option ℕ). at + 512 �
 
 pub on_sector : (at : ℕ) → at % 512 ≡ 0 → IsOnSectors at 512
 on_sector at is = (is, refl)
+
+-- ---- an image that is attached
+
+pub has_image : (x : Member) (size : ℕ) (s : BayState) → x.sector ≡ 512 → s.attached x.slot ≡ Some size → 40960 ≤ size → HasImage x size s
+has_image x size s sector is long = record {
+  slots = record {
+    attached = subst (λ (o : Option ℕ). IsSome o) (sym is) refl;
+    sector_size = inl sector;
+    long = subst (λ (o : Option ℕ). 40960 ≤ unwrap_or o 0) (sym is) long;
+  };
+  attached = is;
+}

@@ -1,14 +1,15 @@
-//! Disks in memory that fail, and sectors that are read by no call of a group.
+//! Disks in memory that fail, images that are attached, and sectors that are read by no call of a group.
 
 ghost use Rattle.std.specs.Prelude.{◌≡◌, ◌≤◌, ◌+◌, IfSome, IsSome, Some};
 ghost use Rattle.bay_mem.specs.MemState.{IsQuiet, state_of};
 ghost use Rattle.bay.specs.State.{IsOnSectors, KeepsAttached, size_of};
 ghost use Rattle.group_engine.specs.Mounts.{Takes};
 
-use crate::steps::Answer;
+use crate::answers::Answer;
 use bay::Bay;
 use bay_mem::MemBay;
 use group_engine::Mounted;
+use status_register::Member;
 
 /// Each call on a slot fails from now on, or none.
 pub fn set_fails(bay: &mut MemBay, slot: u32, fails: bool)
@@ -38,6 +39,38 @@ fn size_in<B: Bay>(m: &Mounted, bay: &mut B, slot: u32) -> Option<u64>
         Ok(size) => Some(size),
         Err(_) => None,
     }
+}
+
+/// Attaches the image of a slot as a disk of a number and a birth, where there is a place for it.
+pub fn attach<B: Bay>(m: &mut Mounted, bay: &mut B, slot: u32, number: u8, birth: u64) -> Answer
+    requires takes { Takes m.old (B.state bay.old) }
+    ensures takes { Takes m.new (B.state bay.new) }
+{
+    let member = Member {
+        slot,
+        number,
+        birth,
+        sector: 512,
+    };
+    match size_in(m, bay, slot) {
+        Some(size) => give(m, bay, member, size),
+        None => Answer::Another,
+    }
+}
+
+/// Gives the group a disk, whose image is attached and has so many bytes.
+#[tactic(auto, using(crate::proofs::Taking::has_image))]
+fn give<B: Bay>(m: &mut Mounted, bay: &B, member: Member, size: u64) -> Answer
+    requires takes { Takes m.old (B.state bay.now) }
+    requires attached { (B.state bay.now).attached member.slot ≡ Some size }
+    requires sector { member.sector ≡ 512 }
+    ensures takes { Takes m.new (B.state bay.now) }
+{
+    if size < 40_960 || !m.has_place(member) {
+        return Answer::MayNot;
+    }
+    m.attach(bay, member, size);
+    Answer::Done
 }
 
 /// The byte that a sector of an attached slot has.

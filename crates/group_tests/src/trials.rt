@@ -13,7 +13,7 @@ use group_mount::MountOption;
 use std::alloc::Global;
 
 /// The bytes of an image.
-const SIZE: Option<u64> = Some(4_194_304);
+pub const SIZE: u64 = 4_194_304;
 
 /// Does the steps on a group, where there is one, and lets it go. The places of the steps are counted from one on.
 fn judged(
@@ -109,7 +109,7 @@ fn play_at(
 
 /// Plays a row: steps on a new group of four disks, and what comes then. Fails by its name where a step isn't right.
 pub fn play(alloc: Global, name: &'static str, steps: &[Step], then: Then) -> Result<(), Wrong> {
-    match MemBay::new(alloc, &[SIZE, SIZE, SIZE, SIZE, SIZE]) {
+    match MemBay::new(alloc, &[Some(SIZE), Some(SIZE), Some(SIZE), Some(SIZE), Some(SIZE)]) {
         Ok(mut bay) => {
             let played = play_at(alloc, name, &mut bay, steps, then);
             drop(bay);

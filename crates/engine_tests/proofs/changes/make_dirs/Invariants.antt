@@ -1,5 +1,0 @@
-use Rattle.group_engine.specs.Mounts.{Takes}
-use Rattle.engine_tests.proofs.changes.make_dirs.Given as goal
-
-abbrev pub invariant-loop-i : goal.invariant-loop-i
-invariant-loop-i g l = Takes l.m (g.B.Bay.state l.bay)
