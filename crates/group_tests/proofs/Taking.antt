@@ -1,5 +1,5 @@
 -- A mounted group takes the next call.
-use Rattle.std.proofs.Common.{◌≡◌, inl, inr, ℕ, ◌+◌, ◌-◌, ◌%◌, ◌<◌, refl, sym, ap, subst, ◌∙◌, Option, Some, None, arith}
+use Rattle.std.proofs.Common.{◌≡◌, inl, inr, ℕ, ◌+◌, ◌-◌, ◌%◌, ◌<◌, refl, sym, ap, subst, ◌∙◌, Option, Some, arith}
 use Rattle.std.specs.Prelude.{◌≤◌, List, IsSome, unwrap_or}
 use Rattle.asm_group.specs.Names.{Bytes}
 use Rattle.std.specs.Option.{ForSome}
@@ -15,7 +15,6 @@ use Rattle.group_engine.specs.Making.{closed}
 use Rattle.group_engine.specs.Members.{HasImage, LetsGo}
 use Rattle.group_engine.specs.Mounts.{MountedGroup, Takes}
 use Rattle.group_engine.specs.Own.{KeepsGroup}
-use Rattle.group_engine.specs.declared.flight.Flight.{Flight}
 use Rattle.group_pieces.specs.Bytes.{WritesBytes}
 use Rattle.status_register.specs.declared.member.Member.{Member}
 use Rattle.group_engine.proofs.Endings.{closed_takes_none}
@@ -70,29 +69,7 @@ attached_takes m s t slot others has run = same_takes m {s = s} {t = t} (record 
   ];
 }) run
 
--- ---- the move that is on its way, and the end of calls
-
-pub flying_takes : (m : MountedGroup) (f : Option Flight) (s : BayState) → Takes m s → Takes (record m { flight = f }) s
-flying_takes m f s takes mounted =
-    let w = (takes mounted).0 in
-    let r = (takes mounted).1 in (
-      record {
-        are_tables = w.are_tables;
-        tables = w.tables;
-        shape = w.shape;
-        units = w.units;
-        status = w.status;
-        alive = w.alive;
-        written = w.written;
-        group = w.group;
-        reached = w.reached;
-        numbers = w.numbers;
-        births = w.births;
-        copies = w.copies;
-        disks = w.disks;
-      },
-      record { store = r.store; register = r.register; sizes = r.sizes },
-    )
+-- ---- the end of calls
 
 pub closed_takes : (m : MountedGroup) (s : BayState) → Takes (record m { access = closed m.access }) s
 closed_takes m s mounted = absurd (closed_takes_none m mounted)

@@ -3,11 +3,11 @@
 ghost use Rattle.std.specs.Prelude.{IfOk, IfSome};
 ghost use Rattle.group_engine.specs.Mounts.{Takes};
 
-use asm_base::{GroupKind, Name, Refusal};
+use asm_base::{GroupKind, Name};
 use bay::Bay;
 use group_disks::mount_group;
 use group_engine::Mounted;
-use group_mount::{MountError, MountOption};
+use group_mount::MountOption;
 use group_sql::{Statement, read_statement};
 use new_groups::{GroupAsked, Known, create_group};
 use std::alloc::Global;
@@ -36,16 +36,16 @@ fn asked(alloc: Global) -> Option<GroupAsked> {
     }
 }
 
-/// The group that is made, or none.
-fn made<B: Bay>(made: Result<Mounted, Refusal>, bay: &B) -> Option<Mounted>
-    requires { IfOk made (λ m. Takes m (B.state bay.now)) }
+/// The group that a call gives, or none.
+fn given<B: Bay, E>(called: Result<Mounted, E>, bay: &B) -> Option<Mounted>
+    requires { IfOk called (λ m. Takes m (B.state bay.now)) }
     ensures { IfSome result (λ m. Takes m (B.state bay.now)) }
 {
     let _bay = bay;
-    match made {
+    match called {
         Ok(group) => Some(group),
-        Err(refusal) => {
-            drop(refusal);
+        Err(error) => {
+            drop(error);
             None
         }
     }
@@ -70,7 +70,7 @@ fn form<B: Bay>(
     let (_, group) = create_group(alloc, bay, paths, asked, &known, &mut ids);
     drop(ids);
     drop(known);
-    made(group, bay)
+    given(group, bay)
 }
 
 /// Makes the group of id 7.
@@ -81,21 +81,6 @@ pub fn create<B: Bay>(alloc: Global, bay: &mut B, paths: &[String; 5]) -> Option
     let group = form(alloc, bay, paths, &asked);
     drop(asked);
     group
-}
-
-/// The group that is mounted, or none.
-fn found<B: Bay>(mounted: Result<Mounted, MountError>, bay: &B) -> Option<Mounted>
-    requires { IfOk mounted (λ m. Takes m (B.state bay.now)) }
-    ensures { IfSome result (λ m. Takes m (B.state bay.now)) }
-{
-    let _bay = bay;
-    match mounted {
-        Ok(group) => Some(group),
-        Err(error) => {
-            drop(error);
-            None
-        }
-    }
 }
 
 /// Mounts the group at second 100.
@@ -113,7 +98,7 @@ pub fn mount<B: Bay>(
     };
     let group = mount_group(alloc, bay, paths, &name, option, 100, &[]);
     drop(name);
-    found(group, bay)
+    given(group, bay)
 }
 
 fn text(alloc: Global, text: &str) -> Option<String> {

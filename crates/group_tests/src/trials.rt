@@ -109,7 +109,10 @@ fn play_at(
 
 /// Plays a row: steps on a new group of four disks, and what comes then. Fails by its name where a step isn't right.
 pub fn play(alloc: Global, name: &'static str, steps: &[Step], then: Then) -> Result<(), Wrong> {
-    match MemBay::new(alloc, &[Some(SIZE), Some(SIZE), Some(SIZE), Some(SIZE), Some(SIZE)]) {
+    match MemBay::new(
+        alloc,
+        &[Some(SIZE), Some(SIZE), Some(SIZE), Some(SIZE), Some(SIZE)],
+    ) {
         Ok(mut bay) => {
             let played = play_at(alloc, name, &mut bay, steps, then);
             drop(bay);

@@ -7,11 +7,10 @@ mod records;
 mod reports;
 mod tables;
 
-pub use fact::{Copies, Fact, Found, Report};
-
 use crate::answers::{answer_of, is_answer};
 use disks::is_of_disks;
 use extents::is_of_extents;
+pub use fact::{Copies, Fact, Found, Report};
 use group_engine::Mounted;
 use records::is_of_record;
 use reports::{are_totals, is_printed};

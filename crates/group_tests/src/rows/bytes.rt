@@ -21,6 +21,17 @@ const BOTH: Copies = Copies {
     is_full: true,
 };
 
+/// The first is on a disk that isn't Online, and counts otherwise.
+const NOT_FULL: Copies = Copies {
+    online: 0b10,
+    read: 0b11,
+    fresh: 0b11,
+    current: 0b11,
+    usable: 0b11,
+    first: Some(0),
+    is_full: false,
+};
+
 /// The homes are chosen by turns.
 const HOMES: [Step; 14] = [
     MAKE,
@@ -280,31 +291,9 @@ const NEXT_COPY: [Step; 23] = [
 const COUNTED: [Step; 9] = [
     MAKE,
     Step::Record(Next::Mode(2, Mode::Dropping), Answer::Done),
-    Step::Tells(Fact::Copies(
-        1,
-        Copies {
-            online: 0b10,
-            read: 0b11,
-            fresh: 0b11,
-            current: 0b11,
-            usable: 0b11,
-            first: Some(0),
-            is_full: false,
-        },
-    )),
+    Step::Tells(Fact::Copies(1, NOT_FULL)),
     Step::Record(Next::Mode(2, Mode::Syncing), Answer::Done),
-    Step::Tells(Fact::Copies(
-        1,
-        Copies {
-            online: 0b10,
-            read: 0b11,
-            fresh: 0b11,
-            current: 0b11,
-            usable: 0b11,
-            first: Some(0),
-            is_full: false,
-        },
-    )),
+    Step::Tells(Fact::Copies(1, NOT_FULL)),
     Step::Record(Next::Mode(2, Mode::Forced), Answer::Done),
     Step::Tells(Fact::Copies(
         1,

@@ -2,10 +2,9 @@
 
 use crate::answers::Answer;
 use crate::facts::{Fact, Found, Report};
-use crate::rows::shared::MAKE;
+use crate::rows::shared::{F3, MAKE};
 use crate::steps::{Statement, Step, Wrong};
 use crate::trials::{Then, play};
-use disk_modes::DropDisk;
 use std::alloc::Global;
 
 const NAMES: &[u8] = b"Type Redund Striped Sys Name\n";
@@ -40,16 +39,7 @@ const DISKS: [Step; 17] = [
     Step::State(Statement::Rebalance(Some(0)), Answer::Done),
     Step::Tells(Fact::Totals(true, 4096, 3008, 1)),
     Step::Tells(Fact::Prints(Report::Check, b"check 4 2\n")),
-    Step::State(
-        Statement::Drop(
-            &[DropDisk {
-                disk: 3,
-                force: true,
-            }],
-            2,
-        ),
-        Answer::Done,
-    ),
+    Step::State(Statement::Drop(&[F3], 2), Answer::Done),
     Step::Tells(Fact::Totals(true, 3072, 2256, 0)),
     Step::Tells(Fact::Prints(
         Report::Group,

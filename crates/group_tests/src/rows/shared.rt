@@ -4,6 +4,7 @@ use crate::answers::Answer;
 use crate::facts::Fact;
 use crate::steps::{Next, Piece, Step};
 use asm_base::Mode;
+use disk_modes::DropDisk;
 
 pub const IS_MOUNTED: Step = Step::Tells(Fact::IsMounted(true));
 
@@ -28,3 +29,44 @@ pub const SECOND: Piece = Piece(256, 1, 0, 4096);
 
 /// The whole of extent 3, which is on disks 2 and 3 too.
 pub const FOURTH: Piece = Piece(256, 3, 0, 4096);
+
+// The disks of a DROP, without FORCE and with it.
+pub const D0: DropDisk = DropDisk {
+    disk: 0,
+    force: false,
+};
+
+pub const D1: DropDisk = DropDisk {
+    disk: 1,
+    force: false,
+};
+
+pub const D2: DropDisk = DropDisk {
+    disk: 2,
+    force: false,
+};
+
+pub const D3: DropDisk = DropDisk {
+    disk: 3,
+    force: false,
+};
+
+pub const F0: DropDisk = DropDisk {
+    disk: 0,
+    force: true,
+};
+
+pub const F1: DropDisk = DropDisk {
+    disk: 1,
+    force: true,
+};
+
+pub const F2: DropDisk = DropDisk {
+    disk: 2,
+    force: true,
+};
+
+pub const F3: DropDisk = DropDisk {
+    disk: 3,
+    force: true,
+};

@@ -3,11 +3,10 @@
 
 use crate::answers::Answer;
 use crate::facts::{Fact, Report};
-use crate::rows::shared::{MAKE, SECOND};
+use crate::rows::shared::{D0, D3, F3, MAKE, SECOND};
 use crate::steps::{Next, Statement, Step, Wrong};
 use crate::trials::{Then, play};
 use asm_base::{ExtentId, Mode};
-use disk_modes::DropDisk;
 use group_mount::MountOption;
 use relocation::Slice;
 use std::alloc::Global;
@@ -17,28 +16,10 @@ const DONE: Answer = Answer::Ends(Slice::Done);
 const MORE: Answer = Answer::Ends(Slice::More);
 
 /// Disk 3 is dropped by a rebalance of power 4.
-const DROP_3: Step = Step::State(
-    Statement::Drop(
-        &[DropDisk {
-            disk: 3,
-            force: false,
-        }],
-        4,
-    ),
-    Answer::Done,
-);
+const DROP_3: Step = Step::State(Statement::Drop(&[D3], 4), Answer::Done);
 
 /// Disk 0 is dropped, which has a status table and a directory copy.
-const DROP_0: Step = Step::State(
-    Statement::Drop(
-        &[DropDisk {
-            disk: 0,
-            force: false,
-        }],
-        8,
-    ),
-    Answer::Done,
-);
+const DROP_0: Step = Step::State(Statement::Drop(&[D0], 8), Answer::Done);
 
 /// Where nothing is to be done the rebalance ends.
 const NOTHING: [Step; 7] = [
@@ -234,16 +215,7 @@ const RECOPIED: [Step; 11] = [
 const FILLED: [Step; 11] = [
     MAKE,
     Step::Write(SECOND, 61, Answer::Done),
-    Step::State(
-        Statement::Drop(
-            &[DropDisk {
-                disk: 3,
-                force: true,
-            }],
-            4,
-        ),
-        Answer::Done,
-    ),
+    Step::State(Statement::Drop(&[F3], 4), Answer::Done),
     Step::Fails(3, true),
     Step::ToEnd(1, 2, DONE),
     Step::Tells(Fact::Home(1, 1, Some((0, 272)))),

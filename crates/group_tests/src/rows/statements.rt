@@ -3,56 +3,15 @@
 
 use crate::answers::Answer;
 use crate::facts::Fact;
-use crate::rows::shared::{FIRST, MAKE, SECOND};
+use crate::rows::shared::{D0, D1, D2, D3, F0, F1, F2, F3, FIRST, MAKE, SECOND};
 use crate::steps::{Next, Statement, Step, Wrong};
 use crate::trials::{Then, play};
 use asm_base::Mode;
-use disk_modes::{DropDisk, GroupSort};
+use disk_modes::GroupSort;
 use group_mount::MountOption;
 use std::alloc::Global;
 
 const UNIT: u64 = 4096;
-
-// The disks of a DROP, without FORCE and with it.
-const D0: DropDisk = DropDisk {
-    disk: 0,
-    force: false,
-};
-
-const D1: DropDisk = DropDisk {
-    disk: 1,
-    force: false,
-};
-
-const D2: DropDisk = DropDisk {
-    disk: 2,
-    force: false,
-};
-
-const D3: DropDisk = DropDisk {
-    disk: 3,
-    force: false,
-};
-
-const F0: DropDisk = DropDisk {
-    disk: 0,
-    force: true,
-};
-
-const F1: DropDisk = DropDisk {
-    disk: 1,
-    force: true,
-};
-
-const F2: DropDisk = DropDisk {
-    disk: 2,
-    force: true,
-};
-
-const F3: DropDisk = DropDisk {
-    disk: 3,
-    force: true,
-};
 
 /// OFFLINE takes Online disks, for the seconds that are said or those of the attribute, and their directory copies with them. Partners
 /// stay.

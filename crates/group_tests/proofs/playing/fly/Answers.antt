@@ -1,10 +1,9 @@
-use Rattle.std.proofs.Common.{sym, subst, Some}
-use Rattle.group_engine.specs.Mounts.{MountedGroup, Takes}
-use Rattle.group_tests.proofs.Taking.{flying_takes}
+use Rattle.std.proofs.Common.{Some}
+use Rattle.relocation.proofs.Chains.{flight_lets}
+use Rattle.group_tests.proofs.Taking.{let_takes}
 use Rattle.group_tests.proofs.playing.fly.Goals as goal
 
 pub returns : goal.returns
 returns g c = record {
-  takes = subst (λ (v : MountedGroup). Takes v (g.B.Bay.state c.args.bay.now)) (sym c.set_flight.ensures)
-      (flying_takes c.args.m.now (Some c.args.flight) (g.B.Bay.state c.args.bay.now) c.requires.takes);
+  takes = let_takes (flight_lets c.args.m.now c.set_flight.new.self (Some c.args.flight) c.set_flight.ensures (g.B.Bay.state c.args.bay.now) c.requires.takes);
 }
