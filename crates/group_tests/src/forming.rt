@@ -37,7 +37,7 @@ fn asked(alloc: Global) -> Option<GroupAsked> {
 }
 
 /// The group that a call gives, or none.
-fn given<B: Bay, E>(called: Result<Mounted, E>, bay: &B) -> Option<Mounted>
+fn given<B: Bay, E: Drop>(called: Result<Mounted, E>, bay: &B) -> Option<Mounted>
     requires { IfOk called (λ m. Takes m (B.state bay.now)) }
     ensures { IfSome result (λ m. Takes m (B.state bay.now)) }
 {
