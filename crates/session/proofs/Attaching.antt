@@ -24,7 +24,7 @@ use Rattle.session.specs.Naming.{CarriesOn, IsFound, IsOutCause, group_among, wi
 use Rattle.session.specs.Sessions.{AreReady, AreTwoApart, slots_in}
 use Rattle.session.proofs.Carrying.{carries_none, if_err, mounted_or, on_ok, seen}
 use Rattle.session.proofs.Entries.{sought}
-use Rattle.session.proofs.Grouped.{Pairs, group_found, groups_set, keys_set, same_set}
+use Rattle.session.proofs.Grouped.{Pairs, entry_on, group_found, groups_set, keys_set, paired, same_set}
 use Rattle.session.proofs.Ready.{Covers, among_with, apart_with, found_among, or_left, or_right, own_listed, still, turned}
 
 -- ---- slots past the disks of a group
@@ -132,7 +132,7 @@ module _ {B : Type 0} (state : B → BayState) (b b' : B) (name : Bytes) (v w : 
     (idle : (IsMounted v.group → ⊥) → (w.group ≡ v.group) × (b' ≡ b)) (ready : AreReady (map group_view es) (state b))
     {T : Type 0} (result : Result T Refusal) (ok : OnOk result (IsMounted v.group)) (err : IfErr result (λ refusal. IsMounted v.group ⊎ IsOutCause (map entry_view es) name refusal)) where
   there : IsMounted v.group → IsFound (seen es place given time) name
-  there on = (v.group, record { named = group_found name es v found; mounted = on })
+  there on = (v.group, record { named = group_found name es v found; mounted = on; on = entry_on name es v found on; paired = paired es })
 
   causes : IfErr result (λ refusal. IsFound (seen es place given time) name ⊎ IsOutCause (map entry_view es) name refusal)
   causes = if_err (λ refusal. IsMounted v.group ⊎ IsOutCause (map entry_view es) name refusal) (λ refusal. IsFound (seen es place given time) name ⊎ IsOutCause (map entry_view es) name refusal) result

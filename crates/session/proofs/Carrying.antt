@@ -14,7 +14,7 @@ use Rattle.asm_base.specs.declared.refusal.Refusal.{Refusal}
 use Rattle.session.specs.Naming.{CarriesOn, ChangesGroup, DoesOn, IsFound, IsGroupOf, IsOutCause, WorksOn, with_group}
 use Rattle.session.specs.Sessions.{AreReady, SessionView}
 use Rattle.session.proofs.Entries.{sought}
-use Rattle.session.proofs.Grouped.{Pairs, group_found, groups_set, keys_set, same_set}
+use Rattle.session.proofs.Grouped.{Pairs, entry_on, group_found, groups_set, keys_set, paired, same_set}
 use Rattle.session.proofs.Ready.{worked_ready}
 
 -- the session with these groups by their names
@@ -49,7 +49,7 @@ module _ (name : Bytes) (v w : Entry) (es fs : Pairs) (place : List Bytes) (give
   }
 
   pub group_is : IsGroupOf (seen es place given time) name v.group
-  group_is = record { named = group_found name es v found; mounted = mounted }
+  group_is = record { named = group_found name es v found; mounted = mounted; on = entry_on name es v found mounted; paired = paired es }
 
   pub changed : ChangesGroup name (seen es place given time) (seen fs place given time) s t
   changed = record { before = v.group; after = w.group; is = group_is; keeps = keeps; groups = groups_are }
@@ -76,7 +76,7 @@ module _ {B : Type 0} (state : B → BayState) (b b' : B) (name : Bytes) (v w : 
     (id : w.id ≡ v.id) (keeps : IsMounted v.group → LetsGo v.group w.group (state b) (state b')) (idle : (IsMounted v.group → ⊥) → (w.group ≡ v.group) × (b' ≡ b)) (ready : AreReady (map group_view es) (state b))
     {T : Type 0} (Does : MountedGroup → T → MountedGroup → Type 0) (result : Result T Refusal) (ok : OnOk result (IsMounted v.group)) (did : IfOk result (λ given. Does v.group given w.group)) (err : IfErr result (λ refusal. IsMounted v.group ⊎ IsOutCause (map entry_view es) name refusal)) where
   there : IsMounted v.group → IsFound (seen es place given time) name
-  there on = (v.group, record { named = group_found name es v found; mounted = on })
+  there on = (v.group, record { named = group_found name es v found; mounted = on; on = entry_on name es v found on; paired = paired es })
 
   causes : IfErr result (λ refusal. IsFound (seen es place given time) name ⊎ IsOutCause (map entry_view es) name refusal)
   causes = if_err (λ refusal. IsMounted v.group ⊎ IsOutCause (map entry_view es) name refusal) (λ refusal. IsFound (seen es place given time) name ⊎ IsOutCause (map entry_view es) name refusal) result

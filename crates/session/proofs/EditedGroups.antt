@@ -55,7 +55,6 @@ use Rattle.session.specs.declared.reply.Reply.TheVariants as replies
 use Rattle.session.specs.Editing.{AreNamesApart, AsksFor, EditsGroup, IsSpelt, with_state}
 use Rattle.session.specs.Effects.{IsServed, Past, below_with}
 use Rattle.session.specs.Entries.{by_disk, disk_name, state_view}
-use Rattle.session.specs.Families.{is_edit}
 use Rattle.session.specs.Meaning.{meaning}
 use Rattle.session.specs.Naming as session
 use Rattle.session.specs.Naming.{CarriesOn, group_among}

@@ -1,25 +1,23 @@
 -- The session over an edit of one of its groups.
-use Rattle.std.proofs.Common.{◌≡◌, ◌⊎◌, ⊎_elim, inl, inr, ℕ, List, map, Option, Some, None, Result, Ok, Err, refl, sym, ◌∙◌, ap, subst, length}
-use Rattle.std.specs.Map.{keys_of, lookup, set_value}
-use Rattle.std.specs.List.{IsDistinct}
+use Rattle.std.proofs.Common.{◌≡◌, ⊎_elim, ℕ, List, map, Some, None, Result, sym, ◌∙◌, ap, subst}
+use Rattle.std.specs.Map.{lookup, set_value}
 use Rattle.bay.specs.State.{BayState}
 use Rattle.asm_base.specs.declared.refusal.Refusal.{Refusal}
 use Rattle.asm_group.specs.Names.{Bytes}
 use Rattle.group_engine.specs.Mounts.{IsMounted, MountedGroup}
 use Rattle.group_engine.specs.Own.{KeepsGroup}
-use Rattle.group_engine.specs.declared.access.Access.TheVariants as access
 use Rattle.group_files.specs.Edits.{Edits}
 use Rattle.group_files.specs.GroupEdits.{IsEditPlan, IsEditRefusal}
 use Rattle.group_files.specs.declared.edit.GroupEdit.{GroupEdit}
 use Rattle.session.specs.declared.entry.Entry.{Entry}
 use Rattle.session.specs.Editing.{AreNamesApart, EditsGroup, IsSpelt}
-use Rattle.session.specs.Entries.{entry_view, group_view, state_view}
+use Rattle.session.specs.Entries.{entry_view, group_view}
 use Rattle.session.specs.Naming.{CarriesOn, IsFound, group_among}
-use Rattle.session.specs.Sessions.{AreReady, SessionView}
+use Rattle.session.specs.Sessions.{AreReady}
 use Rattle.session.proofs.Carrying.{carried, carries_none, mounted_or, seen}
 use Rattle.session.proofs.EditedEntries.{entries_put, none_grouped}
 use Rattle.session.proofs.Entries.{sought}
-use Rattle.session.proofs.Grouped.{IsEntryOf, Pairs, entry_found, group_found, groups_set, same_set}
+use Rattle.session.proofs.Grouped.{Pairs, entry_found, group_found, groups_set, same_set}
 use Rattle.session.proofs.Keeping.{lets_go}
 
 none_some : {A : Type 0} (x : A) → None ≡ Some x → ⊥
@@ -56,7 +54,7 @@ module _ (name : Bytes) (v w : Entry) (es fs : Pairs) (place : List Bytes) (give
       record {
         before = v.group;
         after = w.group;
-        is = record { named = here; mounted = on };
+        is = record { named = here; mounted = on; on = there.1.on; paired = there.1.paired };
         entry = at.entry;
         named = at.named;
         state = at.state;

@@ -1,21 +1,16 @@
 -- Where cd goes, by the parts of its path.
-use Rattle.std.proofs.Common.{◌≡◌, ◌⊎◌, ⊎_elim, inl, inr, List, [], ◌∷◌, Some, Result, Ok, Err, refl, sym, ap, subst}
+use Rattle.std.proofs.Common.{◌≡◌, ◌⊎◌, ⊎_elim, inl, inr, List, [], ◌∷◌, Some, Result, Ok, Err, sym, ap, subst}
 use Rattle.std.specs.Prelude.{IfErr, IfOk}
 use Rattle.std.proofs.lemmas.Option.{same_Some}
-use Rattle.alias_tree.specs.Nodes.{Numbered, number_of}
 use Rattle.asm_base.specs.declared.refusal.Refusal.{Refusal}
 use Rattle.asm_base.specs.declared.refusal.Refusal.TheVariants as cause
 use Rattle.asm_group.specs.Names.{Bytes, Path}
 use Rattle.asm_world.specs.Paths.{parts_of}
 use Rattle.group_engine.specs.Mounts.{MountedGroup}
-use Rattle.session.specs.Going.{IsDirectoryOf, IsGoingCauseBy, IsLedBy, IsNoDirectory}
+use Rattle.group_reports.specs.Places.{directory_at}
+use Rattle.session.specs.Going.{IsDirectoryOf, IsGoingCauseBy, IsLedBy}
 use Rattle.session.specs.Naming.{IsGroupOf}
 use Rattle.session.specs.Sessions.{SessionView}
-
--- the root of a group
-pub root : (nodes : List Numbered) → number_of nodes [] ≡ Some 0
-unfolding number_of
-root nodes = refl
 
 in_parts : (parts : List Bytes) (name : Bytes) (path : Path) → Some (name, path) ≡ parts_of (Some parts) → parts ≡ name ∷ path
 in_parts [] name path is = absurd cc
@@ -31,12 +26,12 @@ module _ (session : SessionView) (parts : List Bytes) (name : Bytes) (path : Pat
   pub led_within : (result : Result (List Bytes) Refusal) → IfOk result (IsDirectoryOf m path) → IfOk result (IsLedBy session (Some parts))
   led_within result directory = subst (λ (l : List Bytes). IfOk result (IsLedBy session (Some l))) (sym (in_parts parts name path is)) (led_there result directory)
 
-  refused_there : (result : Result (List Bytes) Refusal) → IfErr result (λ refusal. IsNoDirectory refusal ⊎ (refusal ≡ cause.NoMemory))
+  refused_there : (result : Result (List Bytes) Refusal) → IfErr result (λ refusal. (directory_at m.catalog.tables path ≡ Err refusal) ⊎ (refusal ≡ cause.NoMemory))
       → IfErr result (λ refusal. (refusal ≡ cause.NoMemory) ⊎ IsGoingCauseBy session (Some (name ∷ path)) refusal)
   refused_there (Ok place) none = tt
-  refused_there (Err refusal) why = ⊎_elim (λ none. inr (inl ((m, group), none))) (λ want. inl want) why
+  refused_there (Err refusal) why = ⊎_elim (λ none. inr (inr (record { group = m; is_group = group; caused = none }))) (λ want. inl want) why
 
-  pub refused_within : (result : Result (List Bytes) Refusal) → IfErr result (λ refusal. IsNoDirectory refusal ⊎ (refusal ≡ cause.NoMemory))
+  pub refused_within : (result : Result (List Bytes) Refusal) → IfErr result (λ refusal. (directory_at m.catalog.tables path ≡ Err refusal) ⊎ (refusal ≡ cause.NoMemory))
       → IfErr result (λ refusal. (refusal ≡ cause.NoMemory) ⊎ IsGoingCauseBy session (Some parts) refusal)
   refused_within result why =
       subst (λ (l : List Bytes). IfErr result (λ refusal. (refusal ≡ cause.NoMemory) ⊎ IsGoingCauseBy session (Some l) refusal)) (sym (in_parts parts name path is)) (refused_there result why)

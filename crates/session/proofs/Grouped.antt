@@ -18,7 +18,7 @@ use Rattle.group_engine.specs.declared.access.Access.{Access}
 use Rattle.session.specs.declared.entry.Entry.{Entry}
 use Rattle.session.specs.declared.group_name.GroupName.{GroupName}
 use Rattle.session.specs.Entries.{by_disk, entry_view, group_view, state_view}
-use Rattle.session.specs.Naming.{group_among, key_of, with_group}
+use Rattle.session.specs.Naming.{IsOn, group_among, key_of, with_group}
 use Rattle.session.specs.Sessions.{AreGiven, without_groups}
 use Rattle.session.proofs.Entries.{absent_by_name, added, all-cons, found_by_name, flip, same_key, sought}
 
@@ -64,6 +64,12 @@ none-of (Some x) is = absurd cc
 
 pub none_found : (name : Bytes) (es : Pairs) → lookup (sought name) es ≡ None → entry_among (map entry_view es) name ≡ None
 none_found name es none = none-of (entry_among (map entry_view es) name) (sym (found_by_name name es) ∙ ap is_some none)
+
+-- of a group that takes calls it is mounted
+pub entry_on : (name : Bytes) (es : Pairs) (v : Entry) → lookup (sought name) es ≡ Some v → IsMounted v.group → IsOn (map entry_view es) name
+entry_on name es v found mounted =
+    let at = entry_found name es v found in
+    record { entry = at.entry; named = at.named; state = at.state ∙ ap (λ (a : Access). by_disk v.group (dismounted_by a)) mounted }
 
 -- ---- one that comes
 

@@ -43,3 +43,7 @@ pub mod EditPlans
 pub mod EditedEntries
 pub mod EditedSession
 pub mod EditedGroups
+pub mod ShownGroups
+pub mod Gone
+pub mod SettingsShown
+pub mod FindShown

@@ -1,5 +1,5 @@
 -- Edits that are refused before anything is done.
-use Rattle.std.proofs.Common.{◌≡◌, ⊎_elim, ℕ, ◌≤◌, true, false, List, [], Option, Some, None, Result, refl, sym, ◌∙◌, ap, subst, arith}
+use Rattle.std.proofs.Common.{inl, ◌≡◌, ⊎_elim, ℕ, ◌≤◌, true, false, List, [], Option, Some, None, Result, refl, sym, ◌∙◌, ap, subst, arith}
 use Rattle.std.specs.Prelude.{unwrap_or}
 use Rattle.std.proofs.lemmas.Bool.{false≢true, true≢false}
 use Rattle.bay.specs.State.{BayState}
@@ -55,7 +55,7 @@ module _ (paths : List Bytes) (text : Bytes) (asks : asks_edit (meaning text) �
 
     -- the mounted groups aren't alone under their ids
     pub unmet : (reply : Reply) (w' : World) → (HasOwnGroups w → ⊥) → IsServed paths unread text reply was now s t below w w'
-    unmet reply w' never = record { calls = calls; past = past; effect = λ proved met. absurd (never (met edits)) }
+    unmet reply w' never = record { calls = calls; past = past; effect = λ proved met. absurd (never (met (inl edits))) }
 
   -- before any call
   module _ (was : Roster) (s : BayState) (below : ℕ → GroupBelow) (w : World) where
@@ -104,7 +104,7 @@ vain_in paths text was s below w name refusal vain None named on = absurd (false
 vain_in paths text was s below w name refusal vain (Some entry) named on = record {
   calls = omega arith;
   past = λ m image before left. left;
-  effect = λ proved met. (alone (met (edits paths text vain.asks.is_edit))).effect proved met;
+  effect = λ proved met. (alone (met (inl (edits paths text vain.asks.is_edit)))).effect proved met;
 }
   where
     alone : HasOwnGroups w → IsServed paths unread text (Refused [] (said (λ _. []) refusal)) was was s s below w w

@@ -150,6 +150,15 @@ edits_in other = false
 abbrev pub is_edit : Command → Bool
 is_edit c = edits_in (family_of c)
 
+abbrev shown_in : Family → Command → Bool
+shown_in Places c = places.shows_group c
+shown_in Reports c = reports.shows_group c
+shown_in other c = false
+
+-- whether it shows names or settings of a mounted group, or goes into one
+abbrev pub shows_group : Command → Bool
+shows_group c = shown_in (family_of c) c
+
 -- an id that a command gave is that of a group that it made
 abbrev pub IsMade : Command → Option ℕ → World → Type 0
 IsMade c None w = ⊤

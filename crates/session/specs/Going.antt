@@ -1,25 +1,25 @@
 -- Where cd goes.
-use Rattle.std.specs.Prelude.{◌≡◌, ◌⊎◌, ℕ, List, [], ◌∷◌, Option, Some, None}
-use Rattle.alias_tree.specs.Nodes.{number_of}
+use Rattle.std.specs.Prelude.{◌≡◌, ◌⊎◌, ℕ, List, [], ◌∷◌, Option, Some, None, Ok}
 use Rattle.asm_base.specs.declared.refusal.Refusal.{Refusal}
 use Rattle.asm_base.specs.declared.refusal.Refusal.TheVariants as cause
 use Rattle.asm_group.specs.Names.{Bytes, Path}
 use Rattle.asm_world.specs.Paths.{resolved}
 use Rattle.group_engine.specs.Mounts.{MountedGroup}
-use Rattle.session.specs.Naming.{IsFound, IsGroupOf, IsOutCause}
+use Rattle.group_reports.specs.Places.{directory_at}
+use Rattle.report_laws.specs.Places.{spelt_by}
+use Rattle.session.specs.Listing.{IsPathCause}
+use Rattle.session.specs.Naming.{IsGroupOf}
 use Rattle.session.specs.Sessions.{SessionView}
 
--- The place is the group's own name, and parts that lead to the node.
-pub record IsPlaceOf (m : MountedGroup) (node : ℕ) (place : List Bytes) : Type 0 where
-  pub parts : List Bytes
-  pub is : place ≡ m.name ∷ parts
-  pub leads : number_of m.catalog.tables.nodes parts ≡ Some node
+-- the place of a node: the group's own name, and the names that lead to the node as the nodes spell them
+abbrev pub place_of : MountedGroup → ℕ → List Bytes
+place_of m node = m.name ∷ spelt_by m.catalog.tables node
 
--- The place is the group's own name, and parts that lead to the node to which the path leads.
+-- The place is that of the directory to which the path leads.
 pub record IsDirectoryOf (m : MountedGroup) (path : Path) (place : List Bytes) : Type 0 where
-  pub parts : List Bytes
-  pub is : place ≡ m.name ∷ parts
-  pub same : number_of m.catalog.tables.nodes parts ≡ number_of m.catalog.tables.nodes path
+  pub node : ℕ
+  pub leads : directory_at m.catalog.tables path ≡ Ok node
+  pub is : place ≡ place_of m node
 
 -- of a path that leads to `+`, or to a directory of a mounted group
 abbrev pub IsLedBy : SessionView → Option (List Bytes) → List Bytes → Type 0
@@ -31,14 +31,10 @@ IsLedBy session (Some (name ∷ path)) place = (m : MountedGroup) × IsGroupOf s
 abbrev pub IsLed : SessionView → Bytes → List Bytes → Type 0
 IsLed session path place = IsLedBy session (resolved session.place path) place
 
--- there is nothing of the name, or no directory
-abbrev pub IsNoDirectory : Refusal → Type 0
-IsNoDirectory refusal = (refusal ≡ cause.NoName) ⊎ (refusal ≡ cause.NotDirectory)
-
 abbrev pub IsGoingCauseBy : SessionView → Option (List Bytes) → Refusal → Type 0
 IsGoingCauseBy session None refusal = refusal ≡ cause.NoName
 IsGoingCauseBy session (Some []) refusal = ⊥
-IsGoingCauseBy session (Some (name ∷ path)) refusal = (IsFound session name × IsNoDirectory refusal) ⊎ IsOutCause session.entries name refusal
+IsGoingCauseBy session (Some (name ∷ path)) refusal = IsPathCause session name path refusal
 
 -- By the group, which isn't mounted, or by its tree. Want of memory is free.
 abbrev pub IsGoingCause : SessionView → Bytes → Refusal → Type 0

@@ -47,12 +47,6 @@ AreRowsOf session group rows = AreRows (groups_asked group session.entries sessi
 abbrev pub disks_told : MountedGroup → Bytes
 disks_told m = ended (texts.disk_lines (map texts.disk_row (disk_rows m.catalog m.register.value.entries)))
 
-abbrev pub templates_told : MountedGroup → Bytes
-templates_told m = ended (texts.template_lines (map texts.template_row m.catalog.tables.templates.templates))
-
-abbrev pub attributes_told : MountedGroup → Bytes
-attributes_told m = ended (texts.attribute_lines (texts.attribute_rows m.catalog.shape m.catalog.tables.templates.settings.attributes))
-
 abbrev pub checked_told : MountedGroup → Bytes
 checked_told m =
     let checked = checked_of m.register.value.entries (all_extents m.catalog) in

@@ -39,3 +39,4 @@ pub mod Turns
 pub mod Effects
 pub mod Desks
 pub mod Programs
+pub mod Shown

@@ -1,14 +1,13 @@
--- What ls, find and du tell of the names in a group, and why they are refused.
-use Rattle.std.specs.Prelude.{◌≡◌, ◌⊎◌, false, List, [], ◌∷◌, map, Err}
+-- What ls and du tell of the names in a group, and why these and find are refused.
+use Rattle.std.specs.Prelude.{◌≡◌, ◌⊎◌, false, List, [], ◌∷◌, Err}
 use Rattle.asm_group.specs.Names.{Bytes, Path, is_part}
 use Rattle.asm_base.specs.declared.refusal.Refusal.{Refusal}
 use Rattle.asm_base.specs.declared.refusal.Refusal.TheVariants as cause
 use Rattle.asm_world.specs.Reports.{du_lines}
 use Rattle.asm_world.specs.Text.{ended}
-use Rattle.asmcmd.specs.Texts.{path_line}
 use Rattle.asmcmd.specs.declared.rows.LsRow.{LsRow}
 use Rattle.group_engine.specs.Mounts.{MountedGroup}
-use Rattle.group_reports.specs.Files.{paths_found, usage_of}
+use Rattle.group_reports.specs.Files.{usage_of}
 use Rattle.group_reports.specs.Listing as rows
 use Rattle.group_reports.specs.Places.{directory_at}
 use Rattle.session.specs.Naming.{IsGroupOf, IsOutCause}
@@ -16,11 +15,7 @@ use Rattle.session.specs.Sessions.{SessionView}
 
 -- ---- what is told
 
--- of a directory in a group: the paths below it that match
-abbrev pub found_told : Path → Bytes → MountedGroup → Bytes
-found_told dir pattern m = ended (map path_line (paths_found m.catalog.tables m.name dir pattern))
-
--- and what its files take
+-- what the files of a directory in a group take
 abbrev pub usage_told : Path → MountedGroup → Bytes
 usage_told dir m = let taken = usage_of m.catalog m.name dir m.catalog.tables.files in ended (du_lines taken.used taken.mirrored)
 

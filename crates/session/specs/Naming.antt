@@ -1,5 +1,5 @@
 -- Groups of the session by their names, and what is done to one of them.
-use Rattle.std.specs.Prelude.{◌≡◌, ◌⊎◌, ℕ, ◌≤◌, List, [], ◌∷◌, map, Option, Some, None, IfErr, IfOk, OnOk, Result, if◌then◌else◌}
+use Rattle.std.specs.Prelude.{◌≡◌, ◌⊎◌, ℕ, ◌≤◌, List, [], ◌∷◌, length, map, Option, Some, None, IfErr, IfOk, OnOk, Result, if◌then◌else◌}
 use Rattle.asm_group.specs.Names.{Bytes, is_same_name}
 use Rattle.asm_group.specs.Refusal as r
 use Rattle.asm_base.specs.Refusals.{said}
@@ -33,10 +33,19 @@ abbrev pub with_group : List SessionEntry → List MountedGroup → Bytes → Mo
 with_group (entry ∷ entries) (m ∷ groups) name new = if is_same_name entry.name name then new ∷ groups else m ∷ with_group entries groups name new
 with_group entries groups name new = groups
 
--- The group is the mounted one of the name.
+-- The session has an entry of the name, which is mounted.
+pub record IsOn (entries : List SessionEntry) (name : Bytes) : Type 0 where
+  pub entry : SessionEntry
+  pub named : entry_among entries name ≡ Some entry
+  pub state : entry.state ≡ Mounted
+
+-- The group is the mounted one of the name, under its entry.
 pub record IsGroupOf (session : SessionView) (name : Bytes) (m : MountedGroup) : Type 0 where
   pub named : group_among session.entries session.groups name ≡ Some m
   pub mounted : IsMounted m
+  pub on : IsOn session.entries name
+  -- each entry has its group
+  pub paired : length session.groups ≡ length session.entries
 
 -- the name and the id of a group of the session
 abbrev pub key_of : SessionEntry → Bytes × ℕ

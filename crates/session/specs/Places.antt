@@ -1,5 +1,5 @@
--- Where the session stands: pwd and cd. Of pwd, and of cd to `+`, it is proved what they do.
-use Rattle.std.specs.Prelude.{⊤, ℕ, Bool, true, false, List, [], ◌∷◌}
+-- Where the session stands: pwd and cd. Of both it is proved what they do.
+use Rattle.std.specs.Prelude.{⊤, ℕ, Bool, true, false, not, List, [], ◌∷◌}
 use Rattle.std.specs.Str.{bytes_eq}
 use Rattle.asm_group.specs.Names.{Bytes}
 use Rattle.asm_group.specs.Refusal as r
@@ -19,8 +19,12 @@ is_served other = false
 
 -- of which it is proved what they do
 abbrev pub is_proved : Command → Bool
-is_proved (Asked (Cd path)) = is_top path
-is_proved other = is_served other
+is_proved c = is_served c
+
+-- which go into a group: cd to any other path than `+`
+abbrev pub shows_group : Command → Bool
+shows_group (Asked (Cd path)) = not (is_top path)
+shows_group other = false
 
 -- none makes a group
 abbrev pub IsMade : Command → ℕ → World → Type 0

@@ -1,7 +1,7 @@
 -- Moves of which it is proved what they do to the world and to the disks. What is said of all others are the bytes: what was read and
 -- printed, the marks and the statuses. Of a stop for want of memory it isn't proved that something was due, nor what it left: it ends the
 -- run, so nothing comes behind it.
-use Rattle.std.specs.Prelude.{◌≡◌, ◌&&◌, ⊤, ◌∷◌, [], Bool, true, false, if◌then◌else◌}
+use Rattle.std.specs.Prelude.{◌≡◌, ◌⊎◌, ◌&&◌, ⊤, ◌∷◌, [], Bool, true, false, if◌then◌else◌}
 use Rattle.asm_group.specs.Group.{Group}
 use Rattle.asm_group.specs.Refusal as r
 use Rattle.asm_placement.specs.Among.{IsAmong}
@@ -10,7 +10,7 @@ use Rattle.asm_world.specs.Reply.{Reply, Refused}
 use Rattle.asm_world.specs.Run.{State, Move, Starts, Expires, Answers, Slices, Rests, Stops}
 use Rattle.asm_world.specs.World.{SessionEntry, World, groups_of, is_mounted}
 use Rattle.group_disks.specs.Found.{Counts}
-use Rattle.session.specs.Families.{is_edit, is_proved}
+use Rattle.session.specs.Families.{is_edit, is_proved, shows_group}
 use Rattle.session.specs.Meaning.{meaning}
 use Rattle.world_steps.specs.Told.{HasGroups}
 
@@ -41,9 +41,9 @@ pub record HasOwnGroups (w : World) : Type 0 where
   pub alone : HasGroups w
   pub named : (e : SessionEntry) (g : Group) → IsAmong w.session e → is_mounted e ≡ true → groups_of w e.id ≡ g ∷ [] → g.name ≡ e.name
 
--- the premise of an edit on the world before it
+-- the premise of an edit, and of what shows a group, on the world before it
 abbrev pub IsMet : Command → World → Type 0
-IsMet c w = is_edit c ≡ true → HasOwnGroups w
+IsMet c w = (is_edit c ≡ true) ⊎ (shows_group c ≡ true) → HasOwnGroups w
 
 abbrev pub IsMetIn : World → Move → Type 0
 IsMetIn w (Answers found text reply) = IsMet (meaning text) w
@@ -53,6 +53,6 @@ IsMetIn w (Slices event) = ⊤
 IsMetIn w Rests = ⊤
 IsMetIn w Stops = ⊤
 
--- a move that is proved, in a state that meets the premise of an edit
+-- a move that is proved, in a state that meets its premise
 abbrev pub IsProvedIn : State Counts → Move → Type 0
 IsProvedIn s move = IsProved move × IsMetIn s.world move

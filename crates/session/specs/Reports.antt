@@ -1,5 +1,5 @@
--- Reports: lists of names, groups, disks, templates and attributes, and what files take. All are
--- served; what they tell isn't proved of the world yet.
+-- Reports: lists of names, groups, disks, templates and attributes, and what files take. All are served. Of lstmpl, lsattr
+-- and find it is proved what they tell; what the others tell isn't proved of the world yet.
 use Rattle.std.specs.Prelude.{⊤, ℕ, Bool, true, false, List}
 use Rattle.asm_group.specs.Names.{Bytes}
 use Rattle.asm_group.specs.Refusal as r
@@ -18,9 +18,16 @@ is_served (Asked (ListTemplates group)) = true
 is_served (Asked (ListAttributes group)) = true
 is_served other = false
 
--- of which it is proved what they do
+-- of which it is proved what they tell
 abbrev pub is_proved : Command → Bool
-is_proved c = false
+is_proved (Asked (Find path pattern)) = true
+is_proved (Asked (ListTemplates group)) = true
+is_proved (Asked (ListAttributes group)) = true
+is_proved other = false
+
+-- of which a group's tables tell it
+abbrev pub shows_group : Command → Bool
+shows_group c = is_proved c
 
 -- none makes a group
 abbrev pub IsMade : Command → ℕ → World → Type 0

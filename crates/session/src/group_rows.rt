@@ -1,7 +1,7 @@
 // What the reports on one mounted group tell, and the rows of lsdg.
 ghost use Rattle.std.specs.Prelude.{◌≡◌, IfErr, IfOk};
-ghost use Rattle.session.specs.GroupRows.{AreRowsOf, IsRowOf, Tells, attributes_told, checked_told, disks_told, is_asked, templates_told};
-ghost use Rattle.session.specs.Listing.{IsPathCause, found_told, usage_told};
+ghost use Rattle.session.specs.GroupRows.{AreRowsOf, IsRowOf, Tells, checked_told, disks_told, is_asked};
+ghost use Rattle.session.specs.Listing.{IsPathCause, usage_told};
 ghost use Rattle.session.specs.Naming.{IsOutCause};
 ghost use Rattle.session.specs.Told.{told};
 
@@ -9,12 +9,9 @@ use crate::entry::Entry;
 use crate::group_name::GroupName;
 use crate::session::Session;
 use asm_base::{Name, NoMemory, Path, Refusal};
-use asmcmd::{GroupRow, check_text, du_text, find_text, lsattr_text, lsdsk_text, lstmpl_text};
+use asmcmd::{GroupRow, check_text, du_text, lsdsk_text};
 use group_engine::Mounted;
-use group_reports::{
-    attribute_rows, check, directory_at, disk_rows, dismounted_row, group_row, paths_found,
-    template_rows, usage_below,
-};
+use group_reports::{check, directory_at, disk_rows, dismounted_row, group_row, usage_below};
 use std::alloc::Global;
 
 /// A report on one mounted group.
@@ -22,14 +19,8 @@ use std::alloc::Global;
 pub enum Report<'a> {
     /// lsdsk.
     Disks,
-    /// lstmpl.
-    Templates,
-    /// lsattr.
-    Attributes,
     /// CHECK.
     Check,
-    /// find: the paths below a directory whose last part matches a pattern.
-    Found { dir: &'a [Name], pattern: &'a [u8] },
     /// du: what the files below a directory take.
     Usage { dir: &'a [Name] },
 }
@@ -41,32 +32,11 @@ fn disks_text(alloc: Global, m: &Mounted) -> Result<Vec<u8>, NoMemory>
     lsdsk_text(alloc, &rows)
 }
 
-fn templates_text(alloc: Global, m: &Mounted) -> Result<Vec<u8>, NoMemory>
-    ensures { IfOk result (λ text. text.items ≡ templates_told m.now) }
-{
-    let rows = template_rows(alloc, m.catalog())?;
-    lstmpl_text(alloc, &rows)
-}
-
-fn attributes_text(alloc: Global, m: &Mounted) -> Result<Vec<u8>, NoMemory>
-    ensures { IfOk result (λ text. text.items ≡ attributes_told m.now) }
-{
-    let rows = attribute_rows(alloc, m.catalog())?;
-    lsattr_text(alloc, &rows)
-}
-
 fn checked_text(alloc: Global, m: &Mounted) -> Result<Vec<u8>, NoMemory>
     ensures { IfOk result (λ text. text.items ≡ checked_told m.now) }
 {
     let checked = check(m.catalog(), m.status());
     check_text(alloc, checked.extents, checked.not_full)
-}
-
-fn found_text(alloc: Global, m: &Mounted, dir: &[Name], pattern: &[u8]) -> Result<Vec<u8>, NoMemory>
-    ensures { IfOk result (λ text. text.items ≡ found_told dir.now pattern.now m.now) }
-{
-    let paths = paths_found(alloc, m.name(), m.catalog(), dir, pattern)?;
-    find_text(alloc, &paths)
 }
 
 fn usage_text(alloc: Global, m: &Mounted, dir: &[Name]) -> Result<Vec<u8>, NoMemory>
@@ -82,10 +52,7 @@ fn text_of(alloc: Global, m: &Mounted, report: Report<'_>) -> Result<Vec<u8>, No
 {
     match report {
         Report::Disks => disks_text(alloc, m),
-        Report::Templates => templates_text(alloc, m),
-        Report::Attributes => attributes_text(alloc, m),
         Report::Check => checked_text(alloc, m),
-        Report::Found { dir, pattern } => found_text(alloc, m, dir, pattern),
         Report::Usage { dir } => usage_text(alloc, m, dir),
     }
 }

@@ -36,6 +36,7 @@ mod running;
 mod server;
 mod session;
 mod settings;
+mod shown;
 mod slicing;
 mod spelling;
 mod stop;

@@ -1,26 +1,24 @@
 // Where the session stands: cd and pwd.
-ghost use Rattle.std.specs.Prelude.{◌≡◌, ◌⊎◌, ◌++◌, ◌∷◌, [], false, true, IfErr, IfOk, OnOk};
-ghost use Rattle.alias_tree.specs.Nodes.{node_at};
+ghost use Rattle.std.specs.Prelude.{◌≡◌, ◌⊎◌, ◌++◌, ◌∷◌, [], Err, IfErr, IfOk, OnOk};
 ghost use Rattle.asm_base.specs.declared.refusal.Refusal.TheVariants.{NoMemory as WantOfMemory};
 ghost use Rattle.asm_world.specs.Command.{Asked, Cd, Pwd};
 ghost use Rattle.asm_world.specs.Language.{command_of};
 ghost use Rattle.asm_world.specs.Paths.{path_text};
 ghost use Rattle.session.specs.Desks.{IsAnswered};
-ghost use Rattle.session.specs.Families.{is_proved};
-ghost use Rattle.session.specs.Going.{IsDirectoryOf, IsGoingCause, IsGoingCauseBy, IsLed, IsLedBy, IsNoDirectory, IsPlaceOf};
-ghost use Rattle.session.specs.Places.{is_top};
+ghost use Rattle.group_reports.specs.Places.{directory_at};
+ghost use Rattle.session.specs.Going.{IsDirectoryOf, IsGoingCause, IsGoingCauseBy, IsLed, IsLedBy, place_of};
 ghost use Rattle.session.specs.Sessions.{AreReady};
 
 use crate::answer::Answer;
 use crate::desk::Desk;
-use crate::refusing::{no_memory, refuse};
+use crate::refusing::{no_memory, refused};
 use crate::reply::Reply;
 use crate::session::Session;
-use asm_base::{List, Name, NoMemory, NodeKind, Path, Refusal, Text};
+use asm_base::{List, Name, NoMemory, Path, Refusal, Text};
 use asmcmd::path_text;
 use bay::{Bay, Host};
-use catalog::Catalog;
 use group_engine::Mounted;
+use group_reports::directory_at;
 use std::alloc::Global;
 use verb_paths::{parts_in_group, resolve};
 
@@ -30,41 +28,12 @@ pub fn cd<B: Bay, H: Host>(desk: &mut Desk<B, H>, text: &[u8], path: Text) -> An
     requires ready { AreReady desk.old.session.groups (B.state desk.old.bay) }
     ensures answers { IsAnswered text.now result desk.old desk.new }
 {
-    if !is_top(path.as_slice()) {
-        return go_below(desk, text, path.as_slice());
-    }
-    desk.session.go(List::new(desk.alloc));
-    Answer::plain(desk.alloc, Reply::Done(List::new(desk.alloc)))
-}
-
-fn is_top(path: &[u8]) -> bool
-    ensures { result ≡ is_top path.now }
-{
-    path == b"+".as_slice()
-}
-
-/// cd to another place than `+`.
-fn go_below<B: Bay, H: Host>(desk: &mut Desk<B, H>, text: &[u8], path: &[u8]) -> Answer
-    requires unproved { is_proved (command_of text.now) ≡ false }
-    requires ready { AreReady desk.old.session.groups (B.state desk.old.bay) }
-    ensures answers { IsAnswered text.now result desk.old desk.new }
-{
-    match desk.session.led(desk.alloc, path) {
+    match desk.session.led(desk.alloc, path.as_slice()) {
         Ok(place) => {
             desk.session.go(place);
             Answer::plain(desk.alloc, Reply::Done(List::new(desk.alloc)))
         }
-        Err(refusal) => refuse(desk, text, refusal),
-    }
-}
-
-/// Whether a node is the root or a directory.
-fn is_directory(catalog: &Catalog, node: u32) -> bool
-    ensures { result ≡ true → node_at catalog.now.tables.nodes node ≡ None → node ≡ 0 }
-{
-    match catalog.node(node) {
-        Some(node) => matches!(node.kind, NodeKind::Directory),
-        None => node == 0,
+        Err(refusal) => refused(desk.alloc, refusal),
     }
 }
 
@@ -80,8 +49,7 @@ fn put_names(place: &mut List<Name>, names: &[Name]) -> Result<(), NoMemory>
 
 /// The place of a node: the group's name, and the parts that lead to it as they are spelt there. The root has none.
 fn place_of(alloc: Global, m: &Mounted, node: u32) -> Result<List<Name>, NoMemory>
-    requires { node_at m.now.catalog.tables.nodes node ≡ None → node ≡ 0 }
-    ensures { IfOk result (IsPlaceOf m.now node) }
+    ensures { IfOk result (λ place. place ≡ place_of m.now node) }
 {
     let spelt = m.catalog().path_of(alloc, m.name(), node)?;
     let mut place = List::new(alloc);
@@ -93,16 +61,11 @@ fn place_of(alloc: Global, m: &Mounted, node: u32) -> Result<List<Name>, NoMemor
 }
 
 /// The place of a directory in a group.
-fn directory_at(alloc: Global, m: &Mounted, path: &Path) -> Result<List<Name>, Refusal>
+fn place_at(alloc: Global, m: &Mounted, path: &Path) -> Result<List<Name>, Refusal>
     ensures place { IfOk result (IsDirectoryOf m.now path.now.parts) }
-    ensures cause { IfErr result (λ refusal. IsNoDirectory refusal ⊎ (refusal ≡ WantOfMemory)) }
+    ensures cause { IfErr result (λ refusal. (directory_at m.now.catalog.tables path.now.parts ≡ Err refusal) ⊎ (refusal ≡ WantOfMemory)) }
 {
-    let Some(node) = m.catalog().find(path) else {
-        return Err(Refusal::NoName);
-    };
-    if !is_directory(m.catalog(), node) {
-        return Err(Refusal::NotDirectory);
-    }
+    let node = directory_at(m.catalog(), path)?;
     match place_of(alloc, m, node) {
         Ok(place) => Ok(place),
         Err(NoMemory) => Err(Refusal::NoMemory),
@@ -131,7 +94,7 @@ impl Session {
             return Ok(List::new(alloc));
         };
         match self.mounted(alloc, &path.group) {
-            Ok(m) => directory_at(alloc, m, &path),
+            Ok(m) => place_at(alloc, m, &path),
             Err(refusal) => Err(refusal),
         }
     }

@@ -10,8 +10,9 @@ use crate::answer::Answer;
 use crate::desk::Desk;
 use crate::group_rows::Report;
 use crate::lines::lines_of;
-use crate::refusing::{no_memory, or_refusal, refuse};
+use crate::refusing::{no_memory, or_refusal, refuse, refused};
 use crate::reply::Reply;
+use crate::shown::GroupReport;
 use asm_base::{Name, NoMemory, Refusal, Text};
 use asmcmd::{ls_text, lsdg_text};
 use bay::{Bay, Host};
@@ -105,15 +106,13 @@ pub fn find<B: Bay, H: Host>(
     let Ok(led) = target(desk.alloc, desk.session.place(), path.as_slice()) else {
         return no_memory(desk, text);
     };
-    let Some(path) = led else {
-        return refuse(desk, text, Refusal::NoGroup);
+    let Some(below) = led else {
+        return refused(desk.alloc, Refusal::NoGroup);
     };
-    let report = Report::Found {
-        dir: path.parts.as_slice(),
-        pattern: pattern.as_slice(),
-    };
-    let told = desk.session.told_below(desk.alloc, &path, report);
-    tell(desk, text, told)
+    match desk.session.found(desk.alloc, &below, pattern.as_slice()) {
+        Ok(lines) => Answer::plain(desk.alloc, Reply::Done(lines)),
+        Err(refusal) => refused(desk.alloc, refusal),
+    }
 }
 
 /// du, where no path is said of the session's place. Its refusals in order: NoGroup, Dismounted, NoName, NotDirectory.
@@ -180,7 +179,13 @@ pub fn list_templates<B: Bay, H: Host>(desk: &mut Desk<B, H>, text: &[u8], group
     requires ready { AreReady desk.old.session.groups (B.state desk.old.bay) }
     ensures answers { IsAnswered text.now result desk.old desk.new }
 {
-    tell_of(desk, text, &group, Report::Templates)
+    match desk
+        .session
+        .shown(desk.alloc, &group, GroupReport::Templates)
+    {
+        Ok(lines) => Answer::plain(desk.alloc, Reply::Done(lines)),
+        Err(refusal) => refused(desk.alloc, refusal),
+    }
 }
 
 /// lsattr. Its refusals in order: NoGroup, Dismounted.
@@ -189,5 +194,11 @@ pub fn list_attributes<B: Bay, H: Host>(desk: &mut Desk<B, H>, text: &[u8], grou
     requires ready { AreReady desk.old.session.groups (B.state desk.old.bay) }
     ensures answers { IsAnswered text.now result desk.old desk.new }
 {
-    tell_of(desk, text, &group, Report::Attributes)
+    match desk
+        .session
+        .shown(desk.alloc, &group, GroupReport::Attributes)
+    {
+        Ok(lines) => Answer::plain(desk.alloc, Reply::Done(lines)),
+        Err(refusal) => refused(desk.alloc, refusal),
+    }
 }

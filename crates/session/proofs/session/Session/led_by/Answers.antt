@@ -3,8 +3,8 @@ use Rattle.session.proofs.session.Session.led_by.Goals as goal
 
 pub returns-in-Ok-clause-led : goal.returns-in-Ok-clause-led
 returns-in-Ok-clause-led c =
-    led_within c.args.self.now c.args.parts c.in-Some.path.group c.in-Some.path.parts c.in-Some.ensures c.in-Ok.m.now c.in-Ok.ensures.found _ c.directory_at.ensures.place
+    led_within c.args.self.now c.args.parts c.in-Some.path.group c.in-Some.path.parts c.in-Some.ensures c.in-Ok.m.now c.in-Ok.ensures.found _ c.place_at.ensures.place
 
 pub returns-in-Ok-clause-cause : goal.returns-in-Ok-clause-cause
 returns-in-Ok-clause-cause c =
-    refused_within c.args.self.now c.args.parts c.in-Some.path.group c.in-Some.path.parts c.in-Some.ensures c.in-Ok.m.now c.in-Ok.ensures.found _ c.directory_at.ensures.cause
+    refused_within c.args.self.now c.args.parts c.in-Some.path.group c.in-Some.path.parts c.in-Some.ensures c.in-Ok.m.now c.in-Ok.ensures.found _ c.place_at.ensures.cause

@@ -4,7 +4,7 @@ use Rattle.asm_base.specs.Refusals.{said}
 use Rattle.asm_base.specs.declared.refusal.Refusal.TheVariants.{NoGroup}
 use Rattle.group_engine.specs.Making.{dismounted_by}
 use Rattle.group_engine.specs.declared.access.Access.{Access}
-use Rattle.session.proofs.Grouped.{group_found, mounted_found}
+use Rattle.session.proofs.Grouped.{entry_on, group_found, mounted_found, paired}
 use Rattle.session.proofs.Outs.{absent_out, shut_out}
 use Rattle.session.proofs.session.Session.mounted.Goals as goal
 
@@ -16,6 +16,8 @@ pub returns-in-Ok-clause-found : goal.returns-in-Ok-clause-found
 returns-in-Ok-clause-found c = rw (← c.self.view_is) (record {
   named = group_found c.args.name.now c.self.inside.groups.entries c.in-Some.entry.now (sym c.in-Some.ensures.value);
   mounted = c.in-Ok.ensures.ok;
+  on = entry_on c.args.name.now c.self.inside.groups.entries c.in-Some.entry.now (sym c.in-Some.ensures.value) c.in-Ok.ensures.ok;
+  paired = paired c.self.inside.groups.entries;
 })
 
 pub returns-in-Ok-clause-entered : goal.returns-in-Ok-clause-entered

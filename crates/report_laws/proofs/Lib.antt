@@ -1,0 +1,9 @@
+pub mod Leading
+pub mod VerbPaths
+pub mod Spelling
+pub mod Directories
+pub mod Places
+pub mod Rows
+pub mod Ordered
+pub mod PathTexts
+pub mod Finds

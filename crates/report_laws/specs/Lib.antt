@@ -1,0 +1,4 @@
+pub mod Paths
+pub mod Places
+pub mod Rows
+pub mod Finds

@@ -1,0 +1,29 @@
+//! What the tables of a group tell, as the world's reports. Each function does nothing; its contract is the law.
+#![tactic(auto)]
+
+ghost use Rattle.report_laws.specs.Finds.{FoundAreWorlds};
+ghost use Rattle.report_laws.specs.Paths.{PathsLead};
+ghost use Rattle.report_laws.specs.Places.{DirectoriesAreWorlds, NoDirectoriesAreWorlds};
+ghost use Rattle.report_laws.specs.Rows.{AttributesAreWorlds, TemplatesAreWorlds};
+
+/// The path of `cd`, `find` or `ls` leads somewhere, from whatever place.
+pub fn paths_lead()
+    ensures { PathsLead }
+{}
+
+/// A directory by the tables is one of the world's group, which spells it as its nodes do, and what is none is none there.
+pub fn directories_are_the_worlds()
+    ensures directory { DirectoriesAreWorlds }
+    ensures none { NoDirectoriesAreWorlds }
+{}
+
+/// The rows of lsattr and lstmpl have the lines of the world's group.
+pub fn settings_are_the_worlds()
+    ensures attributes { AttributesAreWorlds }
+    ensures templates { TemplatesAreWorlds }
+{}
+
+/// What find tells of the files' names is what the world's tree tells.
+pub fn found_paths_are_the_worlds()
+    ensures { FoundAreWorlds }
+{}
