@@ -80,8 +80,8 @@ pub record Transcript {C : Type 0} (gives : C → ℕ → C → Type 0) (paths :
   pub written : Appends taken taken' (output_of history)
   pub told : Told history
   pub printed : IsPrintedToCut history
-  -- Up to the first that isn't proved, each move is one that the world may make, and each reply has its cause. An edit counts as proved in
-  -- a state in which each mounted group is alone under its id.
+  -- Up to the first that isn't proved, each move is one that the world may make, and each reply has its cause. An edit, and a command that
+  -- shows a group or goes into one, counts as proved in a state in which each mounted group is alone under its id.
   pub run : IsRunFrom (outside paths new.leaves) IsProvedIn (first_state w old) history
   pub ends : end_of (first_state w old) history ≡ end
   pub times : Readings gives clock (times_of history) clock'
