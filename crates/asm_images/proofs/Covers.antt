@@ -13,7 +13,7 @@ use Rattle.asm_formats.specs.Header.{Header}
 use Rattle.asm_formats.specs.Status.{Status, Entry, entry_of}
 use Rattle.asm_formats.specs.Items.{Item}
 use Rattle.asm_formats.specs.Content.{Content}
-use Rattle.asm_placement.specs.Among.{IsAmong}
+use Rattle.asm_formats.specs.Among.{IsAmong}
 use Rattle.asm_placement.specs.Placed.{Placed, placed, fits_entry, is_inside, all_apart, places_fit}
 use Rattle.asm_placement.specs.Work.{is_regular}
 use Rattle.asm_images.specs.Members.{Image, Member, all_members, within, is_disk}

@@ -29,7 +29,7 @@ use Rattle.asm_formats.proofs.StatusReading.{status_again}
 use Rattle.asm_formats.proofs.RecordReading.{record_again}
 use Rattle.asm_formats.proofs.LogReading.{log_head_read, log_head_again}
 use Rattle.asm_formats.proofs.Framing.{claims_by_slot, statuses_by_slot}
-use Rattle.asm_placement.specs.Among.{IsAmong}
+use Rattle.asm_formats.specs.Among.{IsAmong}
 use Rattle.asm_images.specs.Created.{only_header, only_claim, first_record, only_disk, first_templates, first_settings, first_items, first_content, first_metadata, open_gate, zero_block, first_blocks, first_log_blocks, flat, created_bytes, CreatedBytesAre}
 use Rattle.asm_images.proofs.Zeros.{zero_byte}
 

@@ -1,6 +1,6 @@
 -- From all members to those that can be read, and from one image to another with the same metadata.
 use Rattle.std.proofs.Common.{◌≡◌, ℕ, ◌+◌, ◌*◌, ◌<◌, Bool, false, List, [], sym, ap, subst, ◌∙◌, Option, Some}
-use Rattle.asm_placement.specs.Among.{IsAmong}
+use Rattle.asm_formats.specs.Among.{IsAmong}
 use Rattle.asm_group.specs.Shape.{Shape}
 use Rattle.asm_formats.specs.Status.{Status}
 use Rattle.asm_formats.specs.Content.{Content}

@@ -4,7 +4,7 @@ use Rattle.std.specs.List.{list_all, list_any}
 use Rattle.std.proofs.lemmas.Bool.{cond_both, cond-true, and_parts, ltb-true, lt-ltb, false≢true}
 use Rattle.asm_formats.specs.Following.{Holder, sets}
 use Rattle.asm_formats.specs.Status.{Status}
-use Rattle.asm_placement.specs.Among.{IsAmong}
+use Rattle.asm_formats.specs.Among.{IsAmong}
 use Rattle.asm_images.specs.Members.{Member, is_disk, has_disk, within}
 use Rattle.asm_images.specs.Register.{is_majority, is_enough}
 use Rattle.asm_images.proofs.Membership.{among_within, among_filtered, filter_out}

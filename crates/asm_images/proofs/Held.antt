@@ -11,7 +11,7 @@ use Rattle.asm_formats.specs.Header.{Header}
 use Rattle.asm_formats.specs.Metadata.{Metadata, metadata, header_of}
 use Rattle.asm_formats.specs.Sets.{elements}
 use Rattle.asm_formats.specs.Status.{Status, entry_of}
-use Rattle.asm_placement.specs.Among.{IsAmong}
+use Rattle.asm_formats.specs.Among.{IsAmong}
 use Rattle.asm_images.specs.Bridge.{disk_bytes, disks_in, ChangesSlot}
 use Rattle.asm_images.specs.Directories.{copies, copy_on, held_by, to_list, newer, newest, directories, IsNamed}
 use Rattle.asm_images.specs.Kept.{Kept, IsMemberIn, IsHeld, CompleteStands, HeldStands, SameIsHeld, BystandersAreHeld}

@@ -2,7 +2,7 @@
 use Rattle.std.proofs.Common.{◌≡◌, inl, inr, ⊎_elim, ℕ, ◌≤◌, Bool, false, cond, not, ◌&&◌, ltb, List, [], ◌∷◌, refl, sym, ap, subst, Option, Some, None, arith, IsTrue}
 use Rattle.std.proofs.lemmas.Bool.{cond_both, ltb-true, ltb-false, and_parts, not-true}
 use Rattle.std.proofs.lemmas.Option.{cond_some, same_Some}
-use Rattle.asm_placement.specs.Among.{IsAmong}
+use Rattle.asm_formats.specs.Among.{IsAmong}
 use Rattle.asm_formats.specs.Status.{Status}
 use Rattle.asm_formats.specs.Following.{rank}
 use Rattle.asm_images.specs.Members.{Member, within, statuses, of_group}

@@ -10,7 +10,7 @@ use Rattle.asm_formats.specs.Items.{Item, Home}
 use Rattle.asm_formats.specs.Sets.{has_bit, elements}
 use Rattle.asm_formats.specs.Content.{Content}
 use Rattle.asm_formats.specs.Status.{Entry, entry_of}
-use Rattle.asm_placement.specs.Among.{IsAmong}
+use Rattle.asm_formats.specs.Among.{IsAmong}
 use Rattle.asm_placement.specs.Layout.{start, units_of}
 use Rattle.asm_placement.specs.Tables.{homes_in, marks_in, home_of, is_stale}
 use Rattle.asm_images.specs.Copies.{IsCurrent, is_kept}

@@ -1,6 +1,6 @@
 -- What a mount rests on: its claim reaches every majority, and its epoch is new.
 use Rattle.std.proofs.Common.{◌≡◌, inl, inr, ⊎_elim, ℕ, ◌<◌, ◌≤◌, Bool, List, ◌∷◌, refl, sym, ap, subst, ◌∙◌, Option, Some, None, arith, IsTrue}
-use Rattle.asm_placement.specs.Among.{IsAmong}
+use Rattle.asm_formats.specs.Among.{IsAmong}
 use Rattle.asm_formats.specs.Claim.{Claim}
 use Rattle.asm_formats.specs.Content.{Content}
 use Rattle.asm_formats.specs.Status.{Status}

@@ -1,6 +1,6 @@
 -- Every kind of step keeps an image sound, and so does a row of them.
 use Rattle.std.proofs.Common.{◌≡◌, inl, inr, ℕ, List, [], ◌∷◌, sym, subst}
-use Rattle.asm_placement.specs.Among.{IsAmong}
+use Rattle.asm_formats.specs.Among.{IsAmong}
 use Rattle.asm_images.specs.Moves.{Situation, IsSound, MovesTo, IsRow, spare, outside, claim, begin, store, complete, commit, piece, settle, narrow, widen, leave, join}
 use Rattle.asm_images.proofs.Describing.{spare_keeps}
 use Rattle.asm_images.proofs.Claiming.{claim_keeps}

@@ -13,7 +13,7 @@ use Rattle.asm_formats.specs.Items.{Item}
 use Rattle.asm_formats.specs.Content.{Content}
 use Rattle.asm_formats.specs.Metadata.{Metadata, metadata}
 use Rattle.asm_formats.specs.Places.{SameElsewhere}
-use Rattle.asm_placement.specs.Among.{IsAmong}
+use Rattle.asm_formats.specs.Among.{IsAmong}
 use Rattle.asm_placement.specs.Placed.{places_fit}
 use Rattle.asm_images.specs.Members.{Image, Member, written, disk_of, all_members, within, is_disk, statuses}
 use Rattle.asm_images.specs.Register.{current_records}

@@ -22,7 +22,7 @@ use Rattle.asm_formats.proofs.SameLogs.{closed_content}
 use Rattle.asm_formats.proofs.Framing.{header_allowed, header_blocks, user_write, claims_by_slot, statuses_by_slot, closed_write}
 use Rattle.asm_formats.proofs.Putting.{header_put}
 use Rattle.asm_formats.proofs.Checkpoints.{log_put_commits, checkpoint_keeps, close_keeps, last_close}
-use Rattle.asm_placement.specs.Among.{IsAmong}
+use Rattle.asm_formats.specs.Among.{IsAmong}
 use Rattle.asm_images.specs.Members.{Image, Member, members, written, metadata_of, disk_of, all_members, IsOutside}
 use Rattle.asm_images.specs.Sound.{SoundBy}
 use Rattle.asm_images.specs.ContentLaws.{IsReady}

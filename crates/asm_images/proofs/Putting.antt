@@ -10,7 +10,7 @@ use Rattle.asm_formats.specs.Metadata.{metadata, in_slot}
 use Rattle.asm_formats.specs.Slots.{IsPut, ArePair, Said, same_said, nothing_said, new_said}
 use Rattle.asm_formats.proofs.Framing.{claims_by_slot, statuses_by_slot}
 use Rattle.asm_formats.proofs.Putting.{claim_put, status_put}
-use Rattle.asm_placement.specs.Among.{IsAmong}
+use Rattle.asm_formats.specs.Among.{IsAmong}
 use Rattle.asm_images.specs.Members.{those}
 use Rattle.asm_images.specs.Steps.{RaisesRecords, RaisesClaims}
 use Rattle.asm_images.specs.PutLaws.{OtherHolds, OtherClaims}

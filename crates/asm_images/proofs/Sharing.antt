@@ -5,7 +5,7 @@ use Rattle.std.proofs.lemmas.Bool.{cond_both, cond-true, cond-false, cases_Bool,
 use Rattle.std.proofs.lemmas.Option.{same_Some}
 use Rattle.asm_formats.specs.Status.{Status, Entry}
 use Rattle.asm_formats.specs.Following.{Holder, disks_of, sets_of, sets, FollowsSets, Follows}
-use Rattle.asm_placement.specs.Among.{IsAmong}
+use Rattle.asm_formats.specs.Among.{IsAmong}
 use Rattle.asm_images.specs.Members.{Member, is_disk, has_disk}
 use Rattle.asm_images.specs.Register.{Fits, current_records, base, is_majority, is_enough}
 use Rattle.asm_images.specs.Laws.{ShareASet}

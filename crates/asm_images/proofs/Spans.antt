@@ -11,7 +11,7 @@ use Rattle.std.specs.List.{range_with_len}
 use Rattle.std.specs.Option.{option_map, is_some}
 use Rattle.std.proofs.lemmas.Bool.{cond_both, cond-true, cond-false, eqb-true, eq-eqb, ne_eqb, and_parts, cases_Bool, ltb-true, leb-true, cases_eq, cases_lt, both_ways}
 use Rattle.std.proofs.lemmas.Option.{same_Some}
-use Rattle.asm_placement.specs.Among.{IsAmong}
+use Rattle.asm_formats.specs.Among.{IsAmong}
 use Rattle.asm_group.specs.Shape.{Shape, is_unit_size, is_step, is_shape}
 use Rattle.asm_formats.specs.Status.{Status}
 use Rattle.asm_formats.specs.Items.{Item, FileHead, Home}

@@ -17,7 +17,7 @@ use Rattle.asm_placement.specs.Modes.{is_forced}
 use Rattle.asm_formats.specs.Status.{Status, Entry}
 use Rattle.asm_formats.specs.Items.{Item, file_item, chunk_item, disk_item, rebalance_item, pending_item, templates_item, node_item, settings_item, marks_item, Home, Homes, chunk_len}
 use Rattle.asm_formats.specs.Places.{SameElsewhere}
-use Rattle.asm_placement.specs.Among.{IsAmong}
+use Rattle.asm_formats.specs.Among.{IsAmong}
 use Rattle.asm_placement.specs.Layout.{units_of}
 use Rattle.asm_placement.specs.Tables.{homes_in, home_of}
 use Rattle.asm_placement.specs.Placed.{Placed, placed_copies, placed_extents, placed, are_apart, is_inside, all_apart, places_fit}

@@ -9,7 +9,7 @@ use Rattle.asm_formats.specs.Logs.{Log}
 use Rattle.asm_formats.specs.Pages.{committed}
 use Rattle.asm_formats.specs.Metadata.{header_of}
 use Rattle.asm_formats.specs.LogSlots.{IsLogPut}
-use Rattle.asm_placement.specs.Among.{IsAmong}
+use Rattle.asm_formats.specs.Among.{IsAmong}
 use Rattle.asm_images.specs.Members.{Image, Member, written, all_members, within, statuses}
 use Rattle.asm_images.specs.Register.{current_records}
 use Rattle.asm_images.specs.Directories.{directories, IsNamed}

@@ -2,7 +2,7 @@
 -- run begins, none comes to its last value in it.
 use Rattle.std.specs.Prelude.{ℕ, ◌<◌, List, Some}
 use Rattle.std.specs.Option.{ForSome}
-use Rattle.asm_placement.specs.Among.{IsAmong}
+use Rattle.asm_formats.specs.Among.{IsAmong}
 use Rattle.asm_formats.specs.Claim.{Claim}
 use Rattle.asm_formats.specs.Content.{Content}
 use Rattle.asm_formats.specs.Header.{Header}

@@ -1,6 +1,6 @@
 -- Which directory copy counts.
 use Rattle.std.specs.Prelude.{◌≡◌, ℕ, List, [], ◌∷◌, find, flat_map, if◌then◌else◌, nat_lt, Option, Some, None}
-use Rattle.asm_placement.specs.Among.{IsAmong}
+use Rattle.asm_formats.specs.Among.{IsAmong}
 use Rattle.asm_formats.specs.Sets.{elements}
 use Rattle.asm_formats.specs.Header.{Header}
 use Rattle.asm_formats.specs.Status.{Status, Entry, entry_of}

@@ -8,7 +8,7 @@ use Rattle.asm_formats.specs.Content.{Content}
 use Rattle.asm_formats.specs.Status.{Status}
 use Rattle.asm_formats.specs.Metadata.{header_of}
 use Rattle.asm_images.specs.Bridge.{disk_bytes, disks_in, ChangesSlot}
-use Rattle.asm_placement.specs.Among.{IsAmong}
+use Rattle.asm_formats.specs.Among.{IsAmong}
 use Rattle.asm_images.specs.Directories.{IsNamed}
 use Rattle.asm_images.specs.Members.{Image, Member, all_members, within}
 use Rattle.asm_images.specs.Register.{is_enough}

@@ -4,7 +4,7 @@ use Rattle.asm_group.specs.Group.{Group}
 use Rattle.asm_formats.specs.Header.{Header}
 use Rattle.asm_formats.specs.Status.{Status}
 use Rattle.asm_formats.specs.Following.{Holder, sets, Follows}
-use Rattle.asm_placement.specs.Among.{IsAmong}
+use Rattle.asm_formats.specs.Among.{IsAmong}
 use Rattle.asm_images.specs.Members.{Image, Member, written, within}
 use Rattle.asm_images.specs.Register.{Fits, current_records, status, is_enough}
 use Rattle.asm_images.specs.Stands.{Standing, Stands}

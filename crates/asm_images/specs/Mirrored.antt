@@ -14,7 +14,7 @@ use Rattle.asm_formats.specs.Content.{Content}
 use Rattle.asm_formats.specs.Header.{Header}
 use Rattle.asm_formats.specs.Items.{Item, file_item, chunk_item, disk_item, templates_item, node_item, settings_item, marks_item, FileHead, Home, Node}
 use Rattle.asm_formats.specs.Status.{Status, Entry}
-use Rattle.asm_placement.specs.Among.{IsAmong}
+use Rattle.asm_formats.specs.Among.{IsAmong}
 use Rattle.asm_images.specs.Describing.{DescribesGroup, KeepsExtentRules, AreRegular}
 use Rattle.asm_images.specs.Directories.{directories}
 use Rattle.asm_images.specs.Members.{Image, Member, within}

@@ -5,7 +5,7 @@ use Rattle.asm_formats.specs.Claim.{Claim}
 use Rattle.asm_formats.specs.Status.{Status}
 use Rattle.asm_formats.specs.Following.{Follows}
 use Rattle.asm_formats.specs.Content.{Content}
-use Rattle.asm_placement.specs.Among.{IsAmong}
+use Rattle.asm_formats.specs.Among.{IsAmong}
 use Rattle.asm_images.specs.Members.{Image, Member, all_members, within, statuses, claims, claims_of_group, AreDistinct}
 use Rattle.asm_images.specs.Register.{Fits, current_records, base, greatest, is_enough, HasEpoch}
 use Rattle.asm_images.specs.Directories.{directories}

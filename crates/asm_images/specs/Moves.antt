@@ -3,7 +3,7 @@ use Rattle.std.specs.Prelude.{◌≡◌, ℕ, List, [], ◌∷◌, ◌++◌, map
 use Rattle.asm_group.specs.Group.{Group}
 use Rattle.asm_formats.specs.Header.{Header}
 use Rattle.asm_formats.specs.Status.{Status}
-use Rattle.asm_placement.specs.Among.{IsAmong}
+use Rattle.asm_formats.specs.Among.{IsAmong}
 use Rattle.asm_images.specs.Members.{Image, written}
 use Rattle.asm_images.specs.Sound.{SoundBy}
 use Rattle.asm_images.specs.Steps.{IsSpare, IsElsewhere, IsClaimed, IsBegun, IsStored, IsComplete, IsCommitted, IsLeaving, IsJoining, IsNarrower}

@@ -14,7 +14,7 @@ use Rattle.asm_formats.specs.Metadata.{header_of, in_slot}
 use Rattle.asm_formats.specs.Places.{SameElsewhere, SameButBlocks}
 use Rattle.asm_formats.specs.Slots.{IsPut, ArePair}
 use Rattle.asm_formats.specs.LogSlots.{IsLogPut, MayClose, IsLogClose, IsCheckpoint}
-use Rattle.asm_placement.specs.Among.{IsAmong}
+use Rattle.asm_formats.specs.Among.{IsAmong}
 use Rattle.asm_images.specs.Members.{Image, Member, written, metadata_of, all_members, of_group, claims_of_group, IsOutside}
 use Rattle.asm_images.specs.Sound.{SoundBy}
 use Rattle.asm_images.specs.Steps.{IsLast, CoversBirths, IsKnown, MayJoin, KeepsCopies}

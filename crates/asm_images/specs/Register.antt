@@ -1,7 +1,7 @@
 -- The status register: one record, kept on majorities.
 use Rattle.std.specs.Prelude.{◌≡◌, ◌⊎◌, ℕ, ◌*◌, ◌<◌, ◌≤◌, Bool, ◌&&◌, not, List, [], ◌∷◌, length, filter, if◌then◌else◌, nat_lt, Option, Some, None, IsTrue}
 use Rattle.std.specs.List.{list_all}
-use Rattle.asm_placement.specs.Among.{IsAmong}
+use Rattle.asm_formats.specs.Among.{IsAmong}
 use Rattle.asm_formats.specs.Status.{Status}
 use Rattle.asm_formats.specs.Following.{Holder, sets, rank, Follows}
 use Rattle.asm_formats.specs.Claim.{Claim}

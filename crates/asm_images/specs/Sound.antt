@@ -3,7 +3,7 @@ use Rattle.std.specs.Prelude.{◌≡◌, ℕ, ◌≤◌, Bool, false, List, Opti
 use Rattle.asm_group.specs.Group.{Group}
 use Rattle.asm_formats.specs.Status.{Status, Entry}
 use Rattle.asm_formats.specs.Content.{Content}
-use Rattle.asm_placement.specs.Among.{IsAmong}
+use Rattle.asm_formats.specs.Among.{IsAmong}
 use Rattle.asm_images.specs.Members.{Image, Member, all_members, within, statuses}
 use Rattle.asm_images.specs.Register.{Fits, current_records}
 use Rattle.asm_images.specs.Directories.{directories, IsNamed}

@@ -8,7 +8,7 @@ use Rattle.asm_group.specs.Group.{Cell, Known, Free, File, Group}
 use Rattle.asm_placement.specs.Layout.{file_byte}
 use Rattle.asm_formats.specs.Status.{Status}
 use Rattle.asm_formats.specs.Items.{Item, Home}
-use Rattle.asm_placement.specs.Among.{IsAmong}
+use Rattle.asm_formats.specs.Among.{IsAmong}
 use Rattle.asm_images.specs.Members.{Image, Member, byte, metadata_of, all_members}
 use Rattle.asm_images.specs.Copies.{IsCurrent}
 use Rattle.asm_images.specs.Describing.{extent_size}

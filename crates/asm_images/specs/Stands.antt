@@ -8,7 +8,7 @@ use Rattle.asm_formats.specs.Regions.{units_in}
 use Rattle.asm_formats.specs.Status.{Status, Entry, entry_of}
 use Rattle.asm_formats.specs.Items.{Item, Home}
 use Rattle.asm_formats.specs.Content.{Content}
-use Rattle.asm_placement.specs.Among.{IsAmong}
+use Rattle.asm_formats.specs.Among.{IsAmong}
 use Rattle.asm_images.specs.Members.{Image, Member, byte, all_members, readable_members, AreDistinct}
 use Rattle.asm_images.specs.Register.{status}
 use Rattle.asm_images.specs.Directories.{directories}

@@ -10,7 +10,7 @@ use Rattle.asm_formats.specs.Following.{rank, Follows}
 use Rattle.asm_formats.specs.Items.{Item, Home}
 use Rattle.asm_formats.specs.Content.{Content}
 use Rattle.asm_formats.specs.Metadata.{Metadata, metadata}
-use Rattle.asm_placement.specs.Among.{IsAmong}
+use Rattle.asm_formats.specs.Among.{IsAmong}
 use Rattle.asm_images.specs.Members.{Image, Member, byte, written, disk_of, metadata_of, all_members, within, statuses, of_group, claims_of_group, IsOutside}
 use Rattle.asm_images.specs.Register.{current_records, base, is_enough, HasEpoch}
 use Rattle.asm_images.specs.Directories.{directories, IsNamed}

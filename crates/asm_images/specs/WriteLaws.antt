@@ -5,7 +5,7 @@ use Rattle.asm_group.specs.Group.{Group}
 use Rattle.asm_placement.specs.Layout.{units_of}
 use Rattle.asm_placement.specs.Tables.{home_of}
 use Rattle.asm_placement.specs.Placed.{places_fit}
-use Rattle.asm_placement.specs.Among.{IsAmong}
+use Rattle.asm_formats.specs.Among.{IsAmong}
 use Rattle.asm_formats.specs.Regions.{reserved_units}
 use Rattle.asm_formats.specs.Status.{Status, Entry}
 use Rattle.asm_formats.specs.Items.{Item, Home}

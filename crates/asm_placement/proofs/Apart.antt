@@ -8,7 +8,7 @@ use Rattle.asm_group.specs.Shape.{Shape}
 use Rattle.asm_formats.specs.Sets.{has_bit}
 use Rattle.asm_formats.specs.Status.{Entry, entry_of, ascends_from}
 use Rattle.asm_formats.specs.Items.{Item, Homes}
-use Rattle.asm_placement.specs.Among.{IsAmong}
+use Rattle.asm_formats.specs.Among.{IsAmong}
 use Rattle.asm_placement.specs.Modes.{is_target, stays}
 use Rattle.asm_placement.specs.DiskSets.{is_among, numbers, groups_of}
 use Rattle.asm_placement.specs.Partners.{Pair, partners, are_partners, HasPartners}

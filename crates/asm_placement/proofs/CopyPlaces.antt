@@ -11,7 +11,7 @@ use Rattle.std.proofs.lemmas.Nat.{div-add-mod', mod_below}
 use Rattle.std.proofs.lemmas.Nat.Bits.{bit_at_xor, bit_at-pow_same, bit_at-pow_other, bit_at-lt, bit_at-zero}
 use Rattle.asm_formats.specs.Sets.{has_bit}
 use Rattle.asm_formats.specs.Items.{Item, file_item, chunk_item, marks_item, FileHead, Home, Homes, chunk_len, is_item, is_homes, is_redundancy, key, is_same_key}
-use Rattle.asm_placement.specs.Among.{IsAmong}
+use Rattle.asm_formats.specs.Among.{IsAmong}
 use Rattle.asm_placement.specs.Tables.{head_of, marks_in, is_stale, if_is}
 use Rattle.asm_placement.specs.Copies.{Copy, has_home, copies_from, file_copies, item_copies, all_copies}
 use Rattle.asm_placement.specs.Moves.{moved_item, unmarked_item, without_bit, with_current, with_home}

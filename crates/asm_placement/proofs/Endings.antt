@@ -7,7 +7,7 @@ use Rattle.std.proofs.lemmas.Option.{same_Some, none-some}
 use Rattle.asm_group.specs.Shape.{Shape}
 use Rattle.asm_formats.specs.Status.{Status, Entry}
 use Rattle.asm_formats.specs.Items.{Item, Home}
-use Rattle.asm_placement.specs.Among.{IsAmong}
+use Rattle.asm_formats.specs.Among.{IsAmong}
 use Rattle.asm_placement.specs.Modes.{is_online, is_dropping, is_forced, leaves, serves, mode_is}
 use Rattle.asm_placement.specs.Tables.{is_stale}
 use Rattle.asm_placement.specs.DiskSets.{is_among, groups_of}

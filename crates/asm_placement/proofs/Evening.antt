@@ -6,7 +6,7 @@ use Rattle.std.proofs.lemmas.Option.{same_Some}
 use Rattle.asm_group.specs.Shape.{Shape}
 use Rattle.asm_formats.specs.Status.{Entry, entry_of, ascends_from}
 use Rattle.asm_formats.specs.Items.{Item}
-use Rattle.asm_placement.specs.Among.{IsAmong}
+use Rattle.asm_formats.specs.Among.{IsAmong}
 use Rattle.asm_placement.specs.Modes.{is_target}
 use Rattle.asm_placement.specs.DiskSets.{numbers}
 use Rattle.asm_placement.specs.TableDisks.{targets}

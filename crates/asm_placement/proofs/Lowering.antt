@@ -8,7 +8,7 @@ use Rattle.asm_group.specs.declared.Mode.{Mode}
 use Rattle.asm_group.specs.declared.Mode.TheVariants.{Online, Offline, Syncing, Dropping, Forced}
 use Rattle.asm_formats.specs.Status.{Entry, entry_of}
 use Rattle.asm_formats.specs.Items.{Item, chunk_item, Home, Homes}
-use Rattle.asm_placement.specs.Among.{IsAmong}
+use Rattle.asm_formats.specs.Among.{IsAmong}
 use Rattle.asm_placement.specs.Modes.{is_online, leaves, stays, mode_is}
 use Rattle.asm_placement.specs.Tables.{is_stale}
 use Rattle.asm_placement.specs.Choices.{staying_disk, kept_disks}

@@ -6,7 +6,7 @@ use Rattle.std.specs.Option.{option_or}
 use Rattle.std.proofs.lemmas.Bool.{cond_both, and_parts, and_from, eq-eqb, ne_eqb, eqb-true, both_ways, cases_eq, false≢true}
 use Rattle.std.proofs.lemmas.Nat.{div-add-mod', div-mul-add}
 use Rattle.asm_formats.specs.Items.{Item, file_item, chunk_item, marks_item, FileHead, Home, Homes, chunk_len, is_item, is_homes}
-use Rattle.asm_placement.specs.Among.{IsAmong}
+use Rattle.asm_formats.specs.Among.{IsAmong}
 use Rattle.asm_placement.specs.Tables.{head_of, if_is}
 use Rattle.asm_placement.specs.Copies.{Copy, copies_at, has_home, copies_from, file_copies, item_copies, all_copies}
 use Rattle.asm_placement.specs.Moves.{moved_item, unmarked_item, with_current, with_home}

@@ -2,7 +2,7 @@
 use Rattle.std.proofs.Common.{◌≡◌, ◌⊎◌, inl, inr, ⊎_elim, ℕ, ◌<◌, ◌≤◌, ◌∙◌, Bool, true, false, not, ltb, ◌&&◌, ◌||◌, List, [], ◌∷◌, map, filter, length, fold, refl, sym, ap, subst, arith, ◌==◌}
 use Rattle.std.specs.List.{list_any}
 use Rattle.std.proofs.lemmas.Bool.{cond_both, and_parts, ltb-true, not-true, or_cases, and_cases, and_from, or_left, or_right, not-false, ltb-false, ne_eqb, eqb-true, eq-eqb, both_ways}
-use Rattle.asm_placement.specs.Among.{IsAmong}
+use Rattle.asm_formats.specs.Among.{IsAmong}
 use Rattle.asm_formats.specs.Status.{Entry}
 use Rattle.asm_placement.specs.Partners.{Pair, table_disks, are_separate, pairs, touches, partner_count, has_partner_in, are_partners, both_have_room, first_pass, second_pass, partners, most_partners}
 use Rattle.asm_placement.proofs.Membership.{among_split, among_filter, among_left, among_right, map_among, among_map, filter_out, among_filtered}

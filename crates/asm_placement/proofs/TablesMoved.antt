@@ -8,7 +8,7 @@ use Rattle.asm_group.specs.declared.GroupKind.{GroupKind}
 use Rattle.asm_group.specs.Shape.{Shape}
 use Rattle.asm_formats.specs.Sets.{has_bit, elements}
 use Rattle.asm_formats.specs.Status.{Status, Entry, entry_of, ascends_from}
-use Rattle.asm_placement.specs.Among.{IsAmong}
+use Rattle.asm_formats.specs.Among.{IsAmong}
 use Rattle.asm_placement.specs.Modes.{is_online, leaves, stays, is_target, mode_is}
 use Rattle.asm_placement.specs.DiskSets.{is_among, with_bit, numbers, groups_of, by_group}
 use Rattle.asm_placement.specs.TableDisks.{table_count, in_rounds, rounds, table_set, due_set, size_of, has_leaving, is_status_move_due, status_target, copies_due, staying, groups_with_copy, directory_target}

@@ -7,7 +7,7 @@ use Rattle.std.proofs.lemmas.Option.{same_Some, none-some}
 use Rattle.std.proofs.lemmas.Nat.{div-add-mod'}
 use Rattle.asm_group.specs.Shape.{Shape}
 use Rattle.asm_formats.specs.Items.{Item, chunk_item, marks_item, Home, Homes, chunk_len, key, is_same_key}
-use Rattle.asm_placement.specs.Among.{IsAmong}
+use Rattle.asm_formats.specs.Among.{IsAmong}
 use Rattle.asm_placement.specs.Layout.{units_of}
 use Rattle.asm_placement.specs.Placed.{Placed, placed_copies, placed_extents, placed}
 use Rattle.asm_placement.specs.Space.{units_on, used_units}

@@ -4,7 +4,7 @@ use Rattle.std.specs.List.{list_all}
 use Rattle.asm_group.specs.Shape.{Shape}
 use Rattle.asm_formats.specs.Status.{Entry, ascends_from}
 use Rattle.asm_formats.specs.Items.{Item, Homes}
-use Rattle.asm_placement.specs.Among.{IsAmong}
+use Rattle.asm_formats.specs.Among.{IsAmong}
 use Rattle.asm_placement.specs.Modes.{is_target}
 use Rattle.asm_placement.specs.DiskSets.{is_among, numbers}
 use Rattle.asm_placement.specs.Partners.{HasPartners}

@@ -3,7 +3,7 @@ use Rattle.std.specs.Prelude.{◌≡◌, ℕ, Bool, ◌&&◌, ◌||◌, not, Lis
 use Rattle.std.specs.List.{list_any, range_with_len}
 use Rattle.asm_formats.specs.Status.{Entry}
 use Rattle.asm_formats.specs.Sets.{has_bit, most_disks}
-use Rattle.asm_placement.specs.Among.{IsAmong}
+use Rattle.asm_formats.specs.Among.{IsAmong}
 use Rattle.asm_placement.specs.Modes.{stays}
 use Rattle.asm_placement.specs.DiskSets.{set_of}
 

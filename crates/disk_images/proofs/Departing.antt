@@ -19,7 +19,7 @@ use Rattle.asm_formats.specs.Pages.{decodes_in}
 use Rattle.asm_formats.specs.Metadata.{Metadata, metadata, header_of, content_of}
 use Rattle.asm_formats.specs.Places.{SameElsewhere, SameButBlocks}
 use Rattle.asm_formats.proofs.Framing.{header_write, content_behind}
-use Rattle.asm_placement.specs.Among.{IsAmong}
+use Rattle.asm_formats.specs.Among.{IsAmong}
 use Rattle.asm_images.specs.Members.{Image, Member, metadata_of, all_members, written, IsOutside}
 use Rattle.asm_images.specs.Bridge.{disk_bytes, disks_in, ChangesSlot}
 use Rattle.asm_images.specs.Kept.{header_in, IsMemberIn}

@@ -18,7 +18,7 @@ use Rattle.asm_formats.specs.Regions.{least_size, region_end, header_gate}
 use Rattle.asm_formats.specs.Header.{Header, is_header, header_spelling}
 use Rattle.asm_formats.specs.Metadata.{header_of}
 use Rattle.asm_formats.specs.Slots.{IsPut}
-use Rattle.asm_placement.specs.Among.{IsAmong}
+use Rattle.asm_formats.specs.Among.{IsAmong}
 use Rattle.asm_images.specs.Members.{Image, Member, all_members, written, IsOutside}
 use Rattle.asm_images.specs.Bridge.{disk_bytes, disks_in, ChangesSlot}
 use Rattle.asm_images.specs.Kept.{header_in, IsMemberIn}

@@ -11,7 +11,7 @@ use Rattle.asm_formats.specs.Bytes.{block_size, is_open}
 use Rattle.asm_formats.specs.Regions.{least_size, header_gate, region_end, first_log, second_log}
 use Rattle.asm_formats.specs.Header.{Header, is_header, header_spelling}
 use Rattle.asm_formats.specs.Status.{Status}
-use Rattle.asm_placement.specs.Among.{IsAmong}
+use Rattle.asm_formats.specs.Among.{IsAmong}
 use Rattle.asm_images.specs.Bridge.{disk_bytes, disks_in, ChangesSlot}
 use Rattle.asm_images.specs.Kept.{IsMemberIn}
 use Rattle.asm_images.specs.Members.{all_members}

@@ -9,7 +9,7 @@ use Rattle.bay.proofs.Calls.{leaves_only, now_of, on_more, widened}
 use Rattle.bay.proofs.Images.{changes-within, window-same}
 use Rattle.asm_formats.specs.Metadata.{header_of}
 use Rattle.asm_images.specs.Kept.{header_in}
-use Rattle.asm_placement.specs.Among.{IsAmong}
+use Rattle.asm_formats.specs.Among.{IsAmong}
 use Rattle.group_engine.specs.Frames.{SameDisk}
 use Rattle.group_engine.specs.Mounts.{MountedGroup}
 use Rattle.group_engine.specs.Own.{KeepsGroup}

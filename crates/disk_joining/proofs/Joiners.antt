@@ -19,7 +19,7 @@ use Rattle.asm_formats.specs.Regions.{has_region, region_end}
 use Rattle.asm_formats.specs.Status.{Entry, Status, entry_of}
 use Rattle.asm_group.specs.Shape.{Shape, is_shape}
 use Rattle.asm_images.proofs.Members.{member_shape}
-use Rattle.asm_placement.specs.Among.{IsAmong}
+use Rattle.asm_formats.specs.Among.{IsAmong}
 use Rattle.catalog.specs.Disks.{Disk, info_at, with_info}
 use Rattle.catalog.specs.Plans as plans
 use Rattle.catalog.proofs.NumberedLists.{either, number_is}

@@ -11,7 +11,7 @@ use Rattle.asm_formats.specs.Status.{Entry, Status, entry_of}
 use Rattle.asm_group.specs.Names.{is_same_name}
 use Rattle.asm_group.specs.Shape.{Shape}
 use Rattle.asm_images.specs.Kept.{header_in}
-use Rattle.asm_placement.specs.Among.{IsAmong}
+use Rattle.asm_formats.specs.Among.{IsAmong}
 use Rattle.asm_world.specs.NewDisks.{PlannedDisk}
 use Rattle.catalog.specs.Disks.{Disk, info_at}
 use Rattle.catalog.specs.Plans.{MayAdd}

@@ -1,6 +1,6 @@
 //! Disks that got their headers are attached.
 ghost use Rattle.std.specs.Prelude.{◌≡◌, Some};
-ghost use Rattle.asm_placement.specs.Among.{IsAmong};
+ghost use Rattle.asm_formats.specs.Among.{IsAmong};
 ghost use Rattle.group_engine.specs.Mounts.{Takes};
 ghost use Rattle.group_mount.specs.declared.finding.Headed.{Headed as Disk};
 ghost use Rattle.disk_joining.specs.Taking.{IsApart, TakesIn};

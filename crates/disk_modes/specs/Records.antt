@@ -3,7 +3,7 @@ use Rattle.std.specs.Prelude.{◌≡◌, ℕ, List, map, if◌then◌else◌, Is
 use Rattle.asm_group.specs.declared.Mode.TheVariants as mode
 use Rattle.asm_formats.specs.Sets.{elements, has_bit}
 use Rattle.asm_formats.specs.Status.{Entry, Status, is_status}
-use Rattle.asm_placement.specs.Among.{IsAmong}
+use Rattle.asm_formats.specs.Among.{IsAmong}
 use Rattle.asm_placement.specs.Modes.{is_dropping}
 use Rattle.asm_placement.specs.Partners.{with_partners}
 use Rattle.status_table.specs.Changes.{status_with_mode, status_with_offline}

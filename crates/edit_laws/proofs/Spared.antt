@@ -7,7 +7,7 @@ use Rattle.asm_group.specs.Group.{Group}
 use Rattle.asm_formats.specs.Header.{Header}
 use Rattle.asm_formats.specs.Metadata.{Metadata, metadata}
 use Rattle.asm_formats.specs.Status.{Status}
-use Rattle.asm_placement.specs.Among.{IsAmong}
+use Rattle.asm_formats.specs.Among.{IsAmong}
 use Rattle.asm_images.specs.Bridge.{disk_bytes, disks_in}
 use Rattle.asm_images.specs.Kept.{header_in}
 use Rattle.asm_images.specs.Members.{Member, with_member, members_from, members, all_members, statuses}

@@ -12,7 +12,7 @@ use Rattle.asm_formats.specs.Regions.{has_region}
 use Rattle.asm_formats.specs.Sets.{has_bit}
 use Rattle.asm_formats.specs.Status.{Status}
 use Rattle.asm_group.specs.Shape.{Shape}
-use Rattle.asm_placement.specs.Among.{IsAmong}
+use Rattle.asm_formats.specs.Among.{IsAmong}
 use Rattle.group_engine.specs.Copying.{CopyCause, IsNotCopied}
 use Rattle.group_engine.specs.Mounts.{IsMounted, MountedGroup, slot_at}
 use Rattle.group_engine.specs.Own.{KeepsGroup}

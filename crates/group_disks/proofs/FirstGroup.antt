@@ -11,7 +11,7 @@ use Rattle.std.specs.Cmp.Lexicographic.{slice_cmp}
 use Rattle.asm_group.specs.Names.{Path}
 use Rattle.asm_group.specs.Group.{File, Group}
 use Rattle.asm_group.specs.NewGroup.{new_group}
-use Rattle.asm_placement.specs.Among.{IsAmong}
+use Rattle.asm_formats.specs.Among.{IsAmong}
 use Rattle.asm_placement.specs.Tables.{head_of, homes_in, home_of, marks_in, is_stale, is_extent}
 use Rattle.asm_placement.specs.Placed.{placed}
 use Rattle.asm_placement.specs.Partners.{partners, are_partners}

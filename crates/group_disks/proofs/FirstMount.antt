@@ -9,7 +9,7 @@ use Rattle.asm_group.specs.Shape.{Shape, is_shape}
 use Rattle.asm_formats.specs.Following.{disks_of, sets_of}
 use Rattle.asm_formats.specs.Sets.{elements, has_bit}
 use Rattle.asm_formats.specs.Status.{Entry, Status, entry_of}
-use Rattle.asm_placement.specs.Among.{IsAmong}
+use Rattle.asm_formats.specs.Among.{IsAmong}
 use Rattle.catalog.specs.Faults.{IsCatalogOf}
 use Rattle.catalog.specs.Tables.{Catalogued}
 use Rattle.catalog.proofs.ToldRecords.{records_told}

@@ -10,7 +10,7 @@ use Rattle.asm_formats.specs.Claim.{Claim}
 use Rattle.asm_formats.specs.Items.{Item}
 use Rattle.asm_formats.specs.Metadata.{Metadata, metadata}
 use Rattle.asm_formats.specs.Status.{Status}
-use Rattle.asm_placement.specs.Among.{IsAmong}
+use Rattle.asm_formats.specs.Among.{IsAmong}
 use Rattle.asm_images.specs.Describing.{DescribesGroup}
 use Rattle.asm_images.specs.Kept.{IsHeld, Kept}
 use Rattle.asm_images.specs.Members.{claims_of_group}

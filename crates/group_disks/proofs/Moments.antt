@@ -13,7 +13,7 @@ use Rattle.asm_images.specs.Sound.{SoundBy}
 use Rattle.asm_formats.specs.Metadata.{header_of}
 use Rattle.asm_images.specs.Members as lists
 use Rattle.asm_images.specs.Members.{all_members}
-use Rattle.asm_placement.specs.Among.{IsAmong}
+use Rattle.asm_formats.specs.Among.{IsAmong}
 use Rattle.asm_images.proofs.Bridges.{same_is_same, same_disk}
 use Rattle.group_disks.specs.Creating.{HasMember, Creates, IsFree, MayCreate, Founds, HasCreated, made_group}
 use Rattle.asm_images.specs.Kept.{header_in}

@@ -4,7 +4,7 @@ use Rattle.std.specs.Prelude.{IsTrue}
 use Rattle.bay.specs.State.{BayState}
 use Rattle.asm_group.specs.Names.{Bytes}
 use Rattle.asm_group.specs.Shape.{Shape, is_shape}
-use Rattle.asm_placement.specs.Among.{IsAmong}
+use Rattle.asm_formats.specs.Among.{IsAmong}
 use Rattle.catalog.proofs.ToldRecords.{records_told}
 use Rattle.group_engine.specs.Mounts.{AreCopiesOf, IsReady, IsWhole}
 use Rattle.group_mount.specs.Founds.{FoundDisks}

@@ -2,7 +2,7 @@
 use Rattle.std.proofs.Common.{◌≡◌, ◌≢◌, inl, ℕ, List, [], ◌∷◌, refl}
 use Rattle.bay.specs.Image.{Image}
 use Rattle.asm_group.specs.Group.{Group}
-use Rattle.asm_placement.specs.Among.{IsAmong}
+use Rattle.asm_formats.specs.Among.{IsAmong}
 use Rattle.asm_images.specs.Members as lists
 use Rattle.asm_images.specs.Members.{Member, all_members}
 use Rattle.asm_images.specs.Bridge.{disks_in}

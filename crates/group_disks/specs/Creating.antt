@@ -9,7 +9,7 @@ use Rattle.asm_group.specs.Names.{Bytes}
 use Rattle.asm_group.specs.Shape.{Shape}
 use Rattle.asm_group.specs.Group.{Group}
 use Rattle.asm_group.specs.NewGroup.{new_group, usual_attributes}
-use Rattle.asm_placement.specs.Among.{IsAmong}
+use Rattle.asm_formats.specs.Among.{IsAmong}
 use Rattle.asm_images.specs.Members.{Member, all_members}
 use Rattle.asm_images.specs.Bridge.{disks_in, ChangesSlot}
 use Rattle.asm_images.specs.Kept.{Kept, header_in, IsMemberIn, IsHeld}

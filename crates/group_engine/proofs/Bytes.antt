@@ -11,7 +11,7 @@ use Rattle.asm_formats.specs.Items.{Item, Homes, chunk_len}
 use Rattle.asm_formats.specs.Metadata.{Metadata}
 use Rattle.asm_formats.specs.Sets.{has_bit}
 use Rattle.asm_formats.specs.Status.{Status}
-use Rattle.asm_placement.specs.Among.{IsAmong}
+use Rattle.asm_formats.specs.Among.{IsAmong}
 use Rattle.asm_placement.specs.Tables.{home_of, homes_in, is_stale}
 use Rattle.asm_images.specs.Bridge.{disks_in}
 use Rattle.asm_images.specs.Copies.{IsCurrent}

@@ -9,7 +9,7 @@ use Rattle.asm_formats.specs.Items.{Item, Key}
 use Rattle.asm_formats.specs.Sets.{has_bit, elements}
 use Rattle.asm_formats.specs.Status.{Status}
 use Rattle.asm_base.specs.Records.{record_at}
-use Rattle.asm_placement.specs.Among.{IsAmong}
+use Rattle.asm_formats.specs.Among.{IsAmong}
 use Rattle.asm_images.specs.Kept.{Kept, IsHeld}
 use Rattle.catalog.specs.Items.{AreItemsOf}
 use Rattle.catalog.specs.Tables.{AreTables, Tables, records_of}

@@ -12,7 +12,7 @@ use Rattle.std.proofs.lemmas.Option.{none-some, same_Some}
 use Rattle.asm_base.specs.Records.{Ascend}
 use Rattle.asm_formats.specs.Items.{FileHead, Homes, Pending, chunk_len}
 use Rattle.asm_group.specs.Shape.{Shape}
-use Rattle.asm_placement.specs.Among.{IsAmong}
+use Rattle.asm_formats.specs.Among.{IsAmong}
 use Rattle.asm_placement.specs.Naming.{is_pending}
 use Rattle.catalog.specs.ExtentPlans.{IsUndue}
 use Rattle.catalog.specs.Plans.{AreOwned}

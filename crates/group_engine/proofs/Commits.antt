@@ -11,7 +11,7 @@ use Rattle.asm_formats.specs.Sets.{has_bit, elements}
 use Rattle.asm_formats.specs.Status.{Status, is_status, status_spelling}
 use Rattle.asm_base.specs.Records.{Entry}
 use Rattle.page_map.specs.Changes.{value_after}
-use Rattle.asm_placement.specs.Among.{IsAmong}
+use Rattle.asm_formats.specs.Among.{IsAmong}
 use Rattle.asm_images.specs.Kept.{Kept, IsHeld}
 use Rattle.catalog.specs.Changing.{IsAfter}
 use Rattle.catalog.specs.Placing.{HasUnits}

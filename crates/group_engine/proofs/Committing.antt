@@ -12,7 +12,7 @@ use Rattle.asm_formats.specs.Content.{Content}
 use Rattle.asm_formats.specs.Metadata.{Metadata, metadata, header_of}
 use Rattle.asm_formats.specs.Status.{Status}
 use Rattle.asm_formats.proofs.Framing.{directory_write}
-use Rattle.asm_placement.specs.Among.{IsAmong}
+use Rattle.asm_formats.specs.Among.{IsAmong}
 use Rattle.asm_placement.specs.Placed.{places_fit}
 use Rattle.asm_images.specs.Members.{Image, Member, byte, written, all_members, within, statuses, claims_of_group, disk_of}
 use Rattle.asm_images.specs.Register.{Fits, status, status_by, greatest}

@@ -16,7 +16,7 @@ use Rattle.asm_formats.specs.Bytes.{block_size}
 use Rattle.asm_formats.specs.Regions.{region_end}
 use Rattle.asm_formats.specs.Sets.{elements, has_bit, most_disks}
 use Rattle.asm_formats.specs.Status.{Entry, Status, entry_of, has_entry, have_entries}
-use Rattle.asm_placement.specs.Among.{IsAmong}
+use Rattle.asm_formats.specs.Among.{IsAmong}
 use Rattle.asm_placement.proofs.Membership.{among_filtered, among_left, among_right, among_split}
 use Rattle.change_directory.specs.Places.{IsCopy}
 use Rattle.change_directory.specs.declared.copy.DirCopy.{DirCopy}

@@ -15,7 +15,7 @@ use Rattle.asm_formats.specs.Items.{Item}
 use Rattle.asm_formats.specs.Metadata.{Metadata, metadata}
 use Rattle.asm_formats.specs.Pages.{copy_content, decodes_in}
 use Rattle.asm_formats.specs.Status.{Status, Entry, entry_of}
-use Rattle.asm_placement.specs.Among.{IsAmong}
+use Rattle.asm_formats.specs.Among.{IsAmong}
 use Rattle.asm_images.specs.Bridge.{disk_bytes, disks_in}
 use Rattle.asm_images.specs.Directories.{directories, IsNamed}
 use Rattle.asm_images.specs.Kept.{Kept, header_in, IsHeld}

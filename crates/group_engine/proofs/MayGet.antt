@@ -11,7 +11,7 @@ use Rattle.allocator.specs.UnitMaps.{UnitMap}
 use Rattle.asm_formats.specs.Following.{Follows, FollowsSets, Holder, disks_of, holder_of, sets, sets_of}
 use Rattle.asm_formats.specs.Sets.{elements, has_bit}
 use Rattle.asm_formats.specs.Status.{Entry, Status, entry_of, is_status}
-use Rattle.asm_placement.specs.Among.{IsAmong}
+use Rattle.asm_formats.specs.Among.{IsAmong}
 use Rattle.catalog.specs.Placing.{HasUnits}
 use Rattle.change_directory.specs.declared.copy.DirCopy.{DirCopy}
 use Rattle.directory_store.specs.Stores.{has_disk}

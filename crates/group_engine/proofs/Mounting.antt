@@ -10,7 +10,7 @@ use Rattle.asm_group.specs.Shape.{Shape, is_shape}
 use Rattle.asm_formats.specs.Items.{Item}
 use Rattle.asm_formats.specs.Sets.{has_bit, elements}
 use Rattle.asm_formats.specs.Status.{Entry, Status, is_status}
-use Rattle.asm_placement.specs.Among.{IsAmong}
+use Rattle.asm_formats.specs.Among.{IsAmong}
 use Rattle.asm_placement.specs.Partners.{HasPartners}
 use Rattle.asm_placement.specs.Placed.{places_fit}
 use Rattle.asm_placement.proofs.Membership.{among_filtered}

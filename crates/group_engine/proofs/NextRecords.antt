@@ -11,7 +11,7 @@ use Rattle.asm_formats.specs.Sets.{elements, most_disks}
 use Rattle.asm_formats.specs.Status.{Entry, entry_of}
 use Rattle.asm_formats.proofs.Orders.{same_sets_follow}
 use Rattle.asm_group.specs.Shape.{Shape}
-use Rattle.asm_placement.specs.Among.{IsAmong}
+use Rattle.asm_formats.specs.Among.{IsAmong}
 use Rattle.asm_images.specs.RecordLaws.{bare}
 use Rattle.catalog.specs.Placing.{after_chunks, disk_units, entry_units, unused_maps}
 use Rattle.status_register.specs.Holders.{is_of}

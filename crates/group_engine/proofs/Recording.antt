@@ -10,7 +10,7 @@ use Rattle.asm_formats.specs.Bytes.{block_size}
 use Rattle.asm_formats.specs.Metadata.{Metadata, metadata, header_of}
 use Rattle.asm_formats.specs.Places.{SameElsewhere}
 use Rattle.asm_formats.specs.Status.{Status, Entry, is_status, status_spelling}
-use Rattle.asm_placement.specs.Among.{IsAmong}
+use Rattle.asm_formats.specs.Among.{IsAmong}
 use Rattle.asm_images.specs.Bridge.{disk_bytes, disks_in}
 use Rattle.asm_images.specs.Kept.{Kept, header_in, IsHeld}
 use Rattle.asm_images.specs.Members.{Image, Member, all_members, within, written, disk_of}

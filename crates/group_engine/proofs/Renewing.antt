@@ -4,7 +4,7 @@ use Rattle.std.specs.Prelude.{find}
 use Rattle.std.proofs.lemmas.Bool.{cond_both, eq-eqb, and_parts, eqb-true}
 use Rattle.std.proofs.lemmas.Option.{same_Some}
 use Rattle.std.specs.Prelude.{◌&&◌}
-use Rattle.asm_placement.specs.Among.{IsAmong}
+use Rattle.asm_formats.specs.Among.{IsAmong}
 use Rattle.asm_formats.specs.Header.{Header}
 use Rattle.asm_formats.specs.Metadata.{Metadata, metadata}
 use Rattle.asm_formats.specs.Content.{Content}

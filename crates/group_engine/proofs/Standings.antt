@@ -1,7 +1,7 @@
 -- Status and directories are there with some disks, where each record that counts has its members and its copies among them.
 use Rattle.std.proofs.Common.{◌≡◌, inl, ⊎_elim, ℕ, Bool, true, false, cond, not, ◌&&◌, List, [], ◌∷◌, map, refl, sym, ap, subst, ◌∙◌, Option, Some, None, IsTrue}
 use Rattle.asm_formats.specs.Status.{Status}
-use Rattle.asm_placement.specs.Among.{IsAmong}
+use Rattle.asm_formats.specs.Among.{IsAmong}
 use Rattle.asm_images.specs.Members.{Image, Member, all_members, within, statuses}
 use Rattle.asm_images.specs.Register.{Fits, HoldsOne, greatest, is_enough, status, status_by}
 use Rattle.asm_images.specs.Directories.{directories, newest}

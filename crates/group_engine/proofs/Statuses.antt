@@ -20,7 +20,7 @@ use Rattle.directory_store.specs.Stores.{Stored}
 use Rattle.directory_store.specs.Stores as stores
 use Rattle.page_map.specs.Tables.{PageTable}
 use Rattle.asm_base.specs.Records.{record_at}
-use Rattle.asm_placement.specs.Among.{IsAmong}
+use Rattle.asm_formats.specs.Among.{IsAmong}
 use Rattle.status_register.specs.Holders.{attached_to, next_turn, numbered}
 use Rattle.status_register.specs.Keeping as registers
 use Rattle.status_register.specs.Reaching.{Reaches}

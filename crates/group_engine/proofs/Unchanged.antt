@@ -7,7 +7,7 @@ use Rattle.bay.specs.Moments.{Runs, NowOnly, LeavesOnly}
 use Rattle.asm_group.specs.Group.{Group}
 use Rattle.asm_group.specs.Shape.{Shape, is_shape}
 use Rattle.allocator.specs.UnitMaps.{UnitMap}
-use Rattle.asm_placement.specs.Among.{IsAmong}
+use Rattle.asm_formats.specs.Among.{IsAmong}
 use Rattle.asm_images.specs.Bridge.{disks_in}
 use Rattle.asm_images.specs.Kept.{Kept, IsHeld}
 use Rattle.asm_images.proofs.Held.{same_is_held}

@@ -9,7 +9,7 @@ use Rattle.asm_formats.specs.Content.{Content}
 use Rattle.asm_formats.specs.Metadata.{header_of}
 use Rattle.asm_formats.specs.Places.{SameElsewhere}
 use Rattle.asm_formats.specs.Status.{Status}
-use Rattle.asm_placement.specs.Among.{IsAmong}
+use Rattle.asm_formats.specs.Among.{IsAmong}
 use Rattle.asm_images.specs.Members.{Image, Member, all_members, disk_of}
 use Rattle.asm_images.specs.Describing.{DescribesGroup}
 use Rattle.asm_images.specs.Directories.{IsNamed}

@@ -9,7 +9,7 @@ use Rattle.asm_base.specs.declared.refusal.DiskRef.TheVariants as disk
 use Rattle.asm_base.specs.declared.refusal.Refusal.{Refusal}
 use Rattle.asm_base.specs.declared.refusal.Refusal.TheVariants as cause
 use Rattle.change_directory.specs.declared.copy.DirCopy.{DirCopy}
-use Rattle.asm_placement.specs.Among.{IsAmong}
+use Rattle.asm_formats.specs.Among.{IsAmong}
 use Rattle.status_register.specs.Holders.{is_of}
 use Rattle.status_register.specs.Registered.{Registered}
 use Rattle.status_register.specs.declared.error.Dead.{Dead}

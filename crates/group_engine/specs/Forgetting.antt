@@ -1,7 +1,7 @@
 -- Copies that are given up.
 use Rattle.std.specs.Prelude.{◌≡◌, ℕ, ◌<◌, Bool, true, false, List, ◌↔◌, Option, Some, None}
 use Rattle.asm_formats.specs.Sets.{has_bit}
-use Rattle.asm_placement.specs.Among.{IsAmong}
+use Rattle.asm_formats.specs.Among.{IsAmong}
 use Rattle.change_directory.specs.declared.copy.DirCopy.{DirCopy}
 use Rattle.directory_store.specs.Stores.{Stored, without}
 use Rattle.group_engine.specs.Mounts.{slot_at}

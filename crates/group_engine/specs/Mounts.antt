@@ -11,7 +11,7 @@ use Rattle.asm_formats.specs.Items.{Item, Key}
 use Rattle.asm_formats.specs.Sets.{elements}
 use Rattle.asm_formats.specs.Status.{Entry, Status, entry_of, is_status}
 use Rattle.asm_base.specs.Records.{record_at}
-use Rattle.asm_placement.specs.Among.{IsAmong}
+use Rattle.asm_formats.specs.Among.{IsAmong}
 use Rattle.asm_images.specs.Describing.{DescribesGroup}
 use Rattle.asm_images.specs.Kept.{Kept, IsHeld, IsMemberIn}
 use Rattle.change_directory.specs.declared.copy.DirCopy.{DirCopy}

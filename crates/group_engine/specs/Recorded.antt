@@ -7,7 +7,7 @@ use Rattle.asm_group.specs.Group.{Group}
 use Rattle.asm_formats.specs.Content.{Content}
 use Rattle.asm_formats.specs.Items.{Item}
 use Rattle.asm_formats.specs.Status.{Entry, Status}
-use Rattle.asm_placement.specs.Among.{IsAmong}
+use Rattle.asm_formats.specs.Among.{IsAmong}
 use Rattle.asm_images.specs.Bridge.{disks_in}
 use Rattle.asm_images.specs.Describing.{DescribesGroup}
 use Rattle.asm_images.specs.Directories.{directories}

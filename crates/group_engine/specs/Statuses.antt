@@ -7,7 +7,7 @@ use Rattle.asm_base.specs.declared.refusal.Refusal.{Refusal}
 use Rattle.asm_formats.specs.Following.{Follows}
 use Rattle.asm_formats.specs.Sets.{elements}
 use Rattle.asm_formats.specs.Status.{Status, is_status}
-use Rattle.asm_placement.specs.Among.{IsAmong}
+use Rattle.asm_formats.specs.Among.{IsAmong}
 use Rattle.change_directory.specs.declared.copy.DirCopy.{DirCopy}
 use Rattle.asm_group.specs.Group.{Group}
 use Rattle.asm_images.specs.Kept.{Kept}

@@ -3,7 +3,7 @@ ghost use Rattle.std.specs.Prelude.{◌≡◌, ◌<◌, ℕ, All, IsTrue};
 ghost use Rattle.std.specs.Bool.{OnTrue};
 ghost use Rattle.asm_formats.specs.Following.{Follows, disks_of};
 ghost use Rattle.asm_formats.specs.Sets.{elements};
-ghost use Rattle.asm_placement.specs.Among.{IsAmong};
+ghost use Rattle.asm_formats.specs.Among.{IsAmong};
 ghost use Rattle.group_engine.specs.Mounts.{HaveBirths};
 ghost use Rattle.group_engine.specs.Statuses.{IsNextOf, NamesCopies};
 ghost use Rattle.group_engine.specs.Trying.{HasBirthAt, HasCopy, IsRecordOf, IsRightCopy};

@@ -8,7 +8,7 @@ use Rattle.asm_group.specs.Names.{is_same_name}
 use Rattle.asm_group.specs.Shape.{Shape}
 use Rattle.asm_group.specs.declared.GroupKind.{GroupKind}
 use Rattle.asm_group.specs.declared.GroupKind.TheVariants.{External, Normal, High}
-use Rattle.asm_placement.specs.Among.{IsAmong}
+use Rattle.asm_formats.specs.Among.{IsAmong}
 use Rattle.group_mount.specs.Alike.{is_same_kind, is_same_shape, are_alike, clashes, first_stranger, shape_in}
 use Rattle.group_mount.specs.declared.finding.Headed.{Headed}
 

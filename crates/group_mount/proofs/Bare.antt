@@ -9,7 +9,7 @@ use Rattle.asm_formats.specs.Sets.{elements}
 use Rattle.asm_formats.specs.Status.{Entry, entry_of}
 use Rattle.asm_formats.specs.Following.{holder_of, disks_of, sets_of}
 use Rattle.asm_formats.specs.Items.{Item}
-use Rattle.asm_placement.specs.Among.{IsAmong}
+use Rattle.asm_formats.specs.Among.{IsAmong}
 use Rattle.asm_placement.specs.Placed.{Placed, placed, fits_entry, is_inside, all_apart, places_fit}
 use Rattle.asm_placement.specs.Work.{is_regular}
 use Rattle.asm_images.specs.Describing.{has_info}

@@ -15,7 +15,7 @@ use Rattle.bay.specs.Counts.{Rose}
 use Rattle.bay.specs.Moments.{Runs}
 use Rattle.asm_formats.specs.Damage.{body_damage}
 use Rattle.asm_formats.specs.Metadata.{metadata}
-use Rattle.asm_placement.specs.Among.{IsAmong}
+use Rattle.asm_formats.specs.Among.{IsAmong}
 use Rattle.asm_placement.proofs.Membership.{among_split}
 use Rattle.asm_images.specs.Members.{claims_of_group, of_group}
 use Rattle.asm_images.specs.Register.{greatest}

@@ -9,7 +9,7 @@ use Rattle.bay.proofs.Calls.{goes_on, on_more, stops, widened}
 use Rattle.bay.proofs.Images.{changes-same, changes-trans, changes-within}
 use Rattle.asm_formats.specs.Claim.{decoded_claim}
 use Rattle.asm_formats.specs.Status.{decoded_status}
-use Rattle.asm_placement.specs.Among.{IsAmong}
+use Rattle.asm_formats.specs.Among.{IsAmong}
 use Rattle.change_directory.specs.declared.copy.DirCopy.{DirCopy}
 use Rattle.change_directory.specs.StoreLaws.{SameRegion}
 use Rattle.status_register.specs.Rows.{PutsRow, no_put, one_put}

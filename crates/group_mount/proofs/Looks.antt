@@ -10,7 +10,7 @@ use Rattle.bay.specs.Moments.{NowOnly, Runs}
 use Rattle.bay.proofs.Calls.{started}
 use Rattle.bay.proofs.Images.{same-refl}
 use Rattle.asm_formats.specs.Header.{Header}
-use Rattle.asm_placement.specs.Among.{IsAmong}
+use Rattle.asm_formats.specs.Among.{IsAmong}
 use Rattle.asm_placement.proofs.Membership.{among_filter, among_left, among_right, among_split, filter_out}
 use Rattle.asm_images.specs.Kept.{header_in}
 use Rattle.disk_images.specs.Looks.{IsAllowed, IsLooked, Looks}

@@ -18,7 +18,7 @@ use Rattle.asm_formats.specs.Sets.{elements, has_bit}
 use Rattle.asm_formats.specs.Pages.{copy_content}
 use Rattle.asm_formats.specs.Places.{SameElsewhere}
 use Rattle.asm_formats.specs.Status.{Status, Entry, entry_of, status_spelling}
-use Rattle.asm_placement.specs.Among.{IsAmong}
+use Rattle.asm_formats.specs.Among.{IsAmong}
 use Rattle.asm_images.specs.Bridge.{disk_bytes, disks_in}
 use Rattle.asm_images.specs.ContentLaws.{HaveContent}
 use Rattle.asm_images.specs.Directories.{IsNamed}

@@ -8,7 +8,7 @@ use Rattle.bay.specs.State.{BayState}
 use Rattle.asm_base.proofs.Sets.{no_bit}
 use Rattle.asm_formats.specs.Sets.{elements, has_bit, most_disks}
 use Rattle.asm_formats.specs.Status.{Entry, Status, entry_of, has_entry, have_entries, is_entry}
-use Rattle.asm_placement.specs.Among.{IsAmong}
+use Rattle.asm_formats.specs.Among.{IsAmong}
 use Rattle.asm_placement.specs.Partners.{HasPartners, partner_set}
 use Rattle.asm_placement.proofs.Bits.{set_of_is}
 use Rattle.asm_placement.proofs.Membership.{among_filter, among_filtered, filter_out, map_among}

@@ -5,7 +5,7 @@ use Rattle.std.specs.List.{range_with_len}
 use Rattle.std.proofs.lemmas.Bool.{and_parts, cases_lt, eqb-true, ne_eqb, or_cases}
 use Rattle.asm_formats.specs.Sets.{has_bit}
 use Rattle.asm_formats.specs.Status.{Entry}
-use Rattle.asm_placement.specs.Among.{IsAmong}
+use Rattle.asm_formats.specs.Among.{IsAmong}
 use Rattle.asm_placement.specs.DiskSets.{is_among, set_of}
 use Rattle.asm_placement.specs.Modes.{stays}
 use Rattle.asm_placement.specs.Partners.{HasPartners, Pair, are_partners, are_separate, both_have_room, first_pass, has_partner_in, most_partners, pairs, partner_count, partner_set, partners, second_pass, table_disks, touches, with_partners}

@@ -7,7 +7,7 @@ use Rattle.bay.specs.Image.{Image, Same}
 use Rattle.bay.specs.State.{BayState, KeepsAttached}
 use Rattle.bay.specs.Moments.{Runs, NowOnly}
 use Rattle.bay.proofs.Calls.{stops}
-use Rattle.asm_placement.specs.Among.{IsAmong}
+use Rattle.asm_formats.specs.Among.{IsAmong}
 use Rattle.change_directory.specs.declared.copy.DirCopy.{DirCopy}
 use Rattle.directory_store.specs.Loading.{HasBehind, HasNumber, HasTakenTwins, HasTwins, IsLeastOf, LoadCause}
 use Rattle.directory_store.specs.Reading.{HasDamage, IsFirstDamaged, IsUndamaged, IsUnread, RoseOn}

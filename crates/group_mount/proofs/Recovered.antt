@@ -10,7 +10,7 @@ use Rattle.bay.specs.Moments.{Runs}
 use Rattle.asm_formats.specs.Sets.{has_bit}
 use Rattle.asm_formats.specs.Status.{Entry, Status, entry_of, is_status}
 use Rattle.asm_group.specs.Shape.{Shape, is_shape}
-use Rattle.asm_placement.specs.Among.{IsAmong}
+use Rattle.asm_formats.specs.Among.{IsAmong}
 use Rattle.asm_images.specs.Copies.{is_kept}
 use Rattle.asm_images.proofs.Members.{member_shape}
 use Rattle.change_directory.specs.declared.copy.DirCopy.{DirCopy}

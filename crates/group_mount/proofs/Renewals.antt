@@ -8,7 +8,7 @@ use Rattle.asm_formats.specs.Claim.{claim_spelling}
 use Rattle.asm_formats.specs.Content.{Content}
 use Rattle.asm_formats.specs.Following.{sets}
 use Rattle.asm_formats.specs.Status.{Status, status_spelling}
-use Rattle.asm_placement.specs.Among.{IsAmong}
+use Rattle.asm_formats.specs.Among.{IsAmong}
 use Rattle.status_register.specs.Answers.{Surveyed}
 use Rattle.status_register.specs.Holders.{attached_to, next_turn, numbered}
 use Rattle.status_register.proofs.Placing.{placed_is}

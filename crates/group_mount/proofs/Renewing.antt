@@ -7,7 +7,7 @@ use Rattle.asm_formats.specs.Content.{Content}
 use Rattle.asm_formats.specs.Status.{Status, entry_of, is_status}
 use Rattle.asm_formats.specs.Following.{Holder, FollowsSets, Follows, sets, sets_of, rank}
 use Rattle.asm_formats.proofs.Orders.{same_sets_follow}
-use Rattle.asm_placement.specs.Among.{IsAmong}
+use Rattle.asm_formats.specs.Among.{IsAmong}
 use Rattle.asm_images.specs.Members.{Image, Member, all_members, within, statuses}
 use Rattle.asm_images.specs.Register.{Fits, current_records, base, is_enough}
 use Rattle.asm_images.specs.Copies.{is_kept}

@@ -9,7 +9,7 @@ use Rattle.asm_group.specs.Names.{is_name}
 use Rattle.asm_group.specs.Shape.{is_shape}
 use Rattle.asm_formats.specs.Header.{Header, is_header}
 use Rattle.asm_formats.specs.Status.{Status}
-use Rattle.asm_placement.specs.Among.{IsAmong}
+use Rattle.asm_formats.specs.Among.{IsAmong}
 use Rattle.asm_placement.proofs.Membership.{among_left, among_right, among_split}
 use Rattle.asm_images.specs.Kept.{header_in}
 use Rattle.asm_images.specs.Register.{greatest}

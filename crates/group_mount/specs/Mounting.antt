@@ -10,7 +10,7 @@ use Rattle.asm_formats.specs.Pages.{copy_content}
 use Rattle.asm_formats.specs.Regions.{region_start, region_end}
 use Rattle.asm_formats.specs.Sets.{elements}
 use Rattle.asm_formats.specs.Status.{Status, Entry, is_status, status_spelling}
-use Rattle.asm_placement.specs.Among.{IsAmong}
+use Rattle.asm_formats.specs.Among.{IsAmong}
 use Rattle.asm_images.specs.Bridge.{disk_bytes, disks_in}
 use Rattle.asm_images.specs.Kept.{Kept, header_in}
 use Rattle.asm_images.specs.Members.{all_members}

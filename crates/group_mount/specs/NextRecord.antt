@@ -4,7 +4,7 @@ use Rattle.std.specs.List.{list_any}
 use Rattle.asm_group.specs.declared.Mode.TheVariants.{Offline, Syncing}
 use Rattle.asm_formats.specs.Sets.{has_bit}
 use Rattle.asm_formats.specs.Status.{Entry, Status, is_status}
-use Rattle.asm_placement.specs.Among.{IsAmong}
+use Rattle.asm_formats.specs.Among.{IsAmong}
 use Rattle.asm_placement.specs.Modes.{is_online}
 use Rattle.asm_placement.specs.Partners.{with_partners}
 use Rattle.catalog.specs.MarkedExtents.{HasNoneMarked, IsFirstMarked}

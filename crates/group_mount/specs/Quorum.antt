@@ -5,7 +5,7 @@ use Rattle.bay.specs.State.{BayState}
 use Rattle.asm_group.specs.Shape.{Shape}
 use Rattle.asm_formats.specs.Items.{DiskInfo, Key}
 use Rattle.asm_formats.specs.Status.{Status, Entry}
-use Rattle.asm_placement.specs.Among.{IsAmong}
+use Rattle.asm_formats.specs.Among.{IsAmong}
 use Rattle.catalog.specs.Disks.{info_at}
 use Rattle.catalog.specs.Faults.{IsAtFault, IsCatalogOf}
 use Rattle.catalog.specs.Tables.{Catalogued, Tables}

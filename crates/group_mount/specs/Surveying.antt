@@ -7,7 +7,7 @@ use Rattle.bay.specs.Counts.{Rose}
 use Rattle.bay.specs.Moments.{NowOnly}
 use Rattle.asm_formats.specs.Content.{Content}
 use Rattle.asm_formats.specs.Status.{Status}
-use Rattle.asm_placement.specs.Among.{IsAmong}
+use Rattle.asm_formats.specs.Among.{IsAmong}
 use Rattle.asm_images.specs.Register.{greatest}
 use Rattle.status_register.specs.Answers.{Surveyed}
 use Rattle.status_register.specs.Registered.{AreNumbered}

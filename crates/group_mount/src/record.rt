@@ -3,7 +3,7 @@ ghost use Rattle.std.specs.Prelude.{◌≡◌, ◌≢◌, ◌≤◌, ◌<◌, �
 ghost use Rattle.std.specs.List.{list_all, list_any};
 ghost use Rattle.asm_formats.specs.Sets.{has_bit};
 ghost use Rattle.asm_formats.specs.Status.{have_entries, is_entry, is_status};
-ghost use Rattle.asm_placement.specs.Among.{IsAmong};
+ghost use Rattle.asm_formats.specs.Among.{IsAmong};
 ghost use Rattle.change_directory.specs.declared.copy.DirCopy.{DirCopy as Copy};
 ghost use Rattle.directory_store.specs.Stores.{has_disk};
 ghost use Rattle.group_mount.specs.NextRecord.{AreMarks, IsMarkOf, IsNextRecord, MakesRecord, entry_after, has_number, moded};

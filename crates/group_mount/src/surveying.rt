@@ -1,6 +1,6 @@
 // The disks of an id are synced and surveyed.
 ghost use Rattle.std.specs.Prelude.{◌≡◌, ◌≤◌, ◌+◌, ◌*◌, length, IfErr, IfOk};
-ghost use Rattle.asm_placement.specs.Among.{IsAmong};
+ghost use Rattle.asm_formats.specs.Among.{IsAmong};
 ghost use Rattle.bay.specs.Image.{Same};
 ghost use Rattle.bay.specs.State.{KeepsAttached};
 ghost use Rattle.bay.specs.Moments.{Runs};

@@ -9,7 +9,7 @@ use Rattle.asm_base.specs.declared.kinds.ExtentId.{ExtentId}
 use Rattle.asm_formats.specs.Bytes.{block_size}
 use Rattle.asm_formats.specs.Regions.{region_end, reserved_units}
 use Rattle.asm_images.proofs.UserBytes.{reserved_cover, shape_au}
-use Rattle.asm_placement.specs.Among.{IsAmong}
+use Rattle.asm_formats.specs.Among.{IsAmong}
 use Rattle.catalog.proofs.HavingItems.{have_items}
 use Rattle.catalog.proofs.ItemLists.{items_say}
 use Rattle.group_engine.specs.Mounts.{IsReady, IsWhole, MountedGroup}

@@ -5,7 +5,7 @@ use Rattle.std.proofs.lemmas.Bool.{and_from, cases_lt, cases_eq, eq-eqb, le-ltb,
 use Rattle.asm_formats.specs.Sets.{has_bit}
 use Rattle.asm_formats.specs.Status.{Entry, Status}
 use Rattle.asm_group.specs.declared.Mode.TheVariants.{Offline}
-use Rattle.asm_placement.specs.Among.{IsAmong}
+use Rattle.asm_formats.specs.Among.{IsAmong}
 use Rattle.asm_images.specs.RecordLaws.{bare}
 use Rattle.status_table.specs.Changes.{entries_with_partners, entry_with_offline, entry_with_partners, status_with_offline, status_with_partners}
 use Rattle.group_engine.specs.NextRecords.{KeepsDisks}

@@ -11,7 +11,7 @@ use Rattle.asm_group.specs.Shape.{Shape}
 use Rattle.asm_formats.specs.Items.{Home, Homes, Item, chunk_item, chunk_len, disk_item, file_item, marks_item, node_item, pending_item, rebalance_item, settings_item, templates_item}
 use Rattle.asm_formats.specs.Regions.{reserved_units}
 use Rattle.asm_formats.specs.Status.{Entry}
-use Rattle.asm_placement.specs.Among.{IsAmong}
+use Rattle.asm_formats.specs.Among.{IsAmong}
 use Rattle.asm_placement.specs.Layout.{units_of}
 use Rattle.asm_placement.specs.Placed.{Placed, placed, placed_copies, placed_extents}
 use Rattle.asm_placement.specs.Tables.{home_of}

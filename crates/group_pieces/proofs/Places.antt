@@ -6,7 +6,7 @@ use Rattle.std.proofs.lemmas.Bool.{and_parts, eqb-true, eq-eqb, leb-true, ltb-tr
 use Rattle.std.proofs.lemmas.Option.{same_Some, none-some}
 use Rattle.bay.specs.State.{BayState}
 use Rattle.asm_group.specs.Shape.{Shape, is_shape, is_unit_size, unit_sizes}
-use Rattle.asm_placement.specs.Among.{IsAmong}
+use Rattle.asm_formats.specs.Among.{IsAmong}
 use Rattle.asm_placement.specs.Layout.{units_of}
 use Rattle.asm_formats.specs.Items.{Home, Homes}
 use Rattle.asm_formats.proofs.Fields.{passes_if_all}

@@ -3,7 +3,7 @@ use Rattle.std.specs.Prelude.{◌≡◌, ◌<◌, ℕ, ◌&&◌, if◌then◌els
 use Rattle.asm_group.specs.declared.Mode.TheVariants.{Offline}
 use Rattle.asm_formats.specs.Sets.{has_bit}
 use Rattle.asm_formats.specs.Status.{Entry, Status}
-use Rattle.asm_placement.specs.Among.{IsAmong}
+use Rattle.asm_formats.specs.Among.{IsAmong}
 
 -- the entry Offline, since that second, for so many seconds until the disk is dropped
 abbrev pub taken_off : ℕ → ℕ → Entry → Entry

@@ -5,7 +5,7 @@ use Rattle.bay.specs.State.{IsOnSectors}
 use Rattle.asm_group.specs.Shape.{Shape}
 use Rattle.asm_base.specs.declared.kinds.ExtentId.{ExtentId}
 use Rattle.asm_formats.specs.Items.{Home}
-use Rattle.asm_placement.specs.Among.{IsAmong}
+use Rattle.asm_formats.specs.Among.{IsAmong}
 use Rattle.asm_placement.specs.Layout.{units_of}
 use Rattle.asm_images.specs.Describing.{extent_size}
 use Rattle.asm_images.specs.Spans.{Span}

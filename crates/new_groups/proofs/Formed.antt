@@ -11,7 +11,7 @@ use Rattle.asm_formats.specs.Status.{Status, is_entry, is_status}
 use Rattle.asm_group.specs.Names.{Bytes}
 use Rattle.asm_group.specs.Shape.{Shape, is_shape}
 use Rattle.asm_images.proofs.Members.{member_shape}
-use Rattle.asm_placement.specs.Among.{IsAmong}
+use Rattle.asm_formats.specs.Among.{IsAmong}
 use Rattle.catalog.specs.Faults.{IsCatalogOf}
 use Rattle.catalog.specs.Tables.{Catalogued}
 use Rattle.catalog.proofs.ToldRecords.{records_told}

@@ -9,7 +9,7 @@ use Rattle.bay.proofs.Images.{changes-same, changes-trans, changes-within, same-
 use Rattle.asm_base.specs.Records.{Entry}
 use Rattle.asm_formats.specs.Status.{Status, status_spelling}
 use Rattle.asm_group.specs.Refusal as r
-use Rattle.asm_placement.specs.Among.{IsAmong}
+use Rattle.asm_formats.specs.Among.{IsAmong}
 use Rattle.change_directory.specs.declared.copy.DirCopy.{DirCopy}
 use Rattle.directory_store.specs.Answers.{IsFirstRefusal}
 use Rattle.directory_store.specs.Copies as copies

@@ -7,7 +7,7 @@ use Rattle.asm_formats.specs.Regions.{region_end}
 use Rattle.asm_formats.specs.Sets.{has_bit}
 use Rattle.asm_formats.specs.Status.{Entry, is_status}
 use Rattle.asm_group.specs.Shape.{Shape, is_shape}
-use Rattle.asm_placement.specs.Among.{IsAmong}
+use Rattle.asm_formats.specs.Among.{IsAmong}
 use Rattle.change_directory.specs.declared.copy.DirCopy.{DirCopy}
 use Rattle.directory_store.specs.Contents.{ArePutItems}
 use Rattle.group_disks.specs.Holding.{IsHeldSlot}

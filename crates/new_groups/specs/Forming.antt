@@ -9,7 +9,7 @@ use Rattle.asm_formats.specs.Header.{is_header}
 use Rattle.asm_formats.specs.Regions.{region_end}
 use Rattle.asm_group.specs.Refusal as r
 use Rattle.asm_group.specs.Shape.{Shape}
-use Rattle.asm_placement.specs.Among.{IsAmong}
+use Rattle.asm_formats.specs.Among.{IsAmong}
 use Rattle.catalog.specs.Faults.{IsCatalogOf}
 use Rattle.catalog.specs.Tables.{Catalogued}
 use Rattle.directory_store.specs.Stores.{Keeps}

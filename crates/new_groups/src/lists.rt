@@ -1,6 +1,6 @@
 //! The disks of a new group as its register, its directories and its engine see them.
 ghost use Rattle.std.specs.Prelude.{◌≡◌, ◌<◌, ◌++◌, IfOk, OnOk};
-ghost use Rattle.asm_placement.specs.Among.{IsAmong};
+ghost use Rattle.asm_formats.specs.Among.{IsAmong};
 ghost use Rattle.group_disks.specs.Mounting.{by_number, put_disks};
 ghost use Rattle.group_mount.specs.NamedCopies.{copy_of};
 ghost use Rattle.group_mount.specs.Verdicts.{member_of};

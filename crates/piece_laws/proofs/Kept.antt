@@ -8,7 +8,7 @@ use Rattle.std.proofs.lemmas.List.{length-map, get_or-map}
 use Rattle.bay.specs.Image as bay
 use Rattle.asm_group.specs.Shape.{Shape}
 use Rattle.asm_group.specs.Group.{Group}
-use Rattle.asm_placement.specs.Among.{IsAmong}
+use Rattle.asm_formats.specs.Among.{IsAmong}
 use Rattle.asm_placement.specs.Modes.{is_forced}
 use Rattle.asm_placement.specs.Placed.{Placed, placed, fits_entry, is_inside, all_apart, places_fit}
 use Rattle.asm_placement.specs.Tables.{home_of}

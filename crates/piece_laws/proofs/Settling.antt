@@ -6,7 +6,7 @@ use Rattle.bay.specs.Image.{window}
 use Rattle.bay.proofs.Images.{get_or-window}
 use Rattle.asm_group.specs.Shape.{Shape}
 use Rattle.asm_group.specs.Group.{Group}
-use Rattle.asm_placement.specs.Among.{IsAmong}
+use Rattle.asm_formats.specs.Among.{IsAmong}
 use Rattle.asm_formats.specs.Header.{Header}
 use Rattle.asm_formats.specs.Metadata.{header_of}
 use Rattle.asm_formats.specs.Status.{Status, entry_of}

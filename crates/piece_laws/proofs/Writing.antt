@@ -6,7 +6,7 @@ use Rattle.bay.specs.Image as bay
 use Rattle.bay.specs.Image.{Range, ChangesOnly}
 use Rattle.asm_group.specs.Shape.{Shape, is_shape}
 use Rattle.asm_group.specs.Group.{Group}
-use Rattle.asm_placement.specs.Among.{IsAmong}
+use Rattle.asm_formats.specs.Among.{IsAmong}
 use Rattle.asm_placement.specs.Layout.{units_of}
 use Rattle.asm_formats.specs.Bytes.{block_size}
 use Rattle.asm_formats.specs.Regions.{region_end}

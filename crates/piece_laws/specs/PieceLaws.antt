@@ -3,7 +3,7 @@ use Rattle.std.specs.Prelude.{◌≡◌, ℕ, Bool, false, List, [], ◌∷◌}
 use Rattle.bay.specs.Image as bay
 use Rattle.bay.specs.Image.{window, ChangesOnly}
 use Rattle.asm_group.specs.Group.{Group}
-use Rattle.asm_placement.specs.Among.{IsAmong}
+use Rattle.asm_formats.specs.Among.{IsAmong}
 use Rattle.asm_formats.specs.Status.{Status}
 use Rattle.asm_formats.specs.Items.{Item, Homes}
 use Rattle.asm_placement.specs.Tables.{home_of, is_stale}

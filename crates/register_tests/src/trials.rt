@@ -4,7 +4,7 @@ ghost use Rattle.std.specs.List.{list_all};
 ghost use Rattle.std.specs.Option.{option_map};
 ghost use Rattle.asm_formats.specs.Following.{Holder, disks_of, holder_of};
 ghost use Rattle.asm_formats.specs.Status.{ascends_from, entry_of};
-ghost use Rattle.asm_placement.specs.Among.{IsAmong};
+ghost use Rattle.asm_formats.specs.Among.{IsAmong};
 ghost use Rattle.status_register.specs.Counting.{of_disk};
 ghost use Rattle.status_register.specs.Keeping.{IsReady};
 ghost use Rattle.status_register.specs.Places.{HasSlots};

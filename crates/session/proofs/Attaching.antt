@@ -10,7 +10,7 @@ use Rattle.bay.specs.State.{BayState}
 use Rattle.bay.proofs.Calls.{started}
 use Rattle.asm_base.specs.declared.refusal.Refusal.{Refusal}
 use Rattle.asm_group.specs.Names.{Bytes}
-use Rattle.asm_placement.specs.Among.{IsAmong}
+use Rattle.asm_formats.specs.Among.{IsAmong}
 use Rattle.asm_world.specs.World.{SessionEntry}
 use Rattle.catalog.proofs.TableItems.{from_map}
 use Rattle.disk_joining.specs.Taking.{IsApart, TakesIn}

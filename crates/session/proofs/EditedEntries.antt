@@ -7,7 +7,7 @@ use Rattle.std.specs.Cmp.Lexicographic.{nat_list_eq_equiv}
 use Rattle.std.proofs.lemmas.Bool.{cases_Bool, false≢true}
 use Rattle.std.proofs.lemmas.Map.Keys.{IsDistinct-head, IsDistinct-tail}
 use Rattle.asm_group.specs.Names.{Bytes, folded, is_same_name}
-use Rattle.asm_placement.specs.Among.{IsAmong}
+use Rattle.asm_formats.specs.Among.{IsAmong}
 use Rattle.asm_world.specs.World.{SessionEntry, SessionState, DismountedBy, entry_among, is_mounted}
 use Rattle.group_engine.specs.Mounts.{MountedGroup}
 use Rattle.session_claims.specs.Claims.{IsPaired}

@@ -7,7 +7,7 @@ use Rattle.std.specs.Cmp.Lexicographic.{nat_list_eq_equiv}
 use Rattle.std.proofs.lemmas.Bool.{cases_eq, eq-eqb, false≢true, ne_eqb}
 use Rattle.asm_group.specs.Group.{Group}
 use Rattle.asm_group.specs.Names.{Bytes, ByNumber, folded, is_same_name}
-use Rattle.asm_placement.specs.Among.{IsAmong}
+use Rattle.asm_formats.specs.Among.{IsAmong}
 use Rattle.asm_world.specs.World.{SessionEntry, World, entry_among, groups_of, is_mounted, mounted_entry, without_entry}
 use Rattle.catalog.proofs.HavingItems.{have_items}
 use Rattle.group_engine.specs.Mounts.{IsWhole, MountedGroup, Represents}

@@ -9,7 +9,7 @@ use Rattle.bay.specs.Image.{Image}
 use Rattle.bay.specs.Moments.{Runs}
 use Rattle.bay.specs.State.{BayState}
 use Rattle.asm_group.specs.Names.{Bytes, is_same_name}
-use Rattle.asm_placement.specs.Among.{IsAmong}
+use Rattle.asm_formats.specs.Among.{IsAmong}
 use Rattle.asm_world.specs.World.{SessionEntry}
 use Rattle.group_disks.specs.Holding.{IsHeldSlot, SparesHeld}
 use Rattle.group_engine.specs.Frames.{KeepsOwn, SparesDisks}

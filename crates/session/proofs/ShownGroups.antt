@@ -7,7 +7,7 @@ use Rattle.asm_base.specs.declared.refusal.Refusal.{Refusal}
 use Rattle.asm_group.specs.Group.{Group}
 use Rattle.asm_group.specs.Names.{Bytes}
 use Rattle.asm_group.specs.Refusal as r
-use Rattle.asm_placement.specs.Among.{IsAmong}
+use Rattle.asm_formats.specs.Among.{IsAmong}
 use Rattle.asm_world.specs.Below.{Below, GroupBelow}
 use Rattle.asm_world.specs.Between.{groups_named}
 use Rattle.asm_world.specs.Causes.{Cause, HasCause, IsCaused, When, causes, group_causes, in_group, session_causes, state_causes}

@@ -7,7 +7,7 @@ use Rattle.asm_base.specs.declared.refusal.DiskRef.{DiskRef}
 use Rattle.asm_base.specs.declared.refusal.Refusal.{Refusal}
 use Rattle.asm_base.specs.declared.refusal.Refusal.TheVariants as cause
 use Rattle.asm_group.specs.Names.{Bytes}
-use Rattle.asm_placement.specs.Among.{IsAmong}
+use Rattle.asm_formats.specs.Among.{IsAmong}
 use Rattle.group_engine.specs.Mounts.{IsMounted, IsOwn, MountedGroup, Takes}
 use Rattle.group_engine.specs.Members.{LetsGo}
 use Rattle.session.specs.Entries.{entry_view, group_view}

@@ -9,7 +9,7 @@ use Rattle.asm_group.specs.Group.{Group}
 use Rattle.asm_group.specs.Names as paths
 use Rattle.asm_group.specs.Names.{Bytes, is_same_name}
 use Rattle.asm_group.specs.Refusal as r
-use Rattle.asm_placement.specs.Among.{IsAmong}
+use Rattle.asm_formats.specs.Among.{IsAmong}
 use Rattle.asm_world.specs.Command.{Command}
 use Rattle.asm_world.specs.Edits as e
 use Rattle.asm_world.specs.Paths.{target_from}

@@ -1,7 +1,7 @@
 -- What groups do in their turns, between two commands.
 use Rattle.std.specs.Prelude.{◌≡◌, ⊤, List}
 use Rattle.asm_group.specs.Names.{Bytes}
-use Rattle.asm_placement.specs.Among.{IsAmong}
+use Rattle.asm_formats.specs.Among.{IsAmong}
 use Rattle.asm_world.specs.Reply.{Event, Expired, ExpiryEnds, Moved, Synced}
 use Rattle.asm_world.specs.Run.{Move, Starts, Expires, Answers, Slices, Rests, Stops, Phase, Expiring, Slicing, mounted_groups, slices_of}
 use Rattle.asm_world.specs.Text.{event_text}

@@ -13,7 +13,7 @@ use Rattle.asm_images.specs.Bridge.{disk_bytes}
 use Rattle.asm_images.specs.Kept.{IsHeld, IsMemberIn}
 use Rattle.asm_images.proofs.Bridges.{same_disk}
 use Rattle.asm_images.proofs.Held.{same_member as same_disk_member}
-use Rattle.asm_placement.specs.Among.{IsAmong}
+use Rattle.asm_formats.specs.Among.{IsAmong}
 use Rattle.asm_world.specs.Between.{groups_between}
 use Rattle.asm_world.specs.Command.{Command}
 use Rattle.asm_world.specs.World.{SessionEntry, World, groups_of, has_mounted, is_mounted}

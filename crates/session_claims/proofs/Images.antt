@@ -4,7 +4,7 @@ use Rattle.bay.specs.Image.{Image, Same}
 use Rattle.bay.specs.State.{BayState}
 use Rattle.asm_group.specs.Group.{Group}
 use Rattle.asm_formats.specs.Status.{Status}
-use Rattle.asm_placement.specs.Among.{IsAmong}
+use Rattle.asm_formats.specs.Among.{IsAmong}
 use Rattle.asm_images.specs.Bridge.{disk_bytes, disks_in}
 use Rattle.asm_images.specs.Kept.{IsHeld, IsMemberIn, Kept}
 use Rattle.asm_images.specs.Members.{all_members}

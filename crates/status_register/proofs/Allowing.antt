@@ -6,7 +6,7 @@ use Rattle.asm_group.specs.Names.{Bytes}
 use Rattle.asm_formats.proofs.Codec.{spelled}
 use Rattle.asm_formats.specs.Bytes.{spelled_by}
 use Rattle.asm_formats.specs.Status.{Status, is_status, is_status_1, status_spelling, status_spelling_1, status_at, status_at_1, decoded_status}
-use Rattle.asm_placement.specs.Among.{IsAmong}
+use Rattle.asm_formats.specs.Among.{IsAmong}
 use Rattle.asm_placement.proofs.Membership.{among_split}
 use Rattle.asm_images.specs.Members.{of_group}
 use Rattle.asm_images.specs.Register.{greatest}

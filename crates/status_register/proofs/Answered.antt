@@ -4,7 +4,7 @@ use Rattle.std.specs.Prelude.{not}
 use Rattle.bay.specs.State.{BayState}
 use Rattle.bay.specs.Moments.{Ends}
 use Rattle.bay.proofs.Calls.{done_less}
-use Rattle.asm_placement.specs.Among.{IsAmong}
+use Rattle.asm_formats.specs.Among.{IsAmong}
 use Rattle.asm_formats.specs.Status.{Status, status_spelling}
 use Rattle.asm_formats.specs.Following.{sets}
 use Rattle.status_register.specs.Rows.{HasBody, HaveBody}

@@ -4,7 +4,7 @@ use Rattle.std.specs.Prelude.{◌==◌}
 use Rattle.std.proofs.lemmas.Bool.{cond_both, cond-true, cond-false, leb-true, leb-false}
 use Rattle.std.proofs.lemmas.Option.{same_Some, none-some}
 use Rattle.bay.specs.Image.{Image}
-use Rattle.asm_placement.specs.Among.{IsAmong}
+use Rattle.asm_formats.specs.Among.{IsAmong}
 use Rattle.asm_formats.specs.Claim.{Claim, decoded_claim}
 use Rattle.asm_formats.specs.Status.{Status, decoded_status}
 use Rattle.asm_formats.specs.Following.{rank}

@@ -2,7 +2,7 @@
 use Rattle.std.proofs.Common.{◌≡◌, ◌⊎◌, inl, inr, ⊎_elim, ℕ, ◌<◌, Bool, List, [], ◌∷◌, refl, sym, ap, subst, Option, Some, None, arith, IsTrue}
 use Rattle.std.proofs.lemmas.Option.{same_Some}
 use Rattle.bay.specs.Image as bay
-use Rattle.asm_placement.specs.Among.{IsAmong}
+use Rattle.asm_formats.specs.Among.{IsAmong}
 use Rattle.asm_placement.proofs.Membership.{flat_map_among}
 use Rattle.asm_formats.specs.Metadata.{Metadata}
 use Rattle.asm_formats.specs.Status.{Status, is_status, status_spelling}

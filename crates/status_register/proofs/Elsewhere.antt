@@ -8,7 +8,7 @@ use Rattle.bay.specs.State.{BayState, KeepsAttached}
 use Rattle.bay.specs.Moments.{Runs, NowOnly, Within}
 use Rattle.bay.proofs.Calls.{now_only, stops}
 use Rattle.bay.proofs.Images.{length-window}
-use Rattle.asm_placement.specs.Among.{IsAmong}
+use Rattle.asm_formats.specs.Among.{IsAmong}
 use Rattle.asm_formats.specs.Header.{Header}
 use Rattle.asm_formats.specs.Claim.{Claim}
 use Rattle.asm_formats.specs.Metadata.{Metadata, metadata, header_of}

@@ -7,7 +7,7 @@ use Rattle.bay.specs.Moments.{Runs, Ends}
 use Rattle.bay.specs.State.{BayState}
 use Rattle.bay.proofs.Calls.{both_done, done_less, goes_on, stops, widened}
 use Rattle.bay.proofs.Images.{same-refl, same-trans}
-use Rattle.asm_placement.specs.Among.{IsAmong}
+use Rattle.asm_formats.specs.Among.{IsAmong}
 use Rattle.asm_images.specs.Bridge.{shown}
 use Rattle.asm_formats.specs.Status.{Status}
 use Rattle.status_register.specs.Holders.{SlotsDiffer, holder_in, holders_below, attached_to}

@@ -2,7 +2,7 @@
 use Rattle.std.proofs.Common.{◌≡◌, ⊎_elim, ℕ, ◌+◌, ◌*◌, ◌<◌, ◌≤◌, List, length, map, refl, sym, ap, subst, ◌∙◌, Option, arith, IsTrue}
 use Rattle.bay.specs.Image as bay
 use Rattle.bay.specs.Image.{Range, ChangesOnly}
-use Rattle.asm_placement.specs.Among.{IsAmong}
+use Rattle.asm_formats.specs.Among.{IsAmong}
 use Rattle.asm_formats.specs.Claim.{Claim, is_claim, claim_spelling}
 use Rattle.asm_formats.specs.Status.{Status}
 use Rattle.asm_formats.specs.Metadata.{Metadata, metadata}

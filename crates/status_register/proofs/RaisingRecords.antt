@@ -1,7 +1,7 @@
 -- A record that is put on the disk of one slot keeps the history that the disks fit.
 use Rattle.std.proofs.Common.{◌≡◌, ◌⊎◌, inl, inr, ⊎_elim, ℕ, ◌+◌, ◌*◌, ◌^◌, ◌<◌, ◌≤◌, List, length, map, refl, sym, ap, subst, ◌∙◌, Option, arith, IsTrue}
 use Rattle.bay.specs.Image as bay
-use Rattle.asm_placement.specs.Among.{IsAmong}
+use Rattle.asm_formats.specs.Among.{IsAmong}
 use Rattle.asm_formats.specs.Status.{Status, is_status, status_spelling}
 use Rattle.asm_formats.specs.Following.{rank}
 use Rattle.asm_formats.specs.Metadata.{Metadata, metadata}

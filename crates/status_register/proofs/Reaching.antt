@@ -8,7 +8,7 @@ use Rattle.bay.specs.State.{BayState}
 use Rattle.asm_formats.specs.Following.{Holder, disks_of, sets_of, sets}
 use Rattle.asm_formats.specs.Sets.{has_bit}
 use Rattle.asm_formats.specs.Status.{Status, Entry, entry_of}
-use Rattle.asm_placement.specs.Among.{IsAmong}
+use Rattle.asm_formats.specs.Among.{IsAmong}
 use Rattle.status_register.specs.Elsewhere.{with_attached}
 use Rattle.status_register.specs.Holders.{is_of, attached_to, numbered}
 use Rattle.status_register.specs.Reaching.{Reaches}

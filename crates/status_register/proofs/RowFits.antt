@@ -6,7 +6,7 @@ use Rattle.bay.specs.Image as bay
 use Rattle.bay.specs.State.{BayState, IsSound}
 use Rattle.bay.specs.Moments.{Runs, NowOnly, LeavesOnly}
 use Rattle.bay.proofs.Calls.{leaves_only}
-use Rattle.asm_placement.specs.Among.{IsAmong}
+use Rattle.asm_formats.specs.Among.{IsAmong}
 use Rattle.asm_formats.specs.Claim.{Claim, is_claim, claim_spelling}
 use Rattle.asm_formats.specs.Status.{Status}
 use Rattle.asm_images.specs.Members.{Image, all_members}

@@ -7,7 +7,7 @@ use Rattle.bay.specs.Image.{Image, Range, ChangesOnly}
 use Rattle.bay.specs.State.{BayState}
 use Rattle.bay.specs.Moments.{Runs, Ends, Joins}
 use Rattle.bay.proofs.Calls.{stops, both_done}
-use Rattle.asm_placement.specs.Among.{IsAmong}
+use Rattle.asm_formats.specs.Among.{IsAmong}
 use Rattle.asm_images.specs.Bridge.{shown}
 use Rattle.asm_formats.specs.Claim.{decoded_claim}
 use Rattle.asm_formats.specs.Status.{decoded_status}

@@ -1,7 +1,7 @@
 -- What a register keeps over the calls of others, and over a disk that is attached.
 use Rattle.std.specs.Prelude.{◌≡◌, ◌⊎◌, ℕ, ◌*◌, ◌<◌, List, [], get_or, set, Option, Some, None}
 use Rattle.bay.specs.Image.{Image}
-use Rattle.asm_placement.specs.Among.{IsAmong}
+use Rattle.asm_formats.specs.Among.{IsAmong}
 use Rattle.asm_formats.specs.Bytes.{block_size}
 use Rattle.asm_formats.specs.Header.{Header}
 use Rattle.asm_formats.specs.Metadata.{header_of}

@@ -2,7 +2,7 @@
 use Rattle.std.specs.Prelude.{◌≡◌, ◌⊎◌, ℕ, ◌<◌, List, [], ◌∷◌, Option}
 use Rattle.bay.specs.Image.{Image}
 use Rattle.bay.specs.Counts.{Rose}
-use Rattle.asm_placement.specs.Among.{IsAmong}
+use Rattle.asm_formats.specs.Among.{IsAmong}
 use Rattle.asm_formats.specs.Status.{Status}
 use Rattle.status_register.specs.Holders.{SlotsDiffer, attached_to}
 use Rattle.status_register.specs.Rows.{HasBody, PutsInOrder, PutsRow}

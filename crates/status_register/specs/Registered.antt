@@ -4,7 +4,7 @@ use Rattle.std.specs.Option.{option_map}
 use Rattle.bay.specs.State.{BayState}
 use Rattle.bay.specs.Counts.{Rose}
 use Rattle.bay.specs.Moments.{Ends, NowOnly, LeavesOnly}
-use Rattle.asm_placement.specs.Among.{IsAmong}
+use Rattle.asm_formats.specs.Among.{IsAmong}
 use Rattle.asm_formats.specs.Claim.{Claim, claim_spelling}
 use Rattle.asm_formats.specs.Status.{Status, Entry, entry_of}
 use Rattle.status_register.specs.Answers.{Surveyed, IsRefusal}

@@ -4,7 +4,7 @@ use Rattle.bay.specs.Image.{Image, Same}
 use Rattle.bay.specs.State.{BayState}
 use Rattle.bay.specs.Counts.{Rose}
 use Rattle.bay.specs.Moments.{Ends, Runs}
-use Rattle.asm_placement.specs.Among.{IsAmong}
+use Rattle.asm_formats.specs.Among.{IsAmong}
 use Rattle.asm_images.specs.Bridge.{shown}
 use Rattle.status_register.specs.Slots.{MayPutNext, PutsNext}
 use Rattle.status_register.specs.Tallies.{IsSlotOf}

@@ -2,7 +2,7 @@
 use Rattle.std.specs.Prelude.{◌≡◌, ℕ, ◌<◌, ◌==◌, Bool, List, Option, Some, None, ◌∷◌, IsTrue, ◌≤◌, ◌++◌, []}
 use Rattle.std.specs.List.{list_any}
 use Rattle.bay.specs.Image.{Image}
-use Rattle.asm_placement.specs.Among.{IsAmong}
+use Rattle.asm_formats.specs.Among.{IsAmong}
 use Rattle.asm_formats.specs.Header.{Header}
 use Rattle.asm_formats.specs.Metadata.{header_of}
 use Rattle.asm_formats.specs.Claim.{Claim, is_claim, claim_spelling}

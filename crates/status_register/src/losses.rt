@@ -1,6 +1,6 @@
 // Who failed where a record was written, and whether enough are left.
 ghost use Rattle.std.specs.Prelude.{◌≡◌, ◌<◌, ◌∷◌, [], ◌&&◌, not, true, find, MatchOption, None, Some};
-ghost use Rattle.asm_placement.specs.Among.{IsAmong};
+ghost use Rattle.asm_formats.specs.Among.{IsAmong};
 ghost use Rattle.asm_formats.specs.Sets.{has_bit};
 ghost use Rattle.asm_formats.specs.Following.{disks_of, sets, sets_of};
 ghost use Rattle.status_register.specs.Holders.{AreHolders};

@@ -3,7 +3,7 @@ use Rattle.std.specs.Prelude.{◌≡◌, ◌≢◌, ⊤, ℕ, ◌<◌, true, Lis
 use Rattle.std.specs.FinMap as maps
 use Rattle.asm_group.specs.Group.{Group}
 use Rattle.asm_group.specs.Names.{Bytes}
-use Rattle.asm_placement.specs.Among.{IsAmong}
+use Rattle.asm_formats.specs.Among.{IsAmong}
 use Rattle.asm_world.specs.Below.{Below}
 use Rattle.asm_world.specs.Step.{Has, IsNewId, last_id}
 use Rattle.asm_world.specs.World.{SessionEntry, World, is_mounted, mounted_entry, with_group, without_entry}

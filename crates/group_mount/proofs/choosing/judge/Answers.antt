@@ -1,6 +1,6 @@
 use Rattle.std.proofs.Common.{◌∙◌, ◌++◌, List, length, ap, refl, subst, arith, IfOk}
 use Rattle.bay.proofs.Calls.{on_more}
-use Rattle.asm_placement.specs.Among.{IsAmong}
+use Rattle.asm_formats.specs.Among.{IsAmong}
 use Rattle.status_register.specs.Answers.{IsSurveyed}
 use Rattle.status_register.specs.Surveys.{AreRead}
 use Rattle.status_register.specs.declared.member.Member.{Member}

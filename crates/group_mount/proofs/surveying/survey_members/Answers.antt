@@ -1,7 +1,7 @@
 use Rattle.std.proofs.Common.{◌≡◌, List, length, Result, IfOk, IfErr, sym, subst, ap, arith}
 use Rattle.bay.proofs.Calls.{goes_on, stops, on_more}
 use Rattle.bay.proofs.Images.{same-trans}
-use Rattle.asm_placement.specs.Among.{IsAmong}
+use Rattle.asm_formats.specs.Among.{IsAmong}
 use Rattle.status_register.specs.Answers.{Surveyed, IsSurveyed}
 use Rattle.status_register.specs.declared.member.Member.{Member}
 use Rattle.status_register.proofs.Filling.{still_slots}

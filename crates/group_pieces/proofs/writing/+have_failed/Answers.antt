@@ -1,5 +1,5 @@
 use Rattle.std.proofs.Common.{rules, inr, List, Option, Some, None, sym, subst}
-use Rattle.asm_placement.specs.Among.{IsAmong}
+use Rattle.asm_formats.specs.Among.{IsAmong}
 use Rattle.group_pieces.specs.declared.copies.Place.{Place}
 use Rattle.group_pieces.specs.Writes.{AreNumbered}
 use Rattle.group_pieces.proofs.Several.{rest_of, split}

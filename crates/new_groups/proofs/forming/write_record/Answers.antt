@@ -1,7 +1,7 @@
 use Rattle.std.proofs.Common.{List, sym, ap, subst, ◌∙◌}
 use Rattle.std.specs.Prelude.{IsTrue}
 use Rattle.asm_formats.specs.Following.{Holder, disks_of}
-use Rattle.asm_placement.specs.Among.{IsAmong}
+use Rattle.asm_formats.specs.Among.{IsAmong}
 use Rattle.status_register.specs.Registered.{AreNumbered}
 use Rattle.status_register.specs.Rows.{AreApart}
 use Rattle.status_register.specs.Surveys.{is_there}

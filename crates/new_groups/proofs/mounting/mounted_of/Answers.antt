@@ -1,5 +1,5 @@
 use Rattle.std.proofs.Common.{List, Option, sym, ap, subst, ◌∙◌}
-use Rattle.asm_placement.specs.Among.{IsAmong}
+use Rattle.asm_formats.specs.Among.{IsAmong}
 use Rattle.group_disks.specs.Mounting.{by_number}
 use Rattle.group_engine.specs.Making.{made}
 use Rattle.group_engine.specs.Mounts.{IsWhole}

@@ -1,7 +1,7 @@
 use Rattle.std.proofs.Common.{sym, subst}
 use Rattle.asm_formats.specs.Sets.{elements}
 use Rattle.asm_formats.specs.Status.{Status}
-use Rattle.asm_placement.specs.Among.{IsAmong}
+use Rattle.asm_formats.specs.Among.{IsAmong}
 use Rattle.group_engine.specs.Trying.{IsRightCopy}
 use Rattle.group_engine.proofs.MayGet.{all_among, on_true_map}
 use Rattle.group_engine.proofs.mounted.Mounted.names_copies.Goals as goal
