@@ -15,7 +15,8 @@ use Rattle.asm_base.proofs.Numbers.{number_exact}
 use Rattle.asm_base.proofs.NameLaws.{name_exact, part_is_short, part_of}
 use Rattle.asm_base.proofs.ItemTables.{item_is_decoded, value_is_decoded}
 use Rattle.alias_tree.specs.Nodes.{is_mine}
-use Rattle.alias_tree.specs.Readings.{NodeParts, to_node, node_reading, is_node_key}
+use Rattle.alias_tree.specs.Readings.{node_reading, is_node_key}
+use Rattle.asm_base.specs.Parts.{NodeParts, to_node}
 
 record FitsNode (n : Node) : Type 0 where
   parent : n.parent < 2 ^ 32

@@ -6,12 +6,7 @@ use Rattle.asm_group.specs.Names.{Bytes}
 use Rattle.asm_formats.specs.Items.{Key, Node}
 use Rattle.asm_base.specs.Readings.{Reading, both, as_a, number_reading, name_reading}
 use Rattle.asm_base.specs.Words.{node_kind_reading}
-
-abbrev pub NodeParts : Type 0
-NodeParts = ℕ × (NodeKind × (ℕ × Bytes))
-
-abbrev pub to_node : NodeParts → Node
-to_node (parent, (kind, (file, name))) = record { parent = parent; kind = kind; file = file; name = name }
+use Rattle.asm_base.specs.Parts.{to_node}
 
 unfoldable pub node_reading : Reading Node
 node_reading = as_a to_node (both (number_reading w32) (both node_kind_reading (both (number_reading w32) (name_reading 80))))

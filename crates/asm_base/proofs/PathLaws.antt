@@ -4,9 +4,9 @@ use Rattle.std.specs.Prelude.{◌&&◌}
 use Rattle.std.specs.List.{list_all}
 use Rattle.std.proofs.lemmas.List.Folds.{list_all-append}
 use Rattle.std.proofs.lemmas.List.{append-nil, length-drop, take_all}
-use Rattle.asm_group.specs.Names.{is_name, is_part}
+use Rattle.asm_group.specs.Names.{is_name, is_part, all_parts}
 use Rattle.asm_base.specs.Names.{name_of}
-use Rattle.asm_base.specs.Paths.{onto_first, between_slashes, in_group, path_of, slash_at, behind, all_parts}
+use Rattle.asm_base.specs.Paths.{onto_first, between_slashes, in_group, path_of, slash_at, behind}
 use Rattle.asm_base.proofs.Exact.{test_some}
 use Rattle.asm_base.proofs.NameLaws.{name_is_part}
 

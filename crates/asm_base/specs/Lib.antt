@@ -9,3 +9,6 @@ pub mod Refusals
 pub mod RefusalText
 pub mod Paths
 pub mod Words
+pub mod Chunks
+pub mod Parts
+pub mod Blocks

@@ -35,6 +35,3 @@ slash_at (b ∷ bytes) = if b == 47 then 0 else suc (slash_at bytes)
 unfoldable pub behind : Bytes → List Bytes
 behind [] = []
 behind (slash ∷ bytes) = between_slashes bytes
-
-abbrev pub all_parts : List Bytes → Option (List Bytes)
-all_parts parts = if list_all (is_part 80) parts then Some parts else None

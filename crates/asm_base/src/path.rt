@@ -1,8 +1,8 @@
 //! Paths of a group.
 
 ghost use Rattle.std.specs.Prelude.{◌≡◌, ◌≤◌, length, IfOk, Some, None, if◌then◌else◌};
-ghost use Rattle.asm_group.specs.Names.{is_name};
-ghost use Rattle.asm_base.specs.Paths.{all_parts, behind, between_slashes, in_group, path_of, slash_at};
+ghost use Rattle.asm_group.specs.Names.{is_name, all_parts};
+ghost use Rattle.asm_base.specs.Paths.{behind, between_slashes, in_group, path_of, slash_at};
 
 use crate::kinds::NoMemory;
 use crate::list::List;

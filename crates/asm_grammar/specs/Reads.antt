@@ -9,6 +9,10 @@ use Rattle.asm_grammar.specs.declared.words.Place.{Place}
 use Rattle.asm_grammar.specs.declared.words.ReadError.{ReadError}
 use Rattle.asm_grammar.specs.declared.words.ReadError.TheVariants.{Syntax, NoMemory}
 
+-- the outcome of reading a part from a place, with what it says
+abbrev pub reads : {A : Type 0} → (s : syntax.Syntax) → (Value s → A) → Place → Outcome A
+reads s says from = mapped says (parse s from.rest.now from.left)
+
 -- A refusal is a failed reading, but one for want of memory.
 abbrev pub Refuses : {Y : Type 0} → ReadError → Outcome Y → Type 0
 Refuses NoMemory read = Unit {0}

@@ -1,5 +1,5 @@
 -- Names and paths, and the maps that are kept by them. Names compare without ASCII case.
-use Rattle.std.specs.Prelude.{ℕ, ◌+◌, Bool, true, false, ◌&&◌, ◌||◌, ◌==◌, not, nat_le, nat_lt, List, [], ◌∷◌, length, map, if◌then◌else◌}
+use Rattle.std.specs.Prelude.{ℕ, ◌+◌, Bool, true, false, ◌&&◌, ◌||◌, ◌==◌, not, nat_le, nat_lt, List, [], ◌∷◌, length, map, Option, Some, None, if◌then◌else◌}
 use Rattle.std.specs.List.{list_all}
 use Rattle.std.specs.Str.{bytes_eq}
 use Rattle.std.specs.Int.{is_in_range}
@@ -53,6 +53,10 @@ Path = List Bytes
 
 abbrev pub folded_path : Path → Path
 folded_path parts = map folded parts
+
+-- parts as they stand in a clause, where `..` is a part like others
+abbrev pub all_parts : List Bytes → Option (List Bytes)
+all_parts parts = if list_all (is_part 80) parts then Some parts else None
 
 -- ---- finite maps, of which two that answer alike are equal
 

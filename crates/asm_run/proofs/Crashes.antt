@@ -15,7 +15,7 @@ use Rattle.asm_world.specs.Reply.{Reply}
 use Rattle.asm_world.specs.Run.{State, Entry, Move, Answers, IsMove, IsRun, IsHeldNow, end_of}
 use Rattle.asm_world.specs.RunLaws.{Grows, IsQuiet}
 use Rattle.asm_world.specs.World.{World, SessionEntry, groups_of, has_mounted}
-use Rattle.group_disks.specs.Creating.{Allows}
+use Rattle.group_mount.specs.Mounting.{Allows}
 use Rattle.group_disks.specs.Found.{Counts}
 use Rattle.session.specs.Acts.{Holding}
 use Rattle.session.specs.Claims.{held_outside, IsProvedApartIn}

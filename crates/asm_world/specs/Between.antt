@@ -6,7 +6,7 @@ use Rattle.asm_group.specs.Group.{Free, Group}
 use Rattle.asm_group.specs.Refusal as r
 use Rattle.asm_world.specs.Command as c
 use Rattle.asm_world.specs.Files.{written}
-use Rattle.asm_world.specs.Paths.{target_from, is_host_path}
+use Rattle.asm_world.specs.Paths.{target_from, is_host_path, parts_of, resolved_pattern}
 use Rattle.asm_world.specs.Statement as s
 use Rattle.asm_world.specs.World.{SessionEntry, World, entry_in, only_group, groups_of, with_group}
 
@@ -32,8 +32,7 @@ groups_named w (c.Asked (c.DbWrite path at bytes)) = group_at w path
 groups_named w (c.Asked (c.DbFill path at size byte)) = group_at w path
 groups_named w (c.Asked (c.DbRead path at size)) = group_at w path
 groups_named w (c.Asked (c.DbResize path size)) = group_at w path
-groups_named w (c.Asked (c.Ls long (Some path))) = group_at w path
-groups_named w (c.Asked (c.Ls long None)) = group_at w []
+groups_named w (c.Asked (c.Ls long path)) = group_of (parts_of (resolved_pattern w.place path))
 groups_named w (c.Asked (c.Cd path)) = group_at w path
 groups_named w (c.Asked (c.MakeDir path)) = group_at w path
 groups_named w (c.Asked (c.Remove path)) = group_at w path

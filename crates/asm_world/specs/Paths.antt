@@ -2,7 +2,7 @@
 use Rattle.std.specs.Prelude.{ℕ, Bool, false, ◌&&◌, ◌||◌, ◌==◌, not, nat_le, nat_lt, List, [], ◌∷◌, ◌++◌, length, Option, Some, None, if◌then◌else◌}
 use Rattle.std.specs.List.{list_all}
 use Rattle.std.specs.Str.{bytes_eq}
-use Rattle.asm_group.specs.Names.{Bytes, Path, is_part, is_part_byte, is_same_name}
+use Rattle.asm_group.specs.Names.{Bytes, Path, is_part, is_part_byte, is_same_name, all_parts}
 pub use Rattle.asm_group.specs.TreeEdits.{up, last_part}
 
 abbrev pub before_first : Bytes → List Bytes → List Bytes
@@ -63,10 +63,6 @@ parts_of (Some (group ∷ path)) = Some (group, path)
 -- a path of a verb
 abbrev pub target_from : List Bytes → Bytes → Option (Bytes × Path)
 target_from place path = parts_of (resolved place path)
-
--- parts as they stand in a clause, where `..` is a part like others
-abbrev pub all_parts : List Bytes → Option (List Bytes)
-all_parts parts = if list_all (is_part 80) parts then Some parts else None
 
 abbrev pub within_group : Bytes → Option (Bytes × Path) → Option Path
 within_group name None = None

@@ -13,10 +13,7 @@ use Rattle.asm_world.specs.VerbMeaning.{of_files, of_cp, of_names, of_reports}
 use Rattle.asm_world.specs.Verbs as g
 use Rattle.asm_world.specs.Verbs.{argument, verb_word}
 use Rattle.std.specs.Prelude.{codes}
-
--- the outcome of reading a part, with what it says
-abbrev pub reads : {A : Type 0} → (syntax : Syntax) → (Value syntax → A) → Place → Outcome A
-reads syntax says from = mapped says (parse syntax from.rest.now from.left)
+use Rattle.asm_grammar.specs.Reads.{reads}
 
 -- the same, where the part may be absent
 abbrev pub may_read : {A : Type 0} → (syntax : Syntax) → (Value syntax → A) → Place → Outcome (Option A)

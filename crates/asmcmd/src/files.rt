@@ -1,10 +1,10 @@
 //! Verbs on the bytes of files.
 
 ghost use Rattle.std.specs.Option.{option_map};
-ghost use Rattle.asm_grammar.specs.Reads.{Gives};
+ghost use Rattle.asm_grammar.specs.Reads.{Gives, reads};
 ghost use Rattle.asm_world.specs.VerbMeaning.{of_files};
 ghost use Rattle.asm_world.specs.Verbs.{files};
-ghost use Rattle.asmcmd.specs.Rows.{reads, may_read, create_rest, create_of, write_rest, write_of, fill_rest, fill_of, read_rest, read_of, resize_rest, resize_of};
+ghost use Rattle.asmcmd.specs.Rows.{may_read, create_rest, create_of, write_rest, write_of, fill_rest, fill_of, read_rest, read_of, resize_rest, resize_of};
 ghost use Rattle.asmcmd.specs.Verbs.{said};
 
 use crate::verb::Verb;

@@ -1,10 +1,10 @@
 //! Verbs on groups and their disks.
 
 ghost use Rattle.std.specs.Option.{option_map};
-ghost use Rattle.asm_grammar.specs.Reads.{Gives};
+ghost use Rattle.asm_grammar.specs.Reads.{Gives, reads};
 ghost use Rattle.asm_world.specs.VerbMeaning.{of_reports, of_disks};
 ghost use Rattle.asm_world.specs.Verbs.{reports, disks};
-ghost use Rattle.asmcmd.specs.Rows.{reads, may_read};
+ghost use Rattle.asmcmd.specs.Rows.{may_read};
 ghost use Rattle.asmcmd.specs.Verbs.{said};
 
 use crate::verb::Verb;

@@ -2,13 +2,12 @@
 
 ghost use Rattle.std.specs.Prelude.{◌≡◌, ◌≤◌, length, false};
 ghost use Rattle.asm_grammar.specs.Reading.{mapped, close, closed, parse};
-ghost use Rattle.asm_grammar.specs.Reads.{Gives};
+ghost use Rattle.asm_grammar.specs.Reads.{Gives, reads};
 ghost use Rattle.asm_grammar.specs.Word.{End};
 ghost use Rattle.asm_world.specs.FirstWord.{opens_statement, begins_blank, keyword_front};
 ghost use Rattle.asm_world.specs.VerbMeaning.{verb_of};
 ghost use Rattle.asm_world.specs.Verbs as g;
 ghost use Rattle.asmcmd.specs.Exact.{other_verbs, other_of, last_verbs, last_of, placed, IsRead, IsExact, IsCommand};
-ghost use Rattle.asmcmd.specs.Rows.{reads};
 ghost use Rattle.asmcmd.specs.Verbs.{said};
 
 use crate::files::file_verb;

@@ -1,12 +1,12 @@
 //! Verbs on names: directories, files, aliases and the place.
 
 ghost use Rattle.std.specs.Option.{option_map};
-ghost use Rattle.asm_grammar.specs.Reads.{Gives};
+ghost use Rattle.asm_grammar.specs.Reads.{Gives, reads};
 ghost use Rattle.asm_group.specs.Names.{Bytes};
 ghost use Rattle.asm_world.specs.Command.{Copy};
 ghost use Rattle.asm_world.specs.VerbMeaning.{of_names};
 ghost use Rattle.asm_world.specs.Verbs.{names};
-ghost use Rattle.asmcmd.specs.Rows.{reads, may_read, list_rest, list_of, target, target_of, copy_rest, copy_of, find_rest, find_of, alias_rest, alias_of, later_names, later_names_of};
+ghost use Rattle.asmcmd.specs.Rows.{may_read, list_rest, list_of, target, target_of, copy_rest, copy_of, find_rest, find_of, alias_rest, alias_of, later_names, later_names_of};
 ghost use Rattle.asmcmd.specs.Verbs.{said};
 
 use crate::verb::Verb;

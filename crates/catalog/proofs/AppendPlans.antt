@@ -18,7 +18,8 @@ use Rattle.asm_base.specs.Records.{Entry}
 use Rattle.asm_base.proofs.Exact.{AreFitting, bind_some, some_is}
 use Rattle.allocator.specs.UnitMaps.{UnitMap, with_run}
 use Rattle.file_directory.specs.Files.{head_at}
-use Rattle.extent_map.specs.Extents.{Chunk, Chunked, absent, chunk_at, chunk_cmp, chunk_or_blank, count_in, has_home, is_blank, record_of, with_chunk, with_more}
+use Rattle.extent_map.specs.Extents.{Chunked, absent, chunk_at, chunk_or_blank, count_in, has_home, is_blank, record_of, with_chunk, with_more}
+use Rattle.asm_base.specs.Chunks.{Chunk, chunk_cmp}
 use Rattle.extent_map.proofs.ChunkEnds.{base_fits, base_stands, fills_chunks, front, more_long, none_from, two}
 use Rattle.extent_map.proofs.FileEnds.{blank_by, has_at}
 use Rattle.extent_map.proofs.Laws.{chunk_total, same_chunk}

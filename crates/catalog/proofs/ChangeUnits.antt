@@ -13,7 +13,8 @@ use Rattle.page_map.specs.Changes.{is_gone, is_put, last_put, value_after}
 use Rattle.page_map.proofs.Changing.{last_put_none}
 use Rattle.page_map.proofs.Keys.{same_key}
 use Rattle.allocator.specs.UnitMaps.{UnitMap}
-use Rattle.extent_map.specs.Extents.{Chunk, Chunked, chunk_at, chunk_cmp, chunk_key, is_before}
+use Rattle.extent_map.specs.Extents.{Chunked, chunk_at, chunk_key}
+use Rattle.asm_base.specs.Chunks.{Chunk, chunk_cmp, is_before}
 use Rattle.extent_map.proofs.Laws.{chunk_total, same_chunk}
 use Rattle.extent_map.proofs.Numbering.{is_same, tail_up}
 use Rattle.extent_map.specs.Changing.{value_at}

@@ -11,7 +11,8 @@ use Rattle.asm_base.specs.Records.{Ascend}
 use Rattle.asm_base.proofs.Exact.{bind_some, some_is}
 use Rattle.asm_formats.specs.Items.{Homes}
 use Rattle.allocator.specs.UnitMaps.{UnitMap}
-use Rattle.extent_map.specs.Extents.{Chunk, Chunked, chunk_at, chunk_cmp, is_before}
+use Rattle.extent_map.specs.Extents.{Chunked, chunk_at}
+use Rattle.asm_base.specs.Chunks.{Chunk, chunk_cmp, is_before}
 use Rattle.extent_map.proofs.Laws.{same_chunk}
 use Rattle.extent_map.proofs.Numbering.{comes_after, is_same, tail_up}
 use Rattle.catalog.specs.Giving.{but, chunks_kept}

@@ -15,7 +15,8 @@ use Rattle.asm_base.specs.Records.{Entry}
 use Rattle.asm_base.proofs.Exact.{some_is}
 use Rattle.allocator.specs.UnitMaps.{UnitMap}
 use Rattle.file_directory.specs.Files.{head_at}
-use Rattle.extent_map.specs.Extents.{Chunk, Chunked, IsTable, absent, chunk_at, chunk_cmp, chunk_or_blank, cut_to, has_home, record_of, with_chunk}
+use Rattle.extent_map.specs.Extents.{Chunked, IsTable, absent, chunk_at, chunk_or_blank, cut_to, has_home, record_of, with_chunk}
+use Rattle.asm_base.specs.Chunks.{Chunk, chunk_cmp}
 use Rattle.extent_map.proofs.CutChunks.{cuts_chunks}
 use Rattle.extent_map.proofs.Laws.{chunk_total, same_chunk}
 use Rattle.extent_map.proofs.Lookups.{key_is, put_here, put_other, there_as_long}

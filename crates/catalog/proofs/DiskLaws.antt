@@ -19,7 +19,8 @@ use Rattle.asm_base.proofs.Numbers.{number_exact}
 use Rattle.asm_base.proofs.NameLaws.{name_exact, name_is_part}
 use Rattle.asm_base.proofs.ItemTables.{IsEntry, entry_is_read, entry_taken, is_entry_item, items_again, items_found, put_keeps, removed_keeps, value_is_decoded}
 use Rattle.asm_base.proofs.Copying.{copied_more}
-use Rattle.catalog.specs.Disks.{Disk, DiskParts, IsTable, add, disk_reading, entry_of, info_at, is_before, is_mine, is_right, item_of, record_of, right_disk, to_disk, value_at, with_info, without_disk}
+use Rattle.catalog.specs.Disks.{Disk, IsTable, add, disk_reading, entry_of, info_at, is_before, is_mine, is_right, item_of, record_of, right_disk, value_at, with_info, without_disk}
+use Rattle.asm_base.specs.Parts.{DiskParts, to_disk}
 
 of_disk : DiskInfo → DiskParts
 of_disk d = (d.birth, (d.name, d.failgroup))

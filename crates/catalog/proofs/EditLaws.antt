@@ -15,7 +15,8 @@ use Rattle.asm_base.specs.Records.{Entry, is_key}
 use Rattle.allocator.specs.UnitMaps.{UnitMap}
 use Rattle.file_directory.specs.Files.{head_at, is_file}
 use Rattle.extent_map.specs.Changing as extents
-use Rattle.extent_map.specs.Extents.{Chunk, Chunked, chunk_at, chunk_cmp, chunk_key, has_home}
+use Rattle.extent_map.specs.Extents.{Chunked, chunk_at, chunk_key, has_home}
+use Rattle.asm_base.specs.Chunks.{Chunk, chunk_cmp}
 use Rattle.extent_map.specs.Extents as extent_map
 use Rattle.extent_map.proofs.Laws.{chunk_total, same_chunk}
 use Rattle.extent_map.proofs.Lookups.{both_ways, key_is}

@@ -18,7 +18,8 @@ use Rattle.asm_placement.specs.Placed.{Placed, placed_copies, placed_extents}
 use Rattle.allocator.specs.UnitMaps.{UnitMap, unused, used_of, with_run}
 use Rattle.asm_base.proofs.Exact.{bind_some, some_is}
 use Rattle.file_directory.specs.Files.{File, IsTable, head_at, item_of}
-use Rattle.extent_map.specs.Extents.{Chunk, Chunked, has_home, has_no_gap, is_behind, is_blank, is_full, opened, stand_first, stands_at}
+use Rattle.extent_map.specs.Extents.{Chunked, has_home, has_no_gap, is_behind, is_blank, is_full, opened, stand_first, stands_at}
+use Rattle.asm_base.specs.Chunks.{Chunk}
 use Rattle.extent_map.specs.Extents as extents
 use Rattle.catalog.specs.Tables.{AreTables, Tables}
 use Rattle.catalog.specs.Placing.{HasUnits, after_chunks, after_homes, disk_units, homes_of, unused_maps}

@@ -7,7 +7,8 @@ use Rattle.asm_formats.specs.Items.{Key}
 use Rattle.asm_formats.specs.Status as status
 use Rattle.asm_base.proofs.Exact.{some_is}
 use Rattle.allocator.specs.UnitMaps.{UnitMap}
-use Rattle.extent_map.specs.Extents.{Chunk, Chunked, IsNumbered, IsTable}
+use Rattle.extent_map.specs.Extents.{Chunked, IsNumbered, IsTable}
+use Rattle.asm_base.specs.Chunks.{Chunk}
 use Rattle.extent_map.proofs.Laws.{table_numbered}
 use Rattle.catalog.specs.Tables.{AreTables, Tables}
 use Rattle.catalog.specs.Rules.{AreOnRegular, HasExtents, IsShort, KeepsRules, blocks_used, first_unknown, first_wrong, has_chunk, has_marks, has_names, is_marked_right, is_named_back, is_on_disks, is_owned, is_regular_chunk, keeps_copies}

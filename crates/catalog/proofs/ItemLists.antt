@@ -18,7 +18,8 @@ use Rattle.asm_placement.specs.Placed.{Placed, placed}
 use Rattle.asm_placement.specs.Work.{keys_differ}
 use Rattle.asm_base.specs.Records.{Ascend}
 use Rattle.file_directory.specs.Files.{head_at}
-use Rattle.extent_map.specs.Extents.{Chunk, Chunked, IsNumbered, chunked, is_before, item_of}
+use Rattle.extent_map.specs.Extents.{Chunked, IsNumbered, chunked, item_of}
+use Rattle.asm_base.specs.Chunks.{Chunk, is_before}
 use Rattle.extent_map.proofs.Laws.{chunk_entry, table_numbered}
 use Rattle.catalog.specs.Tables.{AreTables, Tables}
 use Rattle.catalog.specs.Placing.{homes_of}

@@ -12,7 +12,8 @@ use Rattle.asm_formats.specs.Items.{Homes, Key, is_item, marks_item}
 use Rattle.asm_formats.specs.Sets.{has_bit}
 use Rattle.asm_base.specs.Records.{Entry}
 use Rattle.asm_base.proofs.Exact.{some_is}
-use Rattle.extent_map.specs.Extents.{Chunk, chunk_at, chunk_cmp}
+use Rattle.extent_map.specs.Extents.{chunk_at}
+use Rattle.asm_base.specs.Chunks.{Chunk, chunk_cmp}
 use Rattle.extent_map.proofs.Laws.{chunk_total, same_chunk}
 use Rattle.extent_map.proofs.Lookups.{put_here, put_other, there_as_long}
 use Rattle.extent_map.proofs.Numbering.{found_self, size_of}

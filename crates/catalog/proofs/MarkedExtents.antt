@@ -14,7 +14,8 @@ use Rattle.asm_formats.specs.Items.{Homes}
 use Rattle.asm_formats.specs.Sets.{has_bit}
 use Rattle.asm_base.specs.Records.{Ascend}
 use Rattle.asm_base.proofs.Exact.{some_is}
-use Rattle.extent_map.specs.Extents.{Chunk, chunk_at, chunk_cmp, is_before}
+use Rattle.extent_map.specs.Extents.{chunk_at}
+use Rattle.asm_base.specs.Chunks.{Chunk, chunk_cmp, is_before}
 use Rattle.extent_map.proofs.Ends.{Lower, lower}
 use Rattle.extent_map.proofs.Laws.{chunk_total, same_chunk}
 use Rattle.extent_map.proofs.Numbering.{less_is, size_of}

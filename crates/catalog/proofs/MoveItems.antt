@@ -9,7 +9,8 @@ use Rattle.asm_formats.specs.Items.{Home, Homes, Item, Key, chunk_item, disk_ite
 use Rattle.asm_formats.specs.Status.{ascends_from}
 use Rattle.asm_placement.specs.Moves.{moved_item, unmarked_item, with_current, with_home, without_bit}
 use Rattle.asm_base.proofs.Exact.{some_is}
-use Rattle.extent_map.specs.Extents.{Chunk, chunk_at, chunk_cmp}
+use Rattle.extent_map.specs.Extents.{chunk_at}
+use Rattle.asm_base.specs.Chunks.{Chunk, chunk_cmp}
 use Rattle.extent_map.proofs.Laws.{chunk_total, same_chunk}
 use Rattle.extent_map.proofs.Lookups.{key_is}
 use Rattle.extent_map.proofs.Numbering.{found_self}

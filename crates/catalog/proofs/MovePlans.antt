@@ -23,7 +23,8 @@ use Rattle.asm_base.specs.Records.{Entry}
 use Rattle.asm_base.proofs.Exact.{some_is}
 use Rattle.allocator.specs.UnitMaps.{UnitMap, unused}
 use Rattle.file_directory.specs.Files.{head_at}
-use Rattle.extent_map.specs.Extents.{Chunk, Chunked, IsTable, absent, chunk_at, chunk_cmp, chunk_or_blank, has_home, record_of, with_extent}
+use Rattle.extent_map.specs.Extents.{Chunked, IsTable, absent, chunk_at, chunk_or_blank, has_home, record_of, with_extent}
+use Rattle.asm_base.specs.Chunks.{Chunk, chunk_cmp}
 use Rattle.extent_map.proofs.ChunkEnds.{replaces_extents}
 use Rattle.extent_map.proofs.FileEnds.{item_at}
 use Rattle.extent_map.proofs.Laws.{chunk_total, same_chunk}

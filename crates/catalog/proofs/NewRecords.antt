@@ -7,7 +7,8 @@ use Rattle.asm_base.specs.Records.{Entry}
 use Rattle.page_map.specs.Changes.{is_put}
 use Rattle.page_map.specs.Tables.{one_if}
 use Rattle.file_directory.specs.Files.{head_at}
-use Rattle.extent_map.specs.Extents.{Chunk, chunk_at, chunk_key}
+use Rattle.extent_map.specs.Extents.{chunk_at, chunk_key}
+use Rattle.asm_base.specs.Chunks.{Chunk}
 use Rattle.alias_tree.specs.Nodes.{node_at}
 use Rattle.staleness_directory.specs.Marks.{marks_at}
 use Rattle.catalog.specs.Disks.{info_at}

@@ -12,7 +12,8 @@ use Rattle.asm_formats.specs.Items.{Home, Homes}
 use Rattle.asm_placement.specs.Layout.{units_of}
 use Rattle.asm_placement.specs.Placed.{Placed, placed_copies, placed_extents}
 use Rattle.allocator.specs.UnitMaps.{IsFreeRun, UnitMap, is_free, with_run}
-use Rattle.extent_map.specs.Extents.{Chunk, Chunked}
+use Rattle.extent_map.specs.Extents.{Chunked}
+use Rattle.asm_base.specs.Chunks.{Chunk}
 use Rattle.catalog.specs.Placing.{after_chunks, after_homes, home_placed, home_taken, homes_of, is_run_free, misplaced}
 
 either : (b : Bool) → (b ≡ true) ⊎ (b ≡ false)

@@ -7,7 +7,8 @@ use Rattle.asm_formats.specs.Items.{Key}
 use Rattle.asm_formats.specs.Status as status
 use Rattle.asm_base.specs.Records.{Entry, record_at}
 use Rattle.asm_base.proofs.Exact.{some_is}
-use Rattle.extent_map.specs.Extents.{Chunk, Chunked, IsNumbered, opened, stands_at}
+use Rattle.extent_map.specs.Extents.{Chunked, IsNumbered, opened, stands_at}
+use Rattle.asm_base.specs.Chunks.{Chunk}
 use Rattle.extent_map.specs.Faults.{HasGap, gap_from}
 use Rattle.extent_map.proofs.Laws.{all_numbered}
 use Rattle.catalog.specs.declared.error.CatalogError.{CatalogError}

@@ -15,7 +15,8 @@ use Rattle.asm_formats.specs.Sets.{has_bit}
 use Rattle.asm_placement.specs.Moves.{moved_item, with_current, with_home, without_bit}
 use Rattle.asm_base.proofs.Exact.{some_is}
 use Rattle.file_directory.specs.Files.{head_at}
-use Rattle.extent_map.specs.Extents.{Chunk, Chunked, absent, chunk_at, chunk_cmp, has_home, with_extent}
+use Rattle.extent_map.specs.Extents.{Chunked, absent, chunk_at, has_home, with_extent}
+use Rattle.asm_base.specs.Chunks.{Chunk, chunk_cmp}
 use Rattle.extent_map.proofs.FileEnds.{item_at}
 use Rattle.extent_map.proofs.Laws.{chunk_total}
 use Rattle.catalog.specs.ExtentPlans.{ClearsItems, MayMark, MayMove, StaysInPlace, home_at, homes_at, homes_moved, is_copy_of, marks_changed, with_marks_at, with_marks_changed, with_move}

@@ -14,7 +14,8 @@ use Rattle.asm_base.proofs.Exact.{some_is}
 use Rattle.asm_placement.specs.Copies.{Copy, all_copies, copies_at, copies_from, entry_at_home, file_copies, has_home, home}
 use Rattle.asm_placement.specs.Tables.{home_of}
 use Rattle.asm_placement.specs.Work.{is_regular}
-use Rattle.extent_map.specs.Extents.{Chunk, Chunked, absent, chunk_at, chunk_cmp, chunk_or_blank, count_in, cut_to, with_chunk, with_extent, with_more}
+use Rattle.extent_map.specs.Extents.{Chunked, absent, chunk_at, chunk_or_blank, count_in, cut_to, with_chunk, with_extent, with_more}
+use Rattle.asm_base.specs.Chunks.{Chunk, chunk_cmp}
 use Rattle.catalog.specs.ExtentPlans.{homes_at, homes_moved, with_appended, with_cut, with_fewer, with_move, with_released}
 use Rattle.catalog.specs.Items.{AreItemsOf, chunk_copies}
 use Rattle.catalog.specs.RegularHomes.{AppendingKeepsRegular, CopiesAreRegular, CuttingKeepsRegular, HomesAreRegular, MovingKeepsRegular, RegularStays}

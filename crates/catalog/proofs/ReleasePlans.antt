@@ -9,7 +9,8 @@ use Rattle.asm_formats.specs.Status.{Entry as StatusEntry}
 use Rattle.asm_base.specs.Records.{Entry}
 use Rattle.allocator.specs.UnitMaps.{UnitMap}
 use Rattle.file_directory.specs.Files.{head_at}
-use Rattle.extent_map.specs.Extents.{Chunk, Chunked, chunk_at, chunk_cmp, chunk_key, without_chunk}
+use Rattle.extent_map.specs.Extents.{Chunked, chunk_at, chunk_key, without_chunk}
+use Rattle.asm_base.specs.Chunks.{Chunk, chunk_cmp}
 use Rattle.extent_map.proofs.ChunkEnds.{takes_chunks}
 use Rattle.extent_map.proofs.FileEnds.{item_at}
 use Rattle.extent_map.proofs.Laws.{chunk_total, same_chunk}

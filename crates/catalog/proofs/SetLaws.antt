@@ -15,7 +15,8 @@ use Rattle.asm_base.specs.Records.{is_key}
 use Rattle.page_map.proofs.Keys.{key_itself, same_key}
 use Rattle.file_directory.specs.Files.{File, head_at}
 use Rattle.file_directory.specs.Changing as files
-use Rattle.extent_map.specs.Extents.{Chunk, Chunked, chunk_cmp, chunk_key}
+use Rattle.extent_map.specs.Extents.{Chunked, chunk_key}
+use Rattle.asm_base.specs.Chunks.{Chunk, chunk_cmp}
 use Rattle.extent_map.specs.Changing as extents
 use Rattle.extent_map.proofs.Laws.{chunk_total, same_chunk}
 use Rattle.alias_tree.specs.Nodes.{Numbered, node_at}

@@ -11,7 +11,8 @@ use Rattle.asm_placement.specs.Placed.{Placed, placed_copies, placed_extents}
 use Rattle.asm_base.specs.Records.{Ascend}
 use Rattle.asm_base.proofs.Exact.{bind_some, some_is}
 use Rattle.allocator.specs.UnitMaps.{UnitMap, with_run}
-use Rattle.extent_map.specs.Extents.{Chunk, Chunked, chunk_at, chunk_cmp, is_before}
+use Rattle.extent_map.specs.Extents.{Chunked, chunk_at}
+use Rattle.asm_base.specs.Chunks.{Chunk, chunk_cmp, is_before}
 use Rattle.extent_map.proofs.Laws.{chunk_total, same_chunk}
 use Rattle.extent_map.proofs.Lookups.{both_ways}
 use Rattle.extent_map.proofs.Numbering.{is_same, tail_up}

@@ -11,6 +11,7 @@ use Rattle.asm_formats.specs.Values.{value}
 use Rattle.asm_base.specs.Readings.{Reading, both, as_a, number_reading, name_reading}
 use Rattle.asm_base.specs.Records.{Entry, add_item}
 use Rattle.asm_base.specs.Tables.{IsItemTable, entry_of_record, item_record}
+use Rattle.asm_base.specs.Parts.{to_disk}
 
 -- a disk's number and what its record says
 abbrev pub Disk : Type 0
@@ -54,12 +55,6 @@ abbrev pub add : List Disk → Entry → Option (List Disk)
 add disks e = add_item is_before (entry_of_record entry_of) disks e
 
 -- ---- the reading of a record's value
-
-abbrev pub DiskParts : Type 0
-DiskParts = ℕ × (Bytes × Bytes)
-
-abbrev pub to_disk : DiskParts → DiskInfo
-to_disk (birth, (name, failgroup)) = record { birth = birth; name = name; failgroup = failgroup }
 
 unfoldable pub disk_reading : Reading DiskInfo
 disk_reading = as_a to_disk (both (number_reading w64) (both (name_reading 30) (name_reading 30)))

@@ -5,7 +5,8 @@ use Rattle.asm_group.specs.Shape.{Shape}
 use Rattle.asm_formats.specs.Items.{Key}
 use Rattle.asm_formats.specs.Status as status
 use Rattle.asm_base.specs.Records.{Entry, record_at}
-use Rattle.extent_map.specs.Extents.{Chunk, chunk_key}
+use Rattle.extent_map.specs.Extents.{chunk_key}
+use Rattle.asm_base.specs.Chunks.{Chunk}
 use Rattle.extent_map.specs.Faults.{HasGap}
 use Rattle.alias_tree.specs.Faults.{HasFault}
 use Rattle.catalog.specs.declared.error.CatalogError.{CatalogError}

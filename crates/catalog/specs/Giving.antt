@@ -5,7 +5,8 @@ use Rattle.asm_formats.specs.Items.{Key}
 use Rattle.asm_base.specs.Records.{Entry}
 use Rattle.page_map.specs.Changes.{is_gone}
 use Rattle.allocator.specs.UnitMaps.{UnitMap}
-use Rattle.extent_map.specs.Extents.{Chunk, Chunked, chunk_cmp, chunk_key}
+use Rattle.extent_map.specs.Extents.{Chunked, chunk_key}
+use Rattle.asm_base.specs.Chunks.{Chunk, chunk_cmp}
 use Rattle.catalog.specs.Placing.{after_chunks}
 
 -- the chunks that are meant

@@ -23,6 +23,7 @@ use Rattle.staleness_directory.specs.Marks.{marks_at}
 use Rattle.catalog.specs.Tables.{AreTables, HasRecords, Tables, item_at, records_of}
 use Rattle.catalog.specs.Placing.{HasUnits, homes_of}
 use Rattle.catalog.specs.Rules.{marks_of}
+use Rattle.page_map.specs.Contents.{IsItemOf}
 
 -- the items are those of the tables, in the order of their keys
 pub record AreItemsOf (t : Tables) (items : List Item) : Type 0 where
@@ -39,12 +40,6 @@ abbrev pub ItemsAreOneList : Type 0
 ItemsAreOneList = (t : Tables) (a b : List Item) → AreItemsOf t a → AreItemsOf t b → a ≡ b
 
 -- ---- by the records
-
--- an item of the formats with this key and this value
-pub record IsItemOf (k : Key) (v : List ℕ) (i : Item) : Type 0 where
-  pub is : IsTrue (is_item i)
-  pub key : key i ≡ k
-  pub value : value i ≡ v
 
 -- the items are the records, in the order of their keys
 pub record AreItemsIn (content : List Entry) (items : List Item) : Type 0 where

@@ -4,7 +4,8 @@ use Rattle.std.specs.List.{list_any, zip}
 use Rattle.std.specs.Option.{option_map}
 use Rattle.asm_formats.specs.Items.{Home, Homes, chunk_len}
 use Rattle.asm_formats.specs.Sets.{has_bit}
-use Rattle.extent_map.specs.Extents.{Chunk, chunk_at}
+use Rattle.extent_map.specs.Extents.{chunk_at}
+use Rattle.asm_base.specs.Chunks.{Chunk}
 use Rattle.staleness_directory.specs.Marks.{Marked}
 use Rattle.catalog.specs.ExtentPlans.{homes_at}
 use Rattle.catalog.specs.Rules.{marks_of}

@@ -9,7 +9,8 @@ use Rattle.asm_formats.specs.Status as status
 use Rattle.asm_formats.specs.Items.{Home, chunk_len}
 use Rattle.asm_placement.specs.Placed.{Placed, placed_extents}
 use Rattle.allocator.specs.UnitMaps.{IsUnusedFrom, UnitMap, is_free, resized, unused, with_run}
-use Rattle.extent_map.specs.Extents.{Chunk, Chunked}
+use Rattle.extent_map.specs.Extents.{Chunked}
+use Rattle.asm_base.specs.Chunks.{Chunk}
 use Rattle.catalog.specs.Tables.{Tables}
 
 -- ---- one home after the other

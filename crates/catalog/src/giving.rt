@@ -3,7 +3,7 @@
 ghost use Rattle.std.specs.Prelude.{◌≡◌, ◌<◌, ◌+◌, ◌*◌, ◌^◌, ◌∷◌, [], length, List as Items, Some, true, Bool};
 ghost use Rattle.asm_placement.specs.Placed.{placed_copies, placed_extents};
 ghost use Rattle.allocator.specs.UnitMaps.{UnitMap};
-ghost use Rattle.extent_map.specs.Extents.{Chunk};
+ghost use Rattle.asm_base.specs.Chunks.{Chunk};
 ghost use Rattle.extent_map.specs.Changing.{AreChunks};
 ghost use Rattle.catalog.specs.Giving.{AreUnitsOfKept, but};
 ghost use Rattle.catalog.specs.Placing.{after_homes, home_placed, home_taken};

@@ -21,7 +21,8 @@ use Rattle.asm_formats.proofs.Checkpoints.{commit_is_checkpointed}
 use Rattle.asm_images.proofs.Bridges.{range_change}
 use Rattle.change_directory.specs.declared.copy.DirCopy.{DirCopy}
 use Rattle.change_directory.specs.Places.{gate_of, other_of}
-use Rattle.change_directory.specs.Logs.{image_of_page, bytes_of_page, log_of, spare_in, are_pages}
+use Rattle.change_directory.specs.Logs.{bytes_of_page, log_of, spare_in, are_pages}
+use Rattle.asm_base.specs.Blocks.{image_of_page}
 use Rattle.change_directory.specs.Changes.{disk, IsAtHome, MayLog, HasLogged}
 use Rattle.change_directory.specs.Homes.{AreDue, HasHomed}
 use Rattle.change_directory.specs.Laws.{IsReady, ArePut}

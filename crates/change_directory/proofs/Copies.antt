@@ -26,7 +26,8 @@ use Rattle.change_directory.specs.declared.copy.DirCopy.{DirCopy}
 use Rattle.change_directory.specs.declared.copy.LogSlot.{LogSlot}
 use Rattle.change_directory.specs.declared.copy.LogSlot.TheVariants.{First, Second}
 use Rattle.change_directory.specs.Places.{gate_of, other_of}
-use Rattle.change_directory.specs.Logs.{is_open_at, number_at, spare_in, image_of_page, log_of, are_pages}
+use Rattle.change_directory.specs.Logs.{is_open_at, number_at, spare_in, log_of, are_pages}
+use Rattle.asm_base.specs.Blocks.{image_of_page}
 use Rattle.change_directory.specs.Changes.{disk, content_in, IsAtHome, DecodesIn, IsAbove, MayLog, HasLogged}
 use Rattle.change_directory.specs.Homes.{HomesOf, HasHomed}
 use Rattle.change_directory.specs.Formatting.{AreShut, HasFormatted}

@@ -6,7 +6,8 @@ use Rattle.asm_base.specs.declared.block.Block.{Block}
 use Rattle.asm_group.specs.Names.{Bytes}
 use Rattle.asm_formats.specs.Bytes.{number, whole_block}
 use Rattle.asm_formats.specs.Logs.{PageImage, head_of, log_head_spelling}
-use Rattle.change_directory.specs.Logs.{image_of_page, bytes_of_page, number_field, log_of, log_body}
+use Rattle.change_directory.specs.Logs.{bytes_of_page, number_field, log_of, log_body}
+use Rattle.asm_base.specs.Blocks.{image_of_page}
 
 -- the fields of the head's page numbers
 pub numbers_are_fields : (n : ℕ) (pages : List (ℕ × Block)) → flat_map (number w32) (head_of (log_of n pages)).pages ≡ flat_map number_field pages

@@ -14,7 +14,7 @@ use Rattle.asm_formats.specs.Content.{is_empty_page}
 use Rattle.asm_formats.specs.Status.{ascends_from}
 use Rattle.asm_formats.specs.Logs.{PageImage, LogHead, blocks_from, decoded_log_head, image_in, image_of, images_at, log_at}
 use Rattle.asm_formats.proofs.Codec.{bytes_same}
-use Rattle.change_directory.specs.Logs.{image_of_page}
+use Rattle.asm_base.specs.Blocks.{image_of_page}
 use Rattle.change_directory.specs.Loads.{OpenSlot, commit_of, counted_block, due_page, image_block, newest_slots, open_slots}
 use Rattle.change_directory.specs.Slots.{logs_of}
 

@@ -25,7 +25,8 @@ use Rattle.change_directory.specs.declared.copy.LogSlot.{LogSlot}
 use Rattle.change_directory.specs.declared.copy.LogSlot.TheVariants.{First, Second}
 use Rattle.change_directory.specs.declared.loading.Pages.{Pages}
 use Rattle.change_directory.specs.Places.{gate_of}
-use Rattle.change_directory.specs.Logs.{is_open_at, number_at, image_of_page, are_pages}
+use Rattle.change_directory.specs.Logs.{is_open_at, number_at, are_pages}
+use Rattle.asm_base.specs.Blocks.{image_of_page}
 use Rattle.change_directory.specs.Changes.{disk, content_in}
 use Rattle.change_directory.specs.Formatting.{AreShut}
 use Rattle.change_directory.specs.Loads.{IsLoaded, OpenSlot, commit_of, number_of, counted_block, due_page, filled_page, filled_pages, open_slots}

@@ -14,7 +14,7 @@ use Rattle.asm_formats.specs.Content.{is_empty_page, is_page}
 use Rattle.asm_formats.specs.Logs.{PageImage, image_in, image_of}
 use Rattle.change_directory.specs.declared.loading.Pages.{Pages}
 use Rattle.change_directory.specs.declared.open_log.OpenLog.{OpenLog}
-use Rattle.change_directory.specs.Logs.{image_of_page}
+use Rattle.asm_base.specs.Blocks.{image_of_page}
 use Rattle.change_directory.specs.Loads.{AreInOrder, OpenSlot, are_numbers, counted_block, due_page, newest_slots}
 use Rattle.change_directory.specs.Slots.{AreTaken, AreUpTo, GoesUpTo, IsSoundRead, all_due, all_filled, are_sound, bad_image, counted_page, damage_of, filled, first_bad, is_bad, logs_of, slots_of}
 use Rattle.change_directory.proofs.Afterwards.{same_numbers}

@@ -12,7 +12,7 @@ use Rattle.asm_formats.specs.Logs.{Log, PageImage, blocks_from, image_in, open_l
 use Rattle.asm_formats.specs.Pages.{page_at}
 use Rattle.asm_formats.specs.Damage.{is_bad_page}
 use Rattle.change_directory.specs.declared.loading.Pages.{Pages}
-use Rattle.change_directory.specs.Logs.{image_of_page}
+use Rattle.asm_base.specs.Blocks.{image_of_page}
 use Rattle.change_directory.specs.Loads.{OpenSlot, counted_block, due_page, filled_page}
 use Rattle.change_directory.specs.Slots.{AreTaken, Takes, all_filled, all_due, cut, damaged_page, first_bad, counted_page, filled, is_bad, logs_of}
 use Rattle.change_directory.proofs.BlockRows.{cut_add, cut_len, cut_more}

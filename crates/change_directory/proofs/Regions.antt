@@ -13,7 +13,8 @@ use Rattle.change_directory.specs.declared.copy.DirCopy.{DirCopy}
 use Rattle.change_directory.specs.declared.copy.LogSlot.{LogSlot}
 use Rattle.change_directory.specs.declared.copy.LogSlot.TheVariants.{First, Second}
 use Rattle.change_directory.specs.Places.{gate_of, log_place, HomesAt}
-use Rattle.change_directory.specs.Logs.{image_of_page, log_of, are_pages, spare_in}
+use Rattle.change_directory.specs.Logs.{log_of, are_pages, spare_in}
+use Rattle.asm_base.specs.Blocks.{image_of_page}
 use Rattle.change_directory.specs.Changes.{MayLog, HasLogged}
 use Rattle.change_directory.specs.Homes.{HomesOf}
 use Rattle.change_directory.specs.Formatting.{LogGatesOf, FormatOf, spare_closing, other_closing, MayFormat}

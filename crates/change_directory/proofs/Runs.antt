@@ -25,7 +25,8 @@ use Rattle.asm_images.proofs.Bridges.{bytes_are_listed, range_change}
 use Rattle.change_directory.specs.declared.copy.DirCopy.{DirCopy}
 use Rattle.change_directory.specs.declared.copy.LogSlot.{LogSlot}
 use Rattle.change_directory.specs.Places.{IsCopy, gate_of, other_of, log_place}
-use Rattle.change_directory.specs.Logs.{is_open_at, spare_in, image_of_page, log_of, log_body}
+use Rattle.change_directory.specs.Logs.{is_open_at, spare_in, log_of, log_body}
+use Rattle.asm_base.specs.Blocks.{image_of_page}
 use Rattle.change_directory.specs.Changes.{disk, content_in, MayLog, HasLogged, MayCommit, HasCommitted}
 use Rattle.change_directory.specs.Laws.{IsReady}
 use Rattle.change_directory.proofs.Bodies.{holds_body}

@@ -14,7 +14,8 @@ use Rattle.change_directory.specs.declared.copy.DirCopy.{DirCopy}
 use Rattle.change_directory.specs.declared.copy.LogSlot.{LogSlot}
 use Rattle.change_directory.specs.declared.open_log.OpenLog.{OpenLog}
 use Rattle.change_directory.specs.Places.{gate_of}
-use Rattle.change_directory.specs.Logs.{image_of_page, is_open_at}
+use Rattle.change_directory.specs.Logs.{is_open_at}
+use Rattle.asm_base.specs.Blocks.{image_of_page}
 use Rattle.change_directory.specs.Changes.{disk}
 use Rattle.change_directory.specs.Loads.{OpenSlot, counted_block, image_block}
 use Rattle.change_directory.specs.Slots.{IsLogRead, IsRestRead, bad_image, head_in, images_in, logs_of, place_in, slot_of, slots_of}

@@ -14,7 +14,8 @@ use Rattle.change_directory.specs.declared.copy.DirCopy.{DirCopy}
 use Rattle.change_directory.specs.declared.loading.Pages.{Pages}
 use Rattle.change_directory.specs.declared.loading.LoadFault.{LoadFault}
 use Rattle.change_directory.specs.declared.loading.LoadFault.TheVariants.{Fault, Damaged, NoMemory}
-use Rattle.change_directory.specs.Logs.{are_pages, bytes_of_page, image_of_page}
+use Rattle.change_directory.specs.Logs.{are_pages, bytes_of_page}
+use Rattle.asm_base.specs.Blocks.{image_of_page}
 use Rattle.change_directory.specs.Changes.{disk}
 
 -- ---- the open log slots, with the blocks where they stand

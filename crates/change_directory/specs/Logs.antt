@@ -13,6 +13,7 @@ use Rattle.change_directory.specs.declared.copy.DirCopy.{DirCopy}
 use Rattle.change_directory.specs.declared.copy.LogSlot.{LogSlot}
 use Rattle.change_directory.specs.declared.copy.LogSlot.TheVariants.{First, Second}
 use Rattle.change_directory.specs.Places.{gate_of}
+use Rattle.asm_base.specs.Blocks.{image_of_page}
 
 -- ---- which log slot is written
 
@@ -49,10 +50,6 @@ pub record AreLogsSettled (copy : DirCopy) (state : BayState) : Type 0 where
   pub as_held : (image held : Image) → state.leaves state.calls image → state.holds ≡ Some held → SameLogSlots copy held image
 
 -- ---- what is written
-
--- a page and its bytes
-abbrev pub image_of_page : ℕ × Block → PageImage
-image_of_page p = (p.0, p.1.bytes)
 
 abbrev pub bytes_of_page : ℕ × Block → Bytes
 bytes_of_page p = p.1.bytes

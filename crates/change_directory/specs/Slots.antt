@@ -16,7 +16,8 @@ use Rattle.change_directory.specs.declared.loading.Pages.{Pages}
 use Rattle.change_directory.specs.declared.open_log.OpenLog.{OpenLog}
 use Rattle.change_directory.specs.declared.open_log.OpenLogs.{OpenLogs}
 use Rattle.change_directory.specs.Places.{gate_of}
-use Rattle.change_directory.specs.Logs.{log_of, image_of_page, is_open_at}
+use Rattle.change_directory.specs.Logs.{log_of, is_open_at}
+use Rattle.asm_base.specs.Blocks.{image_of_page}
 use Rattle.change_directory.specs.Changes.{disk}
 use Rattle.change_directory.specs.Loads.{OpenSlot, slot_in, due_page, are_numbers}
 

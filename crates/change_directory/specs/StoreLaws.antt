@@ -14,7 +14,8 @@ use Rattle.asm_formats.specs.Damage.{directory_damage}
 use Rattle.change_directory.specs.declared.copy.DirCopy.{DirCopy}
 use Rattle.change_directory.specs.declared.copy.LogSlot.{LogSlot}
 use Rattle.change_directory.specs.declared.loading.Pages.{Pages}
-use Rattle.change_directory.specs.Logs.{is_open_at, number_at, image_of_page, bytes_of_page, are_pages}
+use Rattle.change_directory.specs.Logs.{is_open_at, number_at, bytes_of_page, are_pages}
+use Rattle.asm_base.specs.Blocks.{image_of_page}
 use Rattle.change_directory.specs.Changes.{disk, content_in, IsAtHome, DecodesIn, IsAbove, MayLog, HasLogged}
 use Rattle.change_directory.specs.Homes.{HomesOf, HasHomed, AreDue}
 use Rattle.change_directory.specs.Formatting.{AreShut, MayFormat, HasFormatted, MayLoseContent}

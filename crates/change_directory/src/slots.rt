@@ -7,7 +7,7 @@ ghost use Rattle.bay.specs.Counts.{Rose};
 ghost use Rattle.bay.specs.Moments.{Runs};
 ghost use Rattle.asm_formats.specs.Logs.{image_in, image_of};
 ghost use Rattle.change_directory.specs.Places.{IsCopy};
-ghost use Rattle.change_directory.specs.Logs.{image_of_page};
+ghost use Rattle.asm_base.specs.Blocks.{image_of_page};
 ghost use Rattle.change_directory.specs.Told.{Told};
 ghost use Rattle.change_directory.specs.Loads.{counted_block, newest_slots, damaged_block};
 ghost use Rattle.change_directory.specs.Slots.{IsLogRead, IsRestRead, IsSoundRead, all_slots, bad_image, cut, has_slots, head_in, images_in, logs_of, place_in, slots_of};

@@ -8,7 +8,8 @@ use Rattle.asm_group.specs.Group.{Template}
 use Rattle.asm_formats.specs.Items.{precedes}
 use Rattle.asm_base.specs.Readings.{both, byte_reading, flag_reading, repeated}
 use Rattle.asm_base.specs.Words.{stripe_reading}
-use Rattle.directory_page.specs.Values.{ascend_after, each_after, copies_reading, named_reading, template_name_reading, template_reading, template_rest_check, templates_check, templates_reading, TemplateParts, to_template}
+use Rattle.directory_page.specs.Values.{ascend_after, each_after, copies_reading, named_reading, template_name_reading, template_reading, template_rest_check, templates_check, templates_reading}
+use Rattle.asm_base.specs.Parts.{TemplateParts, to_template}
 use Rattle.directory_page.proofs.Passing.{Passing, both_pass, read_passes}
 
 -- ---- the loop

@@ -24,7 +24,8 @@ use Rattle.asm_base.proofs.WordLaws.{stripe_exact, node_kind_exact, pending_kind
 use Rattle.asm_base.proofs.NameLaws.{name_exact, text_exact, name_is_part, name_is_short}
 use Rattle.asm_base.proofs.Tables.{all_takes, all_again, bytes_are, are_bytes_is}
 use Rattle.directory_page.specs.Checks.{Check, passed, is_all}
-use Rattle.directory_page.specs.Values.{copies_reading, named_reading, system_reading, FileParts, to_file, file_reading, file_numbers_check, file_check, home_of, home_reading, chunk_reading, extent_check, chunk_check, DiskParts, to_disk, disk_reading, disk_check, PendingParts, to_pending, pending_reading, pending_check, TemplateParts, to_template, template_reading, ascend_after, templates_reading, templates_check, NodeParts, to_node, node_reading, node_check, SettingParts, to_settings, settings_reading, settings_check}
+use Rattle.directory_page.specs.Values.{copies_reading, named_reading, system_reading, FileParts, to_file, file_reading, file_numbers_check, file_check, chunk_reading, extent_check, chunk_check, disk_reading, disk_check, pending_reading, pending_check, template_reading, ascend_after, templates_reading, templates_check, node_reading, node_check, settings_reading, settings_check}
+use Rattle.asm_base.specs.Parts.{home_of, home_reading, DiskParts, to_disk, PendingParts, to_pending, TemplateParts, to_template, NodeParts, to_node, SettingParts, to_settings}
 use Rattle.directory_page.proofs.Passing.{Passing, read_passes, both_pass, as_passes, times_pass, all_passes}
 use Rattle.directory_page.proofs.Ascending.{templates_pass}
 

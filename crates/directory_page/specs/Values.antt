@@ -13,6 +13,7 @@ use Rattle.asm_formats.specs.Items.{FileHead, Home, Homes, DiskInfo, Pending, No
 use Rattle.asm_base.specs.Readings.{Reading, both, as_a, decoded, tested, repeated, counted, byte_reading, flag_reading, number_reading, name_reading, text_reading}
 use Rattle.asm_base.specs.Words.{stripe_reading, node_kind_reading, pending_kind_reading}
 use Rattle.directory_page.specs.Checks.{Check, passed, in_turn, times, is_all}
+use Rattle.asm_base.specs.Parts.{home_reading, to_disk, to_pending, to_template, to_node, to_settings}
 
 -- ---- fields
 
@@ -50,13 +51,6 @@ file_check = in_turn (passed copies_reading) (in_turn (passed stripe_reading) (i
 
 -- ---- chunks
 
--- an absent home is 255 and 0
-abbrev pub home_of : ℕ × ℕ → Option (Option Home)
-home_of p = if p.0 == 255 then (if p.1 == 0 then Some None else None) else Some (Some (record { disk = p.0; unit = p.1 }))
-
-unfoldable pub home_reading : Reading (Option Home)
-home_reading = decoded home_of (both byte_reading (number_reading w32))
-
 abbrev pub chunk_reading : Reading (List Homes)
 chunk_reading = repeated chunk_len (repeated 3 home_reading)
 
@@ -69,12 +63,6 @@ chunk_check = times chunk_len extent_check
 
 -- ---- disks
 
-abbrev pub DiskParts : Type 0
-DiskParts = ℕ × (Bytes × Bytes)
-
-abbrev pub to_disk : DiskParts → DiskInfo
-to_disk (birth, (name, failgroup)) = record { birth = birth; name = name; failgroup = failgroup }
-
 abbrev pub disk_reading : Reading DiskInfo
 disk_reading = as_a to_disk (both (number_reading w64) (both named_reading named_reading))
 
@@ -83,12 +71,6 @@ disk_check = in_turn (passed (number_reading w64)) (in_turn (passed named_readin
 
 -- ---- operations
 
-abbrev pub PendingParts : Type 0
-PendingParts = PendingKind × (ℕ × ℕ)
-
-abbrev pub to_pending : PendingParts → Pending
-to_pending (kind, (file, kept)) = record { kind = kind; file = file; kept = kept }
-
 abbrev pub pending_reading : Reading Pending
 pending_reading = as_a to_pending (both pending_kind_reading (both (number_reading w32) (number_reading w64)))
 
@@ -96,12 +78,6 @@ unfoldable pub pending_check : Check
 pending_check = in_turn (passed pending_kind_reading) (in_turn (passed (number_reading w32)) (passed (number_reading w64)))
 
 -- ---- templates
-
-abbrev pub TemplateParts : Type 0
-TemplateParts = Bytes × (ℕ × (Stripe × Bool))
-
-abbrev pub to_template : TemplateParts → Template
-to_template (name, (copies, (stripe, system))) = record { name = name; copies = copies; stripe = stripe; system = system }
 
 unfoldable pub template_reading : Reading Template
 template_reading = as_a to_template (both named_reading (both copies_reading (both stripe_reading flag_reading)))
@@ -134,12 +110,6 @@ templates_check bytes = option_and_then (λ n. if nat_le n.0 most_templates then
 
 -- ---- nodes
 
-abbrev pub NodeParts : Type 0
-NodeParts = ℕ × (NodeKind × (ℕ × Bytes))
-
-abbrev pub to_node : NodeParts → Node
-to_node (parent, (kind, (file, name))) = record { parent = parent; kind = kind; file = file; name = name }
-
 abbrev pub node_reading : Reading Node
 node_reading = as_a to_node (both (number_reading w32) (both node_kind_reading (both (number_reading w32) (name_reading 80))))
 
@@ -147,13 +117,6 @@ unfoldable pub node_check : Check
 node_check = in_turn (passed (number_reading w32)) (in_turn (passed node_kind_reading) (in_turn (passed (number_reading w32)) (passed (name_reading 80))))
 
 -- ---- settings
-
-abbrev pub SettingParts : Type 0
-SettingParts = ℕ × (ℕ × (Bytes × (Bytes × Bytes)))
-
-abbrev pub to_settings : SettingParts → Settings
-to_settings (incarnation, (repair, (asm, (rdbms, advm)))) =
-    record { incarnation = incarnation; attributes = record { repair = repair; asm = asm; rdbms = rdbms; advm = advm } }
 
 abbrev pub settings_reading : Reading Settings
 settings_reading =

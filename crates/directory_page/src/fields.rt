@@ -2,7 +2,8 @@
 ghost use Rattle.asm_base.specs.Readings.{flag_reading};
 ghost use Rattle.asm_base.specs.Words.{stripe_reading, node_kind_reading, pending_kind_reading};
 ghost use Rattle.directory_page.specs.Checks.{Passes, passed};
-ghost use Rattle.directory_page.specs.Values.{copies_reading, system_reading, home_reading};
+ghost use Rattle.directory_page.specs.Values.{copies_reading, system_reading};
+ghost use Rattle.asm_base.specs.Parts.{home_reading};
 
 use asm_base::{
     Reader, take_flag, take_node_kind, take_pending_kind, take_stripe, take_u8, take_u32,

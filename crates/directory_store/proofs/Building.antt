@@ -14,7 +14,7 @@ use Rattle.directory_store.specs.declared.due.Due.{Due}
 use Rattle.directory_store.specs.Reading.{IsBehind, IsNewest, KeepsOne, PutsKept, copies_of, is_same_page, same_pages}
 use Rattle.asm_formats.specs.Logs.{PageImage}
 use Rattle.std.proofs.lemmas.List.{take_more}
-use Rattle.change_directory.specs.Logs.{image_of_page}
+use Rattle.asm_base.specs.Blocks.{image_of_page}
 use Rattle.change_directory.specs.StoreLaws.{due_images, shown_by}
 use Rattle.change_directory.specs.declared.loading.Pages.{Pages}
 use Rattle.change_directory.specs.Loads.{AreInOrder}

@@ -21,7 +21,8 @@ use Rattle.change_directory.specs.Changes.{disk, content_in, DecodesIn, IsAtHome
 use Rattle.change_directory.specs.Formatting.{AreShut}
 use Rattle.change_directory.specs.Homes.{HasHomed, HomesOf, KeepsContent}
 use Rattle.change_directory.specs.Loads.{IsLoaded, number_of, due_page, filled_pages, open_slots}
-use Rattle.change_directory.specs.Logs.{are_pages, image_of_page}
+use Rattle.change_directory.specs.Logs.{are_pages}
+use Rattle.asm_base.specs.Blocks.{image_of_page}
 use Rattle.change_directory.specs.Places.{IsCopy}
 use Rattle.change_directory.specs.StoreLaws.{HasDue, HasOpen, HasRegion, IsReadAs, IsShaped, RegionOf, SameCopy, due_images, shown_by}
 use Rattle.change_directory.specs.Told.{Told}

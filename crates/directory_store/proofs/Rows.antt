@@ -17,7 +17,8 @@ use Rattle.asm_formats.specs.Pages.{with_images}
 use Rattle.asm_formats.specs.Sets.{has_bit}
 use Rattle.change_directory.specs.declared.copy.DirCopy.{DirCopy}
 use Rattle.change_directory.specs.Changes.{content_in}
-use Rattle.change_directory.specs.Logs.{AreLogsSettled, image_of_page}
+use Rattle.change_directory.specs.Logs.{AreLogsSettled}
+use Rattle.asm_base.specs.Blocks.{image_of_page}
 use Rattle.change_directory.specs.StoreLaws.{IsShaped, HasRegion, SameRegion, SameCopy, RegionOf, content_with}
 use Rattle.change_directory.proofs.Settled.{logs_off}
 use Rattle.change_directory.proofs.Usable.{still_copy}

@@ -18,7 +18,7 @@ use Rattle.asm_formats.specs.Pages.{with_images}
 use Rattle.asm_formats.specs.Sets.{has_bit}
 use Rattle.asm_formats.proofs.Among.{among_filter, filter_among}
 use Rattle.change_directory.specs.declared.copy.DirCopy.{DirCopy}
-use Rattle.change_directory.specs.Logs.{image_of_page}
+use Rattle.asm_base.specs.Blocks.{image_of_page}
 use Rattle.change_directory.specs.StoreLaws.{SameRegion}
 use Rattle.change_directory.proofs.Settled.{logs_stay}
 use Rattle.change_directory.proofs.Spares.{region_logs}

@@ -43,7 +43,8 @@ use Rattle.status_register.specs.Holders.{numbered}
 use Rattle.status_register.specs.Registered.{Registered}
 use Rattle.status_register.specs.declared.member.Member.{Member}
 use Rattle.new_groups.specs.Forming.{AreHeadable, AreLong, Works}
-use Rattle.new_groups.specs.Tests.{are_apart, is_held, is_there, shows_size}
+use Rattle.new_groups.specs.Tests.{are_apart, is_there, shows_size}
+use Rattle.group_mount.specs.Founds.{is_held}
 use Rattle.new_groups.proofs.DiskLists.{pages_of}
 use Rattle.disk_joining.specs.Attaching.{has_slot}
 use Rattle.disk_joining.specs.Joiners.{AreJoiners, IsEntered, AreEntered, IsJoiner, CanJoin, are_free, are_unrecorded, is_entered, records_disk, are_entered, fits_shape, may_join}

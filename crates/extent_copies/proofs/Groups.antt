@@ -7,7 +7,8 @@ use Rattle.asm_formats.specs.Status.{Entry}
 use Rattle.asm_placement.specs.DiskSets.{is_among, groups_of}
 use Rattle.asm_placement.specs.Modes.{stays}
 use Rattle.asm_placement.specs.Partners.{table_disks}
-use Rattle.extent_copies.specs.NewFiles.{is_of_group, is_table_disk}
+use Rattle.extent_copies.specs.NewFiles.{is_of_group}
+use Rattle.partnership.specs.Tables.{is_table_disk}
 
 -- all but a number
 abbrev but : ℕ → List ℕ → List ℕ

@@ -8,14 +8,11 @@ use Rattle.asm_placement.specs.Modes.{stays}
 use Rattle.asm_placement.specs.Partners.{table_disks}
 use Rattle.asm_world.specs.Files.{if_system}
 use Rattle.template_directory.specs.Tables.{template_named}
+use Rattle.partnership.specs.Tables.{is_table_disk}
 
 -- the disk lies in the failure group
 abbrev pub is_of_group : ℕ → Entry → Bool
 is_of_group g e = e.failgroup == g
-
--- the disk is regular and stays in the group
-abbrev pub is_table_disk : Entry → Bool
-is_table_disk e = not e.quorum && stays e.mode
 
 -- how many regular failure groups have a disk that is Online, Offline or Syncing
 abbrev pub serving_groups : List Entry → ℕ

@@ -10,7 +10,8 @@ ghost use Rattle.asm_placement.specs.DiskSets.{groups_of};
 ghost use Rattle.asm_placement.specs.Partners.{table_disks};
 ghost use Rattle.asm_world.specs.Files.{copies_for, if_system, template_for};
 ghost use Rattle.template_directory.specs.Tables.{template_named};
-ghost use Rattle.extent_copies.specs.NewFiles.{is_of_group, is_table_disk, serving_groups, template_by};
+ghost use Rattle.extent_copies.specs.NewFiles.{is_of_group, serving_groups, template_by};
+ghost use Rattle.partnership.specs.Tables.{is_table_disk};
 
 use asm_base::{GroupKind, Mode, Name};
 use status_table::{PstEntry, PstRecord};

@@ -10,7 +10,8 @@ use Rattle.asm_base.specs.Records.{Ascend}
 use Rattle.asm_base.proofs.Copying.{copied_more}
 use Rattle.asm_base.proofs.ItemTables.{put_keeps, removed_keeps}
 use Rattle.extent_map.specs.Changing.{AreChunks, value_at}
-use Rattle.extent_map.specs.Extents.{Chunk, Chunked, chunk_at, chunk_cmp, chunk_key, is_before, item_of, with_chunk, without_chunk}
+use Rattle.extent_map.specs.Extents.{Chunked, chunk_at, chunk_key, item_of, with_chunk, without_chunk}
+use Rattle.asm_base.specs.Chunks.{Chunk, chunk_cmp, is_before}
 use Rattle.extent_map.proofs.Laws.{chunk_total, same_chunk}
 
 either : (b : Bool) → (b ≡ true) ⊎ (b ≡ false)

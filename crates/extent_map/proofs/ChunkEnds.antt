@@ -13,7 +13,8 @@ use Rattle.std.proofs.Math.ListN.{take-append-drop}
 use Rattle.asm_formats.specs.Items.{Homes, is_homes}
 use Rattle.asm_base.proofs.Exact.{AreFitting}
 use Rattle.asm_base.proofs.ItemTables.{removed_keeps}
-use Rattle.extent_map.specs.Extents.{Chunk, Chunked, HasCount, IsTable, absent, chunk_at, chunk_cmp, chunk_or_blank, count_in, follows, has_extent, has_home, is_blank, is_full, item_of, stand_first, with_chunk, with_extent, with_more, without_chunk}
+use Rattle.extent_map.specs.Extents.{Chunked, HasCount, IsTable, absent, chunk_at, chunk_or_blank, count_in, follows, has_extent, has_home, is_blank, is_full, item_of, stand_first, with_chunk, with_extent, with_more, without_chunk}
+use Rattle.asm_base.specs.Chunks.{Chunk, chunk_cmp}
 use Rattle.extent_map.specs.Laws.{FillsChunks, ReplacesExtents, TakesChunks}
 use Rattle.extent_map.proofs.Laws.{chunk_total, same_chunk}
 use Rattle.extent_map.proofs.Values.{IsHomes, blank_fits, chunk_fits, more_allowed, set_allowed}

@@ -9,7 +9,8 @@ use Rattle.std.proofs.lemmas.Bool.{and_parts, cases_eq, cases_lt, ltb-true}
 use Rattle.std.proofs.lemmas.List.{get_or-set_same, get_or-set_other, get_or-replicate, length-replicate, length-set}
 use Rattle.asm_formats.specs.Items.{Homes, is_homes, is_item}
 use Rattle.asm_base.proofs.ItemTables.{put_keeps}
-use Rattle.extent_map.specs.Extents.{Chunk, Chunked, HasCount, HasExtent, IsTable, absent, chunk_at, chunk_cmp, has_extent, has_home, is_blank, is_full, item_of, may_stand, stand_first, with_chunk, with_extent, without_extent}
+use Rattle.extent_map.specs.Extents.{Chunked, HasCount, HasExtent, IsTable, absent, chunk_at, has_extent, has_home, is_blank, is_full, item_of, may_stand, stand_first, with_chunk, with_extent, without_extent}
+use Rattle.asm_base.specs.Chunks.{Chunk, chunk_cmp}
 use Rattle.extent_map.specs.Laws.{AppendsExtents, TakesLast}
 use Rattle.extent_map.proofs.Laws.{chunk_total, same_chunk}
 use Rattle.extent_map.proofs.Values.{chunk_numbered, new_allowed, set_allowed}

@@ -4,7 +4,8 @@ use Rattle.std.proofs.lemmas.Option.{none-some}
 use Rattle.asm_base.specs.Records.{Entry, read_from}
 use Rattle.asm_base.proofs.Exact.{some_is}
 use Rattle.asm_base.proofs.ItemTables.{items_again, items_found}
-use Rattle.extent_map.specs.Extents.{Chunk, Chunked, add, has_no_gap, is_before, is_chunk, opened, stands_at}
+use Rattle.extent_map.specs.Extents.{Chunked, add, has_no_gap, is_chunk, opened, stands_at}
+use Rattle.asm_base.specs.Chunks.{Chunk, is_before}
 use Rattle.extent_map.specs.Faults.{HasGap, IsWithoutGap, gap_from}
 use Rattle.extent_map.proofs.Laws.{chunk_entry}
 

@@ -15,7 +15,8 @@ use Rattle.asm_base.specs.Records.{Entry, of_kinds, read_from, Ascend, ends_belo
 use Rattle.asm_base.specs.Tables.{entry_of_record}
 use Rattle.asm_base.proofs.Exact.{bind_some, some_is, test_some}
 use Rattle.asm_base.proofs.ItemTables.{IsEntry, entry_is_read, entry_taken, items_found, items_again}
-use Rattle.extent_map.specs.Extents.{absent, Chunk, Chunked, IsNumbered, IsTable, add, chunk_cmp, chunk_key, chunked, has_no_gap, is_before, chunk_at, is_chunk, item_of, record_of, with_chunk, with_extent, without_gap}
+use Rattle.extent_map.specs.Extents.{absent, Chunked, IsNumbered, IsTable, add, chunk_key, chunked, has_no_gap, chunk_at, is_chunk, item_of, record_of, with_chunk, with_extent, without_gap}
+use Rattle.asm_base.specs.Chunks.{Chunk, chunk_cmp, is_before}
 use Rattle.extent_map.proofs.Values.{chunk_numbered}
 
 -- ---- the order of chunks

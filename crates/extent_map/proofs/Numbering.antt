@@ -11,7 +11,8 @@ use Rattle.std.proofs.lemmas.Option.{none-some}
 use Rattle.asm_formats.specs.Items.{Homes, is_item}
 use Rattle.asm_base.specs.Records.{Ascend}
 use Rattle.asm_base.proofs.Exact.{some_is, test_some}
-use Rattle.extent_map.specs.Extents.{Chunk, Chunked, IsTable, chunk_at, chunk_cmp, has_home, has_no_gap, is_before, is_behind, is_blank, is_full, item_of, opened, stand_first, stands_at}
+use Rattle.extent_map.specs.Extents.{Chunked, IsTable, chunk_at, has_home, has_no_gap, is_behind, is_blank, is_full, item_of, opened, stand_first, stands_at}
+use Rattle.asm_base.specs.Chunks.{Chunk, chunk_cmp, is_before}
 use Rattle.extent_map.specs.Laws.{NumbersExtents}
 use Rattle.extent_map.proofs.Laws.{chunk_total, same_chunk}
 use Rattle.extent_map.proofs.Values.{chunk_fits}

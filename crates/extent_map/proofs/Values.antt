@@ -16,7 +16,8 @@ use Rattle.asm_base.proofs.Numbers.{number_exact}
 use Rattle.asm_base.proofs.FieldLaws.{one_byte, byte_exact}
 use Rattle.asm_base.proofs.ItemTables.{value_is_decoded}
 use Rattle.extent_map.specs.Extents.{absent, chunk_key, cut_to}
-use Rattle.extent_map.specs.Readings.{home_of, home_reading, extent_reading, chunk_reading}
+use Rattle.extent_map.specs.Readings.{extent_reading, chunk_reading}
+use Rattle.asm_base.specs.Parts.{home_of, home_reading}
 
 -- ---- homes
 

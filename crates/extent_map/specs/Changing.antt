@@ -4,7 +4,8 @@ use Rattle.std.specs.Option.{option_map}
 use Rattle.asm_formats.specs.Items.{chunk_item}
 use Rattle.asm_formats.specs.Values.{value}
 use Rattle.asm_base.specs.Tables.{IsItemTable}
-use Rattle.extent_map.specs.Extents.{Chunk, Chunked, chunk_at, is_before, item_of}
+use Rattle.extent_map.specs.Extents.{Chunked, chunk_at, item_of}
+use Rattle.asm_base.specs.Chunks.{Chunk, is_before}
 
 -- the value of the record of a chunk
 abbrev pub value_at : List Chunked → Chunk → Option (List ℕ)

@@ -2,7 +2,8 @@
 use Rattle.std.specs.Prelude.{◌≡◌, List, [], ◌∷◌, map, Option, Some, None, if◌then◌else◌, IsTrue}
 use Rattle.asm_base.specs.Records.{Entry, of_kinds}
 use Rattle.asm_base.specs.Tables.{IsItemTable}
-use Rattle.extent_map.specs.Extents.{Chunk, Chunked, has_no_gap, is_before, is_chunk, item_of, opened, record_of, stands_at}
+use Rattle.extent_map.specs.Extents.{Chunked, has_no_gap, is_chunk, item_of, opened, record_of, stands_at}
+use Rattle.asm_base.specs.Chunks.{Chunk, is_before}
 
 -- the first chunk that doesn't stand behind the ones before it
 abbrev pub gap_from : Option Chunk → List Chunked → Option Chunk

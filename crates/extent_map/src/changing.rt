@@ -5,7 +5,8 @@ ghost use Rattle.std.specs.Bool.{OnFalse, OnTrue};
 ghost use Rattle.std.specs.BTreeMap.{is_at};
 ghost use Rattle.asm_formats.specs.Values.{decoded_item};
 ghost use Rattle.extent_map.specs.Changing.{AreChunks, value_at};
-ghost use Rattle.extent_map.specs.Extents.{Chunk, chunk_cmp, chunk_key};
+ghost use Rattle.extent_map.specs.Extents.{chunk_key};
+ghost use Rattle.asm_base.specs.Chunks.{Chunk, chunk_cmp};
 
 use crate::reading::chunk_in;
 use crate::table::ExtentMap;

@@ -8,7 +8,8 @@ ghost use Rattle.asm_base.specs.Cursors.{Reads};
 ghost use Rattle.asm_base.specs.Readings.{repeated};
 ghost use Rattle.asm_base.specs.Records.{all_of};
 ghost use Rattle.extent_map.specs.Extents.{chunk_key};
-ghost use Rattle.extent_map.specs.Readings.{chunk_reading, extent_reading, home_reading};
+ghost use Rattle.extent_map.specs.Readings.{chunk_reading, extent_reading};
+ghost use Rattle.asm_base.specs.Parts.{home_reading};
 
 use crate::chunk::Chunk;
 use asm_base::{Home, Homes, List, NoMemory, Reader, is_at_end, take_u8, take_u32};

@@ -36,7 +36,8 @@ impl Model for ExtentMap {
 
 impl ExtentMap {
     ghost use Rattle.extent_map.specs.Changing.{AreChunks, value_at};
-    ghost use Rattle.extent_map.specs.Extents.{Chunk as Place, chunk_cmp, absent, Chunked, IsNumbered, IsTable, add, chunk_at, chunks_from, extent_at, has_extent, has_no_gap, is_before, is_chunk, record_of, with_chunk, with_extent, with_homes, without_chunk, without_extent, without_gap};
+    ghost use Rattle.extent_map.specs.Extents.{absent, Chunked, IsNumbered, IsTable, add, chunk_at, chunks_from, extent_at, has_extent, has_no_gap, is_chunk, record_of, with_chunk, with_extent, with_homes, without_chunk, without_extent, without_gap};
+    ghost use Rattle.asm_base.specs.Chunks.{Chunk as Place, chunk_cmp, is_before};
 
     pub fn new(alloc: Global) -> ExtentMap
         ensures { result ≡ [] }

@@ -9,7 +9,8 @@ use Rattle.std.proofs.lemmas.Cmp.{ranked}
 use Rattle.std.proofs.Math.Arith.{lt_of_le-ne}
 use Rattle.asm_formats.specs.Items.{Homes}
 use Rattle.asm_base.specs.Records.{Ascend}
-use Rattle.extent_map.specs.Extents.{Chunked, chunk_cmp, chunks_from, is_before}
+use Rattle.extent_map.specs.Extents.{Chunked, chunks_from}
+use Rattle.asm_base.specs.Chunks.{chunk_cmp, is_before}
 use Rattle.catalog.specs.NamePlans.{is_within_file}
 use Rattle.catalog.specs.Rules.{are_within, first_wrong}
 

@@ -27,7 +27,8 @@ use Rattle.directory_store.specs.Stores.{AreFirst}
 use Rattle.page_map.proofs.Keys.{same_key, key_itself}
 use Rattle.page_map.specs.Tables.{PageTable}
 use Rattle.group_disks.specs.Creating.{usual_shape}
-use Rattle.group_disks.specs.Planned.{Plan, IsPlan, disk_of_plan, first_entries, first_settings, first_templates, record_of_plan}
+use Rattle.group_disks.specs.Planned.{Plan, IsPlan, disk_of_plan, first_entries, record_of_plan}
+use Rattle.asm_images.specs.Created.{first_settings, first_templates}
 use Rattle.group_disks.proofs.FirstBodies.{disk_ok, settings_ok, templates_ok}
 
 -- ---- records in order are one list

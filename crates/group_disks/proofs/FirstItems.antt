@@ -6,14 +6,16 @@ use Rattle.asm_base.specs.Records.{is_key, record_at}
 use Rattle.asm_formats.specs.Among.{IsAmong}
 use Rattle.asm_formats.specs.Items.{Item, Key, key}
 use Rattle.asm_formats.specs.Values.{value}
-use Rattle.catalog.specs.Items.{AreItemsOf, IsItemOf}
+use Rattle.catalog.specs.Items.{AreItemsOf}
+use Rattle.page_map.specs.Contents.{IsItemOf}
 use Rattle.catalog.specs.Tables.{AreTables, HasRecords, Tables}
 use Rattle.catalog.proofs.HavingItems.{items_are_one}
 use Rattle.catalog.proofs.TableItems.{items_of_records}
 use Rattle.directory_store.specs.Stores.{AreFirst}
 use Rattle.page_map.specs.Tables.{PageTable}
 use Rattle.page_map.proofs.Keys.{same_key}
-use Rattle.group_disks.specs.Planned.{Plan, IsPlan, disk_of_plan, first_entries, first_settings, first_templates, items_of_plan}
+use Rattle.group_disks.specs.Planned.{Plan, IsPlan, disk_of_plan, first_entries, items_of_plan}
+use Rattle.asm_images.specs.Created.{first_settings, first_templates}
 use Rattle.group_disks.proofs.FirstBodies.{disk_ok, settings_ok, templates_ok}
 
 module _ (plan : Plan) (is : IsPlan plan) (table : PageTable) (first : AreFirst (first_entries plan) [] table) where

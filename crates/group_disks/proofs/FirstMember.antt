@@ -19,7 +19,8 @@ use Rattle.asm_images.proofs.Membership.{among_flat_map}
 use Rattle.asm_images.proofs.History.{greatest_is, among_statuses}
 use Rattle.asm_images.proofs.Members.{member_is, among_members}
 use Rattle.asm_images.proofs.Bridges.{disks_are_listed, beyond_is_unseen}
-use Rattle.group_disks.specs.Creating.{Allows, HasMember, Founds, made_group}
+use Rattle.group_disks.specs.Creating.{HasMember, Founds, made_group}
+use Rattle.group_mount.specs.Mounting.{Allows}
 use Rattle.group_disks.specs.Planned.{Plan, IsPlan, header_of_plan, record_of_plan, kept_of_plan, metadata_of_plan}
 use Rattle.group_disks.proofs.Outsiders.{nothing_among, no_member_allows}
 use Rattle.group_disks.proofs.Departing.{elsewhere_member}

@@ -20,7 +20,8 @@ use Rattle.asm_formats.proofs.Framing.{header_write, content_behind}
 use Rattle.asm_formats.proofs.Writings.{write_widens}
 use Rattle.asm_images.specs.Bridge.{disk_bytes, ChangesSlot}
 use Rattle.asm_images.proofs.Bridges.{range_change}
-use Rattle.group_disks.specs.Creating.{Allows, HasMember, Creates, Founds, made_group}
+use Rattle.group_disks.specs.Creating.{HasMember, Creates, Founds, made_group}
+use Rattle.group_mount.specs.Mounting.{Allows}
 use Rattle.group_disks.specs.Planned.{Plan, IsPlan, header_of_plan, header_body, kept_of_plan}
 use Rattle.group_disks.specs.Stages.{IsForming, bare, headed, claimed, whole, HasAll}
 use Rattle.group_disks.specs.CreateLaws.{FormingCreates, FormedIsHeld}

@@ -9,7 +9,8 @@ use Rattle.asm_images.specs.Bridge.{disks_in}
 use Rattle.asm_images.specs.Sound.{Sound}
 use Rattle.asm_images.proofs.Zeros.{memberless}
 use Rattle.asm_images.proofs.Spans.{widen_keeps}
-use Rattle.group_disks.specs.Creating.{Allows, HasMember, Creates}
+use Rattle.group_disks.specs.Creating.{HasMember, Creates}
+use Rattle.group_mount.specs.Mounting.{Allows}
 
 -- a list without an element is empty
 pub nothing_among : {A : Type 0} (xs : List A) → ((x : A) → IsAmong xs x → ⊥) → xs ≡ []

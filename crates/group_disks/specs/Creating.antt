@@ -15,10 +15,7 @@ use Rattle.asm_images.specs.Bridge.{disks_in, ChangesSlot}
 use Rattle.asm_images.specs.Kept.{Kept, header_in, IsMemberIn, IsHeld}
 use Rattle.asm_formats.specs.Status.{Status}
 use Rattle.asm_images.specs.Sound.{SoundBy, Sound}
-
--- the image may stand for these groups under the id, and for no others, however many of its slots are looked at
-abbrev pub Allows : ℕ → List Group → Image → Type 0
-Allows id groups image = (slots : ℕ) → Sound id (disks_in slots image) groups
+use Rattle.group_mount.specs.Mounting.{Allows}
 
 -- a disk of the image is a member of the id
 pub record HasMember (id : ℕ) (image : Image) : Type 0 where

@@ -15,6 +15,7 @@ use Rattle.asm_formats.specs.Metadata.{Metadata}
 use Rattle.asm_formats.specs.Regions.{most_units}
 use Rattle.asm_images.specs.Kept.{Kept}
 use Rattle.group_disks.specs.Creating.{usual_shape}
+use Rattle.asm_images.specs.Created.{first_templates, first_settings}
 
 -- the group's id and name, and the name and the units of its one disk
 pub record Plan : Type 0 where
@@ -67,12 +68,6 @@ record_of_plan plan = record {
 -- the directory has the disk, the system templates and the settings
 abbrev pub disk_of_plan : Plan → Item
 disk_of_plan plan = disk_item 0 (record { birth = 1; name = plan.disk; failgroup = plan.disk })
-
-abbrev pub first_templates : Item
-first_templates = templates_item (system_templates External)
-
-abbrev pub first_settings : Item
-first_settings = settings_item (record { incarnation = 1; attributes = usual_attributes })
 
 abbrev pub items_of_plan : Plan → List Item
 items_of_plan plan = disk_of_plan plan ∷ first_templates ∷ first_settings ∷ []

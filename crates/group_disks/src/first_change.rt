@@ -3,7 +3,8 @@ ghost use Rattle.std.specs.Prelude.{◌≡◌, [], IfOk, IsTrue};
 ghost use Rattle.asm_group.specs.Names.{is_name};
 ghost use Rattle.asm_formats.specs.Items.{disk_item};
 ghost use Rattle.asm_formats.specs.Values.{value};
-ghost use Rattle.group_disks.specs.Planned.{IsPlan, first_entries, first_templates, first_settings};
+ghost use Rattle.group_disks.specs.Planned.{IsPlan, first_entries};
+ghost use Rattle.asm_images.specs.Created.{first_templates, first_settings};
 
 use crate::new_group::NewGroup;
 use asm_base::{

@@ -20,7 +20,8 @@ use Rattle.catalog.specs.Rules.{first_wrong, is_due, is_owned}
 use Rattle.catalog.specs.Tables.{Tables}
 use Rattle.catalog.proofs.NumberedEntries.{passes_where}
 use Rattle.catalog.proofs.TableItems.{below, chunks_exact, found_is, some_found, tail_up}
-use Rattle.extent_map.specs.Extents.{Chunk, Chunked, chunk_at, chunk_cmp, chunks_from, has_extent, has_home, is_before}
+use Rattle.extent_map.specs.Extents.{Chunked, chunk_at, chunks_from, has_extent, has_home}
+use Rattle.asm_base.specs.Chunks.{Chunk, chunk_cmp, is_before}
 use Rattle.extent_map.proofs.Laws.{chunk_total}
 use Rattle.file_directory.specs.Files.{is_file}
 use Rattle.group_engine.specs.Pending.{HasAtMost, first_key, without_pending}

@@ -9,7 +9,8 @@ use Rattle.asm_formats.specs.Among.{IsAmong}
 use Rattle.asm_formats.specs.Items.{Homes, Key}
 use Rattle.asm_formats.specs.Status.{Entry, Status}
 use Rattle.asm_base.specs.Records as records
-use Rattle.extent_map.specs.Extents.{Chunk, Chunked, chunk_at, chunk_cmp}
+use Rattle.extent_map.specs.Extents.{Chunked, chunk_at}
+use Rattle.asm_base.specs.Chunks.{Chunk, chunk_cmp}
 use Rattle.extent_map.proofs.Laws.{chunk_total}
 use Rattle.catalog.specs.Changing.{IsAfter}
 use Rattle.catalog.specs.Rules.{AreOnRegular, first_wrong, is_regular_chunk}

@@ -6,7 +6,8 @@ use Rattle.asm_base.specs.declared.refusal.Refusal.{Refusal}
 use Rattle.asm_formats.specs.Items.{FileHead}
 use Rattle.catalog.specs.FilePlans.{HasSoMany}
 use Rattle.catalog.specs.Tables.{Tables}
-use Rattle.extent_map.specs.Extents.{Chunk, Chunked}
+use Rattle.extent_map.specs.Extents.{Chunked}
+use Rattle.asm_base.specs.Chunks.{Chunk}
 use Rattle.group_engine.specs.Commits.{KeepsRecord, StatusCause}
 use Rattle.group_engine.specs.Mounts.{IsMounted, MountedGroup}
 use Rattle.group_engine.specs.Own.{KeepsGroup}

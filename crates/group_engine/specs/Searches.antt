@@ -9,7 +9,7 @@ use Rattle.catalog.specs.Items.{AreItemsOf}
 use Rattle.catalog.specs.Plans.{IsPlan}
 use Rattle.catalog.specs.Rules.{AreOnRegular}
 use Rattle.catalog.specs.Tables.{Catalogued, Tables}
-use Rattle.extent_map.specs.Extents.{Chunk}
+use Rattle.asm_base.specs.Chunks.{Chunk}
 use Rattle.rebalance.specs.Cursors.{IsCursor, IsSameBut, Places}
 use Rattle.rebalance.specs.Falling.{Falls}
 use Rattle.rebalance.specs.Moves.{next_meant}

@@ -17,7 +17,8 @@ use Rattle.asm_images.specs.Tables.{pending_of}
 use Rattle.asm_base.proofs.Exact.{some_is}
 use Rattle.file_directory.specs.Files.{head_at, is_file}
 use Rattle.extent_map.specs.Extents as extents
-use Rattle.extent_map.specs.Extents.{Chunked, chunk_at, chunk_cmp, has_extent, has_home}
+use Rattle.extent_map.specs.Extents.{Chunked, chunk_at, has_extent, has_home}
+use Rattle.asm_base.specs.Chunks.{chunk_cmp}
 use Rattle.extent_map.proofs.Laws.{chunk_total}
 use Rattle.extent_map.proofs.Numbering.{numbers_extents}
 use Rattle.staleness_directory.specs.Marks.{marks_at}

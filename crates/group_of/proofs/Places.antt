@@ -15,7 +15,8 @@ use Rattle.asm_placement.specs.Layout.{units_of}
 use Rattle.asm_placement.specs.Placed.{Placed, all_apart, are_apart, fits_entry, is_inside, placed_copies, placed_extents, places_fit}
 use Rattle.asm_base.specs.Records.{Ascend}
 use Rattle.extent_map.specs.Extents as extents
-use Rattle.extent_map.specs.Extents.{Chunked, chunk_cmp, is_before}
+use Rattle.extent_map.specs.Extents.{Chunked}
+use Rattle.asm_base.specs.Chunks.{chunk_cmp, is_before}
 use Rattle.extent_map.proofs.Laws.{chunk_total}
 use Rattle.catalog.specs.Tables.{Tables}
 use Rattle.catalog.specs.Rules.{KeepsRules, are_on_disks, are_on_two, is_on_disks}

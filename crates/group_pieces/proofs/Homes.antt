@@ -20,7 +20,8 @@ use Rattle.asm_placement.proofs.Starts.{units_some}
 use Rattle.asm_images.proofs.UserBytes.{home_is_placed}
 use Rattle.allocator.specs.UnitMaps.{UnitMap, unused, with_run}
 use Rattle.asm_base.proofs.Exact.{bind_some}
-use Rattle.extent_map.specs.Extents.{absent, chunk_at, chunk_cmp, extent_at, has_home}
+use Rattle.extent_map.specs.Extents.{absent, chunk_at, extent_at, has_home}
+use Rattle.asm_base.specs.Chunks.{chunk_cmp}
 use Rattle.extent_map.proofs.Laws.{chunk_total, same_chunk}
 use Rattle.catalog.specs.Items.{AreItemsOf}
 use Rattle.catalog.specs.Placing.{HasUnits, after_homes, disk_units, home_taken, is_run_free, unused_maps}

@@ -8,7 +8,7 @@ use Rattle.std.proofs.lemmas.Nat.Bits.{bit_at-lt, bit_at_or}
 use Rattle.std.proofs.lemmas.List.{get_or-set_same}
 use Rattle.asm_base.specs.declared.kinds.ExtentId.{ExtentId}
 use Rattle.asm_formats.specs.Sets.{has_bit}
-use Rattle.extent_map.specs.Extents.{chunk_cmp}
+use Rattle.asm_base.specs.Chunks.{chunk_cmp}
 use Rattle.extent_map.proofs.Laws.{same_chunk}
 use Rattle.extent_map.proofs.Lookups.{put_here}
 use Rattle.extent_map.proofs.Numbering.{found_self}

@@ -4,13 +4,12 @@ use Rattle.std.specs.Prelude.{IfNone, IfSome}
 use Rattle.std.specs.List.{list_all}
 use Rattle.std.proofs.lemmas.Bool.{cases_Bool}
 use Rattle.std.proofs.lemmas.List.{drop_all, take_all, take_more}
-use Rattle.asm_group.specs.Names.{Bytes, Path, is_part}
+use Rattle.asm_group.specs.Names.{Bytes, Path, is_part, all_parts}
 use Rattle.asm_group.specs.TreeEdits.{last_part, up}
 use Rattle.asm_formats.specs.Items.{Node}
 use Rattle.asm_base.specs.Names.{name_of}
 use Rattle.asm_base.specs.declared.path.Path as code
 use Rattle.asm_world.specs.Listings.{has_star}
-use Rattle.asm_world.specs.Paths.{all_parts}
 use Rattle.alias_tree.specs.Nodes.{node_at}
 use Rattle.alias_tree.specs.Spelling.{names_to}
 use Rattle.alias_tree.proofs.Paths.{all_step, all_stop, last_of, up_of}

@@ -13,7 +13,8 @@ use Rattle.asm_formats.specs.Items.{Home, Homes, Item}
 use Rattle.asm_placement.specs.Layout.{units_of}
 use Rattle.asm_placement.specs.Placed.{Placed, placed, placed_copies, placed_extents}
 use Rattle.asm_base.specs.Records.{Ascend}
-use Rattle.extent_map.specs.Extents.{Chunk, Chunked, chunk_cmp, chunks_from, is_before}
+use Rattle.extent_map.specs.Extents.{Chunked, chunks_from}
+use Rattle.asm_base.specs.Chunks.{Chunk, chunk_cmp, is_before}
 use Rattle.catalog.specs.Items.{AreItemsOf}
 use Rattle.catalog.specs.Placing.{homes_of}
 use Rattle.catalog.specs.Tables.{AreTables, Catalogued}

@@ -1,9 +1,8 @@
 //! Which node a path names, and the path of a node.
 
 ghost use Rattle.std.specs.Prelude.{◌≡◌, IfOk};
-ghost use Rattle.asm_group.specs.Names.{folded_path};
+ghost use Rattle.asm_group.specs.Names.{folded_path, all_parts};
 ghost use Rattle.asm_group.specs.TreeEdits.{is_under};
-ghost use Rattle.asm_world.specs.Paths.{all_parts};
 ghost use Rattle.group_reports.specs.Places.{directory_at, directory_in, is_directory_at, node_named, path_at, path_below};
 
 use asm_base::{List, Name, NoMemory, NodeKind, Path, Refusal, Text};

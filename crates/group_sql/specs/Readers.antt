@@ -1,14 +1,10 @@
 -- What the readers of parts of a statement give.
 use Rattle.std.specs.Prelude.{◌≡◌, Result, Ok, Err}
-use Rattle.asm_grammar.specs.Reads.{Refuses}
+use Rattle.asm_grammar.specs.Reads.{Refuses, reads}
 use Rattle.asm_grammar.specs.Syntax.{Syntax, Value}
 use Rattle.asm_grammar.specs.Reading.{Outcome, Took, mapped, parse}
 use Rattle.asm_grammar.specs.declared.words.Place.{Place}
 use Rattle.asm_grammar.specs.declared.words.ReadError.{ReadError}
-
--- the outcome of reading a part from a place, with what it says
-abbrev pub reads : {A : Type 0} → (syntax : Syntax) → (Value syntax → A) → Place → Outcome A
-reads syntax says from = mapped says (parse syntax from.rest.now from.left)
 
 -- What was returned, seen by view, and the place behind it are what reading gives.
 abbrev pub Gives : {X Y : Type 0} → (X → Y) → Result X ReadError → Place → Outcome Y → Type 0

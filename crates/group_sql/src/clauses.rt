@@ -1,7 +1,8 @@
 //! The clauses of ALTER DISKGROUP.
 
 ghost use Rattle.group_sql.specs.Choices.{added_at, added_disks_at, check_at, clause_at, drop_disks_at, drop_failgroup_at, dropped_at, last_clause_at, later_clause_at, modified_at, offline_at, online_at, other_added_at, paths_at, renamed_at, resize_at, resized_at, set_at};
-ghost use Rattle.group_sql.specs.Readers.{Finds, Gives, reads};
+ghost use Rattle.group_sql.specs.Readers.{Finds, Gives};
+ghost use Rattle.asm_grammar.specs.Reads.{reads};
 ghost use Rattle.group_sql.specs.Said.{clause_said};
 
 use crate::creation::read_attribute;

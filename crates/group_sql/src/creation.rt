@@ -1,10 +1,10 @@
 //! CREATE, and DROP DISKGROUP.
 
-ghost use Rattle.asm_grammar.specs.Reads.{items_from, items_of};
+ghost use Rattle.asm_grammar.specs.Reads.{items_from, items_of, reads};
 ghost use Rattle.asm_world.specs.Grammar as g;
 ghost use Rattle.asm_world.specs.Meaning.{attribute_of, attributes_of};
 ghost use Rattle.group_sql.specs.Choices.{attributes_at, created_at, drop_group_at, groups_and_attributes_at, kind_at, new_disk_at, new_group_at};
-ghost use Rattle.group_sql.specs.Readers.{Finds, Gives, reads};
+ghost use Rattle.group_sql.specs.Readers.{Finds, Gives};
 ghost use Rattle.group_sql.specs.Rows.{contents_of, maybe_contents};
 ghost use Rattle.group_sql.specs.Said.{statement_said};
 

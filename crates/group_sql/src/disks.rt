@@ -1,12 +1,12 @@
 //! The disks that statements name, and those that they give to a group.
 
 ghost use Rattle.std.specs.Prelude.{◌≡◌, ◌∷◌, []};
-ghost use Rattle.asm_grammar.specs.Reads.{items_from, items_of};
+ghost use Rattle.asm_grammar.specs.Reads.{items_from, items_of, reads};
 ghost use Rattle.asm_grammar.specs.Syntax.{Maybe};
 ghost use Rattle.asm_world.specs.Grammar as g;
 ghost use Rattle.asm_world.specs.Meaning.{behind, disk_of, dropped_of, failgroups_of, some_disks_of};
 ghost use Rattle.group_sql.specs.Choices.{group_at, groups_after, groups_at, in_group_at};
-ghost use Rattle.group_sql.specs.Readers.{Gives, reads};
+ghost use Rattle.group_sql.specs.Readers.{Gives};
 ghost use Rattle.group_sql.specs.Rows.{disks_in, dropped_disk, group_and_disks, group_name_and_disks, maybe_name, named_in};
 ghost use Rattle.group_sql.specs.Said.{disks_said, kind_and_name};
 

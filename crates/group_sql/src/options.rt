@@ -4,7 +4,8 @@ ghost use Rattle.asm_grammar.specs.Syntax.{Maybe};
 ghost use Rattle.asm_world.specs.Grammar as g;
 ghost use Rattle.asm_world.specs.Meaning.{after_of, behind, is_said};
 ghost use Rattle.group_sql.specs.Choices.{forced_at, options_at, rebalance_at, size_at};
-ghost use Rattle.group_sql.specs.Readers.{Finds, Gives, reads};
+ghost use Rattle.group_sql.specs.Readers.{Finds, Gives};
+ghost use Rattle.asm_grammar.specs.Reads.{reads};
 ghost use Rattle.group_sql.specs.Rows.{maybe_after, maybe_kind_of, maybe_power};
 ghost use Rattle.group_sql.specs.Said.{maybe_kind_said};
 

@@ -4,7 +4,8 @@ ghost use Rattle.asm_grammar.specs.Syntax.{Maybe};
 ghost use Rattle.asm_world.specs.Grammar as g;
 ghost use Rattle.asm_world.specs.Meaning.{words_of};
 ghost use Rattle.group_sql.specs.Choices.{redundancy_at, stripe_at, template_at, words_at};
-ghost use Rattle.group_sql.specs.Readers.{Finds, Gives, reads};
+ghost use Rattle.group_sql.specs.Readers.{Finds, Gives};
+ghost use Rattle.asm_grammar.specs.Reads.{reads};
 ghost use Rattle.group_sql.specs.Redundancies.{redundancy_said};
 
 use crate::statement::TemplateWords;

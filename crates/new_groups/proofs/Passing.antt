@@ -20,7 +20,8 @@ use Rattle.disk_images.specs.declared.looking.Looked.TheVariants.{Absent, Unread
 use Rattle.group_mount.specs.declared.finding.Headed.{Headed}
 use Rattle.new_groups.specs.Drafts.{Agrees, AreApart, AreFree, IsFree, IsRight}
 use Rattle.new_groups.specs.Preparing.{IsPrepared}
-use Rattle.new_groups.specs.Tests.{are_apart, are_fit, has_disk, have_disks, is_apart, is_held, is_right, is_there, may_form, shows_size}
+use Rattle.new_groups.specs.Tests.{are_apart, are_fit, has_disk, have_disks, is_apart, is_right, is_there, may_form, shows_size}
+use Rattle.group_mount.specs.Founds.{is_held}
 use Rattle.new_groups.specs.declared.draft.Draft.{Draft}
 use Rattle.new_groups.specs.declared.preparing.Ready.{Ready}
 

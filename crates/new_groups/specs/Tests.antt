@@ -12,6 +12,7 @@ use Rattle.group_mount.specs.Verdicts.{member_of}
 use Rattle.group_mount.specs.declared.finding.Headed.{Headed}
 use Rattle.status_register.specs.Holders.{is_of}
 use Rattle.new_groups.specs.declared.draft.Draft.{Draft}
+use Rattle.group_mount.specs.Founds.{is_held}
 
 -- the look has shown an image of this size
 abbrev pub shows_size : Option Looked → ℕ → Bool
@@ -19,10 +20,6 @@ shows_size None size = false
 shows_size (Some Absent) size = false
 shows_size (Some (Unread shown)) size = false
 shows_size (Some (Read shown header)) size = shown == size
-
--- the slot is one of these
-abbrev pub is_held : List ℕ → ℕ → Bool
-is_held held slot = list_any (λ s. s == slot) held
 
 -- the header is one that a disk of the group may have, and the disk that of an entry
 abbrev pub is_right : Shape → List Entry → Headed → Bool

@@ -5,7 +5,7 @@ ghost use Rattle.std.specs.List.{list_any};
 ghost use Rattle.std.specs.String.{string_bytes};
 ghost use Rattle.asm_base.specs.Refusals.{said};
 ghost use Rattle.new_groups.specs.Causes.{IsFirst, candidate, candidates, first_refused, is_member_taken, is_same_disk, is_taken, is_unread, missing_refusal, place_at, place_in, places_at, shown_by, slot_from, taken_refusal};
-ghost use Rattle.new_groups.specs.Tests.{is_held};
+ghost use Rattle.group_mount.specs.Founds.{is_held};
 
 use crate::asked::{Known, Taken};
 use crate::planned::Terms;

@@ -15,7 +15,8 @@ use Rattle.asm_base.proofs.WordLaws.{pending_kind_exact}
 use Rattle.asm_base.proofs.ItemTables.{IsEntry, entry_is_read, item_is_decoded, value_is_decoded}
 use Rattle.operations_directory.specs.declared.reading.Operation.{Operation}
 use Rattle.operations_directory.specs.declared.reading.Operation.TheVariants.{Rebalance, Pending}
-use Rattle.operations_directory.specs.Readings.{item_of, operation_of, PendingParts, to_pending, pending_reading, read_operation}
+use Rattle.operations_directory.specs.Readings.{item_of, operation_of, pending_reading, read_operation}
+use Rattle.asm_base.specs.Parts.{PendingParts, to_pending}
 
 record FitsPending (p : PendingOperation) : Type 0 where
   file : p.file < 2 ^ 32

@@ -11,6 +11,7 @@ use Rattle.asm_base.specs.Tables.{entry_of_record}
 use Rattle.operations_directory.specs.declared.reading.Operation.{Operation}
 use Rattle.operations_directory.specs.declared.reading.Operation.TheVariants.{Rebalance, Pending}
 use Rattle.operations_directory.specs.Operations.{Operations}
+use Rattle.asm_base.specs.Parts.{to_pending}
 
 -- the item that says an operation, and the operation that an item says
 abbrev pub item_of : Operation → Item
@@ -23,12 +24,6 @@ operation_of (pending_item p) = Some (Pending p)
 operation_of _ = None
 
 -- ---- values
-
-abbrev pub PendingParts : Type 0
-PendingParts = PendingKind × (ℕ × ℕ)
-
-abbrev pub to_pending : PendingParts → PendingOperation
-to_pending (kind, (file, kept)) = record { kind = kind; file = file; kept = kept }
 
 unfoldable pub pending_reading : Reading PendingOperation
 pending_reading = as_a to_pending (both pending_kind_reading (both (number_reading w32) (number_reading w64)))

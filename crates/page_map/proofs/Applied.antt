@@ -21,7 +21,8 @@ use Rattle.asm_base.specs.Records.{Entry, record_at}
 use Rattle.page_map.specs.Changes.{is_put, is_gone, last_put}
 use Rattle.page_map.specs.Free.{is_free}
 use Rattle.page_map.specs.Tables.{PageTable, IsTable, Shows, place_at, block_of}
-use Rattle.page_map.specs.Applying.{AddsNew, RemovesAll, SetsAll, Blocks, Applies, block_at, image_of_page, page_number}
+use Rattle.page_map.specs.Applying.{AddsNew, RemovesAll, SetsAll, Blocks, Applies, block_at, page_number}
+use Rattle.asm_base.specs.Blocks.{image_of_page}
 use Rattle.page_map.proofs.Keys.{one_or_other}
 use Rattle.page_map.proofs.Changing.{last_put_any, last_put_none, none_else}
 

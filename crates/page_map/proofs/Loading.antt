@@ -21,7 +21,8 @@ use Rattle.asm_formats.proofs.RecordReading.{frame_again, item_frame}
 use Rattle.asm_base.specs.declared.block.Block.{Block}
 use Rattle.asm_base.specs.Frames.{entry_frame}
 use Rattle.asm_base.specs.Records.{Entry, is_key, record_at}
-use Rattle.page_map.specs.Applying.{image_of_page, page_number}
+use Rattle.page_map.specs.Applying.{page_number}
+use Rattle.asm_base.specs.Blocks.{image_of_page}
 use Rattle.page_map.specs.Contents.{AreItems, IsItemOf}
 use Rattle.page_map.specs.Free.{is_free}
 use Rattle.page_map.specs.Listing.{shown_by}

@@ -19,6 +19,7 @@ use Rattle.page_map.specs.declared.change.PageError.TheVariants.{Full, NoMemory}
 use Rattle.page_map.specs.Changes.{is_put, is_gone, last_put, value_after}
 use Rattle.page_map.specs.Free.{is_free}
 use Rattle.page_map.specs.Tables.{PageTable, place_at, block_of, Shows, new_in, room}
+use Rattle.asm_base.specs.Blocks.{image_of_page}
 
 -- Each new key of these has a record on one of the least free pages, and the others are as they were.
 pub record AddsNew (old new : PageTable) (put : List Entry) : Type 0 where
@@ -45,10 +46,6 @@ pub record SetsAll (old new : PageTable) (put : List Entry) : Type 0 where
   pub free : new.free ≡ old.free
 
 -- ---- the pages that change
-
--- a page and its bytes
-abbrev pub image_of_page : ℕ × Block → PageImage
-image_of_page p = (p.0, p.1.bytes)
 
 abbrev pub bytes_in : Block → Bytes
 bytes_in b = b.bytes

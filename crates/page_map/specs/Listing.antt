@@ -9,7 +9,8 @@ use Rattle.asm_formats.specs.Pages.{with_images}
 use Rattle.asm_formats.specs.Status.{ascends_from}
 use Rattle.asm_base.specs.declared.block.Block.{Block}
 use Rattle.asm_base.specs.Records.{key_cmp, record_at}
-use Rattle.page_map.specs.Applying.{block_at, image_of_page, page_number}
+use Rattle.page_map.specs.Applying.{block_at, page_number}
+use Rattle.asm_base.specs.Blocks.{image_of_page}
 use Rattle.page_map.specs.Free.{is_free}
 use Rattle.page_map.specs.Tables.{PageTable, Shows, block_of, place_at}
 

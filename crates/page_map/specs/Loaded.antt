@@ -12,7 +12,8 @@ use Rattle.asm_formats.specs.Status.{ascends_from}
 use Rattle.asm_formats.specs.Values.{value}
 use Rattle.asm_base.specs.declared.block.Block.{Block}
 use Rattle.asm_base.specs.Records.{Entry, is_key, record_at}
-use Rattle.page_map.specs.Applying.{image_of_page, page_number}
+use Rattle.page_map.specs.Applying.{page_number}
+use Rattle.asm_base.specs.Blocks.{image_of_page}
 use Rattle.page_map.specs.Contents.{AreItems}
 use Rattle.page_map.specs.Free.{is_free}
 use Rattle.page_map.specs.Listing.{shown_by}

@@ -14,7 +14,8 @@ use Rattle.asm_base.specs.Records.{Ascend}
 use Rattle.asm_placement.specs.Layout.{units_of}
 use Rattle.asm_placement.specs.Moves.{without_bit}
 use Rattle.asm_placement.proofs.MovedCopies.{in_chunk}
-use Rattle.extent_map.specs.Extents.{Chunk, Chunked, absent, chunk_at, chunk_cmp, chunks_from, has_home, is_before, item_of, with_chunk, with_extent, with_homes}
+use Rattle.extent_map.specs.Extents.{Chunked, absent, chunk_at, chunks_from, has_home, item_of, with_chunk, with_extent, with_homes}
+use Rattle.asm_base.specs.Chunks.{Chunk, chunk_cmp, is_before}
 use Rattle.extent_map.proofs.Laws.{chunk_total, same_chunk}
 use Rattle.extent_map.proofs.Lookups.{put_other, set_other}
 use Rattle.staleness_directory.specs.Marks.{Marked, marks_at}

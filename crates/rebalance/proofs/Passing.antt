@@ -13,7 +13,8 @@ use Rattle.asm_formats.specs.Items.{FileHead, Home, Homes}
 use Rattle.asm_base.specs.Records.{Ascend}
 use Rattle.asm_placement.specs.Rebalancing.{Next, move, shift, when}
 use Rattle.allocator.specs.UnitMaps.{UnitMap}
-use Rattle.extent_map.specs.Extents.{Chunk, Chunked, chunk_cmp, chunks_from, has_home, is_before}
+use Rattle.extent_map.specs.Extents.{Chunked, chunks_from, has_home}
+use Rattle.asm_base.specs.Chunks.{Chunk, chunk_cmp, is_before}
 use Rattle.extent_map.proofs.Laws.{chunk_total}
 use Rattle.file_directory.specs.Files.{head_at}
 use Rattle.catalog.specs.Tables.{AreTables, Catalogued, Tables}

@@ -30,7 +30,8 @@ use Rattle.allocator.specs.UnitMaps.{UnitMap, is_free}
 use Rattle.partnership.specs.Candidates.{is_free_from, lowest}
 use Rattle.partnership.specs.UnitsOf.{AreUnits, AreUnitsOf}
 use Rattle.partnership.proofs.Runs.{lowest_of_disk}
-use Rattle.extent_map.specs.Extents.{Chunked, chunk_at, chunk_cmp, has_home, item_of}
+use Rattle.extent_map.specs.Extents.{Chunked, chunk_at, has_home, item_of}
+use Rattle.asm_base.specs.Chunks.{chunk_cmp}
 use Rattle.extent_map.proofs.Laws.{chunk_total}
 use Rattle.file_directory.specs.Files.{head_at}
 use Rattle.catalog.specs.ExtentPlans.{MayMove, home_at, homes_at, is_copy_of}

@@ -18,7 +18,8 @@ use Rattle.asm_placement.specs.Space.{share}
 use Rattle.asm_placement.proofs.MovedCopies.{in_chunk}
 use Rattle.allocator.specs.UnitMaps.{UnitMap}
 use Rattle.partnership.specs.UnitsOf.{AreUnitsOf}
-use Rattle.extent_map.specs.Extents.{Chunked, chunk_at, chunk_cmp, has_home, is_blank, item_of}
+use Rattle.extent_map.specs.Extents.{Chunked, chunk_at, has_home, is_blank, item_of}
+use Rattle.asm_base.specs.Chunks.{chunk_cmp}
 use Rattle.extent_map.proofs.Laws.{chunk_total}
 use Rattle.file_directory.specs.Files.{head_at}
 use Rattle.catalog.specs.Tables.{AreTables, Catalogued, Tables}

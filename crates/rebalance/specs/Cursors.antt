@@ -4,7 +4,8 @@ use Rattle.std.specs.BTreeMap.{is_at}
 use Rattle.std.specs.Option.{option_map}
 use Rattle.asm_formats.specs.Status.{Entry, Status}
 use Rattle.asm_formats.specs.Items.{FileHead, Home, Homes, chunk_len}
-use Rattle.extent_map.specs.Extents.{Chunk, Chunked, chunk_at, chunk_cmp, is_before}
+use Rattle.extent_map.specs.Extents.{Chunked, chunk_at}
+use Rattle.asm_base.specs.Chunks.{Chunk, chunk_cmp, is_before}
 use Rattle.file_directory.specs.Files.{head_at}
 use Rattle.staleness_directory.specs.Marks.{marks_at}
 use Rattle.catalog.specs.ExtentPlans.{with_marks_changed, with_move}

@@ -7,7 +7,8 @@ use Rattle.asm_formats.specs.Items.{FileHead, Homes, chunk_len}
 use Rattle.asm_placement.specs.Modes.{is_online}
 use Rattle.asm_placement.specs.Copies.{is_on, wants_fill, wants_shift}
 use Rattle.allocator.specs.UnitMaps.{UnitMap}
-use Rattle.extent_map.specs.Extents.{Chunk, Chunked, has_home}
+use Rattle.extent_map.specs.Extents.{Chunked, has_home}
+use Rattle.asm_base.specs.Chunks.{Chunk}
 use Rattle.file_directory.specs.Files.{head_at}
 use Rattle.catalog.specs.Tables.{Catalogued, Tables}
 use Rattle.extent_copies.specs.declared.extent.Extent.{Extent}

@@ -12,7 +12,7 @@ use Rattle.asm_base.specs.declared.records.Change.{Change}
 use Rattle.catalog.specs.Plans.{IsPlan}
 use Rattle.catalog.specs.Tables.{Catalogued, Tables}
 use Rattle.catalog.proofs.TableItems.{from_map}
-use Rattle.extent_map.specs.Extents.{Chunk}
+use Rattle.asm_base.specs.Chunks.{Chunk}
 use Rattle.rebalance.specs.Cursors.{IsSameBut}
 use Rattle.group_engine.specs.Searches.{IsPlanIn}
 use Rattle.status_register.specs.declared.member.Member.{Member}

@@ -14,7 +14,8 @@ use Rattle.asm_images.proofs.Held.{same_member as same_disk_member}
 use Rattle.asm_world.specs.Between.{groups_between}
 use Rattle.asm_world.specs.Command.{Command}
 use Rattle.asm_world.specs.World.{SessionEntry, World, groups_of, has_mounted, is_mounted}
-use Rattle.group_disks.specs.Creating.{Allows, HasCreated, HasMember, IsFree, MayCreate}
+use Rattle.group_disks.specs.Creating.{HasCreated, HasMember, IsFree, MayCreate}
+use Rattle.group_mount.specs.Mounting.{Allows}
 use Rattle.group_disks.specs.FirstParts.{MountsNew}
 use Rattle.group_disks.proofs.Outsiders.{others_allow}
 use Rattle.group_engine.specs.Frames.{SparesGroup, StaysAttached}

@@ -22,7 +22,8 @@ use Rattle.edit_laws.proofs.Alone.{stands_with_all, stays_alone}
 use Rattle.edit_laws.proofs.Beside.{others_are_spared, others_stay_mounted}
 use Rattle.edit_laws.proofs.Leading.{edit_is_held}
 use Rattle.edit_laws.proofs.Spared.{spared_is_sound}
-use Rattle.group_disks.specs.Creating.{Allows, HasMember}
+use Rattle.group_disks.specs.Creating.{HasMember}
+use Rattle.group_mount.specs.Mounting.{Allows}
 use Rattle.group_engine.specs.Commits.{IsIdle, IsIdleBut, StatusCause}
 use Rattle.group_engine.specs.Frames.{SameDisk, SparesGroup, StaysAttached}
 use Rattle.group_engine.specs.Mounts.{HasOnly, IsMounted, MountedGroup, IsOwn}

@@ -11,7 +11,8 @@ use Rattle.asm_images.specs.Members.{all_members}
 use Rattle.asm_images.specs.Sound.{SoundBy, Sound}
 use Rattle.asm_images.proofs.Bridges.{same_is_same, same_disk}
 use Rattle.asm_images.proofs.Held.{held_stands, same_member as same_disk_member}
-use Rattle.group_disks.specs.Creating.{Allows, HasMember}
+use Rattle.group_disks.specs.Creating.{HasMember}
+use Rattle.group_mount.specs.Mounting.{Allows}
 use Rattle.group_disks.proofs.Outsiders.{widened}
 use Rattle.group_engine.specs.Mounts.{MountedGroup}
 use Rattle.group_engine.proofs.Slots.{member_seen, member_there}

@@ -10,7 +10,8 @@ use Rattle.asm_images.proofs.Held.{same_is_held, same_member as same_disk_member
 use Rattle.asm_world.specs.Between.{groups_between}
 use Rattle.asm_world.specs.Command.{Command}
 use Rattle.asm_world.specs.World.{SessionEntry, World, groups_of, has_mounted, is_mounted}
-use Rattle.group_disks.specs.Creating.{Allows, HasMember}
+use Rattle.group_disks.specs.Creating.{HasMember}
+use Rattle.group_mount.specs.Mounting.{Allows}
 use Rattle.group_engine.specs.Frames.{StaysAttached}
 use Rattle.group_engine.specs.Mounts.{HasOnly, MountedGroup}
 use Rattle.group_engine.proofs.Elsewhere.{mounts_elsewhere}

@@ -12,7 +12,8 @@ use Rattle.asm_images.specs.Stands.{Standing}
 use Rattle.asm_world.specs.Between.{groups_between}
 use Rattle.asm_world.specs.Command.{Command}
 use Rattle.asm_world.specs.World.{SessionEntry, World, groups_of, has_mounted, is_mounted}
-use Rattle.group_disks.specs.Creating.{Allows, HasMember}
+use Rattle.group_disks.specs.Creating.{HasMember}
+use Rattle.group_mount.specs.Mounting.{Allows}
 use Rattle.group_engine.specs.Commits.{turns_at_most}
 use Rattle.group_engine.specs.Mounts.{HasOnly, MountedGroup, Mounts}
 use Rattle.world_steps.specs.Told.{AreIdsApart}

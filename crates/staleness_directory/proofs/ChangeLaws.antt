@@ -8,7 +8,8 @@ use Rattle.asm_formats.specs.Values.{decoded_item, value}
 use Rattle.asm_base.specs.Records.{Ascend}
 use Rattle.asm_base.proofs.Copying.{copied_more}
 use Rattle.staleness_directory.specs.Changing.{value_at}
-use Rattle.staleness_directory.specs.Marks.{Chunk, Marked, chunk_cmp, chunk_key, is_before, marks_at, with_marks}
+use Rattle.staleness_directory.specs.Marks.{Marked, chunk_key, marks_at, with_marks}
+use Rattle.asm_base.specs.Chunks.{Chunk, chunk_cmp, is_before}
 use Rattle.staleness_directory.proofs.Laws.{chunk_total, marks_of_record, same_chunk}
 
 either : (b : Bool) → (b ≡ true) ⊎ (b ≡ false)

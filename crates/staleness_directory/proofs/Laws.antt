@@ -15,7 +15,8 @@ use Rattle.asm_base.specs.Records.{Entry, of_kinds, read_from, Ascend, ends_belo
 use Rattle.asm_base.specs.Tables.{entry_of_record}
 use Rattle.asm_base.proofs.Exact.{some_is, test_some}
 use Rattle.asm_base.proofs.ItemTables.{IsEntry, item_is_decoded, entry_is_read, entry_taken, items_found, items_again, put_keeps, removed_keeps}
-use Rattle.staleness_directory.specs.Marks.{Chunk, Marked, chunk_cmp, chunk_key, is_before, with_marks, without_marks, item_of, record_of, is_marks, marked, IsTable, add, are_marks, read_marks}
+use Rattle.staleness_directory.specs.Marks.{Marked, chunk_key, with_marks, without_marks, item_of, record_of, is_marks, marked, IsTable, add, are_marks, read_marks}
+use Rattle.asm_base.specs.Chunks.{Chunk, chunk_cmp, is_before}
 
 -- ---- the order of chunks
 

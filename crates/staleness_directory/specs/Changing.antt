@@ -3,7 +3,8 @@ use Rattle.std.specs.Prelude.{ℕ, List, Option}
 use Rattle.std.specs.Option.{option_map}
 use Rattle.asm_formats.specs.Items.{marks_item}
 use Rattle.asm_formats.specs.Values.{value}
-use Rattle.staleness_directory.specs.Marks.{Chunk, Marked, marks_at}
+use Rattle.staleness_directory.specs.Marks.{Marked, marks_at}
+use Rattle.asm_base.specs.Chunks.{Chunk}
 
 -- the value of the record of a chunk's marks
 abbrev pub value_at : List Marked → Chunk → Option (List ℕ)

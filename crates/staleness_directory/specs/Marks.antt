@@ -10,16 +10,7 @@ use Rattle.std.specs.List.{list_all}
 use Rattle.asm_formats.specs.Items.{Item, marks_item, Key}
 use Rattle.asm_base.specs.Records.{Entry, add_item}
 use Rattle.asm_base.specs.Tables.{IsItemTable, entry_of_record, item_record}
-
--- a file and a chunk of it
-abbrev pub Chunk : Type 0
-Chunk = ℕ × ℕ
-
-abbrev pub chunk_cmp : Chunk → Chunk → Ordering
-chunk_cmp x y = ordering_then (nat_cmp x.0 y.0) (nat_cmp x.1 y.1)
-
-abbrev pub is_before : Chunk → Chunk → Bool
-is_before x y = is_lt (chunk_cmp x y)
+use Rattle.asm_base.specs.Chunks.{Chunk, chunk_cmp, is_before}
 
 -- a chunk's marks: of each extent a byte, bit k for copy k
 abbrev pub Marked : Type 0

@@ -5,7 +5,8 @@ ghost use Rattle.std.specs.Bool.{OnFalse, OnTrue};
 ghost use Rattle.std.specs.BTreeMap.{is_at};
 ghost use Rattle.asm_formats.specs.Values.{decoded_item};
 ghost use Rattle.staleness_directory.specs.Changing.{value_at};
-ghost use Rattle.staleness_directory.specs.Marks.{Chunk, IsTable, chunk_cmp};
+ghost use Rattle.staleness_directory.specs.Marks.{IsTable};
+ghost use Rattle.asm_base.specs.Chunks.{Chunk, chunk_cmp};
 
 use crate::marks::marks_of;
 use crate::table::StaleTable;

@@ -32,7 +32,8 @@ impl Model for StaleTable {
 }
 
 impl StaleTable {
-    ghost use Rattle.staleness_directory.specs.Marks.{Chunk, IsTable, Marked, add, chunk_cmp, item_of, is_before, is_marks, marks_at, marks_from, record_of, with_marks, without_marks};
+    ghost use Rattle.staleness_directory.specs.Marks.{IsTable, Marked, add, item_of, is_marks, marks_at, marks_from, record_of, with_marks, without_marks};
+    ghost use Rattle.asm_base.specs.Chunks.{Chunk, chunk_cmp, is_before};
 
     pub fn new(alloc: Global) -> StaleTable
         ensures { result ≡ [] }

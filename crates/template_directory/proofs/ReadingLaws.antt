@@ -21,7 +21,8 @@ use Rattle.asm_base.proofs.NameLaws.{name_exact, text_exact, name_is_part}
 use Rattle.asm_base.proofs.Tables.{bytes_are, are_bytes_is}
 use Rattle.asm_base.proofs.ItemTables.{value_is_decoded}
 use Rattle.template_directory.specs.Tables.{Table, IsTable, records_of, settings_said, table_of, templates_said}
-use Rattle.template_directory.specs.Readings.{TemplateParts, to_template, template_reading, templates_reading, are_right, right_templates, SettingParts, to_settings, settings_reading}
+use Rattle.template_directory.specs.Readings.{template_reading, templates_reading, are_right, right_templates, settings_reading}
+use Rattle.asm_base.specs.Parts.{TemplateParts, to_template, SettingParts, to_settings}
 
 -- ---- templates
 

@@ -9,14 +9,9 @@ use Rattle.asm_group.specs.Group.{Template}
 use Rattle.asm_formats.specs.Items.{Settings, is_template, names_ascend, most_templates}
 use Rattle.asm_base.specs.Readings.{Reading, both, as_a, counted, byte_reading, flag_reading, number_reading, name_reading, text_reading}
 use Rattle.asm_base.specs.Words.{stripe_reading}
+use Rattle.asm_base.specs.Parts.{to_template, to_settings}
 
 -- ---- templates
-
-abbrev pub TemplateParts : Type 0
-TemplateParts = Bytes × (ℕ × (Stripe × Bool))
-
-abbrev pub to_template : TemplateParts → Template
-to_template (name, (copies, (stripe, system))) = record { name = name; copies = copies; stripe = stripe; system = system }
 
 unfoldable pub template_reading : Reading Template
 template_reading = as_a to_template (both (name_reading 30) (both byte_reading (both stripe_reading flag_reading)))
@@ -33,13 +28,6 @@ abbrev pub right_templates : Option (List Template) → Option (List Template)
 right_templates read = option_and_then (λ ts. if are_right ts then Some ts else None) read
 
 -- ---- settings
-
-abbrev pub SettingParts : Type 0
-SettingParts = ℕ × (ℕ × (Bytes × (Bytes × Bytes)))
-
-abbrev pub to_settings : SettingParts → Settings
-to_settings (incarnation, (repair, (asm, (rdbms, advm)))) =
-    record { incarnation = incarnation; attributes = record { repair = repair; asm = asm; rdbms = rdbms; advm = advm } }
 
 unfoldable pub settings_reading : Reading Settings
 settings_reading =

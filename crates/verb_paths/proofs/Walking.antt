@@ -6,8 +6,8 @@ use Rattle.std.specs.Str.{bytes_eq}
 use Rattle.std.proofs.lemmas.Bool.{cases_Bool}
 use Rattle.std.proofs.lemmas.List.Folds.{list_all-append}
 use Rattle.asm_base.specs.Names.{name_of}
-use Rattle.asm_group.specs.Names.{Bytes, is_part}
-use Rattle.asm_world.specs.Paths.{up, two_points, walk, between_slashes, before_first, all_parts}
+use Rattle.asm_group.specs.Names.{Bytes, is_part, all_parts}
+use Rattle.asm_world.specs.Paths.{up, two_points, walk, between_slashes, before_first}
 use Rattle.verb_paths.specs.Slashes.{first_part, behind_slash, parts_left, left_length}
 
 -- the first part, and the others

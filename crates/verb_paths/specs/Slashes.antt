@@ -2,11 +2,7 @@
 use Rattle.std.specs.Prelude.{ℕ, suc, ◌==◌, List, [], ◌∷◌, take, drop, length, Option, Some, None, if◌then◌else◌}
 use Rattle.asm_group.specs.Names.{Bytes}
 use Rattle.asm_world.specs.Paths.{between_slashes}
-
--- how many bytes stand before the first slash
-abbrev pub slash_at : Bytes → ℕ
-slash_at [] = 0
-slash_at (b ∷ bytes) = if b == 47 then 0 else suc (slash_at bytes)
+use Rattle.asm_base.specs.Paths.{slash_at}
 
 abbrev pub first_part : Bytes → Bytes
 first_part bytes = take (slash_at bytes) bytes

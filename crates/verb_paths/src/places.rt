@@ -2,8 +2,8 @@
 
 ghost use Rattle.std.specs.Prelude.{◌≡◌, ◌-◌, ◌∷◌, [], IfOk, Some, length, take};
 ghost use Rattle.std.specs.Option.{option_map, option_copied};
-ghost use Rattle.asm_group.specs.Names.{is_part};
-ghost use Rattle.asm_world.specs.Paths.{all_parts, between_slashes, clause_path, is_host_path, is_pattern, parts_of, resolved, resolved_by, resolved_or_here, resolved_pattern, target_from, walk, within_group};
+ghost use Rattle.asm_group.specs.Names.{is_part, all_parts};
+ghost use Rattle.asm_world.specs.Paths.{between_slashes, clause_path, is_host_path, is_pattern, parts_of, resolved, resolved_by, resolved_or_here, resolved_pattern, target_from, walk, within_group};
 ghost use Rattle.verb_paths.specs.Slashes.{parts_left};
 
 use crate::pattern::is_pattern;

@@ -2,7 +2,8 @@
 
 ghost use Rattle.std.specs.Prelude.{◌≡◌, ◌≤◌, length};
 ghost use Rattle.std.specs.Option.{option_copied};
-ghost use Rattle.verb_paths.specs.Slashes.{behind_slash, first_part, left_length, slash_at};
+ghost use Rattle.verb_paths.specs.Slashes.{behind_slash, first_part, left_length};
+ghost use Rattle.asm_base.specs.Paths.{slash_at};
 
 /// How many bytes stand before the first slash.
 fn slash_at(bytes: &[u8]) -> usize

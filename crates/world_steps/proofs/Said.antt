@@ -15,12 +15,12 @@ use Rattle.asm_grammar.specs.Syntax.{Value, Has}
 use Rattle.asm_grammar.specs.Word as word
 use Rattle.asm_grammar.proofs.Consumes.{some_pair, taken, when_true}
 use Rattle.asm_grammar.proofs.Nearest.{run_words}
-use Rattle.asm_group.specs.Names.{Bytes, Path, folded, folded_byte, is_letter, is_name, is_part, is_part_byte, is_same_name}
+use Rattle.asm_group.specs.Names.{Bytes, Path, folded, folded_byte, is_letter, is_name, is_part, is_part_byte, is_same_name, all_parts}
 use Rattle.asm_world.specs.Command.{Said}
 use Rattle.asm_world.specs.Grammar as g
 use Rattle.asm_world.specs.Language.{command_of}
 use Rattle.asm_world.specs.Meaning.{add_of, clause_of, drop_of, modify_of, online_of, rename_of, resize_of, statement_of}
-use Rattle.asm_world.specs.Paths.{all_parts, between_slashes, clause_path, parts_of, resolved_by, two_points, up, walk, within_group}
+use Rattle.asm_world.specs.Paths.{between_slashes, clause_path, parts_of, resolved_by, two_points, up, walk, within_group}
 use Rattle.asm_world.specs.Statement.{Clause, Statement, AddTemplate, Alter, ModifyTemplate}
 use Rattle.asm_world.proofs.Commands.{statements_found}
 use Rattle.world_steps.specs.Said.{AttributesHaveParts, PathsHaveParts, TemplatesHaveNames}

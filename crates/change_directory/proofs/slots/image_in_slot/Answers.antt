@@ -1,7 +1,7 @@
 use Rattle.std.proofs.Common.{◌+◌, ℕ, List, Option, map, sym, ap, ◌∙◌}
 use Rattle.asm_base.specs.declared.block.Block.{Block}
 use Rattle.change_directory.specs.declared.open_log.OpenLog.{OpenLog}
-use Rattle.change_directory.specs.Logs.{image_of_page}
+use Rattle.asm_base.specs.Blocks.{image_of_page}
 use Rattle.change_directory.specs.Loads.{counted_block}
 use Rattle.change_directory.specs.Slots.{place_in, slots_of}
 use Rattle.change_directory.proofs.SlotLaws.{block_is_place}

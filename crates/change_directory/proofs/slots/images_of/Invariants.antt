@@ -1,6 +1,6 @@
 use Rattle.std.proofs.Common.{◌≡◌, map, take, vec_len}
 use Rattle.std.specs.Prelude.{zip}
-use Rattle.change_directory.specs.Logs.{image_of_page}
+use Rattle.asm_base.specs.Blocks.{image_of_page}
 use Rattle.change_directory.specs.Slots.{cut}
 use Rattle.change_directory.proofs.slots.images_of.Given as goal
 

@@ -1,7 +1,7 @@
 use Rattle.std.proofs.Common.{◌≡◌, ◌+◌, ◌≤◌, Some, length, map, ap, ◌∙◌, arith, ℕ, List}
 use Rattle.asm_base.specs.declared.block.Block.{Block}
 use Rattle.asm_formats.specs.Logs.{decoded_log_head}
-use Rattle.change_directory.specs.Logs.{image_of_page}
+use Rattle.asm_base.specs.Blocks.{image_of_page}
 use Rattle.change_directory.specs.Slots.{bad_image}
 use Rattle.change_directory.proofs.HeadLaws.{pages_of}
 use Rattle.change_directory.proofs.Orders.{rest_is_sound}

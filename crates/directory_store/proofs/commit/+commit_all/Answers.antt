@@ -6,7 +6,8 @@ use Rattle.asm_group.specs.Names.{Bytes}
 use Rattle.asm_formats.specs.Pages.{with_images}
 use Rattle.bay.specs.Moments.{NowOnly}
 use Rattle.change_directory.specs.declared.copy.DirCopy.{DirCopy}
-use Rattle.change_directory.specs.Logs.{image_of_page, are_pages}
+use Rattle.change_directory.specs.Logs.{are_pages}
+use Rattle.asm_base.specs.Blocks.{image_of_page}
 use Rattle.std.specs.Bool.{IsTrue}
 use Rattle.directory_store.specs.Copies.{AllLogsSettled, AreApart, AreKept, AreNamed, Earlier, IsKept, IsSettled, LogsSettledBut, MayPutOn}
 use Rattle.directory_store.proofs.Rows.{Commits, CommitsOne, all_logs, other_logs, rest_kept, rest_logs, rest_named, one_more, one_failed, split_first, first_among, no_bit}

@@ -3,7 +3,7 @@ use Rattle.std.proofs.lemmas.Result.{on_ok_weaker}
 use Rattle.bay.proofs.Calls.{leaves_on, leaves_less}
 use Rattle.asm_formats.specs.Pages.{with_images}
 use Rattle.std.proofs.Common.{map}
-use Rattle.change_directory.specs.Logs.{image_of_page}
+use Rattle.asm_base.specs.Blocks.{image_of_page}
 use Rattle.change_directory.specs.StoreLaws.{HasContent}
 use Rattle.directory_store.specs.Copies.{HasEither}
 use Rattle.directory_store.proofs.Steps.{both_run}

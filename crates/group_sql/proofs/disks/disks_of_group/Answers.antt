@@ -1,10 +1,9 @@
 use Rattle.std.proofs.Common.{◌≡◌}
 use Rattle.std.proofs.lemmas.Result.{err_from_is_err_and}
 use Rattle.asm_grammar.specs.Reading.{parse}
-use Rattle.asm_grammar.specs.Reads.{items_of}
+use Rattle.asm_grammar.specs.Reads.{items_of, reads}
 use Rattle.asm_world.specs.Grammar as g
 use Rattle.asm_world.specs.Meaning.{disk_of}
-use Rattle.group_sql.specs.Readers.{reads}
 use Rattle.group_sql.specs.Rows.{group_name_and_disks, named_in}
 use Rattle.group_sql.proofs.Parts.{named_took, named_bad}
 use Rattle.group_sql.proofs.Steps.{refuses_by}

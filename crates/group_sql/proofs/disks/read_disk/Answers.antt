@@ -5,7 +5,7 @@ use Rattle.asm_grammar.proofs.Outcomes.{mapped_took}
 use Rattle.asm_world.specs.Grammar as g
 use Rattle.asm_world.specs.Meaning.{behind, disk_of, is_said}
 use Rattle.group_sql.specs.Choices.{forced_at, size_at}
-use Rattle.group_sql.specs.Readers.{reads}
+use Rattle.asm_grammar.specs.Reads.{reads}
 use Rattle.group_sql.specs.Rows.{maybe_name, maybe_size}
 use Rattle.group_sql.proofs.Steps.{refuses_by, failed_under}
 use Rattle.group_sql.proofs.disks.read_disk.Goals as goal

@@ -1,5 +1,5 @@
 use Rattle.std.proofs.Common.{◌≡◌, ◌+◌, drop}
-use Rattle.verb_paths.specs.Slashes.{slash_at}
+use Rattle.asm_base.specs.Paths.{slash_at}
 use Rattle.verb_paths.proofs.slashes.slash_at.Given as goal
 
 abbrev pub invariant-loop-b : goal.invariant-loop-b

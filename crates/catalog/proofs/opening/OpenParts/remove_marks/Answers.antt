@@ -1,7 +1,8 @@
 use Rattle.std.proofs.Common.{◌≡◌, cond, None, subst}
 use Rattle.std.specs.BTreeMap.{is_at}
 use Rattle.asm_formats.specs.Items.{Key}
-use Rattle.staleness_directory.specs.Marks.{Chunk, chunk_cmp, marks_at}
+use Rattle.staleness_directory.specs.Marks.{marks_at}
+use Rattle.asm_base.specs.Chunks.{Chunk, chunk_cmp}
 use Rattle.catalog.proofs.SetLaws.{marks_gone}
 use Rattle.catalog.specs.Changing.{tables_of}
 use Rattle.catalog.proofs.opening.OpenParts.remove_marks.Goals as goal

@@ -1,6 +1,6 @@
 use Rattle.std.proofs.Common.{◌≡◌, ◌++◌}
 use Rattle.asm_base.specs.Records.{Ascend}
-use Rattle.extent_map.specs.Extents.{is_before}
+use Rattle.asm_base.specs.Chunks.{is_before}
 use Rattle.extent_map.proofs.table.ExtentMap.copy.Given as goal
 
 abbrev pub invariant-loop-at : goal.invariant-loop-at

@@ -1,7 +1,7 @@
 use Rattle.std.proofs.Common.{sym, ap, ◌∙◌}
 use Rattle.std.specs.Ordering.{is_lt}
 use Rattle.asm_base.proofs.Lists.{last_below}
-use Rattle.extent_map.specs.Extents.{is_before}
+use Rattle.asm_base.specs.Chunks.{is_before}
 use Rattle.extent_map.proofs.table.ExtentMap.ends_before.Goals as goal
 
 pub returns-in-Some : goal.returns-in-Some

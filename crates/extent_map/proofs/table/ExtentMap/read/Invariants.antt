@@ -1,6 +1,7 @@
 use Rattle.std.proofs.Common.{◌≡◌, []}
 use Rattle.asm_base.specs.Records.{Ascend, read_from}
-use Rattle.extent_map.specs.Extents.{add, is_before, is_chunk}
+use Rattle.extent_map.specs.Extents.{add, is_chunk}
+use Rattle.asm_base.specs.Chunks.{is_before}
 use Rattle.extent_map.proofs.table.ExtentMap.read.Given as goal
 
 abbrev pub invariant-loop-key : goal.invariant-loop-key

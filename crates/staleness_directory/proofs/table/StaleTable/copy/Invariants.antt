@@ -3,7 +3,8 @@ use Rattle.std.specs.Prelude.{IsTrue}
 use Rattle.std.specs.List.{AllByRecursion}
 use Rattle.asm_formats.specs.Items.{is_item}
 use Rattle.asm_base.specs.Records.{Ascend}
-use Rattle.staleness_directory.specs.Marks.{is_before, item_of}
+use Rattle.staleness_directory.specs.Marks.{item_of}
+use Rattle.asm_base.specs.Chunks.{is_before}
 use Rattle.staleness_directory.proofs.table.StaleTable.copy.Given as goal
 
 abbrev pub invariant-loop-chunk : goal.invariant-loop-chunk

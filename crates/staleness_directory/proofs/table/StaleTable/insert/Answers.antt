@@ -1,6 +1,7 @@
 use Rattle.std.proofs.Common.{◌≡◌, cond, List, Some, ℕ}
 use Rattle.std.specs.BTreeMap.{is_at}
-use Rattle.staleness_directory.specs.Marks.{Chunk, chunk_cmp, marks_at}
+use Rattle.staleness_directory.specs.Marks.{marks_at}
+use Rattle.asm_base.specs.Chunks.{Chunk, chunk_cmp}
 use Rattle.staleness_directory.proofs.table.StaleTable.insert.Goals as goal
 use Rattle.staleness_directory.proofs.table.StaleTable.insert.Goals.{in-Ok, in-Err}
 
