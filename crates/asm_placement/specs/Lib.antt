@@ -1,4 +1,3 @@
-pub mod Among
 pub mod Layout
 pub mod LayoutLaws
 pub mod LayoutRows
