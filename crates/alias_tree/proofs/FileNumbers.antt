@@ -17,7 +17,7 @@ use Rattle.asm_formats.specs.Items.{Node}
 use Rattle.asm_group.specs.TreeEdits.{names_file}
 use Rattle.asm_formats.specs.Nodes.{node_kind}
 use Rattle.asm_base.specs.Tables.{IsItemTable}
-use Rattle.alias_tree.specs.Edits.{is_name_of}
+use Rattle.alias_tree.specs.Numbers.{is_name_of}
 use Rattle.alias_tree.specs.Nodes.{Numbered, node_at, is_before, item_of}
 use Rattle.alias_tree.specs.FileNames.{FileName, name_cmp, has_name, first_name, last_name, numbers_of_file, IsFileIndex}
 use Rattle.alias_tree.proofs.FileLaws.{name_total, same_name, name_self, shown, named}

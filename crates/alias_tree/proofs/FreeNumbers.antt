@@ -2,7 +2,7 @@
 use Rattle.std.proofs.Common.{◌≡◌, ℕ, ◌<◌, ◌≤◌, List, None, arith, inl, inr}
 use Rattle.std.specs.Prelude.{IsTrue, is_some}
 use Rattle.std.proofs.lemmas.Bool.{cases_lt}
-use Rattle.alias_tree.specs.Edits.{IsLeastFree}
+use Rattle.alias_tree.specs.Numbers.{IsLeastFree}
 use Rattle.alias_tree.specs.FileNames.{IsLow}
 use Rattle.alias_tree.specs.Nodes.{Numbered, node_at}
 

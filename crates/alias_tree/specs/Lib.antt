@@ -2,9 +2,8 @@ pub mod Nodes
 pub mod Readings
 pub mod Places
 pub mod Trees
-pub mod Edits
+pub mod Numbers
 pub mod FileNames
 pub mod Faults
 pub mod Opening
-pub mod Filing
 pub mod Spelling

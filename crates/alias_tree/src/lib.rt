@@ -2,26 +2,19 @@
 //! nodes. A name leads to the same node in any case of its letters.
 #![tactic(auto)]
 
-mod causes;
-mod changing;
-mod editing;
 mod faults;
 mod files;
-mod filing;
 mod index;
 mod node;
 mod node_paths;
 mod nodes;
 mod opening;
 mod places;
-mod planning;
 mod reading;
 mod tree;
 mod writing;
 
-pub use editing::{TreeEdit, TreeError};
 pub use node::Node;
 pub use opening::OpenTree;
-pub use planning::TreeChange;
 pub use tree::AliasTree;
 pub use writing::node_record;

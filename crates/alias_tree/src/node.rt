@@ -1,8 +1,6 @@
 //! A node of the tree.
 
 ghost use Rattle.std.specs.Prelude.{◌≡◌};
-ghost use Rattle.asm_group.specs.TreeEdits.{file_of_node};
-ghost use Rattle.asm_formats.specs.Nodes.{node_kind};
 
 use asm_base::{Name, NoMemory, NodeKind};
 use std::marker::Model;
@@ -39,16 +37,5 @@ impl Node {
             file: self.file,
             name: self.name.copy()?,
         })
-    }
-}
-
-/// The file that the name stands for, where it isn't a directory's.
-pub(crate) fn named_file(node: &Node) -> Option<u32>
-    ensures { result ≡ file_of_node (node_kind node.now.kind node.now.file) }
-{
-    match node.kind {
-        NodeKind::Directory => None,
-        NodeKind::System => Some(node.file),
-        NodeKind::Alias => Some(node.file),
     }
 }

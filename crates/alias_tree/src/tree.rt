@@ -1,6 +1,6 @@
 //! The tree of names.
 
-ghost use Rattle.std.specs.Prelude.{◌≡◌, ◌≤◌, ◌<◌, ◌^◌, ◌++◌, [], length, map, IfOk, IfSome, OnErr, OnOk, Some, None, is_some, true, ℕ, ◌==◌};
+ghost use Rattle.std.specs.Prelude.{◌≡◌, ◌<◌, ◌^◌, ◌++◌, [], length, map, IfOk, IfSome, OnErr, OnOk, Some, None, is_some, true, ℕ, ◌==◌};
 ghost use Rattle.std.specs.List.{list_any};
 ghost use Rattle.std.specs.Option.{option_copied, option_map};
 ghost use Rattle.asm_group.specs.Names.{folded, folded_path};
@@ -41,8 +41,7 @@ impl Model for AliasTree {
 
 impl AliasTree {
     ghost use Rattle.std.specs.Prelude.{List as Items};
-    ghost use Rattle.alias_tree.specs.Edits.{IsLeastFree, is_name_of, without_all};
-    ghost use Rattle.alias_tree.specs.Filing.{IsFreeAbove};
+    ghost use Rattle.alias_tree.specs.Numbers.{IsLeastFree, is_name_of, without_all, IsFreeAbove};
     ghost use Rattle.asm_formats.specs.Nodes.{entry_of_node, node_kind};
     ghost use Rattle.alias_tree.specs.Trees.{node_by, tree_of};
     ghost use Rattle.alias_tree.specs.Nodes.{AreByName, IsTable, KeepsRule, Numbered, are_distinct, child, is_mine, is_under, node_at, number_from, number_of, record_of, with_node, without_node};
@@ -185,7 +184,7 @@ impl AliasTree {
     }
 
     /// The node at a path, which the root hasn't.
-    pub(crate) fn node_of(&self, parts: &[Name]) -> Option<&Node>
+    pub fn node_of(&self, parts: &[Name]) -> Option<&Node>
         ensures node { option_copied result ≡ node_by self.now (folded_path parts.now) }
         ensures entry { option_map entry_of_node (option_copied result) ≡ entry_at (tree_of self.now) parts.now }
     {
@@ -203,7 +202,7 @@ impl AliasTree {
     }
 
     /// Whether the directory at a path has names.
-    pub(crate) fn has_entries(&self, parts: &[Name]) -> bool
+    pub fn has_entries(&self, parts: &[Name]) -> bool
         requires { is_there (tree_of self.now) parts.now ≡ true }
         ensures { result ≡ has_entries (tree_of self.now) parts.now }
     {
@@ -214,7 +213,7 @@ impl AliasTree {
     }
 
     /// Whether a file has a user alias.
-    pub(crate) fn has_alias(&self, file: Option<u32>) -> bool
+    pub fn has_alias(&self, file: Option<u32>) -> bool
         ensures { result ≡ has_alias (tree_of self.now) file }
     {
         match file {
@@ -224,7 +223,7 @@ impl AliasTree {
     }
 
     /// The first node that is a name of the file.
-    pub(crate) fn name_of(&self, file: u32) -> Option<u32>
+    pub fn name_of(&self, file: u32) -> Option<u32>
         ensures there { is_some result ≡ list_any (λ x. names_file file (node_kind x.1.kind x.1.file)) self.now }
         ensures named { IfSome result (λ n. is_name_of file (node_at self.now n) ≡ true) }
         ensures table { IsTable self.now }
@@ -234,7 +233,7 @@ impl AliasTree {
 
     /// The nodes that are names of the file. They may go.
     #[tactic(auto, using(crate::proofs::IndexLaws::nodes_of))]
-    pub(crate) fn names_of(&self, alloc: Global, file: u32) -> Result<Vec<u32>, NoMemory>
+    pub fn names_of(&self, alloc: Global, file: u32) -> Result<Vec<u32>, NoMemory>
         ensures all { IfOk result (λ v. (n : ℕ) → list_any (λ m. m == n) v.items ≡ is_name_of file (node_at self.now n)) }
         ensures table { IfOk result (λ v. IsTable (without_all self.now v.items)) }
     {
@@ -243,7 +242,7 @@ impl AliasTree {
     }
 
     /// The least number from 1 that no node has.
-    pub(crate) fn free_number(&self) -> Option<u32>
+    pub fn free_number(&self) -> Option<u32>
         ensures least { IfSome result (IsLeastFree self.now) }
         ensures small { IfSome result (λ n. n < 2 ^ 32) }
     {
@@ -251,7 +250,7 @@ impl AliasTree {
     }
 
     /// The least number above another that no node has.
-    pub(crate) fn free_above(&self, before: u32) -> Option<u32>
+    pub fn free_above(&self, before: u32) -> Option<u32>
         ensures free { IfSome result (IsFreeAbove self.now before) }
         ensures small { IfSome result (λ n. n < 2 ^ 32) }
     {
@@ -259,14 +258,15 @@ impl AliasTree {
     }
 
     /// Whether a name stands for the file.
-    pub(crate) fn is_named(&self, file: u32) -> bool
+    pub fn is_named(&self, file: u32) -> bool
         ensures { result ≡ leads_to (tree_of self.now) (names_file file) }
     {
         self.name_of(file).is_some()
     }
 
+    /// The node at the end of these parts; the root is 0.
     #[tactic(auto, using(crate::proofs::Children::part_found_at, crate::proofs::Children::part_missing_at))]
-    pub(crate) fn find_parts(&self, parts: &[Name]) -> Option<u32>
+    pub fn find_parts(&self, parts: &[Name]) -> Option<u32>
         ensures { result ≡ number_from self.now 0 parts.now }
     {
         let mut at = 0;
@@ -278,7 +278,7 @@ impl AliasTree {
 
     /// The node of this parent and name.
     #[tactic(auto, using(crate::proofs::Children::child_is, crate::proofs::Children::no_child))]
-    pub(crate) fn child(&self, parent: u32, name: &Name) -> Option<u32>
+    pub fn child(&self, parent: u32, name: &Name) -> Option<u32>
         ensures { result ≡ child self.now parent (folded name.now) }
     {
         let places = &self.places;

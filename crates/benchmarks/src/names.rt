@@ -2,7 +2,8 @@
 
 use crate::paths::{Kind, node};
 use crate::records::{name_of, path, put, there, unexpected};
-use alias_tree::{AliasTree, TreeEdit};
+use alias_edits::TreeEdit;
+use alias_tree::AliasTree;
 use asm_base::{Path, Records};
 use std::alloc::Global;
 use std::io;
@@ -144,7 +145,7 @@ fn edit(tree: &mut AliasTree, edit: &TreeEdit) -> io::Result<()> {
     if !edit.is_allowed() {
         return Err(unexpected());
     }
-    match tree.edit(edit) {
+    match alias_edits::edit(tree, edit) {
         Ok(()) => Ok(()),
         Err(_) => Err(unexpected()),
     }

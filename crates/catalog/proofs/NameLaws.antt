@@ -8,7 +8,7 @@ use Rattle.asm_group.specs.TreeEdits as t
 use Rattle.asm_group.specs.TreeEdits.{Tree}
 use Rattle.asm_world.specs.Files as world
 use Rattle.asm_world.specs.Files.{NewName, new_path, next_number}
-use Rattle.alias_tree.specs.Filing as of_tree
+use Rattle.alias_edits.specs.Filing as of_tree
 use Rattle.catalog.specs.NamePlans.{FilesAsWorld, RefusesAsWorld}
 
 dir_tree : (g : Group) (path : Path) → (world.with_dir g path).tree ≡ of_tree.with_dir g.tree path

@@ -30,14 +30,14 @@ use Rattle.page_map.specs.Changes.{last_put, value_after}
 use Rattle.file_directory.specs.Files.{File, head_at, record_of, with_head}
 use Rattle.file_directory.proofs.Laws.{put_keeps_table}
 use Rattle.extent_map.specs.Extents.{Chunked}
-use Rattle.alias_tree.specs.Filing.{filed, with_nodes}
-use Rattle.alias_tree.specs.declared.editing.TreeError.{TreeError}
-use Rattle.alias_tree.specs.Edits.{IsRefusal, cause_said}
+use Rattle.alias_edits.specs.Filing.{filed, with_nodes}
+use Rattle.alias_edits.specs.declared.editing.TreeError.{TreeError}
+use Rattle.alias_edits.specs.Edits.{IsRefusal, cause_said}
 use Rattle.alias_tree.specs.Nodes as nodes
 use Rattle.alias_tree.specs.Nodes.{Numbered, node_at, with_node}
 use Rattle.alias_tree.specs.Trees.{tree_of}
 use Rattle.alias_tree.proofs.Keeping.{at_with}
-use Rattle.alias_tree.proofs.NewNodes.{with_more}
+use Rattle.alias_edits.proofs.NewNodes.{with_more}
 use Rattle.alias_tree.proofs.Readings.{number_is_some}
 use Rattle.operations_directory.proofs.ChangeLaws as operation_laws
 use Rattle.template_directory.proofs.ChangeLaws as template_laws

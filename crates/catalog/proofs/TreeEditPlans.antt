@@ -17,14 +17,14 @@ use Rattle.asm_base.specs.Refusals.{said}
 use Rattle.asm_base.specs.declared.refusal.Refusal.{Refusal}
 use Rattle.asm_base.specs.declared.refusal.Refusal.TheVariants as cause
 use Rattle.asm_base.proofs.Exact.{some_is}
-use Rattle.alias_tree.specs.declared.editing.TreeError.{TreeError}
-use Rattle.alias_tree.specs.declared.planning.TreeChange.{TreeChange}
-use Rattle.alias_tree.specs.declared.planning.TreeChange.TheVariants as change
-use Rattle.alias_tree.specs.Edits.{ChangesNodes, IsChange, IsPut, IsRefusal, cause_said, nodes_after}
+use Rattle.alias_edits.specs.declared.editing.TreeError.{TreeError}
+use Rattle.alias_edits.specs.declared.planning.TreeChange.{TreeChange}
+use Rattle.alias_edits.specs.declared.planning.TreeChange.TheVariants as change
+use Rattle.alias_edits.specs.Edits.{ChangesNodes, IsChange, IsPut, IsRefusal, cause_said, nodes_after}
 use Rattle.alias_tree.specs.Nodes.{IsTable, Numbered, kind_is_directory, node_at, number_of, with_node}
 use Rattle.alias_tree.specs.Trees.{tree_of}
-use Rattle.alias_tree.proofs.Allowed.{both_false, dir_node, four_false, not_false, number_is, three_false, two_false}
-use Rattle.alias_tree.proofs.Done.{drops_dir, entry_number, named_file}
+use Rattle.alias_edits.proofs.Allowed.{both_false, dir_node, four_false, not_false, number_is, three_false, two_false}
+use Rattle.alias_edits.proofs.Done.{drops_dir, entry_number, named_file}
 use Rattle.alias_tree.proofs.IndexLaws.{at_member}
 use Rattle.alias_tree.proofs.Leading.{any_of, leads_is, member_among, shows}
 use Rattle.file_directory.specs.Files.{File, head_at, is_file as is_held}

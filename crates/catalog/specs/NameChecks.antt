@@ -8,7 +8,7 @@ use Rattle.asm_group.specs.TreeEdits.{Tree}
 use Rattle.asm_base.specs.Refusals.{said}
 use Rattle.asm_base.specs.declared.refusal.Refusal.{Refusal}
 use Rattle.asm_world.specs.Files.{NewName}
-use Rattle.alias_tree.specs.Filing.{file_causes, nodes_missing}
+use Rattle.alias_edits.specs.Filing.{file_causes, nodes_missing}
 use Rattle.alias_tree.specs.Trees.{tree_of}
 use Rattle.catalog.specs.NamePlans.{filed_as, made_file, name_at, path_for, system_path}
 use Rattle.catalog.specs.Numbers.{IsNextFile}

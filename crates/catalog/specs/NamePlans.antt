@@ -17,9 +17,9 @@ use Rattle.asm_world.specs.Files as world
 use Rattle.asm_world.specs.Files.{NewName, new_file_causes, new_name, new_path, next_incarnation, next_number, is_sectors, template_for}
 use Rattle.file_directory.specs.Files.{head_at, with_head}
 use Rattle.extent_map.specs.Extents.{Chunked, extent_at}
-use Rattle.alias_tree.specs.Edits.{are_parts}
-use Rattle.alias_tree.specs.Filing.{IsFiling, file_causes, filed, nodes_missing, with_nodes}
-use Rattle.alias_tree.specs.Filing as of_tree
+use Rattle.alias_edits.specs.Edits.{are_parts}
+use Rattle.alias_edits.specs.Filing.{IsFiling, file_causes, filed, nodes_missing, with_nodes}
+use Rattle.alias_edits.specs.Filing as of_tree
 use Rattle.alias_tree.specs.Nodes.{IsTable, Numbered, node_at}
 use Rattle.alias_tree.specs.Trees.{tree_of}
 use Rattle.catalog.specs.Plans.{IsPlan}

@@ -9,9 +9,9 @@ use Rattle.asm_base.specs.Records.{Entry}
 use Rattle.asm_base.specs.Refusals.{said}
 use Rattle.asm_base.specs.declared.refusal.Refusal.{Refusal}
 use Rattle.asm_base.specs.declared.refusal.Refusal.TheVariants as cause
-use Rattle.alias_tree.specs.declared.planning.TreeChange.{TreeChange}
-use Rattle.alias_tree.specs.declared.planning.TreeChange.TheVariants as change
-use Rattle.alias_tree.specs.Edits.{ChangesNodes}
+use Rattle.alias_edits.specs.declared.planning.TreeChange.{TreeChange}
+use Rattle.alias_edits.specs.declared.planning.TreeChange.TheVariants as change
+use Rattle.alias_edits.specs.Edits.{ChangesNodes}
 use Rattle.alias_tree.specs.Nodes.{Numbered, node_at, number_of}
 use Rattle.alias_tree.specs.Trees.{tree_of}
 use Rattle.file_directory.specs.Files.{File, head_at, is_file, with_head}

@@ -1,13 +1,13 @@
 //! Plans of edits of the tree of names.
 
 ghost use Rattle.std.specs.Prelude.{◌≡◌, IfOk, true};
-ghost use Rattle.alias_tree.specs.Edits.{edit_meant};
+ghost use Rattle.alias_edits.specs.Edits.{edit_meant};
 ghost use Rattle.catalog.specs.TreePlans.{keeps_files};
 ghost use Rattle.catalog_tests.specs.Planned.{IsPlanned};
 
 use crate::names::path;
 use crate::steps::{Answer, Verb, answer_of};
-use alias_tree::TreeEdit;
+use alias_edits::TreeEdit;
 use asm_base::{Change, Path};
 use catalog::Catalog;
 use std::alloc::Global;

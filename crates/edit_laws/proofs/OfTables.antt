@@ -6,7 +6,7 @@ use Rattle.asm_group.specs.Refusal as r
 use Rattle.asm_group.specs.Shape.{Shape}
 use Rattle.asm_formats.specs.Items.{Key}
 use Rattle.asm_base.specs.Records.{Entry}
-use Rattle.alias_tree.specs.Edits as names
+use Rattle.alias_edits.specs.Edits as names
 use Rattle.template_directory.specs.Meant as templates
 use Rattle.catalog.specs.Changing.{IsAfter}
 use Rattle.catalog.specs.Tables.{Tables}

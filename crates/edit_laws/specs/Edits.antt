@@ -17,7 +17,7 @@ use Rattle.asm_images.specs.Sound.{SoundBy}
 use Rattle.asm_images.specs.Stands.{Standing}
 use Rattle.asm_world.specs.Edits as world
 use Rattle.asm_world.specs.Settings as settings
-use Rattle.alias_tree.specs.Edits as names
+use Rattle.alias_edits.specs.Edits as names
 use Rattle.template_directory.specs.Meant as templates
 use Rattle.catalog.specs.Changing.{IsAfter}
 use Rattle.catalog.specs.Tables.{Catalogued, Tables}

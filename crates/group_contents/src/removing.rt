@@ -12,7 +12,7 @@ ghost use Rattle.group_contents.specs.Files.{OpenCause};
 ghost use Rattle.group_contents.specs.Removing.{DropsDirectory, IsRemoved, RemoveCause, Removes, RemovesFile, leads_to_directory};
 
 use crate::opening::open;
-use alias_tree::TreeEdit;
+use alias_edits::TreeEdit;
 use asm_base::{Change, NoMemory, NodeKind, Path, Refusal};
 use bay::Bay;
 use catalog::Catalog;

@@ -4,7 +4,7 @@ use Rattle.asm_formats.specs.Items.{Key}
 use Rattle.asm_base.specs.Records.{Entry}
 use Rattle.asm_base.specs.declared.refusal.Refusal.{Refusal}
 use Rattle.asm_base.specs.declared.refusal.Refusal.TheVariants as cause
-use Rattle.alias_tree.specs.Edits as names
+use Rattle.alias_edits.specs.Edits as names
 use Rattle.template_directory.specs.Meant as templates
 use Rattle.catalog.specs.FilePlans.{IsAttributePlan, IsAttributeRefusal}
 use Rattle.catalog.specs.Plans.{IsTemplatePlan}

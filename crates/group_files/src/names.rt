@@ -1,12 +1,12 @@
 //! The tree of names is edited by one commit.
 ghost use Rattle.std.specs.Prelude.{◌≡◌, IsTrue, true};
-ghost use Rattle.alias_tree.specs.Edits.{edit_meant, is_edit};
+ghost use Rattle.alias_edits.specs.Edits.{edit_meant, is_edit};
 ghost use Rattle.catalog.specs.TreePlans.{IsTreePlan, IsTreeRefusal, keeps_files};
 ghost use Rattle.group_engine.specs.Mounts.{Takes};
 ghost use Rattle.group_engine.specs.Own.{KeepsGroup};
 ghost use Rattle.group_files.specs.Edits.{Edits};
 
-use alias_tree::TreeEdit;
+use alias_edits::TreeEdit;
 use asm_base::Refusal;
 use bay::Bay;
 use group_engine::Mounted;

@@ -21,7 +21,7 @@ use Rattle.asm_images.specs.Describing.{AreRegular, DescribesGroup, SameFile, ha
 use Rattle.file_directory.specs.Files as heads
 use Rattle.file_directory.specs.Files.{head_at}
 use Rattle.alias_tree.specs.Trees.{tree_of}
-use Rattle.alias_tree.proofs.Growing as trees
+use Rattle.alias_edits.proofs.Growing as trees
 use Rattle.catalog.specs.Disks.{Disk, info_at}
 use Rattle.catalog.specs.Tables.{AreTables, Tables}
 use Rattle.catalog.specs.Rules as rules

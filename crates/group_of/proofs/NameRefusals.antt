@@ -8,7 +8,7 @@ use Rattle.asm_group.specs.Group.{Group}
 use Rattle.asm_base.specs.Refusals.{said}
 use Rattle.asm_world.specs.Files as bytes
 use Rattle.asm_world.specs.Files.{NewName}
-use Rattle.alias_tree.specs.Filing.{file_causes, with_file}
+use Rattle.alias_edits.specs.Filing.{file_causes, with_file}
 use Rattle.alias_tree.specs.Trees.{tree_of}
 use Rattle.catalog.specs.NameChecks.{check_causes}
 use Rattle.catalog.specs.NamePlans.{filed_as, made_file, name_at, system_path}

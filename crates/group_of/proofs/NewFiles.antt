@@ -18,7 +18,7 @@ use Rattle.asm_world.specs.Files as bytes
 use Rattle.file_directory.specs.Files as heads
 use Rattle.file_directory.specs.Files.{head_at, with_head}
 use Rattle.alias_tree.specs.Trees.{tree_of}
-use Rattle.alias_tree.specs.Filing as of_tree
+use Rattle.alias_edits.specs.Filing as of_tree
 use Rattle.catalog.specs.FilePlans.{with_size}
 use Rattle.catalog.specs.NamePlans.{made_file, named}
 use Rattle.catalog.proofs.NumberedEntries.{number_other}

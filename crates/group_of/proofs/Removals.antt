@@ -17,10 +17,10 @@ use Rattle.asm_formats.specs.Nodes.{node_kind}
 use Rattle.asm_placement.specs.Naming.{is_directory, is_named_as, kind_eq, names_back}
 use Rattle.file_directory.specs.Files.{head_at, without_file}
 use Rattle.asm_base.specs.Records.{Ascend}
-use Rattle.alias_tree.specs.Edits.{is_name_of}
+use Rattle.alias_tree.specs.Numbers.{is_name_of}
 use Rattle.alias_tree.specs.Nodes as nodes
 use Rattle.alias_tree.specs.Nodes.{node_at, without_node}
-use Rattle.alias_tree.proofs.Growing.{NamesGone, unnamed_tree}
+use Rattle.alias_edits.proofs.Growing.{NamesGone, unnamed_tree}
 use Rattle.alias_tree.proofs.Keeping.{at_without, without_items}
 use Rattle.alias_tree.proofs.Leading.{same_bool}
 use Rattle.alias_tree.proofs.Ways.{no_root}

@@ -23,9 +23,9 @@ use Rattle.asm_world.specs.Settings as t
 use Rattle.asm_world.specs.Statement as s
 use Rattle.asm_world.specs.Step.{edit_of, on_path, on_paths}
 use Rattle.asm_world.specs.World.{World}
-use Rattle.alias_tree.specs.Edits.{edit_meant, is_edit}
-use Rattle.alias_tree.specs.declared.editing.TreeEdit.{TreeEdit}
-use Rattle.alias_tree.specs.declared.editing.TreeEdit.TheVariants as tree
+use Rattle.alias_edits.specs.Edits.{edit_meant, is_edit}
+use Rattle.alias_edits.specs.declared.editing.TreeEdit.{TreeEdit}
+use Rattle.alias_edits.specs.declared.editing.TreeEdit.TheVariants as tree
 use Rattle.template_directory.specs.Meant as templates
 use Rattle.catalog.specs.TreePlans.{keeps_files, makes_node}
 use Rattle.edit_laws.specs.Edits.{edited_by}

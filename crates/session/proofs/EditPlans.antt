@@ -11,7 +11,7 @@ use Rattle.asm_group.specs.Names.{Bytes}
 use Rattle.asm_group.specs.Refusal as r
 use Rattle.asm_group.specs.TreeEdits as e
 use Rattle.asm_world.specs.Edits as world
-use Rattle.alias_tree.specs.Edits as names
+use Rattle.alias_edits.specs.Edits as names
 use Rattle.alias_tree.specs.Trees.{tree_of}
 use Rattle.catalog.specs.Changing.{IsAfter}
 use Rattle.catalog.specs.Tables.{Catalogued, Tables}

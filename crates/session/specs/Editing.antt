@@ -14,8 +14,8 @@ use Rattle.asm_world.specs.Command.{Command}
 use Rattle.asm_world.specs.Edits as e
 use Rattle.asm_world.specs.Paths.{target_from}
 use Rattle.asm_world.specs.World.{SessionEntry, SessionState, entry_among}
-use Rattle.alias_tree.specs.Edits.{edit_meant}
-use Rattle.alias_tree.specs.declared.editing.TreeEdit.{TreeEdit}
+use Rattle.alias_edits.specs.Edits.{edit_meant}
+use Rattle.alias_edits.specs.declared.editing.TreeEdit.{TreeEdit}
 use Rattle.catalog.specs.TreePlans.{makes_node}
 use Rattle.edit_laws.specs.Edits.{edited_by}
 use Rattle.group_engine.specs.Mounts.{MountedGroup}

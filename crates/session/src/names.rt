@@ -1,7 +1,7 @@
 // Directories and aliases: edits of a group's names, each of one commit. rm takes files away too.
 ghost use Rattle.std.specs.Prelude.{◌≡◌, [], true, IfErr, IfOk, OnOk};
 ghost use Rattle.std.specs.Option.{option_map};
-ghost use Rattle.alias_tree.specs.Edits.{edit_meant};
+ghost use Rattle.alias_edits.specs.Edits.{edit_meant};
 ghost use Rattle.asm_world.specs.Command.{Said, Asked, MakeDir, Remove, MakeAlias, RemoveAlias};
 ghost use Rattle.asm_world.specs.Language.{command_of};
 ghost use Rattle.asm_world.specs.Paths.{clause_path};
@@ -21,7 +21,7 @@ use crate::desk::Desk;
 use crate::files::{AtFile, path_of_verb, work_by_verb};
 use crate::refusing::{no_memory, refused};
 use crate::reply::Reply;
-use alias_tree::TreeEdit;
+use alias_edits::TreeEdit;
 use asm_base::{List, Name, NoMemory, Path, Refusal, Text};
 use bay::{Bay, Host};
 use group_files::GroupEdit;

@@ -1,7 +1,8 @@
 // Edits of the tree of names, and what they leave.
 use crate::given::{Wrong, path, row};
 use crate::names::{Found, count_found};
-use alias_tree::{AliasTree, TreeEdit, TreeError};
+use alias_edits::{TreeEdit, TreeError};
+use alias_tree::AliasTree;
 use asm_base::Path;
 use std::alloc::Global;
 
@@ -55,7 +56,7 @@ fn edit_by(verb: Verb, at: Path, to: Path) -> TreeEdit {
 /// The answer of an edit. None of parts of more than 80 bytes.
 fn answer(tree: &mut AliasTree, edit: &TreeEdit) -> Option<Option<TreeError>> {
     if edit.is_allowed() {
-        Some(tree.edit(edit).err())
+        Some(alias_edits::edit(tree, edit).err())
     } else {
         None
     }

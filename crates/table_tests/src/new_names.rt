@@ -1,7 +1,8 @@
 // What the name of a new file would change.
 use crate::given::{Wrong, path, row};
 use crate::name_edits::{Row, Verb, edited};
-use alias_tree::{AliasTree, Node, TreeEdit, TreeError};
+use alias_edits::{TreeEdit, TreeError, plan_file};
+use alias_tree::{AliasTree, Node};
 use asm_base::NodeKind;
 use std::alloc::Global;
 
@@ -28,7 +29,7 @@ fn planned_by(alloc: Global, tree: &AliasTree, edit: &TreeEdit) -> Option<Planne
     if path.parts.is_empty() {
         return None;
     }
-    Some(tree.plan_file(alloc, path, *file))
+    Some(plan_file(tree, alloc, path, *file))
 }
 
 /// The same in a tree.

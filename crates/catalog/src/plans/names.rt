@@ -6,8 +6,8 @@ ghost use Rattle.asm_formats.specs.Items.{Node as FormatNode, file_item, is_item
 ghost use Rattle.asm_base.specs.Refusals.{said};
 ghost use Rattle.asm_base.specs.Tables.{item_record};
 ghost use Rattle.asm_group.specs.Refusal.{NoMemory as OutOfMemory};
-ghost use Rattle.alias_tree.specs.Edits.{IsRefusal, are_parts};
-ghost use Rattle.alias_tree.specs.Filing.{IsFiling, filed, nodes_missing, with_nodes};
+ghost use Rattle.alias_edits.specs.Edits.{IsRefusal, are_parts};
+ghost use Rattle.alias_edits.specs.Filing.{IsFiling, filed, nodes_missing, with_nodes};
 ghost use Rattle.alias_tree.specs.Nodes.{IsTable, Numbered, node_at, record_of as node_entry};
 ghost use Rattle.alias_tree.specs.Trees.{tree_of};
 ghost use Rattle.file_directory.specs.Files.{record_of as file_entry};
@@ -21,7 +21,8 @@ use crate::plans::making::no_memory;
 use crate::plans::operations::PENDING;
 use crate::plans::system_path::{NameParts, new_name, system_path};
 use crate::plans::tree::refusal_of;
-use alias_tree::{Node, TreeError, node_record};
+use alias_edits::{TreeError, plan_file};
+use alias_tree::{Node, node_record};
 use asm_base::{Change, Key, List, Name, NoMemory, Path, Refusal, Stripe, Value};
 use file_directory::{FileHead, record_of};
 use std::alloc::Global;
@@ -107,7 +108,7 @@ impl Catalog {
         ensures few { IfOk result (λ made. length made.items ≤ length path.now.parts) }
         ensures refused { IfErr result (IsRefusal (filed (tree_of self.now.tables.nodes) path.now.parts file)) }
     {
-        self.parts.tree.plan_file(alloc, path, file)
+        plan_file(&self.parts.tree, alloc, path, file)
     }
 
     /// The change by which they are there, with the head.

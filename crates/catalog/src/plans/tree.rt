@@ -5,7 +5,7 @@ ghost use Rattle.asm_group.specs.TreeEdits as edits;
 ghost use Rattle.asm_group.specs.declared.NodeKind.TheVariants.{Alias};
 ghost use Rattle.asm_base.specs.Refusals.{said};
 ghost use Rattle.asm_base.specs.declared.refusal.Refusal.TheVariants.{DirectoryFull, NoMemory as WithoutMemory};
-ghost use Rattle.alias_tree.specs.Edits.{ChangesNodes, IsChange, IsRefusal, cause_said, edit_meant, is_edit, nodes_after};
+ghost use Rattle.alias_edits.specs.Edits.{ChangesNodes, IsChange, IsRefusal, cause_said, edit_meant, is_edit, nodes_after};
 ghost use Rattle.alias_tree.specs.Nodes.{IsTable, node_at, with_node, without_node};
 ghost use Rattle.alias_tree.specs.Trees.{tree_of};
 ghost use Rattle.file_directory.specs.Files.{head_at};
@@ -16,13 +16,14 @@ ghost use Rattle.catalog.specs.TreePlans.{IsFull, IsNewAlias, IsTreePlan, IsTree
 use crate::catalog::Catalog;
 use crate::plans::making::{no_memory, one_gone, one_put, two_put};
 use crate::reading::node_key;
-use alias_tree::{Node, TreeChange, TreeEdit, TreeError, node_record};
+use alias_edits::{TreeChange, TreeEdit, TreeError, plan};
+use alias_tree::{Node, node_record};
 use asm_base::{Change, Key, NoMemory, NodeKind, Refusal, Value};
 use file_directory::{FileHead, record_of};
 use std::alloc::Global;
 
 impl Catalog {
-    /// The change that an edit of the tree is. Its refusals are those of AliasTree::edit, and then DirectoryFull where it
+    /// The change that an edit of the tree is. Its refusals are those of alias_edits::edit, and then DirectoryFull where it
     /// makes a node and no block is free. The parts of a name that it puts have at most 80 bytes. The names of files come
     /// and go with their files alone.
     #[tactic(auto, using(crate::proofs::TreeEditPlans::tree_planned, crate::proofs::TreeEditPlans::plan_refused, crate::proofs::TreeEditPlans::edit_refused))]
@@ -52,7 +53,7 @@ impl Catalog {
         ensures change { IfOk result (IsChange self.now.tables.nodes (edit_meant edit.now)) }
         ensures refused { IfErr result (IsRefusal (edits.edited (tree_of self.now.tables.nodes) (edit_meant edit.now))) }
     {
-        self.parts.tree.plan(alloc, edit)
+        plan(&self.parts.tree, alloc, edit)
     }
 
     /// The change of records that a change of the nodes is.

@@ -8,7 +8,7 @@ ghost use Rattle.group_tests.specs.Commits.{MayCommit, PutsNone};
 
 use crate::answers::{Answer, answer_of, refused};
 use crate::spelt::read_path;
-use alias_tree::TreeEdit;
+use alias_edits::TreeEdit;
 use asm_base::{Change, Key, List, Name, NoMemory, PendingKind, Stripe, Value};
 use bay::Bay;
 use catalog::Catalog;

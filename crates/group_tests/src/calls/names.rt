@@ -4,7 +4,7 @@ ghost use Rattle.group_engine.specs.Mounts.{Takes};
 
 use crate::answers::{Answer, answer_of};
 use crate::spelt::read_path;
-use alias_tree::TreeEdit;
+use alias_edits::TreeEdit;
 use bay::Bay;
 use group_engine::Mounted;
 use group_files::{GroupEdit, edit_group};

@@ -1,5 +1,5 @@
 use Rattle.std.proofs.Common.{inl, refl, subst}
-use Rattle.alias_tree.specs.Edits.{edit_meant}
+use Rattle.alias_edits.specs.Edits.{edit_meant}
 use Rattle.catalog.specs.Tables.{Catalogued}
 use Rattle.catalog.specs.TreePlans.{IsTreeRefusal}
 use Rattle.group_files.proofs.Edits.{none_run}

@@ -3,7 +3,7 @@ use Rattle.std.proofs.lemmas.Option.{none-some}
 use Rattle.asm_group.specs.Names.{folded_path}
 use Rattle.alias_tree.specs.Nodes.{IsTable}
 use Rattle.alias_tree.specs.Trees.{number_by}
-use Rattle.alias_tree.proofs.Allowed.{there_number}
+use Rattle.alias_tree.proofs.Lookups.{there_number}
 use Rattle.alias_tree.proofs.Leading.{entries_are}
 use Rattle.alias_tree.proofs.Ways.{by_folded}
 use Rattle.alias_tree.proofs.tree.AliasTree.has_entries.Goals as goal

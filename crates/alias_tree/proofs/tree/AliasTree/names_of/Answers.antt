@@ -1,4 +1,4 @@
-use Rattle.alias_tree.proofs.PlanLaws.{names_gone_table}
+use Rattle.alias_tree.proofs.FileNodes.{names_gone_table}
 use Rattle.alias_tree.proofs.tree.AliasTree.names_of.Goals as goal
 
 pub returns-clause-table : goal.returns-clause-table

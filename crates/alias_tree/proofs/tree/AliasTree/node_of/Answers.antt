@@ -1,5 +1,5 @@
 use Rattle.std.specs.Option.{option_copied}
-use Rattle.alias_tree.proofs.Done.{node_is, node_is_none}
+use Rattle.alias_tree.proofs.Lookups.{node_is, node_is_none}
 use Rattle.alias_tree.proofs.tree.AliasTree.node_of.Goals as goal
 
 pub returns-in-Some : goal.returns-in-Some

@@ -1,4 +1,4 @@
-use Rattle.alias_tree.specs.Edits.{edit_meant, nodes_after}
+use Rattle.alias_edits.specs.Edits.{edit_meant, nodes_after}
 use Rattle.alias_tree.specs.Trees.{tree_of}
 use Rattle.catalog.proofs.TreeEditPlans.{may_change, plan_refused}
 use Rattle.catalog.proofs.catalog.Catalog.plan_tree.Goals as goal

@@ -1,9 +1,0 @@
-use Rattle.std.proofs.Common.{length}
-use Rattle.alias_tree.proofs.Names.{NamesSoFar}
-use Rattle.alias_tree.proofs.tree.AliasTree.drop_names.Given as goal
-
-abbrev pub invariant-loop-number : goal.invariant-loop-number
-invariant-loop-number l = NamesSoFar l.fn.self l.self l.fn.file
-
-abbrev pub decreases-loop-number : goal.decreases-loop-number
-decreases-loop-number l = length l.self

@@ -1,6 +1,0 @@
-use Rattle.alias_tree.proofs.Moving.{moved_dir_table}
-use Rattle.alias_tree.proofs.tree.AliasTree.moved_dir.Goals as goal
-
-pub returns-clause-table : goal.returns-clause-table
-returns-clause-table c =
-    moved_dir_table c.args.self.now c.args.old.now.parts c.args.new.now.parts c.in_ok-number.number c.in_ok-number.node c.keeps_rule.ensures c.requires.free c.in_ok-number.ensures c.requires.parts
