@@ -3,10 +3,7 @@ pub mod Items
 pub mod Failgroups
 pub mod Steps
 pub mod Added
-pub mod Wholes
 pub mod Exact
 pub mod Parts
 pub mod Ties
 pub mod Groups
-pub mod Puts
-pub mod Texts

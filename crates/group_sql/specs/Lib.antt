@@ -4,4 +4,3 @@ pub mod Readers
 pub mod Rows
 pub mod Answers
 pub mod Choices
-pub mod Lines

@@ -2,8 +2,9 @@
 use crate::play::{Wrong, row, table};
 use crate::readings::statement;
 use asm_base::{List, Name};
-use group_sql::{Clause, Statement, TemplateWords, write_statement};
+use group_sql::{Clause, Statement, TemplateWords};
 use std::alloc::Global;
+use written_sql::write_statement;
 
 /// Texts that are written as they stand.
 const CANONICAL: [&[u8]; 52] = [

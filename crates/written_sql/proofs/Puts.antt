@@ -7,7 +7,7 @@ use Rattle.asm_grammar.specs.Syntax.{Syntax, Then, Maybe, Many, Value}
 use Rattle.asm_world.specs.Grammar as g
 use Rattle.asm_world.specs.Statement as s
 use Rattle.asm_world.specs.Writing.{after_word, disk_value, failgroup_value, failgroup_values, failgroups_value, first_and_others, one_more, quorum_value}
-use Rattle.group_sql.specs.Lines.{Line, put, put_maybe, put_more, list_of, some_disks_value, groups_line, maybe_group_name}
+use Rattle.written_sql.specs.Lines.{Line, put, put_maybe, put_more, list_of, some_disks_value, groups_line, maybe_group_name}
 
 -- LISTS
 

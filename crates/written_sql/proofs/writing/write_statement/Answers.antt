@@ -1,8 +1,8 @@
 use Rattle.std.proofs.Common.{ap, sym, ◌∙◌}
-use Rattle.group_sql.specs.Lines.{Line, statement_line}
+use Rattle.written_sql.specs.Lines.{Line, statement_line}
 use Rattle.group_sql.specs.Said.{statement_said}
-use Rattle.group_sql.proofs.Texts.{whole_text, text_says}
-use Rattle.group_sql.proofs.writing.write_statement.Goals as goal
+use Rattle.written_sql.proofs.Texts.{whole_text, text_says}
+use Rattle.written_sql.proofs.writing.write_statement.Goals as goal
 
 pub returns-clause-said : goal.returns-clause-said
 returns-clause-said c =

@@ -4,19 +4,19 @@ ghost use Rattle.std.specs.Prelude.{◌≡◌, IfOk};
 ghost use Rattle.asm_world.specs.Grammar as g;
 ghost use Rattle.asm_world.specs.Statement as s;
 ghost use Rattle.asm_world.specs.Writing.{attribute_value, redundancy_value, stripe_value, words_value};
-ghost use Rattle.group_sql.specs.Lines as lines;
+ghost use Rattle.written_sql.specs.Lines as lines;
 ghost use Rattle.group_sql.specs.Redundancies.{redundancy_said};
 ghost use Rattle.group_sql.specs.Said.{clause_said, disks_said, maybe_kind_said};
 
 use crate::line::Line;
-use crate::statement::{
-    Attribute, Clause, Disks, DroppedDisk, FailgroupKind, NewFailgroup, Rebalance, TemplateWords,
-};
 use crate::written_disks::{
     write_after, write_drops, write_failgroups, write_force, write_in_failgroup, write_rebalance,
     write_rebalanced, write_size, write_some_disks, write_wait,
 };
 use asm_base::{Name, NoMemory, Redundancy, Stripe, Text};
+use group_sql::{
+    Attribute, Clause, Disks, DroppedDisk, FailgroupKind, NewFailgroup, Rebalance, TemplateWords,
+};
 
 fn write_redundancy(line: Line, redundancy: Redundancy) -> Result<Line, NoMemory>
     ensures { IfOk result (λ longer. longer ≡ lines.put g.redundancy (redundancy_value (redundancy_said redundancy)) line) }

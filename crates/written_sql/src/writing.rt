@@ -5,15 +5,15 @@ ghost use Rattle.asm_world.specs.Meaning.{Says};
 ghost use Rattle.asm_world.specs.Grammar as g;
 ghost use Rattle.asm_world.specs.Statement as s;
 ghost use Rattle.asm_world.specs.Writing.{attribute_value, attributes_value, statement_text};
-ghost use Rattle.group_sql.specs.Lines as lines;
+ghost use Rattle.written_sql.specs.Lines as lines;
 ghost use Rattle.group_sql.specs.Rows.{groups_and_attributes, maybe_attributes, maybe_redundancy};
 ghost use Rattle.group_sql.specs.Said.{clause_said, statement_said};
 
 use crate::line::Line;
-use crate::statement::{Attribute, Clause, NewFailgroup, Statement};
 use crate::written_clauses::{write_attribute, write_clause};
 use crate::written_disks::write_failgroups;
 use asm_base::{GroupKind, Name, NoMemory, Text};
+use group_sql::{Attribute, Clause, NewFailgroup, Statement};
 use std::alloc::Global;
 
 /// A group's kind and REDUNDANCY, where one is said.

@@ -1,9 +1,9 @@
 use Rattle.std.proofs.Common.{Some, ap, sym, ◌∙◌}
 use Rattle.asm_world.specs.Grammar as g
-use Rattle.group_sql.specs.Lines.{put_maybe, some_disks_value}
+use Rattle.written_sql.specs.Lines.{put_maybe, some_disks_value}
 use Rattle.group_sql.specs.Said.{disks_said}
-use Rattle.group_sql.proofs.Wholes.{onlined}
-use Rattle.group_sql.proofs.written_clauses.online.Goals as goal
+use Rattle.written_sql.proofs.Wholes.{onlined}
+use Rattle.written_sql.proofs.written_clauses.online.Goals as goal
 
 pub returns : goal.returns
 returns c =

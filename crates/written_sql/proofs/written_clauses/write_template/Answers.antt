@@ -1,7 +1,7 @@
 use Rattle.std.proofs.Common.{◌≡◌, IfOk, sym, subst}
-use Rattle.group_sql.specs.Lines.{put_maybe, bracketed, bracketed_value}
-use Rattle.group_sql.proofs.Wholes.{template_put}
-use Rattle.group_sql.proofs.written_clauses.write_template.Goals as goal
+use Rattle.written_sql.specs.Lines.{put_maybe, bracketed, bracketed_value}
+use Rattle.written_sql.proofs.Wholes.{template_put}
+use Rattle.written_sql.proofs.written_clauses.write_template.Goals as goal
 
 pub returns : goal.returns
 returns c =

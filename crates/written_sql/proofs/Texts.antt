@@ -13,7 +13,7 @@ use Rattle.asm_world.specs.Meaning.{Says}
 use Rattle.asm_world.specs.Statement as s
 use Rattle.asm_world.specs.Writing.{statement_value, statement_text, value_text}
 use Rattle.asm_world.proofs.Canon.{said_is_written}
-use Rattle.group_sql.specs.Lines.{Line, start, stands_close, is_open, add, put, put_maybe, statement_line}
+use Rattle.written_sql.specs.Lines.{Line, start, stands_close, is_open, add, put, put_maybe, statement_line}
 
 -- PIECES, one behind another
 

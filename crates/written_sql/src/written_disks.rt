@@ -5,13 +5,13 @@ ghost use Rattle.std.specs.Prelude.{◌≡◌, IfOk};
 ghost use Rattle.asm_grammar.specs.Syntax.{Maybe};
 ghost use Rattle.asm_world.specs.Grammar as g;
 ghost use Rattle.asm_world.specs.Writing.{after_value, after_word, disk_value, dropped_value, failgroup_value, failgroups_value, group_word_value, maybe_rebalance, quorum_value, rebalance_value, said};
-ghost use Rattle.group_sql.specs.Lines as lines;
+ghost use Rattle.written_sql.specs.Lines as lines;
 ghost use Rattle.group_sql.specs.Rows.{dropped_disk, maybe_after, maybe_name, maybe_power, maybe_size};
 ghost use Rattle.group_sql.specs.Said.{disks_said, maybe_kind_said};
 
 use crate::line::Line;
-use crate::statement::{Disks, DroppedDisk, FailgroupKind, NewDisk, NewFailgroup, Rebalance};
 use asm_base::{Name, NoMemory};
+use group_sql::{Disks, DroppedDisk, FailgroupKind, NewDisk, NewFailgroup, Rebalance};
 
 /// FORCE, where it is said.
 pub fn write_force(line: Line, force: bool) -> Result<Line, NoMemory>

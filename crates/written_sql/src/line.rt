@@ -5,7 +5,7 @@ ghost use Rattle.asm_grammar.specs.Syntax.{One};
 ghost use Rattle.asm_grammar.specs.Word.{Mark};
 ghost use Rattle.asm_grammar.specs.Writing.{space_unless};
 ghost use Rattle.asm_world.specs.Grammar as g;
-ghost use Rattle.group_sql.specs.Lines as lines;
+ghost use Rattle.written_sql.specs.Lines as lines;
 
 use asm_base::{Name, NoMemory, Text};
 use itoa::Buffer;
@@ -21,7 +21,7 @@ pub struct Line {
 }
 
 impl Model for Line {
-    ghost use Rattle.group_sql.specs.Lines.{Line as Words};
+    ghost use Rattle.written_sql.specs.Lines.{Line as Words};
 
     ghost Value = { Words };
 

@@ -8,10 +8,10 @@ use Rattle.asm_group.specs.Names.{Bytes}
 use Rattle.asm_world.specs.Grammar as g
 use Rattle.asm_world.specs.Statement as s
 use Rattle.asm_world.specs.Writing.{after_value, attribute_value, attributes_value, clause_value, dropped_value, failgroups_value, kind_value, maybe_rebalance, said, words_value}
-use Rattle.group_sql.specs.Lines.{Line, put, put_maybe, put_more, list_of, some_disks_value, template_value, bracketed, bracketed_value, kind_words, group_rest_value, clause_line, statement_line}
+use Rattle.written_sql.specs.Lines.{Line, put, put_maybe, put_more, list_of, some_disks_value, template_value, bracketed, bracketed_value, kind_words, group_rest_value, clause_line, statement_line}
 use Rattle.group_sql.specs.Rows.{dropped_disk, groups_and_attributes, maybe_after, maybe_attributes, maybe_redundancy}
 use Rattle.group_sql.specs.Said.{disks_said}
-use Rattle.group_sql.proofs.Puts.{more_put}
+use Rattle.written_sql.proofs.Puts.{more_put}
 use Rattle.group_sql.specs.declared.statement.Disks.{Disks}
 use Rattle.group_sql.specs.declared.statement.Disks.TheVariants.{Named, InFailgroup}
 
