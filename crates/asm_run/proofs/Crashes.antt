@@ -17,7 +17,7 @@ use Rattle.asm_world.specs.RunLaws.{Grows, IsQuiet}
 use Rattle.asm_world.specs.World.{World, SessionEntry, groups_of, has_mounted}
 use Rattle.group_mount.specs.Mounting.{Allows}
 use Rattle.group_disks.specs.Found.{Counts}
-use Rattle.session.specs.Acts.{Holding}
+use Rattle.serving.specs.Acts.{Holding}
 use Rattle.session.specs.Claims.{held_outside, IsProvedApartIn}
 use Rattle.session.specs.Meaning.{meaning}
 use Rattle.session.specs.Sessions.{Roster}

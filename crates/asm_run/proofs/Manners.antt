@@ -2,9 +2,9 @@
 use Rattle.std.proofs.Common.{◌≡◌, ℕ, ◌-◌, List, [], ◌∷◌, refl, ◌∙◌, subst}
 use Rattle.asm_group.specs.Names.{Bytes}
 use Rattle.asm_world.specs.Run.{State, Entry, Move, Starts, Expires, Answers, Slices, Rests, Stops, Style, Full, IsFull, IsGenerated}
-use Rattle.session.specs.declared.manner.Manner.{Manner}
-use Rattle.session.specs.declared.manner.Manner.TheVariants.{InFull, InShort}
-use Rattle.session.specs.Manners.{AreTold, after_move, style_of}
+use Rattle.serving.specs.declared.manner.Manner.{Manner}
+use Rattle.serving.specs.declared.manner.Manner.TheVariants.{InFull, InShort}
+use Rattle.serving.specs.Manners.{AreTold, after_move, style_of}
 
 full-style : (move : Move) → style_of InFull move ≡ Full
 full-style (Starts time) = refl

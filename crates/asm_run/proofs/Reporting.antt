@@ -12,16 +12,16 @@ use Rattle.asm_world.specs.RunLaws.{RisesFrom}
 use Rattle.asm_world.specs.World.{World}
 use Rattle.group_disks.specs.Found.{Counts, counts_of}
 use Rattle.script.specs.Script.{cut, commands_of, ended_commands}
-use Rattle.session.specs.declared.stop.Stop.{Stop}
-use Rattle.session.specs.declared.stop.Stop.TheVariants.{ReadFault, WriteFault, NoMemory, TooLong}
+use Rattle.serving.specs.declared.stop.Stop.{Stop}
+use Rattle.serving.specs.declared.stop.Stop.TheVariants.{ReadFault, WriteFault, NoMemory, TooLong}
 use Rattle.group_engine.specs.Mounts.{MountedGroup}
-use Rattle.session.specs.declared.manner.Manner.{Manner}
-use Rattle.session.specs.declared.manner.Manner.TheVariants.{InShort}
-use Rattle.session.specs.Acts.{scene}
-use Rattle.session.specs.Manners.{AreTold}
+use Rattle.serving.specs.declared.manner.Manner.{Manner}
+use Rattle.serving.specs.declared.manner.Manner.TheVariants.{InShort}
+use Rattle.serving.specs.Acts.{scene}
+use Rattle.serving.specs.Manners.{AreTold}
 use Rattle.session.specs.Quiet.{quiet}
 use Rattle.session.specs.Sessions.{Roster, SessionView, roster, roster_of}
-use Rattle.session.specs.Serves.{limit, IsFront, IsAnswered, Serves, is_whole}
+use Rattle.serving.specs.Serves.{limit, IsFront, IsAnswered, Serves, is_whole}
 use Rattle.asm_run.specs.Headline.{first_state, status_number, GeneratedRun, Outcome, Transcript}
 use Rattle.asm_run.proofs.Counting.{count-generated}
 use Rattle.asm_run.proofs.Cuts.{commands-are}

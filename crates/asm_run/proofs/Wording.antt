@@ -3,9 +3,9 @@ use Rattle.std.proofs.Common.{◌≡◌, ◌≢◌, ℕ, Bool, true, false, Opti
 use Rattle.std.specs.Str.Parse.{digits_value}
 use Rattle.command_line.specs.Command.{IsRead, number_in}
 use Rattle.command_line.specs.Paths.{Text, IsNumberOf}
-use Rattle.session.specs.declared.stop.Stop.{Stop}
-use Rattle.session.specs.declared.stop.Stop.TheVariants.{ReadFault, WriteFault, NoMemory, TooLong}
-use Rattle.session.specs.Serves.{IsInputStop}
+use Rattle.serving.specs.declared.stop.Stop.{Stop}
+use Rattle.serving.specs.declared.stop.Stop.TheVariants.{ReadFault, WriteFault, NoMemory, TooLong}
+use Rattle.serving.specs.Serves.{IsInputStop}
 use Rattle.asm_run.specs.Headline.{number_given, status_number}
 
 -- ---- words

@@ -14,13 +14,13 @@ use Rattle.command_line.specs.Command.{number_in}
 use Rattle.command_line.specs.Paths.{Text}
 use Rattle.group_disks.specs.Found.{Counts, counts_of}
 use Rattle.script.specs.Script.{commands_of, ended_commands}
-use Rattle.session.specs.declared.stop.Stop.{Stop}
-use Rattle.session.specs.declared.stop.Stop.TheVariants.{ReadFault, WriteFault, NoMemory, TooLong}
+use Rattle.serving.specs.declared.stop.Stop.{Stop}
+use Rattle.serving.specs.declared.stop.Stop.TheVariants.{ReadFault, WriteFault, NoMemory, TooLong}
 use Rattle.session.specs.Claims.{outside, IsProvedApartIn}
 use Rattle.session.specs.Effects.{Past}
 use Rattle.session.specs.Proved.{IsProvedIn}
 use Rattle.session.specs.Quiet.{quiet}
-use Rattle.session.specs.Serves.{limit, IsFront}
+use Rattle.serving.specs.Serves.{limit, IsFront}
 use Rattle.world_steps.specs.Runs.{AllFrom, IsRunFrom}
 use Rattle.asm_run.specs.Crash.{StartsAs, AreHeld, IsCrashSafe}
 

@@ -12,7 +12,7 @@ use crate::report::{Report, ended, nothing_done};
 use asm_base::{NoMemory, Text};
 use bay::{Bay, Clock, Host, Sink};
 use generated_script::GeneratedScript;
-use session::{Manner, Program};
+use serving::{Manner, Program};
 use std::alloc::Global;
 
 /// How many commands the generator makes over four images.

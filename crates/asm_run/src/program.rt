@@ -12,7 +12,7 @@ use crate::generating::generate;
 use crate::report::{Report, ended, nothing_done};
 use bay::{Bay, Clock, Host, Sink, Source};
 use command_line::{Words, WordsError, read_words};
-use session::{Manner, Program};
+use serving::{Manner, Program};
 use std::alloc::Global;
 
 /// Reads a script from the source, runs its commands on the images that the words name, and prints their replies to the sink.

@@ -13,12 +13,12 @@ use Rattle.group_engine.specs.Members.{LetsGo}
 use Rattle.session.specs.Entries.{entry_view, group_view}
 use Rattle.session.specs.Naming.{CarriesOn, key_of}
 use Rattle.session.specs.Sessions.{AreApart, AreReady, AreTwoApart, SessionView}
-use Rattle.session.specs.Slices.{failure_of}
-use Rattle.session.specs.Turns.{HasLine, IsLineOf, OnEvent, OnIdle, OnWork, When}
+use Rattle.group_turns.specs.Slices.{failure_of}
+use Rattle.group_turns.specs.Turns.{HasLine, IsLineOf, OnEvent, OnIdle, OnWork, When}
 use Rattle.session.specs.declared.entry.Entry.{Entry}
-use Rattle.session.specs.declared.failure.Failure.TheVariants as failure
-use Rattle.session.specs.declared.turn.Turned.{Turned}
-use Rattle.session.specs.declared.turn.Turned.TheVariants as turned
+use Rattle.group_turns.specs.declared.failure.Failure.TheVariants as failure
+use Rattle.group_turns.specs.declared.taking.Turned.{Turned}
+use Rattle.group_turns.specs.declared.taking.Turned.TheVariants as turned
 use Rattle.session.proofs.Carrying.{seen}
 use Rattle.session.proofs.Grouped.{Pairs}
 use Rattle.session.proofs.Ready.{still, turned}
@@ -144,12 +144,3 @@ pub turn_idle : (place : ℕ) (v w : Entry) (es fs : Pairs) (path : List Bytes) 
 turn_idle place v w es fs path given time is at id group =
     let equal : w ≡ v = λ i. record { id = id i; group = group i } in
     ap (λ (l : Pairs). seen l path given time) (is ∙ same_put es place v w equal at)
-
--- ---- refusals
-
-pub failure_other : (refusal : Refusal) → ((disk : DiskRef) → refusal ≡ cause.ReadFault disk → ⊥) → ((disk : DiskRef) → refusal ≡ cause.WriteFault disk → ⊥) → ((disk : DiskRef) → refusal ≡ cause.Dismounted disk → ⊥)
-    → failure_of refusal ≡ failure.NoMemory
-failure_other (cause.ReadFault disk) read write ends = absurd (read disk refl)
-failure_other (cause.WriteFault disk) read write ends = absurd (write disk refl)
-failure_other (cause.Dismounted disk) read write ends = absurd (ends disk refl)
-failure_other another read write ends = refl

@@ -49,7 +49,7 @@ impl Session {
 
     /// Edits the mounted group of a name. NoGroup where it isn't in the session, and Dismounted where it is so; then the refusals
     /// of the edit, and Dismounted by its commit.
-    pub(crate) fn edit<B: Bay>(
+    pub fn edit<B: Bay>(
         &mut self,
         alloc: Global,
         bay: &mut B,

@@ -9,14 +9,14 @@ use new_groups::{Known, Taken};
 use status_table::{PstEntry, PstRecord};
 use std::alloc::Global;
 
-pub(crate) fn put_slot(slots: &mut Vec<u32>, slot: u32) -> Result<(), NoMemory>
+pub fn put_slot(slots: &mut Vec<u32>, slot: u32) -> Result<(), NoMemory>
     ensures { OnOk result (slots.new.items ≡ slots.old.items ++ slot ∷ []) }
 {
     slots.push(slot).map_err(|_| NoMemory)
 }
 
 /// Puts the slots of attached disks behind others.
-pub(crate) fn put_slots(disks: &[Option<Attached>], slots: &mut Vec<u32>) -> Result<(), NoMemory>
+pub fn put_slots(disks: &[Option<Attached>], slots: &mut Vec<u32>) -> Result<(), NoMemory>
     ensures { OnOk result (slots.new.items ≡ slots.old.items ++ slots_in disks.now) }
 {
     for disk in disks {

@@ -1,13 +1,12 @@
 // Images are attached to a group of the session, past the slots of the disks of the other groups.
 ghost use Rattle.std.specs.Prelude.{◌≡◌, ◌⊎◌, ◌≤◌, ◌++◌, ◌∷◌, ◌==◌, [], length, IfErr, IfOk, OnOk};
 ghost use Rattle.std.specs.List.{list_any};
-ghost use Rattle.disk_joining.specs.Taking.{TakesIn};
+ghost use Rattle.disk_joining.specs.Taking.{IsApart, TakesIn};
 ghost use Rattle.group_engine.specs.Making.{IsShut};
 ghost use Rattle.group_engine.specs.Mounts.{IsMounted, Takes};
 ghost use Rattle.session.specs.Joining.{JoinsIn, others_of, without_own};
 ghost use Rattle.session.specs.Sessions.{AreReady, held_by};
 
-use crate::disk_works::Joining;
 use crate::group_name::SoughtName;
 use crate::holding::{put_slot, put_slots};
 use crate::session::Session;
@@ -17,6 +16,23 @@ use bay::Bay;
 use group_engine::{Attached, Mounted};
 use new_groups::Known;
 use std::alloc::Global;
+
+/// Images that are attached to one group.
+pub trait Attaching {
+    /// Attaches them, none in a slot that other groups hold, and gives the numbers of the disks that are to be resynced.
+    fn run<B: Bay>(
+        self,
+        m: &mut Mounted,
+        alloc: Global,
+        bay: &mut B,
+        paths: &[String],
+        known: &Known,
+    ) -> Result<DiskSet, Refusal>
+        requires few { length paths.now ≤ 512 }
+        requires takes { Takes m.old (B.state bay.old) }
+        requires apart { IsApart known.now.held.items m.old }
+        ensures keeps { TakesIn known.now.held.items m.old m.new (B.state bay.old) (B.state bay.new) };
+}
 
 /// Whether the slot is one of these.
 fn has_slot(slots: &[u32], slot: u32) -> bool
@@ -76,13 +92,13 @@ fn known_beside(alloc: Global, disks: &[Option<Attached>], known: Known) -> Resu
 }
 
 /// Attaches images to a mounted group. `known` tells of all groups of the session.
-fn join_mounted<B: Bay>(
+fn join_mounted<B: Bay, J: Attaching + Drop>(
     m: &mut Mounted,
     alloc: Global,
     bay: &mut B,
     paths: &[String],
     known: Known,
-    joining: Joining<'_>,
+    joining: J,
 ) -> Result<DiskSet, Refusal>
     requires few { length paths.now ≤ 512 }
     requires takes { Takes m.old (B.state bay.old) }
@@ -100,13 +116,13 @@ fn join_mounted<B: Bay>(
 }
 
 /// Attaches images to any group. One that takes no calls stays as it is, and the disks are not asked.
-fn join_on<B: Bay>(
+fn join_on<B: Bay, J: Attaching + Drop>(
     m: &mut Mounted,
     alloc: Global,
     bay: &mut B,
     paths: &[String],
     known: Known,
-    joining: Joining<'_>,
+    joining: J,
 ) -> Result<DiskSet, Refusal>
     requires few { length paths.now ≤ 512 }
     requires takes { Takes m.old (B.state bay.old) }
@@ -127,13 +143,13 @@ fn join_on<B: Bay>(
 impl Session {
     /// Attaches images to the mounted group of a name, and gives the numbers of the disks that are to be resynced. NoGroup where it isn't
     /// in the session, and Dismounted where it is so; then what the group refuses.
-    pub(crate) fn join<B: Bay>(
+    pub fn join<B: Bay, J: Attaching + Drop>(
         &mut self,
         alloc: Global,
         bay: &mut B,
         paths: &[String],
         name: &Name,
-        joining: Joining<'_>,
+        joining: J,
     ) -> Result<DiskSet, Refusal>
         requires few { length paths.now ≤ 512 }
         requires ready { AreReady self.old.groups (B.state bay.old) }
@@ -146,14 +162,14 @@ impl Session {
     }
 
     /// The same. `known` tells of all groups of the session.
-    fn join_known<B: Bay>(
+    fn join_known<B: Bay, J: Attaching + Drop>(
         &mut self,
         alloc: Global,
         bay: &mut B,
         paths: &[String],
         name: &Name,
         known: Known,
-        joining: Joining<'_>,
+        joining: J,
     ) -> Result<DiskSet, Refusal>
         requires few { length paths.now ≤ 512 }
         requires ready { AreReady self.old.groups (B.state bay.old) }

@@ -1,52 +1,31 @@
-//! The session: a script is read command by command, each is run on the disks, and its reply is printed.
+//! The session: its groups by their names, its place, and what holds of each command that is answered.
 #![tactic(auto)]
 
 mod answer;
-mod commands;
-mod copying;
 mod desk;
-mod disk_works;
-mod disks;
 mod editing;
 mod entry;
-mod events;
-mod expiring;
-mod failure;
-mod files;
 mod found;
 mod group_name;
-mod group_rows;
-mod groups;
 mod holding;
 mod joining;
-mod laws;
-mod lines;
-mod listing;
-mod manner;
-mod mounting;
-mod names;
 mod naming;
-mod places;
-mod program;
-mod reader;
+mod paths;
 mod refusing;
 mod reply;
-mod reports;
-mod running;
-mod server;
 mod session;
-mod settings;
-mod shown;
-mod slicing;
 mod spelling;
-mod stop;
 mod turn;
-mod waiting;
-mod works;
 
+pub use answer::{Answer, answer_lines, answer_of};
 pub use desk::Desk;
-pub use laws::{disks_are_made, meaning_is_of_the_languages};
-pub use manner::Manner;
-pub use program::Program;
+pub use entry::Entry;
+pub use found::FoundIds;
+pub use group_name::GroupName;
+pub use joining::Attaching;
+pub use naming::GroupWork;
+pub use paths::{path_in, path_of_verb};
+pub use refusing::{no_memory, or_refusal, refuse, refused, too_many_groups, unreadable};
+pub use reply::Reply;
 pub use session::Session;
-pub use stop::Stop;
+pub use spelling::spelt;

@@ -17,7 +17,7 @@ use group_engine::Mounted;
 use std::alloc::Global;
 
 /// What is done to one group. Disks of it may leave.
-pub(crate) trait GroupWork {
+pub trait GroupWork {
     /// What it gives.
     type Given;
 
@@ -73,7 +73,7 @@ impl Session {
     }
 
     /// Does a piece of work on the mounted group of a name. NoGroup where it isn't in the session, and Dismounted where it is so.
-    pub(crate) fn work<B: Bay, W: GroupWork + Drop>(
+    pub fn work<B: Bay, W: GroupWork + Drop>(
         &mut self,
         alloc: Global,
         bay: &mut B,

@@ -1,10 +1,11 @@
 // The groups of the session, and its place.
-ghost use Rattle.std.specs.Prelude.{◌≡◌, ◌⊎◌, max, min, ◌≤◌, ◌+◌, ◌++◌, [], ◌∷◌, false, is_some, length, nat_le, IfSome, OnOk, OnErr};
+ghost use Rattle.std.specs.Prelude.{◌≡◌, ◌⊎◌, max, min, ◌≤◌, ◌+◌, ◌++◌, [], ◌∷◌, false, is_some, length, map, nat_le, IfSome, OnOk, OnErr};
 ghost use Rattle.indexmap.specs.IndexMap.{insert_entry};
 ghost use Rattle.bay.specs.Counts.{last_count};
 ghost use Rattle.asm_world.specs.Causes.{mounted_count, is_mounted_as};
 ghost use Rattle.asm_world.specs.World.{World, entry_among, mounted_entry, without_entry};
 ghost use Rattle.group_engine.specs.Mounts.{IsMounted};
+ghost use Rattle.session.specs.Entries.{entry_view, group_view};
 ghost use Rattle.session.specs.Sessions.{AreGiven, given_after, entries_of, groups_of, without_groups};
 
 use crate::entry::Entry;
@@ -91,6 +92,14 @@ impl Session {
         ensures { self.new ≡ record self.old { place = place } }
     {
         self.place = place;
+    }
+
+    /// The groups by their names, in the order of mounting.
+    pub fn groups(&self) -> &IndexMap<GroupName, Entry>
+        ensures entries { map entry_view result.now.entries ≡ self.now.entries }
+        ensures groups { map group_view result.now.entries ≡ self.now.groups }
+    {
+        &self.groups
     }
 
     /// Whether a group of the name is in the session.

@@ -1,63 +1,14 @@
-// What a group does between two commands, in its turn: expired disks are dropped before a command's text, slices run after its reply.
+// A group of the session takes its turn.
 ghost use Rattle.std.specs.Prelude.{◌≡◌};
-ghost use Rattle.group_engine.specs.Members.{LetsGo};
-ghost use Rattle.group_engine.specs.Mounts.{IsMounted, Takes};
 ghost use Rattle.session.specs.Naming.{CarriesOn};
 ghost use Rattle.session.specs.Sessions.{AreReady};
-ghost use Rattle.session.specs.Turns.{HasLine, IsLineOf, OnEvent, OnIdle, OnWork, when_of};
+ghost use Rattle.group_turns.specs.Turns.{HasLine, OnEvent, OnIdle, OnWork, when_of};
 
-use crate::expiring::drop_expired;
 use crate::session::Session;
-use crate::slicing::{rebalance_slice, resync_slice};
 use bay::Bay;
-use group_engine::Mounted;
+use group_turns::{Turn, Turned, take_turn};
 use line_buffer::LineBuffer;
 use std::alloc::Global;
-
-/// What a group does next.
-#[derive(Clone, Copy, Debug)]
-pub enum Turn {
-    /// An expired disk is dropped, at a time in seconds.
-    Expiry { now: u64 },
-    /// A slice of the resync of its least Syncing disk.
-    Resync,
-    /// A slice of its rebalance.
-    Rebalance,
-}
-
-/// How a turn ended.
-#[derive(Clone, Copy, Debug)]
-pub enum Turned {
-    /// Nothing was due, and nothing was done.
-    Idle,
-    /// An event came, whose line was written.
-    Happened,
-    /// There was no memory for what was due.
-    NoMemory,
-}
-
-/// Takes a turn of a group, and writes the line of what happened. For a group that takes no calls nothing is due.
-fn take_turn<B: Bay>(
-    m: &mut Mounted,
-    alloc: Global,
-    bay: &mut B,
-    turn: Turn,
-    line: &mut LineBuffer,
-) -> Turned
-    requires takes { Takes m.old (B.state bay.old) }
-    ensures idle { OnIdle result ((m.new ≡ m.old) × (bay.new ≡ bay.old)) }
-    ensures lets { OnWork result (IsMounted m.old × LetsGo m.old m.new (B.state bay.old) (B.state bay.new)) }
-    ensures line { OnEvent result (IsLineOf m.old.name (when_of turn) line.new) }
-{
-    if !m.is_mounted() {
-        return Turned::Idle;
-    }
-    match turn {
-        Turn::Expiry { now } => drop_expired(m, alloc, bay, now, line),
-        Turn::Resync => resync_slice(m, alloc, bay, line),
-        Turn::Rebalance => rebalance_slice(m, alloc, bay, line),
-    }
-}
 
 impl Session {
     /// How many groups there are, mounted or not.
@@ -66,7 +17,7 @@ impl Session {
     }
 
     /// Takes a turn of the group at a place in the order of mounting, from 0, and writes the line of what happened.
-    pub(crate) fn turn<B: Bay>(
+    pub fn turn<B: Bay>(
         &mut self,
         alloc: Global,
         bay: &mut B,

@@ -1,7 +1,7 @@
 use Rattle.std.proofs.Common.{◌≡◌, map, refl, sym}
 use Rattle.session.specs.declared.entry.Entry.{Entry}
 use Rattle.session.specs.Entries.{entry_view}
-use Rattle.session.specs.Turns.{when_of}
+use Rattle.group_turns.specs.Turns.{when_of}
 use Rattle.session.proofs.Grouped.{given_keys}
 use Rattle.session.proofs.Turning.{among_at, group_at, idle_so, keys_put, line_among, turn_carries, turn_idle, work_so}
 use Rattle.session.proofs.session.Session.turn.Goals as goal

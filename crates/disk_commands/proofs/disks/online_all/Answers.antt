@@ -1,0 +1,5 @@
+use Rattle.std.proofs.Common.{refl}
+use Rattle.disk_commands.proofs.disks.online_all.Goals as goal
+
+pub bring_back-requires-clause-unproved : goal.bring_back-requires-clause-unproved
+bring_back-requires-clause-unproved g c = rw c.requires.asked refl

@@ -1,0 +1,23 @@
+use Rattle.std.proofs.lemmas.Result.{IfOk-weaker}
+use Rattle.session.proofs.Calls.{carries_more}
+use Rattle.file_commands.proofs.copying.put_piece.Goals as goal
+
+pub work-requires : goal.work-requires
+work-requires g c = record { ready = c.read_source.ensures.carries.ready }
+
+pub give_up-requires : goal.give_up-requires
+give_up-requires g c = record { ready = c.read_source.ensures.carries.ready }
+
+pub returns-in-Ok : goal.returns-in-Ok
+returns-in-Ok g c = record {
+  carries = carries_more c.args.session.now c.args.session.now c.work.new.self _ _ _ c.read_source.ensures.carries c.work.ensures.carries;
+  files = c.read_source.ensures.files;
+  end = IfOk-weaker c.work.result _ _ (λ more did. did.1) c.work.ensures.done;
+}
+
+pub returns-in-Err : goal.returns-in-Err
+returns-in-Err g c = record {
+  carries = carries_more c.args.session.now c.args.session.now c.give_up.new.self _ _ _ c.read_source.ensures.carries c.give_up.ensures.carries;
+  files = c.read_source.ensures.files;
+  end = tt;
+}

@@ -1,0 +1,6 @@
+use Rattle.std.proofs.Common.{refl}
+use Rattle.session.proofs.Desks.{answered-carried}
+use Rattle.file_commands.proofs.files.read_at.Goals as goal
+
+pub returns : goal.returns
+returns g c = record { answers = answered-carried c.args.text.now _ c.args.desk.now _ c.requires.unproved refl (λ is. refl) c.read_lines-done.ensures.carries }

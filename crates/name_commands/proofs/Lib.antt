@@ -1,0 +1,4 @@
+pub mod AskedEdits
+pub mod EditPlans
+pub mod EditedGroups
+pub mod RefusedEdits

@@ -1,0 +1,8 @@
+pub mod FindShown
+pub mod Going
+pub mod Gone
+pub mod GroupLists
+pub mod SettingsShown
+pub mod ShownGroups
+pub mod TextLines
+pub mod Texts

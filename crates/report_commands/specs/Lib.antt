@@ -1,0 +1,4 @@
+pub mod Going
+pub mod Lines
+pub mod Shown
+pub mod Told

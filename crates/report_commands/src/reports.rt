@@ -1,0 +1,203 @@
+// Reports: lists of names, groups, disks, templates and attributes, and what files take. None asks a device or changes anything.
+ghost use Rattle.std.specs.Prelude.{◌≡◌, false};
+ghost use Rattle.asm_world.specs.Command.{Asked, Said, Ls, Find, Usage, ListGroups, ListDisks, ListTemplates, ListAttributes};
+ghost use Rattle.asm_world.specs.Language.{command_of};
+ghost use Rattle.asm_world.specs.Statement.{Alter, Check};
+ghost use Rattle.session.specs.Desks.{IsAnswered};
+ghost use Rattle.session.specs.Families.{is_proved};
+ghost use Rattle.session.specs.Sessions.{AreReady};
+
+use crate::group_rows::Report;
+use crate::lines::lines_of;
+use crate::shown::GroupReport;
+use asm_base::{Name, NoMemory, Refusal, Text};
+use asmcmd::{ls_text, lsdg_text};
+use bay::{Bay, Host};
+use session::{Answer, Desk, Reply, no_memory, or_refusal, refuse, refused};
+use verb_paths::{resolve_pattern, target};
+
+/// The lines of a report's text and `ok`, or the refusal of a report.
+fn tell<B: Bay, H: Host>(
+    desk: &mut Desk<B, H>,
+    text: &[u8],
+    told: Result<Vec<u8>, Refusal>,
+) -> Answer
+    requires unproved { is_proved (command_of text.now) ≡ false }
+    requires ready { AreReady desk.old.session.groups (B.state desk.old.bay) }
+    ensures answers { IsAnswered text.now result desk.old desk.new }
+{
+    match told {
+        Ok(lines) => report(desk, text, &lines),
+        Err(refusal) => refuse(desk, text, refusal),
+    }
+}
+
+/// The lines of a report's text, and `ok`.
+fn report<B: Bay, H: Host>(desk: &mut Desk<B, H>, text: &[u8], lines: &[u8]) -> Answer
+    requires unproved { is_proved (command_of text.now) ≡ false }
+    requires ready { AreReady desk.old.session.groups (B.state desk.old.bay) }
+    ensures answers { IsAnswered text.now result desk.old desk.new }
+{
+    match lines_of(desk.alloc, lines) {
+        Ok(lines) => Answer::plain(desk.alloc, Reply::Done(lines)),
+        Err(NoMemory) => no_memory(desk, text),
+    }
+}
+
+/// A report on the mounted group of a name. Its refusals in order: NoGroup, Dismounted.
+fn tell_of<B: Bay, H: Host>(
+    desk: &mut Desk<B, H>,
+    text: &[u8],
+    group: &Name,
+    report: Report<'_>,
+) -> Answer
+    requires unproved { is_proved (command_of text.now) ≡ false }
+    requires ready { AreReady desk.old.session.groups (B.state desk.old.bay) }
+    ensures answers { IsAnswered text.now result desk.old desk.new }
+{
+    let told = told(&desk.session, desk.alloc, group, report);
+    tell(desk, text, told)
+}
+
+/// ls. Its refusals in order: NoGroup, Dismounted, NoName, and NotDirectory of what a pattern is looked for in.
+pub fn ls<B: Bay, H: Host>(
+    desk: &mut Desk<B, H>,
+    text: &[u8],
+    long: bool,
+    path: Option<Text>,
+) -> Answer
+    requires asked { command_of text.now ≡ Asked (Ls long path) }
+    requires ready { AreReady desk.old.session.groups (B.state desk.old.bay) }
+    ensures answers { IsAnswered text.now result desk.old desk.new }
+{
+    let place = desk.session.place();
+    let led = match &path {
+        Some(path) => resolve_pattern(desk.alloc, place, Some(path.as_slice())),
+        None => resolve_pattern(desk.alloc, place, None),
+    };
+    let Ok(led) = led else {
+        return no_memory(desk, text);
+    };
+    let Some(parts) = led else {
+        return refuse(desk, text, Refusal::NoGroup);
+    };
+    match rows_at(&desk.session, desk.alloc, parts.as_slice()) {
+        Ok(rows) => {
+            let lines = ls_text(desk.alloc, &rows, long);
+            tell(desk, text, or_refusal(lines))
+        }
+        Err(refusal) => refuse(desk, text, refusal),
+    }
+}
+
+/// find. Its refusals in order: NoGroup, Dismounted, NoName, NotDirectory.
+pub fn find<B: Bay, H: Host>(
+    desk: &mut Desk<B, H>,
+    text: &[u8],
+    path: Text,
+    pattern: Text,
+) -> Answer
+    requires asked { command_of text.now ≡ Asked (Find path pattern) }
+    requires ready { AreReady desk.old.session.groups (B.state desk.old.bay) }
+    ensures answers { IsAnswered text.now result desk.old desk.new }
+{
+    let Ok(led) = target(desk.alloc, desk.session.place(), path.as_slice()) else {
+        return no_memory(desk, text);
+    };
+    let Some(below) = led else {
+        return refused(desk.alloc, Refusal::NoGroup);
+    };
+    match found(&desk.session, desk.alloc, &below, pattern.as_slice()) {
+        Ok(lines) => Answer::plain(desk.alloc, Reply::Done(lines)),
+        Err(refusal) => refused(desk.alloc, refusal),
+    }
+}
+
+/// du, where no path is said of the session's place. Its refusals in order: NoGroup, Dismounted, NoName, NotDirectory.
+pub fn usage<B: Bay, H: Host>(desk: &mut Desk<B, H>, text: &[u8], path: Option<Text>) -> Answer
+    requires asked { command_of text.now ≡ Asked (Usage path) }
+    requires ready { AreReady desk.old.session.groups (B.state desk.old.bay) }
+    ensures answers { IsAnswered text.now result desk.old desk.new }
+{
+    let place = desk.session.place();
+    // A path without bytes leads to the place.
+    let led = match &path {
+        Some(path) => target(desk.alloc, place, path.as_slice()),
+        None => target(desk.alloc, place, b""),
+    };
+    let Ok(led) = led else {
+        return no_memory(desk, text);
+    };
+    let Some(path) = led else {
+        return refuse(desk, text, Refusal::NoGroup);
+    };
+    let dir = path.parts.as_slice();
+    let told = told_below(&desk.session, desk.alloc, &path, Report::Usage { dir });
+    tell(desk, text, told)
+}
+
+/// lsdg: the group of a name, or all of the session in the order of mounting. NoGroup: no group has the name.
+pub fn list_groups<B: Bay, H: Host>(
+    desk: &mut Desk<B, H>,
+    text: &[u8],
+    group: Option<Name>,
+) -> Answer
+    requires asked { command_of text.now ≡ Asked (ListGroups group) }
+    requires ready { AreReady desk.old.session.groups (B.state desk.old.bay) }
+    ensures answers { IsAnswered text.now result desk.old desk.new }
+{
+    if let Some(name) = &group
+        && !desk.session.has(name)
+    {
+        return refuse(desk, text, Refusal::NoGroup);
+    }
+    match group_rows(&desk.session, desk.alloc, &group) {
+        Ok(rows) => {
+            let lines = lsdg_text(desk.alloc, &rows);
+            tell(desk, text, or_refusal(lines))
+        }
+        Err(NoMemory) => no_memory(desk, text),
+    }
+}
+
+/// lsdsk. Its refusals in order: NoGroup, Dismounted.
+pub fn list_disks<B: Bay, H: Host>(desk: &mut Desk<B, H>, text: &[u8], group: Name) -> Answer
+    requires asked { command_of text.now ≡ Asked (ListDisks group) }
+    requires ready { AreReady desk.old.session.groups (B.state desk.old.bay) }
+    ensures answers { IsAnswered text.now result desk.old desk.new }
+{
+    tell_of(desk, text, &group, Report::Disks)
+}
+
+/// lstmpl. Its refusals in order: NoGroup, Dismounted.
+pub fn list_templates<B: Bay, H: Host>(desk: &mut Desk<B, H>, text: &[u8], group: Name) -> Answer
+    requires asked { command_of text.now ≡ Asked (ListTemplates group) }
+    requires ready { AreReady desk.old.session.groups (B.state desk.old.bay) }
+    ensures answers { IsAnswered text.now result desk.old desk.new }
+{
+    match shown(&desk.session, desk.alloc, &group, GroupReport::Templates) {
+        Ok(lines) => Answer::plain(desk.alloc, Reply::Done(lines)),
+        Err(refusal) => refused(desk.alloc, refusal),
+    }
+}
+
+/// lsattr. Its refusals in order: NoGroup, Dismounted.
+pub fn list_attributes<B: Bay, H: Host>(desk: &mut Desk<B, H>, text: &[u8], group: Name) -> Answer
+    requires asked { command_of text.now ≡ Asked (ListAttributes group) }
+    requires ready { AreReady desk.old.session.groups (B.state desk.old.bay) }
+    ensures answers { IsAnswered text.now result desk.old desk.new }
+{
+    match shown(&desk.session, desk.alloc, &group, GroupReport::Attributes) {
+        Ok(lines) => Answer::plain(desk.alloc, Reply::Done(lines)),
+        Err(refusal) => refused(desk.alloc, refusal),
+    }
+}
+
+/// CHECK. Its refusals in order: NoGroup, Dismounted.
+pub fn check<B: Bay, H: Host>(desk: &mut Desk<B, H>, text: &[u8], group: Name) -> Answer
+    requires asked { command_of text.now ≡ Said (Alter group Check) }
+    requires ready { AreReady desk.old.session.groups (B.state desk.old.bay) }
+    ensures answers { IsAnswered text.now result desk.old desk.new }
+{
+    tell_of(desk, text, &group, Report::Check)
+}

@@ -1,0 +1,9 @@
+pub mod Chains
+pub mod Ending
+pub mod Moves
+pub mod OnDisks
+pub mod Pieces
+pub mod Printing
+pub mod Reading
+pub mod Serving
+pub mod Stories

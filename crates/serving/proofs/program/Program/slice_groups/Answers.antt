@@ -1,0 +1,22 @@
+use Rattle.std.proofs.Common.{Ok, Err}
+use Rattle.std.proofs.lemmas.Result.{err_from_is_err_and}
+use Rattle.group_turns.specs.Turns.{AfterReply}
+use Rattle.serving.proofs.Stories.{tells_err, tells_none, tells_then}
+use Rattle.serving.proofs.program.Program.slice_groups.Goals as goal
+
+pub loop-place-init : goal.loop-place-init
+loop-place-init g c = tells_none AfterReply tt c.args.self.now c.requires.ready
+
+pub slice_group-requires : goal.slice_group-requires
+slice_group-requires g c = record { ready = c.loop-place.invariant.ready }
+
+pub loop-place-preserved : goal.loop-place-preserved
+loop-place-preserved g c = tells_then AfterReply tt (Ok tt) _ _ _ c.loop-place.invariant c.in_ok-slice_group.ensures
+
+pub returns-in_err-slice_group : goal.returns-in_err-slice_group
+returns-in_err-slice_group g c =
+    let p = err_from_is_err_and c.from_residual.result c.from_residual.ensures.1 in
+    rw (p.1, p.2) (tells_then AfterReply tt (Err _) _ _ _ c.loop-place.invariant c.in_err-slice_group.ensures)
+
+pub returns : goal.returns
+returns g c = c.loop-place.invariant

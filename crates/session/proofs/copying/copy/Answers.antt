@@ -1,5 +1,0 @@
-use Rattle.session.proofs.Sources.{has_all}
-use Rattle.session.proofs.copying.copy.Goals as goal
-
-pub copy_to-told-requires-clause-inside : goal.copy_to-told-requires-clause-inside
-copy_to-told-requires-clause-inside g c = has_all (g.H.Host.file c.open_source.new.host) c.in-Ok.source c.in-Ok.size c.in-Ok.ensures.size

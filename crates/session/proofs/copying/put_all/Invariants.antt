@@ -1,9 +1,0 @@
-use Rattle.session.specs.Copying.{HasBytes}
-use Rattle.session.specs.Naming.{CarriesOn}
-use Rattle.session.proofs.copying.put_all.Given as goal
-
-abbrev pub invariant-loop : goal.invariant-loop
-invariant-loop g l = record {
-  carries : CarriesOn l.fn.session l.session (g.B.Bay.state l.fn.bay) (g.B.Bay.state l.bay);
-  inside : HasBytes (g.H.Host.file l.host) l.source l.filling.end;
-}

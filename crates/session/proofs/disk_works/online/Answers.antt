@@ -1,5 +1,0 @@
-use Rattle.session.proofs.Attaching.{takes_none}
-use Rattle.session.proofs.disk_works.online.Goals as goal
-
-pub returns-in-Err : goal.returns-in-Err
-returns-in-Err g c = record { keeps = takes_none c.args.held.now c.args.m.now (g.B.Bay.state c.args.bay.now) c.requires.takes c.requires.apart }

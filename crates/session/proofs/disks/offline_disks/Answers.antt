@@ -1,5 +1,0 @@
-use Rattle.std.proofs.Common.{refl}
-use Rattle.session.proofs.disks.offline_disks.Goals as goal
-
-pub change-requires-clause-unproved : goal.change-requires-clause-unproved
-change-requires-clause-unproved g c = rw c.requires.asked refl

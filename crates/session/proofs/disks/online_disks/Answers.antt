@@ -1,5 +1,0 @@
-use Rattle.std.proofs.Common.{refl}
-use Rattle.session.proofs.disks.online_disks.Goals as goal
-
-pub bring_back-requires-clause-unproved : goal.bring_back-requires-clause-unproved
-bring_back-requires-clause-unproved g c = rw c.requires.asked refl

@@ -1,6 +1,0 @@
-use Rattle.std.proofs.Common.{sym}
-use Rattle.session.proofs.Turning.{failure_other}
-use Rattle.session.proofs.failure.failure_of.Goals as goal
-
-pub returns-in_default : goal.returns-in_default
-returns-in_default c = sym (failure_other c.args.refusal.now c.in_default.not-ReadFault c.in_default.not-WriteFault c.in_default.not-Dismounted)

@@ -1,6 +1,0 @@
-use Rattle.std.proofs.Common.{length}
-use Rattle.session.proofs.Spans.{takes_more}
-use Rattle.session.proofs.files.read_piece.Goals as goal
-
-pub returns-in-Ok-clause-runs : goal.returns-in-Ok-clause-runs
-returns-in-Ok-clause-runs g c = takes_more (length c.args.buf.now) c.read_from.new.buf c.args.runs.now c.put.new.self c.read_from.auto.buf c.in-Ok.ensures.holds

@@ -1,6 +1,0 @@
-use Rattle.std.proofs.Common.{refl}
-use Rattle.session.proofs.Desks.{answered-carried}
-use Rattle.session.proofs.files.work_on_file.Goals as goal
-
-pub returns : goal.returns
-returns g c = record { answers = answered-carried c.args.text.now _ c.args.desk.now _ c.requires.unproved refl (λ is. refl) c.work-done.ensures.carries }

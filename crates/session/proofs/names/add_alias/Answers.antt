@@ -1,8 +1,0 @@
-use Rattle.std.proofs.Common.{refl}
-use Rattle.asm_world.specs.Statement.{AddAlias}
-use Rattle.session.proofs.AskedEdits.{clause_asked}
-use Rattle.session.proofs.names.add_alias.Goals as goal
-
-pub edit_clause-requires-clause-asks : goal.edit_clause-requires-clause-asks
-edit_clause-requires-clause-asks g c =
-    clause_asked c.args.desk.now.session.place c.args.text.now c.args.group (AddAlias c.args.alias c.args.path) c.requires.asked refl (λ group. refl) c.clause_between-edit.result (rw (c.as_slice.ensures, c.as_slice-2.ensures) at c.clause_between-edit.ensures)

@@ -1,5 +1,0 @@
-use Rattle.std.proofs.Common.{refl}
-use Rattle.session.proofs.names.remove.Goals as goal
-
-pub work_by_verb-requires-clause-unproved : goal.work_by_verb-requires-clause-unproved
-work_by_verb-requires-clause-unproved g c = rw c.requires.asked refl

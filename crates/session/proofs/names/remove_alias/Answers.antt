@@ -1,5 +1,0 @@
-use Rattle.session.proofs.AskedEdits.{rmalias_asked}
-use Rattle.session.proofs.names.remove_alias.Goals as goal
-
-pub edit_verb-requires-clause-asks : goal.edit_verb-requires-clause-asks
-edit_verb-requires-clause-asks g c = rw c.as_slice.ensures (rmalias_asked c.args.desk.now.session.place c.args.text.now c.args.path c.requires.asked)

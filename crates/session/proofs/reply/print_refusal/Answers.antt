@@ -1,5 +1,0 @@
-use Rattle.std.proofs.Common.{refl, inr}
-use Rattle.session.proofs.reply.print_refusal.Goals as goal
-
-pub returns-in-Err-clause-reply : goal.returns-in-Err-clause-reply
-returns-in-Err-clause-reply g c = inr (refl, c.print_no_memory.ensures.reply)

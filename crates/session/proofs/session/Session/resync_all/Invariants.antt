@@ -1,5 +1,0 @@
-use Rattle.session.specs.Naming.{CarriesOn}
-use Rattle.session.proofs.session.Session.resync_all.Given as goal
-
-abbrev pub invariant-loop-disk : goal.invariant-loop-disk
-invariant-loop-disk g l = record { carries : CarriesOn l.fn.self l.self (g.B.Bay.state l.fn.bay) (g.B.Bay.state l.bay) }

@@ -1,5 +1,0 @@
-use Rattle.group_engine.specs.Own.{KeepsGroup}
-use Rattle.session.proofs.waiting.sync_to_end.Given as goal
-
-abbrev pub invariant-loop : goal.invariant-loop
-invariant-loop g l = record { keeps : KeepsGroup l.fn.m l.m (g.B.Bay.state l.fn.bay) (g.B.Bay.state l.bay) }
