@@ -9,7 +9,9 @@ use Rattle.bay.proofs.Images.{changes-within, changes-trans}
 use Rattle.gate_slot.specs.declared.place.Place.{Place}
 use Rattle.gate_slot.specs.Slot.{IsUsable, GateOf, is_open_in, Closes, MayClose}
 use Rattle.gate_slot.proofs.Steps.{shown-shut}
-use Rattle.mount_states.specs.Places.{block_size, slot_at, all_gates, other_gates, region_end}
+use Rattle.mount_states.specs.Places.{slot_at, all_gates, other_gates}
+use Rattle.asm_formats.specs.Regions.{region_end}
+use Rattle.asm_formats.specs.Bytes.{block_size}
 use Rattle.mount_states.specs.Gates.{HasRegion, GatesOf, ShutsGates, MayCloseAll}
 
 -- whole blocks are whole sectors

@@ -6,7 +6,8 @@ use Rattle.bay.proofs.Images.{changes-within, changes-trans}
 use Rattle.gate_slot.specs.Slot.{PlaceOf, shown, is_open_in, MayPut, HasPut}
 use Rattle.gate_slot.proofs.Steps.{shown-elsewhere, shown-closed}
 use Rattle.mount_states.proofs.Shutting.{other_gates_inside}
-use Rattle.mount_states.specs.Places.{region_end, slot_at, all_gates}
+use Rattle.mount_states.specs.Places.{slot_at, all_gates}
+use Rattle.asm_formats.specs.Regions.{region_end}
 use Rattle.mount_states.specs.Gates.{GatesOf, ClosesAll}
 use Rattle.mount_states.specs.Forming.{Shows, LogsAreShut, MetaOf, MayGiveHeader, HasHeader, RecordsOf, headed, claimed, recorded, MayGiveRecord, HasRecord}
 

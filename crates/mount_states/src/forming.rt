@@ -4,7 +4,7 @@ ghost use Rattle.bay.specs.State.{KeepsAttached, IsSlot};
 ghost use Rattle.bay.specs.Counts.{Rose};
 ghost use Rattle.bay.specs.Moments.{Runs, Ends};
 ghost use Rattle.mount_states.specs.Gates.{HasRegion};
-ghost use Rattle.mount_states.specs.Places.{block_size};
+ghost use Rattle.asm_formats.specs.Bytes.{block_size};
 ghost use Rattle.mount_states.specs.Forming.{MayGiveHeader, HasHeader, MayGiveRecord, HasRecord};
 
 use crate::gates::close_all_gates;
