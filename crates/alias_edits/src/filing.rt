@@ -55,7 +55,7 @@ pub fn plan_file(
     ensures refused { IfErr result (IsRefusal (filed (tree_of tree.now) path.now.parts file)) }
 {
     tree.keeps_rule();
-    let front = front(tree, above(path));
+    let front = front_of(tree, above(path));
     if let Some(cause) = file_refusal(tree, path, front) {
         return Err(cause);
     }
@@ -67,7 +67,7 @@ pub fn plan_file(
 
 /// The directories that are there.
 #[tactic(auto, using(crate::proofs::Fronts::reach_none, crate::proofs::Fronts::front_missing, crate::proofs::Fronts::front_whole))]
-fn front(tree: &AliasTree, dirs: &[Name]) -> Front
+fn front_of(tree: &AliasTree, dirs: &[Name]) -> Front
     ensures { IsFront tree.now dirs.now result.there result.number }
 {
     tree.keeps_rule();

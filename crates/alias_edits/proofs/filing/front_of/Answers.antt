@@ -1,6 +1,6 @@
 use Rattle.std.proofs.Common.{sym, ◌∙◌}
 use Rattle.alias_edits.proofs.Fronts.{reach_more}
-use Rattle.alias_edits.proofs.filing.front.Goals as goal
+use Rattle.alias_edits.proofs.filing.front_of.Goals as goal
 
 pub loop-there-preserved : goal.loop-there-preserved
 loop-there-preserved c =
