@@ -2,7 +2,7 @@ pub mod NameWords
 pub mod Choices
 pub mod Copies
 pub mod Lines
-pub mod Endings
+pub mod Spaced
 pub mod Shown
 pub mod EqualBytes
 pub mod EqualPieces

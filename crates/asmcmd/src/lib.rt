@@ -1,4 +1,4 @@
-//! The verbs of asmcmd: lines of them read, and the texts of their reports.
+//! The verbs of asmcmd: lines of them read, and the lines of their reports.
 #![tactic(auto)]
 
 mod files;
@@ -15,10 +15,10 @@ mod verb;
 mod words;
 
 pub use group_reports::{
-    check_text, lsattr_text, lsdg_text, lsdsk_text, lstmpl_text, rows_are_lines,
+    attribute_lines, check_lines, disk_lines, group_lines, rows_are_lines, template_lines,
 };
 pub use line::read_line;
-pub use listings::{du_text, find_text, ls_text};
+pub use listings::{ls_lines, path_lines, usage_lines};
 pub use paths::path_text;
 pub use rows::{AttrRow, DiskRow, GroupRow, LsRow, TemplateRow};
 pub use runs::Runs;

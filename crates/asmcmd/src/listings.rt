@@ -1,42 +1,41 @@
-//! The texts of ls, find and du.
+//! The lines of ls, find and du.
 
-ghost use Rattle.std.specs.List.{flat_map};
-ghost use Rattle.std.specs.Prelude.{◌≡◌, ◌++◌, ◌∷◌, [], map, IfOk};
+ghost use Rattle.std.specs.Prelude.{◌≡◌, true, map, IfOk};
 ghost use Rattle.asm_world.specs.Reports.{du_lines};
-ghost use Rattle.asm_world.specs.Text.{ended};
 ghost use Rattle.asmcmd.specs.Texts.{short_line, file_line, directory_line, long_line, ls_lines, path_line};
 
-use crate::paths::with_path;
+use crate::paths::path_text;
 use crate::rows::LsRow;
-use crate::text::{Field, with_byte, with_bytes, with_line};
-use asm_base::{NoMemory, Path};
+use crate::text::{Field, headed, line_of};
+use asm_base::{List, NoMemory, Path, Text};
 use std::alloc::Global;
 
-fn with_short_row(text: Vec<u8>, row: &LsRow) -> Result<Vec<u8>, NoMemory>
-    ensures { IfOk result (λ longer. longer.items ≡ text.items ++ short_line row.now ++ 10 ∷ []) }
+fn short_line(alloc: Global, row: &LsRow) -> Result<Text, NoMemory>
+    ensures { IfOk result (λ line. line ≡ short_line row.now) }
 {
     let name = row.name.as_slice();
     if row.dir {
-        with_line(text, Field::Directory(name), &[])
+        line_of(alloc, Field::Directory(name), &[])
     } else {
-        with_line(text, Field::Word(name), &[])
+        line_of(alloc, Field::Word(name), &[])
     }
 }
 
-fn with_short_rows(mut text: Vec<u8>, rows: &[LsRow]) -> Result<Vec<u8>, NoMemory>
-    ensures { IfOk result (λ longer. longer.items ≡ text.items ++ flat_map (λ row. short_line row ++ 10 ∷ []) rows.now) }
+fn short_lines(alloc: Global, rows: &[LsRow]) -> Result<List<Text>, NoMemory>
+    ensures { IfOk result (λ lines. lines ≡ map short_line rows.now) }
 {
+    let mut lines = List::new(alloc);
     for row in rows {
-        text = with_short_row(text, row)?;
+        lines.push(short_line(alloc, row)?)?;
     }
-    Ok(text)
+    Ok(lines)
 }
 
-fn with_directory(text: Vec<u8>, name: &[u8]) -> Result<Vec<u8>, NoMemory>
-    ensures { IfOk result (λ longer. longer.items ≡ text.items ++ directory_line name.now ++ 10 ∷ []) }
+fn directory_line(alloc: Global, name: &[u8]) -> Result<Text, NoMemory>
+    ensures { IfOk result (λ line. line ≡ directory_line name.now) }
 {
-    with_line(
-        text,
+    line_of(
+        alloc,
         Field::Word(b"DIR"),
         &[
             Field::Word(b"-"),
@@ -47,8 +46,8 @@ fn with_directory(text: Vec<u8>, name: &[u8]) -> Result<Vec<u8>, NoMemory>
     )
 }
 
-fn with_file(text: Vec<u8>, row: &LsRow) -> Result<Vec<u8>, NoMemory>
-    ensures { IfOk result (λ longer. longer.items ≡ text.items ++ file_line row.now row.now.target ++ 10 ∷ []) }
+fn file_line(alloc: Global, row: &LsRow) -> Result<Text, NoMemory>
+    ensures { IfOk result (λ line. line ≡ file_line row.now row.now.target) }
 {
     let kind = Field::Word(row.kind.as_slice());
     let redund = Field::Word(row.redund.as_slice());
@@ -57,12 +56,12 @@ fn with_file(text: Vec<u8>, row: &LsRow) -> Result<Vec<u8>, NoMemory>
     match &row.target {
         None => {
             let sys = Field::Word(row.sys.as_slice());
-            with_line(text, kind, &[redund, striped, sys, name])
+            line_of(alloc, kind, &[redund, striped, sys, name])
         }
         Some(target) => {
             let target = Field::Word(target.as_slice());
-            with_line(
-                text,
+            line_of(
+                alloc,
                 kind,
                 &[
                     redund,
@@ -77,66 +76,53 @@ fn with_file(text: Vec<u8>, row: &LsRow) -> Result<Vec<u8>, NoMemory>
     }
 }
 
-fn with_long_row(text: Vec<u8>, row: &LsRow) -> Result<Vec<u8>, NoMemory>
-    ensures { IfOk result (λ longer. longer.items ≡ text.items ++ long_line row.now ++ 10 ∷ []) }
+fn long_line(alloc: Global, row: &LsRow) -> Result<Text, NoMemory>
+    ensures { IfOk result (λ line. line ≡ long_line row.now) }
 {
     if row.dir {
-        with_directory(text, row.name.as_slice())
+        directory_line(alloc, row.name.as_slice())
     } else {
-        with_file(text, row)
+        file_line(alloc, row)
     }
 }
 
-fn with_long_rows(mut text: Vec<u8>, rows: &[LsRow]) -> Result<Vec<u8>, NoMemory>
-    ensures { IfOk result (λ longer. longer.items ≡ text.items ++ flat_map (λ row. long_line row ++ 10 ∷ []) rows.now) }
+fn long_lines(alloc: Global, rows: &[LsRow]) -> Result<List<Text>, NoMemory>
+    ensures { IfOk result (λ lines. lines ≡ ls_lines true rows.now) }
 {
+    let mut lines = headed(alloc, b"Type Redund Striped Sys Name")?;
     for row in rows {
-        text = with_long_row(text, row)?;
+        lines.push(long_line(alloc, row)?)?;
     }
-    Ok(text)
+    Ok(lines)
 }
 
 /// The names of the rows, or with `long` their columns below a head line.
-#[tactic(auto, using(crate::proofs::Endings::ended_rows))]
-pub fn ls_text(alloc: Global, rows: &[LsRow], long: bool) -> Result<Vec<u8>, NoMemory>
-    ensures { IfOk result (λ text. text.items ≡ ended (ls_lines long rows.now)) }
+pub fn ls_lines(alloc: Global, rows: &[LsRow], long: bool) -> Result<List<Text>, NoMemory>
+    ensures { IfOk result (λ lines. lines ≡ ls_lines long rows.now) }
 {
     if long {
-        let text = with_bytes(Vec::new(alloc), b"Type Redund Striped Sys Name\n")?;
-        with_long_rows(text, rows)
+        long_lines(alloc, rows)
     } else {
-        with_short_rows(Vec::new(alloc), rows)
+        short_lines(alloc, rows)
     }
-}
-
-fn with_path_line(text: Vec<u8>, path: &Path) -> Result<Vec<u8>, NoMemory>
-    ensures { IfOk result (λ longer. longer.items ≡ text.items ++ path_line path.now ++ 10 ∷ []) }
-{
-    let text = with_path(text, &path.group, path.parts.as_slice())?;
-    with_byte(text, b'\n')
-}
-
-fn with_paths(mut text: Vec<u8>, paths: &[Path]) -> Result<Vec<u8>, NoMemory>
-    ensures { IfOk result (λ longer. longer.items ≡ text.items ++ flat_map (λ path. path_line path ++ 10 ∷ []) paths.now) }
-{
-    for path in paths {
-        text = with_path_line(text, path)?;
-    }
-    Ok(text)
 }
 
 /// The paths, one a line.
-#[tactic(auto, using(crate::proofs::Endings::ended_rows))]
-pub fn find_text(alloc: Global, paths: &[Path]) -> Result<Vec<u8>, NoMemory>
-    ensures { IfOk result (λ text. text.items ≡ ended (map path_line paths.now)) }
+pub fn path_lines(alloc: Global, paths: &[Path]) -> Result<List<Text>, NoMemory>
+    ensures { IfOk result (λ lines. lines ≡ map path_line paths.now) }
 {
-    with_paths(Vec::new(alloc), paths)
+    let mut lines = List::new(alloc);
+    for path in paths {
+        lines.push(path_text(alloc, &path.group, path.parts.as_slice())?)?;
+    }
+    Ok(lines)
 }
 
-/// The bytes used by files, and by all copies of their extents.
-pub fn du_text(alloc: Global, used: u64, mirrored: u64) -> Result<Vec<u8>, NoMemory>
-    ensures { IfOk result (λ text. text.items ≡ ended (du_lines used mirrored)) }
+/// The bytes used by files, and by all copies of their extents, below a head line.
+pub fn usage_lines(alloc: Global, used: u64, mirrored: u64) -> Result<List<Text>, NoMemory>
+    ensures { IfOk result (λ lines. lines ≡ du_lines used mirrored) }
 {
-    let text = with_bytes(Vec::new(alloc), b"Used Mirror_used\n")?;
-    with_line(text, Field::Number(used), &[Field::Number(mirrored)])
+    let mut lines = headed(alloc, b"Used Mirror_used")?;
+    lines.push(line_of(alloc, Field::Number(used), &[Field::Number(mirrored)])?)?;
+    Ok(lines)
 }

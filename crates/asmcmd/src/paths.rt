@@ -19,7 +19,7 @@ fn with_parts(mut text: Vec<u8>, parts: &[Name]) -> Result<Vec<u8>, NoMemory>
 }
 
 /// The text with that of a path behind it.
-pub fn with_path(text: Vec<u8>, group: &Name, parts: &[Name]) -> Result<Vec<u8>, NoMemory>
+fn with_path(text: Vec<u8>, group: &Name, parts: &[Name]) -> Result<Vec<u8>, NoMemory>
     ensures { IfOk result (λ longer. longer.items ≡ text.items ++ path_text group.now parts.now) }
 {
     let text = with_bytes(with_byte(text, b'+')?, group.as_bytes())?;

@@ -6,7 +6,7 @@ ghost use Rattle.asm_group.specs.Names.{Bytes};
 ghost use Rattle.asm_world.specs.Text.{hex, hex_digit, read_lines};
 ghost use Rattle.asmcmd.specs.Runs.{Holds, equal_front, first_run, lines_with, run_line};
 
-use crate::text::{Field, with_words};
+use crate::text::{Field, line_of};
 use asm_base::{List, NoMemory, Text};
 use std::alloc::Global;
 use std::marker::Model;
@@ -90,12 +90,11 @@ fn run_line(alloc: Global, at: u64, byte: u8, len: u64) -> Result<Text, NoMemory
     ensures { IfOk result (λ line. line ≡ run_line at byte len) }
 {
     let digits = hex(byte);
-    let line = with_words(
-        Vec::new(alloc),
+    line_of(
+        alloc,
         Field::Number(at),
         &[Field::Number(len), Field::Word(&digits)],
-    )?;
-    Ok(List::from_vec(line))
+    )
 }
 
 /// The runs of equal bytes that were put so far. The last of them goes on where the next bytes are the same.

@@ -1,12 +1,13 @@
-//! Texts, made line by line.
+//! Lines, made word by word.
 
 ghost use Rattle.std.specs.List.{flat_map};
 ghost use Rattle.std.specs.Prelude.{◌≡◌, ◌++◌, ◌∷◌, [], map, IfOk};
 ghost use Rattle.asm_group.specs.Refusal.{spaced};
 ghost use Rattle.asmcmd.specs.Texts.{printed};
 
-use asm_base::NoMemory;
+use asm_base::{List, NoMemory, Text};
 use itoa::Buffer;
+use std::alloc::Global;
 
 /// A word of a line.
 #[derive(Clone, Copy)]
@@ -57,21 +58,26 @@ fn with_others(mut text: Vec<u8>, others: &[Field<'_>]) -> Result<Vec<u8>, NoMem
 }
 
 /// The text with words behind it, with one space between.
-pub fn with_words(
-    text: Vec<u8>,
-    first: Field<'_>,
-    others: &[Field<'_>],
-) -> Result<Vec<u8>, NoMemory>
+fn with_words(text: Vec<u8>, first: Field<'_>, others: &[Field<'_>]) -> Result<Vec<u8>, NoMemory>
     ensures { IfOk result (λ longer. longer.items ≡ text.items ++ spaced (printed first.entry ∷ map printed others.now)) }
 {
     let text = with_field(text, first)?;
     with_others(text, others)
 }
 
-/// The text with a line more: words with one space between, and a line feed.
-pub fn with_line(text: Vec<u8>, first: Field<'_>, others: &[Field<'_>]) -> Result<Vec<u8>, NoMemory>
-    ensures { IfOk result (λ longer. longer.items ≡ text.items ++ spaced (printed first.entry ∷ map printed others.now) ++ 10 ∷ []) }
+/// The line of these words, with one space between.
+pub fn line_of(alloc: Global, first: Field<'_>, others: &[Field<'_>]) -> Result<Text, NoMemory>
+    ensures { IfOk result (λ line. line ≡ spaced (printed first.entry ∷ map printed others.now)) }
 {
-    let text = with_words(text, first, others)?;
-    with_byte(text, b'\n')
+    let line = with_words(Vec::new(alloc), first, others)?;
+    Ok(List::from_vec(line))
+}
+
+/// The head line of a report, which others follow.
+pub fn headed(alloc: Global, head: &[u8]) -> Result<List<Text>, NoMemory>
+    ensures { IfOk result (λ lines. lines ≡ head.now ∷ []) }
+{
+    let mut lines = List::new(alloc);
+    lines.push(Text::from_slice(alloc, head)?)?;
+    Ok(lines)
 }

@@ -29,12 +29,33 @@ pub fn word(alloc: Global, bytes: &[u8]) -> Option<Text> {
     List::from_slice(alloc, bytes).ok()
 }
 
-/// Whether a report has these lines.
-pub fn has_text(text: Option<Vec<u8>>, lines: &[u8]) -> bool {
-    match text {
-        Some(text) => {
-            let is_same = text.as_slice() == lines;
-            drop(text);
+/// The lines as one text, in which a line feed ends each.
+fn ended(alloc: Global, lines: &[Text]) -> Option<Vec<u8>> {
+    let mut text = Vec::new(alloc);
+    for line in lines {
+        text.extend_from_slice(line.as_slice()).ok()?;
+        text.push(b'\n').ok()?;
+    }
+    Some(text)
+}
+
+fn are_lines(alloc: Global, lines: &[Text], text: &[u8]) -> bool {
+    match ended(alloc, lines) {
+        Some(whole) => {
+            let is_same = whole.as_slice() == text;
+            drop(whole);
+            is_same
+        }
+        None => false,
+    }
+}
+
+/// Whether a report has the lines of this text, in which a line feed ends each.
+pub fn has_lines(alloc: Global, lines: Option<List<Text>>, text: &[u8]) -> bool {
+    match lines {
+        Some(lines) => {
+            let is_same = are_lines(alloc, lines.as_slice(), text);
+            drop(lines);
             is_same
         }
         None => false,

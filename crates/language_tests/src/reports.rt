@@ -1,9 +1,9 @@
-// The texts of reports, of which each is made once.
-use crate::play::{Wrong, both, has_text, row, word};
-use asm_base::Path;
+// The lines of reports, of which each is made once.
+use crate::play::{Wrong, both, has_lines, row, word};
+use asm_base::{List, Path, Text};
 use asmcmd::{
-    AttrRow, DiskRow, GroupRow, TemplateRow, find_text, lsattr_text, lsdg_text, lsdsk_text,
-    lstmpl_text,
+    AttrRow, DiskRow, GroupRow, TemplateRow, attribute_lines, disk_lines, group_lines, path_lines,
+    template_lines,
 };
 use std::alloc::Global;
 
@@ -25,8 +25,8 @@ fn group_row(alloc: Global, state: &[u8]) -> Option<GroupRow> {
     })
 }
 
-fn groups(alloc: Global, rows: &[GroupRow]) -> Option<Vec<u8>> {
-    lsdg_text(alloc, rows).ok()
+fn groups(alloc: Global, rows: &[GroupRow]) -> Option<List<Text>> {
+    group_lines(alloc, rows).ok()
 }
 
 fn are_groups_listed(alloc: Global) -> bool {
@@ -36,11 +36,11 @@ fn are_groups_listed(alloc: Global) -> bool {
     ) {
         Some((mounted, dismounted)) => {
             let rows = [mounted, dismounted];
-            let text = groups(alloc, &rows);
+            let lines = groups(alloc, &rows);
             drop(rows);
-            let lines =
+            let text =
                 b"State Type Rebal Sector Block AU Total Free Offline Name\nMOUNTED EXTERN N 512 4096 4096 1024 754 0 DATA\nDISMOUNTED - - - - - - - - DATA\n";
-            has_text(text, lines)
+            has_lines(alloc, lines, text)
         }
         None => false,
     }
@@ -61,19 +61,19 @@ fn disk_row(alloc: Global) -> Option<DiskRow> {
     })
 }
 
-fn disks(alloc: Global, rows: &[DiskRow]) -> Option<Vec<u8>> {
-    lsdsk_text(alloc, rows).ok()
+fn disks(alloc: Global, rows: &[DiskRow]) -> Option<List<Text>> {
+    disk_lines(alloc, rows).ok()
 }
 
 fn is_disk_listed(alloc: Global) -> bool {
     match disk_row(alloc) {
         Some(disk) => {
             let rows = [disk];
-            let text = disks(alloc, &rows);
+            let lines = disks(alloc, &rows);
             drop(rows);
-            let lines =
+            let text =
                 b"Number Mode Failgroup Kind Total Free Name\n3 Online f2 QUORUM 64 55 DATA_0003\n";
-            has_text(text, lines)
+            has_lines(alloc, lines, text)
         }
         None => false,
     }
@@ -91,40 +91,44 @@ fn template_row(alloc: Global) -> Option<TemplateRow> {
     })
 }
 
-fn templates(alloc: Global, rows: &[TemplateRow]) -> Option<Vec<u8>> {
-    lstmpl_text(alloc, rows).ok()
+fn templates(alloc: Global, rows: &[TemplateRow]) -> Option<List<Text>> {
+    template_lines(alloc, rows).ok()
 }
 
 fn is_template_listed(alloc: Global) -> bool {
     match template_row(alloc) {
         Some(template) => {
             let rows = [template];
-            let text = templates(alloc, &rows);
+            let lines = templates(alloc, &rows);
             drop(rows);
-            has_text(text, b"Name Redund Striped Sys\nCONTROLFILE HIGH FINE Y\n")
+            has_lines(
+                alloc,
+                lines,
+                b"Name Redund Striped Sys\nCONTROLFILE HIGH FINE Y\n",
+            )
         }
         None => false,
     }
 }
 
-fn attributes(alloc: Global, rows: &[AttrRow]) -> Option<Vec<u8>> {
-    lsattr_text(alloc, rows).ok()
+fn attributes(alloc: Global, rows: &[AttrRow]) -> Option<List<Text>> {
+    attribute_lines(alloc, rows).ok()
 }
 
 fn is_attribute_listed(alloc: Global) -> bool {
     match both(word(alloc, b"disk_repair_time"), word(alloc, b"300s")) {
         Some((name, value)) => {
             let rows = [AttrRow { name, value }];
-            let text = attributes(alloc, &rows);
+            let lines = attributes(alloc, &rows);
             drop(rows);
-            has_text(text, b"Name Value\ndisk_repair_time 300s\n")
+            has_lines(alloc, lines, b"Name Value\ndisk_repair_time 300s\n")
         }
         None => false,
     }
 }
 
-fn found(alloc: Global, paths: &[Path]) -> Option<Vec<u8>> {
-    find_text(alloc, paths).ok()
+fn found(alloc: Global, paths: &[Path]) -> Option<List<Text>> {
+    path_lines(alloc, paths).ok()
 }
 
 fn path(alloc: Global, bytes: &[u8]) -> Option<Path> {
@@ -139,9 +143,9 @@ fn are_paths_listed(alloc: Global) -> bool {
     match both(one, path(alloc, b"+DATA/x")) {
         Some((one, other)) => {
             let paths = [one, other];
-            let text = found(alloc, &paths);
+            let lines = found(alloc, &paths);
             drop(paths);
-            has_text(text, b"+DATA/o/DATAFILE/u.256.1\n+DATA/x\n")
+            has_lines(alloc, lines, b"+DATA/o/DATAFILE/u.256.1\n+DATA/x\n")
         }
         None => false,
     }
@@ -153,5 +157,8 @@ pub fn play_rows(alloc: Global) -> Result<(), Wrong> {
     row("templates are listed", is_template_listed(alloc))?;
     row("attributes are listed", is_attribute_listed(alloc))?;
     row("paths are listed", are_paths_listed(alloc))?;
-    row("no paths are listed", has_text(found(alloc, &[]), b""))
+    row(
+        "no paths are listed",
+        has_lines(alloc, found(alloc, &[]), b""),
+    )
 }

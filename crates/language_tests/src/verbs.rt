@@ -1,7 +1,7 @@
 // Lines of asmcmd that are read or refused, and short reports. A verb is dropped by a call, since what goes in place is proved in place.
-use crate::play::{Wrong, both, has_text, row, table, word};
+use crate::play::{Wrong, both, has_lines, row, table, word};
 use asm_base::{List, Text};
-use asmcmd::{LsRow, ReadError, Runs, check_text, du_text, ls_text, read_line};
+use asmcmd::{LsRow, ReadError, Runs, check_lines, ls_lines, read_line, usage_lines};
 use std::alloc::Global;
 
 /// A line of each verb, with and without what may be absent.
@@ -204,12 +204,12 @@ fn other_prefix(alloc: Global) -> Option<usize> {
     None
 }
 
-fn du(alloc: Global, used: u64, mirrored: u64) -> Option<Vec<u8>> {
-    du_text(alloc, used, mirrored).ok()
+fn usage(alloc: Global, used: u64, mirrored: u64) -> Option<List<Text>> {
+    usage_lines(alloc, used, mirrored).ok()
 }
 
-fn checked(alloc: Global, extents: u64, not_full: u64) -> Option<Vec<u8>> {
-    check_text(alloc, extents, not_full).ok()
+fn checked(alloc: Global, extents: u64, not_full: u64) -> Option<List<Text>> {
+    check_lines(alloc, extents, not_full).ok()
 }
 
 /// The lines of bytes that come in two pieces.
@@ -255,17 +255,17 @@ fn alias_row(alloc: Global) -> Option<LsRow> {
     })
 }
 
-fn listed(alloc: Global, rows: &[LsRow], long: bool) -> Option<Vec<u8>> {
-    ls_text(alloc, rows, long).ok()
+fn listed(alloc: Global, rows: &[LsRow], long: bool) -> Option<List<Text>> {
+    ls_lines(alloc, rows, long).ok()
 }
 
-fn is_alias_listed(alloc: Global, long: bool, lines: &[u8]) -> bool {
+fn is_alias_listed(alloc: Global, long: bool, text: &[u8]) -> bool {
     match alias_row(alloc) {
         Some(alias) => {
             let rows = [alias];
-            let text = listed(alloc, &rows, long);
+            let lines = listed(alloc, &rows, long);
             drop(rows);
-            has_text(text, lines)
+            has_lines(alloc, lines, text)
         }
         None => false,
     }
@@ -288,11 +288,11 @@ pub fn play_rows(alloc: Global) -> Result<(), Wrong> {
     let used = b"Used Mirror_used\n1048576 2097152\n";
     row(
         "use is shown",
-        has_text(du(alloc, 1_048_576, 2_097_152), used),
+        has_lines(alloc, usage(alloc, 1_048_576, 2_097_152), used),
     )?;
     row(
         "a check is shown",
-        has_text(checked(alloc, 1, 0), b"check 1 0\n"),
+        has_lines(alloc, checked(alloc, 1, 0), b"check 1 0\n"),
     )?;
     row("bytes are read in lines", are_runs_joined(alloc))?;
     row("an alias is listed", is_alias_listed(alloc, true, LONG))?;

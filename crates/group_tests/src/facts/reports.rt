@@ -4,8 +4,8 @@ use super::fact::{Found, Report};
 use crate::spelt::read_path;
 use asm_base::{List, Name, NoMemory, Path, Refusal, Text};
 use asmcmd::{
-    GroupRow, LsRow, check_text, du_text, find_text, ls_text, lsattr_text, lsdg_text, lsdsk_text,
-    lstmpl_text,
+    GroupRow, LsRow, attribute_lines, check_lines, disk_lines, group_lines, ls_lines, path_lines,
+    template_lines, usage_lines,
 };
 use catalog::Catalog;
 use group_engine::Mounted;
@@ -43,40 +43,59 @@ fn names(alloc: Global, parts: &[&[u8]]) -> Result<Vec<Name>, NoMemory> {
     Ok(names)
 }
 
+/// The lines as one text, in which a line feed ends each.
+fn joined(alloc: Global, lines: &[Text]) -> Result<Vec<u8>, NoMemory> {
+    let mut text = Vec::new(alloc);
+    for line in lines {
+        text.extend_from_slice(line.as_slice())
+            .map_err(|_| NoMemory)?;
+        text.push(b'\n').map_err(|_| NoMemory)?;
+    }
+    Ok(text)
+}
+
+/// The text of a report's lines.
+fn ended(alloc: Global, lines: Result<List<Text>, NoMemory>) -> Result<Vec<u8>, NoMemory> {
+    let lines = lines?;
+    let text = joined(alloc, lines.as_slice());
+    drop(lines);
+    text
+}
+
 fn attributes(alloc: Global, catalog: &Catalog) -> Result<Vec<u8>, NoMemory> {
     let rows = attribute_rows(alloc, catalog)?;
-    let text = lsattr_text(alloc, &rows);
+    let lines = attribute_lines(alloc, &rows);
     drop(rows);
-    text
+    ended(alloc, lines)
 }
 
 fn templates(alloc: Global, catalog: &Catalog) -> Result<Vec<u8>, NoMemory> {
     let rows = template_rows(alloc, catalog)?;
-    let text = lstmpl_text(alloc, &rows);
+    let lines = template_lines(alloc, &rows);
     drop(rows);
-    text
+    ended(alloc, lines)
 }
 
 fn disks(alloc: Global, catalog: &Catalog, status: &PstRecord) -> Result<Vec<u8>, NoMemory> {
     let rows = disk_rows(alloc, catalog, status)?;
-    let text = lsdsk_text(alloc, &rows);
+    let lines = disk_lines(alloc, &rows);
     drop(rows);
-    text
+    ended(alloc, lines)
 }
 
 /// The text of one row of lsdg.
 fn one_group(alloc: Global, row: GroupRow) -> Result<Vec<u8>, NoMemory> {
     let rows = [row];
-    let text = lsdg_text(alloc, &rows);
+    let lines = group_lines(alloc, &rows);
     drop(rows);
-    text
+    ended(alloc, lines)
 }
 
 /// The text of the rows of ls.
 fn listed(alloc: Global, rows: Vec<LsRow>, long: bool) -> Result<Vec<u8>, NoMemory> {
-    let text = ls_text(alloc, &rows, long);
+    let lines = ls_lines(alloc, &rows, long);
     drop(rows);
-    text
+    ended(alloc, lines)
 }
 
 /// The text of ls at a path, or the word of its refusal.
@@ -131,9 +150,9 @@ fn line_of(alloc: Global, path: Option<Path>) -> Result<Vec<u8>, NoMemory> {
     match path {
         Some(path) => {
             let paths = [path];
-            let text = find_text(alloc, &paths);
+            let lines = path_lines(alloc, &paths);
             drop(paths);
-            text
+            ended(alloc, lines)
         }
         None => Ok(Vec::new(alloc)),
     }
@@ -184,9 +203,9 @@ fn row(
 /// The text of one row of ls.
 fn one_name(alloc: Global, row: LsRow) -> Result<Vec<u8>, NoMemory> {
     let rows = [row];
-    let text = ls_text(alloc, &rows, true);
+    let lines = ls_lines(alloc, &rows, true);
     drop(rows);
-    text
+    ended(alloc, lines)
 }
 
 fn found(
@@ -200,9 +219,9 @@ fn found(
     let paths = paths_found(alloc, group, catalog, &parts, pattern);
     drop(parts);
     let paths = paths?;
-    let text = find_text(alloc, &paths);
+    let lines = path_lines(alloc, &paths);
     drop(paths);
-    text
+    ended(alloc, lines)
 }
 
 fn usage(
@@ -215,7 +234,7 @@ fn usage(
     let taken = usage_below(alloc, group, catalog, &parts);
     drop(parts);
     let taken = taken?;
-    du_text(alloc, taken.used, taken.mirrored)
+    ended(alloc, usage_lines(alloc, taken.used, taken.mirrored))
 }
 
 fn name_of(alloc: Global, catalog: &Catalog, disk: u8) -> Result<Vec<u8>, NoMemory> {
@@ -236,7 +255,8 @@ fn printed(alloc: Global, m: &Mounted, report: Report) -> Result<Vec<u8>, NoMemo
         Report::Dismounted => one_group(alloc, dismounted_row(alloc, group)?),
         Report::Check => {
             let checked = check(catalog, status);
-            check_text(alloc, checked.extents, checked.not_full)
+            let lines = check_lines(alloc, checked.extents, checked.not_full);
+            ended(alloc, lines)
         }
         _ => printed_of_names(alloc, group, catalog, report),
     }

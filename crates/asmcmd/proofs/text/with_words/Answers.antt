@@ -1,6 +1,6 @@
 use Rattle.std.proofs.lemmas.Result.{IfOk-weaker}
 use Rattle.asmcmd.specs.Texts.{printed}
-use Rattle.asmcmd.proofs.Endings.{words_made}
+use Rattle.asmcmd.proofs.Spaced.{words_made}
 use Rattle.asmcmd.proofs.text.with_words.Goals as goal
 
 pub returns : goal.returns

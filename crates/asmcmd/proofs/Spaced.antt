@@ -1,19 +1,10 @@
--- Texts of many lines.
+-- Words with one space between.
 use Rattle.std.proofs.Common.{◌≡◌, ℕ, List, [], ◌∷◌, ◌++◌, ap, sym, ◌∙◌, append_assoc, append-nil}
 use Rattle.std.specs.Prelude.{map}
 use Rattle.std.specs.List.{flat_map}
 use Rattle.std.proofs.lemmas.List.Folds.{flat_map-map}
 use Rattle.asm_group.specs.Names.{Bytes}
 use Rattle.asm_group.specs.Refusal.{spaced}
-use Rattle.asm_world.specs.Text.{ended}
-
--- the lines of rows, each with its end
-pub ended_rows : {X : Type 0} (line : X → Bytes) (rows : List X) → ended (map line rows) ≡ flat_map (λ row. line row ++ 10 ∷ []) rows
-ended_rows line rows = flat_map-map (λ l. l ++ 10 ∷ []) line rows
-
--- below a head line
-pub headed : {X : Type 0} (line : X → Bytes) (rows : List X) (head text longer : Bytes) → text ≡ head ++ 10 ∷ [] → longer ≡ text ++ flat_map (λ row. line row ++ 10 ∷ []) rows → longer ≡ ended (head ∷ map line rows)
-headed line rows head text longer e f = f ∙ (ap (λ t. t ++ flat_map (λ row. line row ++ 10 ∷ []) rows) e ∙ ap (λ t. (head ++ 10 ∷ []) ++ t) (sym (ended_rows line rows)))
 
 -- the first word, and the others each after a space
 spaced_after : (word : Bytes) (words : List Bytes) → spaced (word ∷ words) ≡ word ++ flat_map (λ other. 32 ∷ other) words
