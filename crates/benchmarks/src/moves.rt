@@ -3,8 +3,8 @@
 ghost use Rattle.std.specs.Prelude.{◌≡◌, IfOk, IsTrue, List, OnOk, Some};
 ghost use Rattle.asm_formats.specs.Status.{Entry};
 ghost use Rattle.catalog.specs.ExtentPlans.{with_move};
-ghost use Rattle.catalog.specs.Placing.{HasUnits};
-ghost use Rattle.catalog.specs.Rules.{AreOnRegular, is_on_regular};
+ghost use Rattle.catalog_tables.specs.Placing.{HasUnits};
+ghost use Rattle.catalog_tables.specs.Rules.{AreOnRegular, is_on_regular};
 ghost use Rattle.rebalance.specs.Cursors.{IsCursor};
 ghost use Rattle.rebalance.specs.Searching.{IsStatusOf};
 

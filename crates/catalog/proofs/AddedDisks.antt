@@ -11,17 +11,17 @@ use Rattle.asm_formats.specs.Values.{value}
 use Rattle.asm_base.specs.Records.{Entry}
 use Rattle.asm_base.specs.declared.refusal.Refusal.TheVariants as cause
 use Rattle.page_map.specs.Changes.{last_put}
-use Rattle.catalog.specs.Disks.{Disk, IsTable, info_at, record_of, with_info}
-use Rattle.catalog.specs.Faults.{IsCatalog, disk_key}
+use Rattle.catalog_tables.specs.Disks.{Disk, IsTable, info_at, record_of, with_info}
+use Rattle.catalog_tables.specs.Faults.{IsCatalog, disk_key}
 use Rattle.catalog.specs.Plans.{IsAddRefusal, IsPlan, MayAdd, are_new, with_records}
-use Rattle.catalog.specs.Rules.{blocks_used}
-use Rattle.catalog.specs.Tables.{Catalogued, Tables, records_of}
-use Rattle.catalog.proofs.DiskLaws.{put_keeps_table}
+use Rattle.catalog_tables.specs.Rules.{blocks_used}
+use Rattle.catalog_tables.specs.Tables.{Catalogued, Tables, records_of}
+use Rattle.catalog_tables.proofs.DiskLaws.{put_keeps_table}
 use Rattle.catalog.proofs.DiskPlans.{disk_rules, put_at, with_disks}
-use Rattle.catalog.proofs.NewRecords.{at_most}
-use Rattle.catalog.proofs.NumberedLists.{new_longer}
-use Rattle.catalog.proofs.SetLaws.{disks_set}
-use Rattle.catalog.proofs.TableItems.{each_of, map_among}
+use Rattle.catalog_tables.proofs.NewRecords.{at_most}
+use Rattle.catalog_tables.proofs.NumberedLists.{new_longer}
+use Rattle.catalog_tables.proofs.SetLaws.{disks_set}
+use Rattle.catalog_tables.proofs.TableItems.{each_of, map_among}
 
 abbrev AreItems : List Disk → Type 0
 AreItems added = AllByRecursion (λ (x : Disk). is_item (disk_item x.0 x.1) ≡ true) added

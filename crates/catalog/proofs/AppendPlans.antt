@@ -29,20 +29,20 @@ use Rattle.extent_map.proofs.Values.{IsHomes}
 use Rattle.staleness_directory.specs.Marks as stale
 use Rattle.staleness_directory.specs.Marks.{Marked, marks_at, with_marks}
 use Rattle.staleness_directory.proofs.Laws as stale_laws
-use Rattle.catalog.specs.Changing.{IsAfter}
+use Rattle.catalog_tables.specs.Changing.{IsAfter}
 use Rattle.catalog.specs.ExtentPlans.{HasChunkRoom, LacksBlocks, MayAppend, are_small, first_new, homes_appended, is_small, marks_appended, marks_behind, marks_or_none, with_appended}
-use Rattle.catalog.specs.Faults.{IsCatalog}
-use Rattle.catalog.specs.Placing.{HasUnits, after_homes, home_taken, homes_of, unused_maps}
+use Rattle.catalog_tables.specs.Faults.{IsCatalog}
+use Rattle.catalog_tables.specs.Placing.{HasUnits, after_homes, home_taken, homes_of, unused_maps}
 use Rattle.catalog.specs.Plans.{IsPlan}
-use Rattle.catalog.specs.Rules.{are_marks_of, are_on_disks, are_within, are_within_head, blocks_used, has_chunk, has_copies, is_mark_of}
-use Rattle.catalog.specs.Tables.{AreTables, Catalogued, Tables}
+use Rattle.catalog_tables.specs.Rules.{are_marks_of, are_on_disks, are_within, are_within_head, blocks_used, has_chunk, has_copies, is_mark_of}
+use Rattle.catalog_tables.specs.Tables.{AreTables, Catalogued, Tables}
 use Rattle.catalog.proofs.EditLaws.{IsEdited, IsRightChunk, after_two, changed, chunk_right, due_by, edited_plan, extent_in, homes_set, marks_set}
-use Rattle.catalog.proofs.NewRecords.{HasRoom, chunk_there, marks_there, two_old_room, two_room}
-use Rattle.catalog.proofs.EntryLaws.{both, either, right_at, three_true}
-use Rattle.catalog.proofs.HomeUnits.{takes}
+use Rattle.catalog_tables.proofs.NewRecords.{HasRoom, chunk_there, marks_there, two_old_room, two_room}
+use Rattle.catalog_tables.proofs.EntryLaws.{both, either, right_at, three_true}
+use Rattle.catalog_tables.proofs.HomeUnits.{takes}
 use Rattle.catalog.proofs.MarkPlans.{Stands as ChunkStands, stands, some_of, zip_at}
 use Rattle.catalog.proofs.MovePlans.{units_long}
-use Rattle.catalog.proofs.PlacingLaws.{no_extents}
+use Rattle.catalog_tables.proofs.PlacingLaws.{no_extents}
 use Rattle.catalog.proofs.UnitEdits.{as_many, cut, glue, units_edited, units_new}
 
 -- ---- lists in parts

@@ -10,13 +10,13 @@ use Rattle.asm_formats.specs.Status as status
 use Rattle.asm_group.specs.Shape.{Shape}
 use Rattle.allocator.specs.UnitMaps.{UnitMap}
 use Rattle.catalog.specs.Applying.{AreDisksReady, IsReady, Leaves, next_maps}
-use Rattle.catalog.specs.Changing.{IsAfter}
-use Rattle.catalog.specs.Placing.{HasUnits, OthersStay, after_chunks, put_maps}
+use Rattle.catalog_tables.specs.Changing.{IsAfter}
+use Rattle.catalog_tables.specs.Placing.{HasUnits, OthersStay, after_chunks, put_maps}
 use Rattle.catalog.specs.Spares.{IsKept, IsSpareOf, ready_tables, units_in}
-use Rattle.catalog.specs.Tables.{AreTables, Catalogued, Tables}
+use Rattle.catalog_tables.specs.Tables.{AreTables, Catalogued, Tables}
 use Rattle.catalog.specs.declared.spare.Spare.{Spare}
 use Rattle.catalog.specs.declared.spare.Spare.TheVariants.{Absent, Behind, Ready}
-use Rattle.catalog.proofs.AfterLaws.{one_after}
+use Rattle.catalog_tables.proofs.AfterLaws.{one_after}
 
 abbrev Units : Type 0
 Units = Option (List (ℕ × UnitMap))

@@ -8,13 +8,13 @@ use Rattle.asm_base.specs.Tables.{item_record}
 use Rattle.attribute_values.specs.Edits.{settings_with}
 use Rattle.template_directory.specs.Tables as templates
 use Rattle.template_directory.proofs.ChangeLaws as template_laws
-use Rattle.catalog.specs.Faults.{IsCatalog, settings_key}
+use Rattle.catalog_tables.specs.Faults.{IsCatalog, settings_key}
 use Rattle.catalog.specs.FilePlans.{IsAttributePlan}
 use Rattle.catalog.specs.Plans.{IsPlan}
-use Rattle.catalog.specs.Tables.{Catalogued}
-use Rattle.catalog.proofs.NewRecords.{old_room, settings_there}
+use Rattle.catalog_tables.specs.Tables.{Catalogued}
+use Rattle.catalog_tables.proofs.NewRecords.{old_room, settings_there}
 use Rattle.catalog.proofs.PlanLaws.{after_put}
-use Rattle.catalog.proofs.SetLaws.{templates_set}
+use Rattle.catalog_tables.proofs.SetLaws.{templates_set}
 use Rattle.catalog.proofs.TemplatePlans.{with_templates}
 use Rattle.catalog.proofs.PutItems.{plan_is}
 

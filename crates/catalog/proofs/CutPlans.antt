@@ -25,17 +25,17 @@ use Rattle.extent_map.proofs.Values.{blank_fits}
 use Rattle.staleness_directory.specs.Marks as stale
 use Rattle.staleness_directory.specs.Marks.{Marked, marks_at, marks_to, with_marks}
 use Rattle.staleness_directory.proofs.Laws as stale_laws
-use Rattle.catalog.specs.Changing.{IsAfter}
+use Rattle.catalog_tables.specs.Changing.{IsAfter}
 use Rattle.catalog.specs.ExtentPlans.{IsUndue, MayCut, marks_or_none, with_cut, with_fewer}
-use Rattle.catalog.specs.Faults.{IsCatalog}
-use Rattle.catalog.specs.Placing.{HasUnits, after_homes, homes_of, unused_maps}
+use Rattle.catalog_tables.specs.Faults.{IsCatalog}
+use Rattle.catalog_tables.specs.Placing.{HasUnits, after_homes, homes_of, unused_maps}
 use Rattle.catalog.specs.Plans.{IsPlan}
-use Rattle.catalog.specs.Rules.{HasExtents, are_marks_of, are_on_disks, are_within, are_within_head, has_copies}
-use Rattle.catalog.specs.Tables.{AreTables, Catalogued, Tables}
+use Rattle.catalog_tables.specs.Rules.{HasExtents, are_marks_of, are_on_disks, are_within, are_within_head, has_copies}
+use Rattle.catalog_tables.specs.Tables.{AreTables, Catalogued, Tables}
 use Rattle.catalog.proofs.AppendPlans.{all_first, all_joined, all_later, all_same, blank_homes, fits_later, homes_joined, zip_all}
 use Rattle.catalog.proofs.EditLaws.{IsEdited, IsRightChunk, after_two, changed, chunk_right, edited_plan, extent_in, homes_set, marks_set}
-use Rattle.catalog.proofs.NewRecords.{chunk_there, marks_there, two_old_room}
-use Rattle.catalog.proofs.EntryLaws.{both, either, three_true}
+use Rattle.catalog_tables.proofs.NewRecords.{chunk_there, marks_there, two_old_room}
+use Rattle.catalog_tables.proofs.EntryLaws.{both, either, three_true}
 use Rattle.catalog.proofs.MarkPlans.{Stands, stands, zip_at}
 use Rattle.catalog.proofs.UnitEdits.{cut, units_edited}
 

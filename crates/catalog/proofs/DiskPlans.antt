@@ -13,16 +13,16 @@ use Rattle.asm_formats.specs.Values.{value}
 use Rattle.asm_base.specs.Records.{Entry}
 use Rattle.asm_base.specs.Tables.{item_record}
 use Rattle.extent_map.proofs.Lookups.{put_here, put_other}
-use Rattle.catalog.specs.Disks.{Disk, IsTable, info_at, value_at, with_info, without_disk}
-use Rattle.catalog.specs.Faults.{IsCatalog, disk_key}
+use Rattle.catalog_tables.specs.Disks.{Disk, IsTable, info_at, value_at, with_info, without_disk}
+use Rattle.catalog_tables.specs.Faults.{IsCatalog, disk_key}
 use Rattle.catalog.specs.Plans.{IsPlan, LacksBlock}
-use Rattle.catalog.specs.Rules.{KeepsRules, blocks_used}
-use Rattle.catalog.specs.Tables.{AreTables, Catalogued, Tables}
-use Rattle.catalog.proofs.DiskLaws.{put_keeps_table, record_gone, removed_keeps_table}
-use Rattle.catalog.proofs.NewRecords.{no_disk, nothing_room, one_room}
-use Rattle.catalog.proofs.NumberedLists.{either, gone_at, gone_few, new_longer, not_at, number_is, number_itself, there_as_long}
+use Rattle.catalog_tables.specs.Rules.{KeepsRules, blocks_used}
+use Rattle.catalog_tables.specs.Tables.{AreTables, Catalogued, Tables}
+use Rattle.catalog_tables.proofs.DiskLaws.{put_keeps_table, record_gone, removed_keeps_table}
+use Rattle.catalog_tables.proofs.NewRecords.{no_disk, nothing_room, one_room}
+use Rattle.catalog_tables.proofs.NumberedLists.{either, gone_at, gone_few, new_longer, not_at, number_is, number_itself, there_as_long}
 use Rattle.catalog.proofs.PlanLaws.{after_gone, after_put}
-use Rattle.catalog.proofs.SetLaws.{disks_set}
+use Rattle.catalog_tables.proofs.SetLaws.{disks_set}
 use Rattle.catalog.proofs.PutItems.{plan_is}
 
 -- ---- what stands at each number then
@@ -124,7 +124,3 @@ disk_name d birth info name failgroup is ok = subst (λ (i : DiskInfo). is_name 
 
 pub disk_failgroup : (d birth : ℕ) (info : DiskInfo) (name failgroup : Bytes) → record { birth = birth; name = name; failgroup = failgroup } ≡ info → is_item (disk_item d info) ≡ true → is_name failgroup ≡ true
 disk_failgroup d birth info name failgroup is ok = subst (λ (i : DiskInfo). is_name i.failgroup ≡ true) (sym is) (names_of d info ok).1
-
-pub allowed : (d birth : ℕ) (name failgroup : Bytes) → birth < 2 ^ 64 → is_item (disk_item d (record { birth = birth; name = name; failgroup = failgroup })) ≡ (ltb d 64 && (is_name name && is_name failgroup))
-unfolding is_item
-allowed d birth name failgroup fits = rw (lt-ltb birth (2 ^ 64) fits) refl

@@ -7,13 +7,13 @@ use Rattle.asm_formats.specs.Status as status
 use Rattle.asm_group.specs.Shape.{Shape}
 use Rattle.allocator.specs.UnitMaps.{UnitMap}
 use Rattle.catalog.specs.Applying.{AreDisksReady}
-use Rattle.catalog.specs.Placing.{AreFit, HasUnits, HaveSameUnits, OthersStay, changed_maps, have_units, put_maps, resized_maps}
+use Rattle.catalog_tables.specs.Placing.{AreFit, HasUnits, HaveSameUnits, OthersStay, changed_maps, have_units, put_maps, resized_maps}
 use Rattle.catalog.specs.Spares.{IsKept}
-use Rattle.catalog.specs.Tables.{Catalogued, Tables}
+use Rattle.catalog_tables.specs.Tables.{Catalogued, Tables}
 use Rattle.catalog.specs.declared.spare.Spare.{Spare}
 use Rattle.catalog.proofs.ApplyingLaws.{made}
 use Rattle.catalog.proofs.ResizedUnits.{all_long, all_whole, changed_are, others_stay, units_are_resized, units_resize}
-use Rattle.catalog.proofs.SameUnits.{as_many, units_same, units_stay}
+use Rattle.catalog_tables.proofs.SameUnits.{as_many, units_same, units_stay}
 
 -- what is known of a catalog is known of its fields
 pub covered : (c : Catalogued) (t : Tables) (s : Shape) (ms : List UnitMap) (o : Option Tables) (d : Option (List (ℕ × UnitMap))) (entries given : List status.Entry) → made t s ms o d ≡ c → given ≡ entries → (x : List UnitMap) × HasUnits c.shape entries c.tables x → (x : List UnitMap) × HasUnits s given t x

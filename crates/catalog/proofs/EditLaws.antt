@@ -23,16 +23,16 @@ use Rattle.extent_map.proofs.Lookups.{both_ways, key_is}
 use Rattle.staleness_directory.specs.Changing as stale
 use Rattle.staleness_directory.specs.Marks.{Marked, marks_at}
 use Rattle.staleness_directory.specs.Marks as stale_map
-use Rattle.catalog.specs.Changing.{IsAfter, Sets}
-use Rattle.catalog.specs.Faults.{IsCatalog, key_of_marks}
-use Rattle.catalog.specs.Placing.{HasUnits}
+use Rattle.catalog_tables.specs.Changing.{IsAfter, Sets}
+use Rattle.catalog_tables.specs.Faults.{IsCatalog, key_of_marks}
+use Rattle.catalog_tables.specs.Placing.{HasUnits}
 use Rattle.catalog.specs.Plans.{IsPlan}
 use Rattle.asm_placement.specs.Naming.{is_pending}
-use Rattle.catalog.specs.Rules.{HasExtents, KeepsRules, are_chunk_marks, are_marks_of, are_on_disks, are_within_head, blocks_used, has_chunk, has_copies, has_marks, is_marked_right, is_on_disks, is_owned, keeps_copies}
-use Rattle.catalog.specs.Tables.{AreTables, Catalogued, Tables, records_of}
-use Rattle.catalog.proofs.EntryLaws.{edited, either, holds_all, holds_at, right_at}
-use Rattle.catalog.proofs.NewRecords.{HasRoom}
-use Rattle.catalog.proofs.SetLaws.{extents_set, stale_set}
+use Rattle.catalog_tables.specs.Rules.{HasExtents, KeepsRules, are_chunk_marks, are_marks_of, are_on_disks, are_within_head, blocks_used, has_chunk, has_copies, has_marks, is_marked_right, is_on_disks, is_owned, keeps_copies}
+use Rattle.catalog_tables.specs.Tables.{AreTables, Catalogued, Tables, records_of}
+use Rattle.catalog_tables.proofs.EntryLaws.{edited, either, holds_all, holds_at, right_at}
+use Rattle.catalog_tables.proofs.NewRecords.{HasRoom}
+use Rattle.catalog_tables.proofs.SetLaws.{extents_set, stale_set}
 use Rattle.catalog.proofs.PutItems.{is_once, plan_is}
 
 -- the tables with these extents and marks

@@ -21,12 +21,12 @@ use Rattle.file_directory.specs.Files.{File, IsTable, head_at, item_of}
 use Rattle.extent_map.specs.Extents.{Chunked, has_home, has_no_gap, is_behind, is_blank, is_full, opened, stand_first, stands_at}
 use Rattle.asm_base.specs.Chunks.{Chunk}
 use Rattle.extent_map.specs.Extents as extents
-use Rattle.catalog.specs.Tables.{AreTables, Tables}
-use Rattle.catalog.specs.Placing.{HasUnits, after_chunks, after_homes, disk_units, homes_of, unused_maps}
-use Rattle.catalog.proofs.PlacingLaws.{units_some}
-use Rattle.catalog.proofs.TableItems.{each_of, found_is, numbers_exact}
-use Rattle.catalog.proofs.HomeUnits.{IsTaken, taken_is, takes}
-use Rattle.catalog.proofs.UnusedLaws.{few_found}
+use Rattle.catalog_tables.specs.Tables.{AreTables, Tables}
+use Rattle.catalog_tables.specs.Placing.{HasUnits, after_chunks, after_homes, disk_units, homes_of, unused_maps}
+use Rattle.catalog_tables.proofs.PlacingLaws.{units_some}
+use Rattle.catalog_tables.proofs.TableItems.{each_of, found_is, numbers_exact}
+use Rattle.catalog_tables.proofs.HomeUnits.{IsTaken, taken_is, takes}
+use Rattle.catalog_tables.proofs.UnusedLaws.{few_found}
 
 -- ---- copies
 

@@ -19,15 +19,15 @@ use Rattle.extent_map.proofs.Lookups.{put_here, put_other, there_as_long}
 use Rattle.extent_map.proofs.Numbering.{found_self, size_of}
 use Rattle.staleness_directory.specs.Marks.{Marked, item_of, marks_at, record_of, with_marks}
 use Rattle.staleness_directory.proofs.Laws as stale_laws
-use Rattle.catalog.specs.ExtentPlans.{MayMark, homes_at, marks_changed, marks_or_none, with_marks_changed}
-use Rattle.catalog.specs.Changing.{IsAfter}
-use Rattle.catalog.specs.Faults.{IsCatalog}
+use Rattle.catalog.specs.ExtentPlans.{MayMark, marks_changed, marks_or_none, with_marks_changed}
+use Rattle.catalog_tables.specs.Changing.{IsAfter}
+use Rattle.catalog_tables.specs.Faults.{IsCatalog}
 use Rattle.catalog.specs.Plans.{IsPlan}
-use Rattle.catalog.specs.Rules.{are_marks_of, is_mark_of, marks_of}
-use Rattle.catalog.specs.Tables.{AreTables, Catalogued, Tables}
+use Rattle.catalog_tables.specs.Rules.{are_marks_of, is_mark_of, marks_of, homes_at}
+use Rattle.catalog_tables.specs.Tables.{AreTables, Catalogued, Tables}
 use Rattle.catalog.proofs.EditLaws.{IsEdited, IsRightChunk, changed, chunk_right, edited_plan, marks_set}
-use Rattle.catalog.proofs.NewRecords.{marks_there, old_room}
-use Rattle.catalog.proofs.EntryLaws.{both, holds_at, three_true}
+use Rattle.catalog_tables.proofs.NewRecords.{marks_there, old_room}
+use Rattle.catalog_tables.proofs.EntryLaws.{both, holds_at, three_true}
 use Rattle.catalog.proofs.PlanLaws.{after_put}
 
 -- ---- marks of a chunk

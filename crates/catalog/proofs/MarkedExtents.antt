@@ -20,12 +20,12 @@ use Rattle.extent_map.proofs.Ends.{Lower, lower}
 use Rattle.extent_map.proofs.Laws.{chunk_total, same_chunk}
 use Rattle.extent_map.proofs.Numbering.{less_is, size_of}
 use Rattle.staleness_directory.specs.Marks.{Marked, marks_at, marks_from}
-use Rattle.catalog.specs.ExtentPlans.{homes_at}
-use Rattle.catalog.specs.Faults.{IsCatalog}
-use Rattle.catalog.specs.MarkedExtents.{HasNoPlace, HasNoneIn, HasNoneMarked, IsFirstIn, IsFirstMarked, IsFirstPlace, IsFrom, any_stale_on, first_marked, has_marked, has_stale_on, is_marked_on}
-use Rattle.catalog.specs.Tables.{AreTables, Catalogued, Tables}
-use Rattle.catalog.proofs.EntryLaws.{both, either}
-use Rattle.catalog.proofs.TableItems.{among_found, below, chunks_exact, found_is}
+use Rattle.catalog_tables.specs.Rules.{homes_at}
+use Rattle.catalog_tables.specs.Faults.{IsCatalog}
+use Rattle.catalog_tables.specs.MarkedExtents.{HasNoPlace, HasNoneIn, HasNoneMarked, IsFirstIn, IsFirstMarked, IsFirstPlace, IsFrom, any_stale_on, first_marked, has_marked, has_stale_on, is_marked_on}
+use Rattle.catalog_tables.specs.Tables.{AreTables, Catalogued, Tables}
+use Rattle.catalog_tables.proofs.EntryLaws.{both, either}
+use Rattle.catalog_tables.proofs.TableItems.{among_found, below, chunks_exact, found_is}
 
 -- ---- one extent
 

@@ -33,17 +33,17 @@ use Rattle.extent_map.proofs.Numbering.{found_self, the_chunk}
 use Rattle.staleness_directory.specs.Marks as stale
 use Rattle.staleness_directory.specs.Marks.{Marked, marks_at, with_marks}
 use Rattle.staleness_directory.proofs.Laws as stale_laws
-use Rattle.catalog.specs.Changing.{IsAfter}
-use Rattle.catalog.specs.ExtentPlans.{MayMove, homes_at, homes_moved, is_copy_of, marks_or_none, with_move}
-use Rattle.catalog.specs.Faults.{IsCatalog}
-use Rattle.catalog.specs.Placing.{HasUnits, after_homes, disk_units, home_taken, homes_of, unused_maps}
+use Rattle.catalog_tables.specs.Changing.{IsAfter}
+use Rattle.catalog.specs.ExtentPlans.{MayMove, homes_moved, is_copy_of, marks_or_none, with_move}
+use Rattle.catalog_tables.specs.Faults.{IsCatalog}
+use Rattle.catalog_tables.specs.Placing.{HasUnits, after_homes, disk_units, home_taken, homes_of, unused_maps}
 use Rattle.catalog.specs.Plans.{IsPlan}
-use Rattle.catalog.specs.Rules.{are_marks_of, are_on_disks, are_within, are_within_head, has_copies, is_mark_of, marks_of}
-use Rattle.catalog.specs.Tables.{AreTables, Catalogued, Tables}
+use Rattle.catalog_tables.specs.Rules.{are_marks_of, are_on_disks, are_within, are_within_head, has_copies, is_mark_of, marks_of, homes_at}
+use Rattle.catalog_tables.specs.Tables.{AreTables, Catalogued, Tables}
 use Rattle.catalog.proofs.EditLaws.{IsEdited, IsRightChunk, after_two, changed, chunk_right, due_by, edited_plan, extent_in, homes_set, marks_set}
-use Rattle.catalog.proofs.NewRecords.{chunk_there, marks_there, old_room, two_old_room}
-use Rattle.catalog.proofs.EntryLaws.{both, three_true}
-use Rattle.catalog.proofs.HomeUnits.{chunks_are_homes, takes}
+use Rattle.catalog_tables.proofs.NewRecords.{chunk_there, marks_there, old_room, two_old_room}
+use Rattle.catalog_tables.proofs.EntryLaws.{both, three_true}
+use Rattle.catalog_tables.proofs.HomeUnits.{chunks_are_homes, takes}
 use Rattle.catalog.proofs.MarkPlans.{Stands, marks_small, set_allowed, stands, zip_at}
 use Rattle.catalog.proofs.PlanLaws.{after_put}
 use Rattle.catalog.proofs.UnitEdits.{as_many, moved, units_edited}

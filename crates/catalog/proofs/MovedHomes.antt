@@ -7,10 +7,10 @@ use Rattle.std.specs.Option.{is_some, option_and_then, unwrap_or}
 use Rattle.asm_formats.specs.Items.{Home, Homes}
 use Rattle.allocator.specs.UnitMaps.{IsFreeRun, UnitMap, is_free}
 use Rattle.extent_map.specs.Extents.{chunk_at, extent_at, has_extent, has_home}
-use Rattle.catalog.specs.ExtentPlans.{homes_at}
-use Rattle.catalog.specs.Placing.{home_taken}
-use Rattle.catalog.specs.Tables.{Tables}
-use Rattle.catalog.proofs.PlacingLaws.{from_all}
+use Rattle.catalog_tables.specs.Rules.{homes_at}
+use Rattle.catalog_tables.specs.Placing.{home_taken}
+use Rattle.catalog_tables.specs.Tables.{Tables}
+use Rattle.catalog_tables.proofs.PlacingLaws.{from_all}
 
 pub extent_there : (t : Tables) (f i : ℕ) (hs : Homes) → extent_at t.extents f i ≡ Some hs → (has_extent t.extents f i ≡ true) × (homes_at t f i ≡ hs)
 extent_there t f i hs = by (chunk_at t.extents (f, i / 256)) where

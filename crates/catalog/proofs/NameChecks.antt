@@ -20,7 +20,7 @@ use Rattle.alias_edits.specs.declared.editing.TreeError.{TreeError}
 use Rattle.catalog.specs.NameChecks.{ChecksAgree, ChecksHold, HoldsStill, IsCheckRefusal, IsNameCheck, IsPathCheck, IsPathRefusal, check_causes}
 use Rattle.catalog.specs.NamePlans.{filed_as, made_file, name_at, path_for, system_path}
 use Rattle.catalog.specs.Numbers.{IsNextFile}
-use Rattle.catalog.specs.Tables.{Catalogued, Tables}
+use Rattle.catalog_tables.specs.Tables.{Catalogued, Tables}
 
 -- ---- sectors
 

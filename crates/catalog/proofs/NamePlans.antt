@@ -41,18 +41,18 @@ use Rattle.alias_edits.proofs.NewNodes.{with_more}
 use Rattle.alias_tree.proofs.Readings.{number_is_some}
 use Rattle.operations_directory.proofs.ChangeLaws as operation_laws
 use Rattle.template_directory.proofs.ChangeLaws as template_laws
-use Rattle.catalog.specs.Faults.{IsCatalog, file_key, settings_key}
+use Rattle.catalog_tables.specs.Faults.{IsCatalog, file_key, settings_key}
 use Rattle.catalog.specs.NamePlans.{AreNewNodes, HasParts, IsCreated, IsNamePlan, IsNameRefusal, file_of, is_within_file, made_file, name_at, named, new_head, settings_next, system_path}
 use Rattle.catalog.specs.Plans.{ArePutItems, IsPlan}
 use Rattle.asm_placement.specs.Naming.{is_directory, is_named_as, is_pending, names_back}
-use Rattle.catalog.specs.Rules.{HasExtents, KeepsRules, are_within_head, blocks_used, first_wrong, has_names, is_named_back, is_owned, keeps_copies, names_file}
-use Rattle.catalog.specs.Tables.{AreTables, Catalogued, Tables, records_of}
-use Rattle.catalog.proofs.NewRecords.{HasRoom, all_but_last, settings_there}
+use Rattle.catalog_tables.specs.Rules.{HasExtents, KeepsRules, are_within_head, blocks_used, first_wrong, has_names, is_named_back, is_owned, keeps_copies, names_file}
+use Rattle.catalog_tables.specs.Tables.{AreTables, Catalogued, Tables, records_of}
+use Rattle.catalog_tables.proofs.NewRecords.{HasRoom, all_but_last, settings_there}
 use Rattle.catalog.proofs.NumberedEntries.{passes_each, passes_where, put_all}
-use Rattle.catalog.proofs.NumberedLists.{either, number_is, number_itself, put_at, put_few, there_all}
+use Rattle.catalog_tables.proofs.NumberedLists.{either, number_is, number_itself, put_at, put_few, there_all}
 use Rattle.catalog.proofs.PlanLaws.{or_false, pending_key}
-use Rattle.catalog.proofs.SetLaws.{operations_set, templates_set}
-use Rattle.catalog.proofs.TableItems.{append_among, each_of, map_among}
+use Rattle.catalog_tables.proofs.SetLaws.{operations_set, templates_set}
+use Rattle.catalog_tables.proofs.TableItems.{append_among, each_of, map_among}
 use Rattle.catalog.proofs.TreePlans.{Stays, both_true, first_right, has_of, has_stay, head_put, named_dir, named_of, node_put, or_more, or_true}
 
 -- ---- nodes that are put one after the other

@@ -17,7 +17,7 @@ use Rattle.asm_world.specs.Files.{NewName, file_name, new_name, new_path}
 use Rattle.asm_base.proofs.NameLaws.{part_is, part_of}
 use Rattle.alias_edits.specs.Edits.{are_parts}
 use Rattle.catalog.specs.NamePlans.{HasParts, name_at}
-use Rattle.catalog.proofs.NumberedLists.{either}
+use Rattle.catalog_tables.proofs.NumberedLists.{either}
 
 -- ---- parts
 

@@ -5,7 +5,7 @@ use Rattle.asm_formats.specs.Items.{Pending}
 use Rattle.file_directory.specs.Files.{IsFreeFrom, is_file}
 use Rattle.catalog.specs.Numbers.{IsNextFile, IsUntaken, is_taken}
 use Rattle.asm_placement.specs.Naming.{is_pending}
-use Rattle.catalog.specs.Tables.{Tables}
+use Rattle.catalog_tables.specs.Tables.{Tables}
 
 three : (a b : ℕ) → (a < b) ⊎ ((a ≡ b) ⊎ (b < a))
 three zero zero = inr (inl refl)

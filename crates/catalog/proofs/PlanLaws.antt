@@ -9,13 +9,13 @@ use Rattle.asm_base.specs.Records.{Entry, is_key}
 use Rattle.asm_base.specs.Tables.{item_record}
 use Rattle.operations_directory.specs.Operations as operations
 use Rattle.operations_directory.proofs.ChangeLaws as operation_laws
-use Rattle.catalog.specs.Changing.{IsAfter, Sets}
-use Rattle.catalog.specs.Faults.{IsCatalog}
+use Rattle.catalog_tables.specs.Changing.{IsAfter, Sets}
+use Rattle.catalog_tables.specs.Faults.{IsCatalog}
 use Rattle.catalog.specs.Plans.{AreOwned, IsPlan}
-use Rattle.catalog.specs.Rules.{KeepsRules, lacks_record}
-use Rattle.catalog.specs.Tables.{AreTables, Catalogued, Tables, records_of}
-use Rattle.catalog.proofs.SetLaws.{operations_set}
-use Rattle.catalog.proofs.NewRecords.{nothing_room, old_room}
+use Rattle.catalog_tables.specs.Rules.{KeepsRules, lacks_record}
+use Rattle.catalog_tables.specs.Tables.{AreTables, Catalogued, Tables, records_of}
+use Rattle.catalog_tables.proofs.SetLaws.{operations_set}
+use Rattle.catalog_tables.proofs.NewRecords.{nothing_room, old_room}
 use Rattle.catalog.proofs.PutItems.{plan_is}
 
 -- ---- one record that is put or goes

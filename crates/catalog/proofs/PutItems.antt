@@ -12,13 +12,13 @@ use Rattle.asm_formats.proofs.Among.{all_among}
 use Rattle.asm_base.specs.Records.{Entry, is_key}
 use Rattle.page_map.specs.Changes.{is_gone, is_put, last_put, value_after}
 use Rattle.allocator.specs.UnitMaps.{UnitMap}
-use Rattle.catalog.specs.Changing.{IsAfter}
-use Rattle.catalog.specs.Placing.{HasUnits}
+use Rattle.catalog_tables.specs.Changing.{IsAfter}
+use Rattle.catalog_tables.specs.Placing.{HasUnits}
 use Rattle.catalog.specs.Plans.{ArePutItems, IsPlan}
-use Rattle.catalog.specs.Rules.{KeepsRules}
-use Rattle.catalog.specs.Tables.{Catalogued, Tables, item_at, records_of}
-use Rattle.catalog.proofs.NewRecords.{HasRoom}
-use Rattle.catalog.proofs.TableItems.{allowed, from_map, key_total, said}
+use Rattle.catalog_tables.specs.Rules.{KeepsRules}
+use Rattle.catalog_tables.specs.Tables.{Catalogued, Tables, item_at, records_of}
+use Rattle.catalog_tables.proofs.NewRecords.{HasRoom}
+use Rattle.catalog_tables.proofs.TableItems.{allowed, from_map, key_total, said}
 
 -- no two records have one key
 abbrev pub keys_apart : List Entry → Bool

@@ -18,16 +18,16 @@ use Rattle.extent_map.proofs.Lookups.{gone_few, gone_here, gone_other, key_is}
 use Rattle.extent_map.proofs.Values.{chunk_numbered}
 use Rattle.staleness_directory.specs.Marks.{Marked, marks_at, without_marks}
 use Rattle.staleness_directory.proofs.Laws as stale_laws
-use Rattle.catalog.specs.Changing.{IsAfter}
+use Rattle.catalog_tables.specs.Changing.{IsAfter}
 use Rattle.catalog.specs.ExtentPlans.{IsUndue, MayCut, with_cut, with_released}
-use Rattle.catalog.specs.Faults.{IsCatalog, key_of_marks}
-use Rattle.catalog.specs.Placing.{HasUnits, unused_maps}
+use Rattle.catalog_tables.specs.Faults.{IsCatalog, key_of_marks}
+use Rattle.catalog_tables.specs.Placing.{HasUnits, unused_maps}
 use Rattle.catalog.specs.Plans.{IsPlan}
-use Rattle.catalog.specs.Rules.{HasExtents, has_copies}
-use Rattle.catalog.specs.Tables.{AreTables, Catalogued, Tables}
+use Rattle.catalog_tables.specs.Rules.{HasExtents, has_copies}
+use Rattle.catalog_tables.specs.Tables.{AreTables, Catalogued, Tables}
 use Rattle.catalog.proofs.EditLaws.{IsEdited, after_two_gone, changed, edited_plan, extent_in, homes_set, marks_set}
-use Rattle.catalog.proofs.NewRecords.{nothing_room}
-use Rattle.catalog.proofs.EntryLaws.{either}
+use Rattle.catalog_tables.proofs.NewRecords.{nothing_room}
+use Rattle.catalog_tables.proofs.EntryLaws.{either}
 use Rattle.catalog.proofs.MarkPlans.{some_of}
 use Rattle.catalog.proofs.UnitEdits.{units_gone}
 

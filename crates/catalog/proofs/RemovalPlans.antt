@@ -25,19 +25,19 @@ use Rattle.alias_tree.proofs.OpenLaws.{record_gone}
 use Rattle.alias_tree.proofs.Readings.{number_is_some}
 use Rattle.operations_directory.specs.Operations as operations
 use Rattle.operations_directory.proofs.ChangeLaws as operation_laws
-use Rattle.catalog.specs.Faults.{IsCatalog, file_key, node_key}
+use Rattle.catalog_tables.specs.Faults.{IsCatalog, file_key, node_key}
 use Rattle.catalog.specs.FilePlans.{IsRemovalPlan, is_on_file, removal_of, without_names}
 use Rattle.catalog.specs.Plans.{AreOwned, IsPlan}
 use Rattle.asm_placement.specs.Naming.{is_directory, is_named_as, kind_eq, names_back}
-use Rattle.catalog.specs.Rules.{HasExtents, KeepsRules, are_within_head, first_wrong, has_names, is_named_back, is_owned, keeps_copies, names_file}
-use Rattle.catalog.specs.Tables.{AreTables, Catalogued, Tables, records_of}
-use Rattle.catalog.proofs.NumberedLists.{all_there, either, gone_at, gone_few, number_is, number_itself}
+use Rattle.catalog_tables.specs.Rules.{HasExtents, KeepsRules, are_within_head, first_wrong, has_names, is_named_back, is_owned, keeps_copies, names_file}
+use Rattle.catalog_tables.specs.Tables.{AreTables, Catalogued, Tables, records_of}
+use Rattle.catalog_tables.proofs.NumberedLists.{all_there, either, gone_at, gone_few, number_is, number_itself}
 use Rattle.catalog.proofs.NumberedEntries.{found_passes, passes_where, rest_all, rest_passes}
 use Rattle.catalog.proofs.Owners.{of_file}
 use Rattle.catalog.proofs.PlanLaws.{pending_key}
-use Rattle.catalog.proofs.SetLaws.{file_gone, nodes_set, operations_set}
-use Rattle.catalog.proofs.TableItems.{among_found, numbers_exact}
-use Rattle.catalog.proofs.NewRecords.{HasRoom, old_room}
+use Rattle.catalog_tables.proofs.SetLaws.{file_gone, nodes_set, operations_set}
+use Rattle.catalog_tables.proofs.TableItems.{among_found, numbers_exact}
+use Rattle.catalog_tables.proofs.NewRecords.{HasRoom, old_room}
 use Rattle.catalog.proofs.PutItems.{plan_is}
 
 system_of_item : (f : ℕ) (head : FileHead) → is_item (file_item f head) ≡ true → 0 < head.system

@@ -11,12 +11,12 @@ use Rattle.asm_base.specs.Records.{Entry}
 use Rattle.asm_base.specs.Tables.{item_record}
 use Rattle.template_directory.specs.Tables as templates
 use Rattle.template_directory.proofs.ChangeLaws as template_laws
-use Rattle.catalog.specs.Faults.{IsCatalog, templates_key}
+use Rattle.catalog_tables.specs.Faults.{IsCatalog, templates_key}
 use Rattle.catalog.specs.Plans.{IsPlan, IsTemplatePlan}
-use Rattle.catalog.specs.Tables.{AreTables, Catalogued, Tables}
-use Rattle.catalog.proofs.NewRecords.{old_room, templates_there}
+use Rattle.catalog_tables.specs.Tables.{AreTables, Catalogued, Tables}
+use Rattle.catalog_tables.proofs.NewRecords.{old_room, templates_there}
 use Rattle.catalog.proofs.PlanLaws.{after_put}
-use Rattle.catalog.proofs.SetLaws.{templates_set}
+use Rattle.catalog_tables.proofs.SetLaws.{templates_set}
 use Rattle.catalog.proofs.PutItems.{plan_is}
 
 pub with_templates : (t : Tables) (new : templates.Table) → AreTables t → templates.IsTable new → AreTables (record t { templates = new })

@@ -30,8 +30,8 @@ use Rattle.alias_tree.proofs.Leading.{any_of, leads_is, member_among, shows}
 use Rattle.file_directory.specs.Files.{File, head_at, is_file as is_held}
 use Rattle.catalog.specs.Plans.{IsPlan}
 use Rattle.asm_placement.specs.Naming.{is_directory, names_back}
-use Rattle.catalog.specs.Rules.{KeepsRules}
-use Rattle.catalog.specs.Tables.{Catalogued, Tables}
+use Rattle.catalog_tables.specs.Rules.{KeepsRules}
+use Rattle.catalog_tables.specs.Tables.{Catalogued, Tables}
 use Rattle.catalog.specs.TreePlans.{HasNoAlias, IsFull, IsTreePlan, IsTreeRefusal, LacksNode, MayChange, aliased, aliased_head, files_after, heads_after, keeps_files, makes_node}
 use Rattle.asm_group.specs.Shape.{Shape}
 use Rattle.catalog.proofs.TreePlans.{named_of}

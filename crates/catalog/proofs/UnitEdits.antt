@@ -16,14 +16,14 @@ use Rattle.asm_base.specs.Chunks.{Chunk, chunk_cmp, is_before}
 use Rattle.extent_map.proofs.Laws.{chunk_total, same_chunk}
 use Rattle.extent_map.proofs.Lookups.{both_ways}
 use Rattle.extent_map.proofs.Numbering.{is_same, tail_up}
-use Rattle.catalog.specs.Giving.{but, chunks_kept}
-use Rattle.catalog.specs.Placing.{after_chunks, after_homes, home_taken, homes_of}
-use Rattle.catalog.proofs.ChangeUnits.{kept_same}
-use Rattle.catalog.proofs.ChunkUnits.{and_false, and_true, kept_all, kept_no, kept_yes, none_out, one_out, tail_none}
-use Rattle.catalog.proofs.EntryLaws.{either}
-use Rattle.catalog.proofs.HomeUnits.{chunks_are_homes, takes}
-use Rattle.catalog.proofs.PlacingLaws.{after_append}
-use Rattle.catalog.proofs.UnitOrder.{front_last}
+use Rattle.catalog_units.specs.Giving.{but, chunks_kept}
+use Rattle.catalog_tables.specs.Placing.{after_chunks, after_homes, home_taken, homes_of}
+use Rattle.catalog_units.proofs.ChangeUnits.{kept_same}
+use Rattle.catalog_units.proofs.ChunkUnits.{and_false, and_true, kept_all, kept_no, kept_yes, none_out, one_out, tail_none}
+use Rattle.catalog_tables.proofs.EntryLaws.{either}
+use Rattle.catalog_tables.proofs.HomeUnits.{chunks_are_homes, takes}
+use Rattle.catalog_tables.proofs.PlacingLaws.{after_append}
+use Rattle.catalog_units.proofs.UnitOrder.{front_last}
 
 -- ---- rows of homes
 

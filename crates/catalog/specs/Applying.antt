@@ -4,10 +4,10 @@ use Rattle.asm_formats.specs.Items.{Key}
 use Rattle.asm_formats.specs.Status as status
 use Rattle.asm_base.specs.Records.{Entry}
 use Rattle.allocator.specs.UnitMaps.{UnitMap}
-use Rattle.catalog.specs.Changing.{IsAfter}
-use Rattle.catalog.specs.Placing.{HasUnits, OthersStay, put_maps}
-use Rattle.catalog.specs.Rules.{KeepsRules}
-use Rattle.catalog.specs.Tables.{Catalogued, Tables}
+use Rattle.catalog_tables.specs.Changing.{IsAfter}
+use Rattle.catalog_tables.specs.Placing.{HasUnits, OthersStay, put_maps}
+use Rattle.catalog_tables.specs.Rules.{KeepsRules}
+use Rattle.catalog_tables.specs.Tables.{Catalogued, Tables}
 
 -- The change leaves these tables, which keep the rules, and whose homes find their units free.
 pub record Leaves (c : Catalogued) (put : List Entry) (gone : List Key) (u : Tables) : Type 0 where

@@ -12,18 +12,14 @@ use Rattle.asm_placement.specs.Placed.{placed_extents}
 use Rattle.extent_map.specs.Extents.{HasExtent, chunk_at, chunk_or_blank, count_in, cut_to, follows, has_extent, has_home, with_chunk, with_extent, with_more, without_chunk}
 use Rattle.file_directory.specs.Files.{head_at, is_file}
 use Rattle.staleness_directory.specs.Marks.{Marked, marks_at, marks_to, with_marks, without_marks}
-use Rattle.catalog.specs.Faults.{IsCatalog}
-use Rattle.catalog.specs.Items.{AreItemsOf}
-use Rattle.catalog.specs.Placing.{after_homes, home_taken}
+use Rattle.catalog_tables.specs.Faults.{IsCatalog}
+use Rattle.catalog_tables.specs.Items.{AreItemsOf}
+use Rattle.catalog_tables.specs.Placing.{after_homes, home_taken}
 use Rattle.asm_placement.specs.Naming.{is_pending}
-use Rattle.catalog.specs.Rules.{are_marks_of, are_on_disks, are_within_head, blocks_used, is_due, marks_of}
-use Rattle.catalog.specs.Tables.{Catalogued, Tables}
+use Rattle.catalog_tables.specs.Rules.{are_marks_of, are_on_disks, are_within_head, blocks_used, is_due, marks_of, homes_at}
+use Rattle.catalog_tables.specs.Tables.{Catalogued, Tables}
 
 -- ---- one extent
-
--- the homes at the place of an extent; no home where its chunk isn't there
-abbrev pub homes_at : Tables → ℕ → ℕ → Homes
-homes_at t f i = get_or (unwrap_or (chunk_at t.extents (f, i / chunk_len)) []) (i % chunk_len) []
 
 -- the marks of a chunk, none of which are set where it isn't there
 abbrev pub marks_or_none : List Marked → ℕ × ℕ → List ℕ

@@ -11,8 +11,8 @@ use Rattle.file_directory.specs.Files.{File, head_at, is_file, with_head, withou
 use Rattle.alias_tree.specs.Nodes.{Numbered, without_node}
 use Rattle.attribute_values.specs.Edits.{settings_with}
 use Rattle.catalog.specs.Plans.{AreOwned, IsPlan}
-use Rattle.catalog.specs.Rules.{HasExtents, is_due}
-use Rattle.catalog.specs.Tables.{Catalogued, Tables}
+use Rattle.catalog_tables.specs.Rules.{HasExtents, is_due}
+use Rattle.catalog_tables.specs.Tables.{Catalogued, Tables}
 
 -- ---- attributes
 

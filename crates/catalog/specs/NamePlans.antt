@@ -23,9 +23,9 @@ use Rattle.alias_edits.specs.Filing as of_tree
 use Rattle.alias_tree.specs.Nodes.{IsTable, Numbered, node_at}
 use Rattle.alias_tree.specs.Trees.{tree_of}
 use Rattle.catalog.specs.Plans.{IsPlan}
-use Rattle.catalog.specs.Rules.{are_within, blocks_used, has_copies}
-use Rattle.catalog.specs.Rules as rules
-use Rattle.catalog.specs.Tables.{Catalogued, Tables}
+use Rattle.catalog_tables.specs.Rules.{are_within, blocks_used, has_copies}
+use Rattle.catalog_tables.specs.Rules as rules
+use Rattle.catalog_tables.specs.Tables.{Catalogued, Tables}
 use Rattle.catalog.specs.declared.plans.system_path.NameParts.{NameParts}
 
 -- ---- the file that is made

@@ -12,11 +12,11 @@ use Rattle.asm_base.specs.declared.refusal.Refusal.{Refusal}
 use Rattle.asm_base.specs.declared.refusal.Refusal.TheVariants as cause
 use Rattle.allocator.specs.UnitMaps.{UnitMap}
 use Rattle.page_map.specs.Contents.{IsItemOf}
-use Rattle.catalog.specs.Changing.{IsAfter}
-use Rattle.catalog.specs.Disks.{Disk, info_at, with_info, without_disk}
-use Rattle.catalog.specs.Placing.{HasUnits}
-use Rattle.catalog.specs.Rules.{KeepsRules, blocks_used, first_wrong, is_owned, new_records}
-use Rattle.catalog.specs.Tables.{Catalogued, Tables}
+use Rattle.catalog_tables.specs.Changing.{IsAfter}
+use Rattle.catalog_tables.specs.Disks.{Disk, info_at, with_info, without_disk}
+use Rattle.catalog_tables.specs.Placing.{HasUnits}
+use Rattle.catalog_tables.specs.Rules.{KeepsRules, blocks_used, first_wrong, is_owned, new_records}
+use Rattle.catalog_tables.specs.Tables.{Catalogued, Tables}
 
 -- each of the records is one of the formats
 abbrev pub ArePutItems : List Entry → Type 0

@@ -5,9 +5,9 @@ use Rattle.asm_group.specs.Shape.{is_shape}
 use Rattle.allocator.specs.UnitMaps.{UnitMap}
 use Rattle.catalog.specs.declared.spare.Spare.{Spare}
 use Rattle.catalog.specs.declared.spare.Spare.TheVariants.{Absent, Behind, Ready}
-use Rattle.catalog.specs.Changing.{IsAfter}
-use Rattle.catalog.specs.Faults.{IsCatalog}
-use Rattle.catalog.specs.Tables.{AreTables, Catalogued, Tables}
+use Rattle.catalog_tables.specs.Changing.{IsAfter}
+use Rattle.catalog_tables.specs.Faults.{IsCatalog}
+use Rattle.catalog_tables.specs.Tables.{AreTables, Catalogued, Tables}
 
 -- the tables that the memory was taken for
 abbrev pub ready_tables : Spare → Option Tables

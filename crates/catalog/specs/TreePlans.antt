@@ -16,8 +16,8 @@ use Rattle.alias_tree.specs.Nodes.{Numbered, node_at, number_of}
 use Rattle.alias_tree.specs.Trees.{tree_of}
 use Rattle.file_directory.specs.Files.{File, head_at, is_file, with_head}
 use Rattle.catalog.specs.Plans.{IsPlan}
-use Rattle.catalog.specs.Rules.{blocks_used}
-use Rattle.catalog.specs.Tables.{Catalogued, Tables}
+use Rattle.catalog_tables.specs.Rules.{blocks_used}
+use Rattle.catalog_tables.specs.Tables.{Catalogued, Tables}
 
 -- the edit gives no file its system name, and takes no file's names
 abbrev pub keeps_files : TreeEdit → Bool

@@ -3,13 +3,13 @@
 ghost use Rattle.std.specs.Prelude.{◌≡◌, List as Items, None, OnOk, Some};
 ghost use Rattle.asm_formats.specs.Status.{Entry as StatusEntry};
 ghost use Rattle.catalog.specs.Applying.{IsReady, Leaves};
-ghost use Rattle.catalog.specs.Placing.{HasUnits};
-ghost use Rattle.catalog.specs.Tables.{Tables};
+ghost use Rattle.catalog_tables.specs.Placing.{HasUnits};
+ghost use Rattle.catalog_tables.specs.Tables.{Tables};
 
 use crate::catalog::Catalog;
-use crate::changed_units::follow;
 use crate::spare::{Spare, brought_up, change_copied};
 use asm_base::{Change, NoMemory};
+use catalog_units::follow;
 use std::alloc::Global;
 use std::mem::replace;
 

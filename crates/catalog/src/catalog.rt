@@ -4,13 +4,12 @@ ghost use Rattle.std.specs.Prelude.{◌≡◌, IfErr, IfOk, IsTrue};
 ghost use Rattle.std.specs.List.{list_all};
 ghost use Rattle.asm_group.specs.Shape.{is_shape};
 ghost use Rattle.asm_formats.specs.Status.{is_entry};
-ghost use Rattle.catalog.specs.Faults.{IsAtFault, IsCatalogOf, Names};
+ghost use Rattle.catalog_tables.specs.Faults.{IsAtFault, IsCatalogOf, Names};
 
-use crate::error::CatalogError;
-use crate::parts::Parts;
 use crate::spare::Spare;
 use allocator::Units;
 use asm_base::{Records, Shape};
+use catalog_tables::{CatalogError, Parts};
 use status_table::PstRecord;
 use std::alloc::Global;
 use std::marker::Model;
@@ -31,7 +30,7 @@ pub struct Catalog {
 }
 
 impl Model for Catalog {
-    ghost use Rattle.catalog.specs.Tables.{Catalogued};
+    ghost use Rattle.catalog_tables.specs.Tables.{Catalogued};
     ghost use Rattle.catalog.specs.Spares.{IsKept, ready_tables, units_in};
 
     ghost Value = { Catalogued };

@@ -1,16 +1,16 @@
 //! The units of the disks by a next status record: the memory first, and then the change.
 
-ghost use Rattle.std.specs.Prelude.{◌≡◌, ◌≤◌, ◌++◌, ◌∷◌, [], IfOk, IsTrue, List as Items, None, Ok, OnOk, Some, slice_set};
+ghost use Rattle.std.specs.Prelude.{◌≡◌, ◌↔◌, ◌≤◌, ◌++◌, ◌∷◌, [], IfOk, IsTrue, List as Items, None, Ok, OnOk, Some, slice_set, true};
 ghost use Rattle.std.specs.List.{list_all, slice_get};
 ghost use Rattle.asm_formats.specs.Status.{Entry, is_entry};
 ghost use Rattle.allocator.specs.UnitMaps.{UnitMap};
 ghost use Rattle.catalog.specs.Applying.{AreDisksReady, next_maps};
-ghost use Rattle.catalog.specs.Placing.{HasUnits, HaveSameUnits, OthersStay, changed_map, changed_maps, disk_units, put_maps};
+ghost use Rattle.catalog_tables.specs.Placing.{HasUnits, HaveSameUnits, OthersStay, changed_map, changed_maps, disk_units, put_maps};
 
 use crate::catalog::Catalog;
-use crate::placing::{MOST_DISKS, disk_units, have_units};
 use allocator::Units;
 use asm_base::NoMemory;
+use catalog_tables::{MOST_DISKS, are_fit, disk_units, have_units};
 use status_table::{PstEntry, PstRecord};
 use std::alloc::Global;
 
@@ -59,6 +59,15 @@ impl Catalog {
         if let Some(changed) = self.next_units.take() {
             put_in(&mut self.units, changed);
         }
+    }
+
+    /// Whether the units of these entries cover the homes that the tables name: all are user units of theirs. They do exactly
+    /// where no unit is used that a disk lacks by its entry. Work goes by the units that the entries take away.
+    pub fn covers(&self, entries: &[PstEntry]) -> bool
+        ensures covers { IsTrue result ↔ ((ms : Items UnitMap) × HasUnits self.now.shape entries.now self.now.tables ms) }
+        ensures same { (before : Items Entry) → HasUnits self.now.shape before self.now.tables self.now.units → HaveSameUnits before entries.now → result ≡ true }
+    {
+        are_fit(&self.units, entries)
     }
 }
 

@@ -7,13 +7,13 @@ ghost use Rattle.allocator.specs.UnitMaps.{IsFreeRun};
 ghost use Rattle.extent_map.specs.Extents.{HasExtent};
 ghost use Rattle.file_directory.specs.Files.{head_at};
 ghost use Rattle.catalog.specs.ExtentPlans.{MayMove, homes_moved, is_copy_of};
-ghost use Rattle.catalog.specs.Placing.{home_taken};
-ghost use Rattle.catalog.specs.Rules.{are_on_disks};
+ghost use Rattle.catalog_tables.specs.Placing.{home_taken};
+ghost use Rattle.catalog_tables.specs.Rules.{are_on_disks};
 
 use crate::catalog::Catalog;
-use crate::chunk_rules::are_on_disks;
 use allocator::Units;
 use asm_base::{ExtentId, Home, Homes};
+use catalog_tables::are_on_disks;
 
 impl Catalog {
     /// Whether a copy of an extent may move to a home: the extent is there and may have the copy, its other copies are on

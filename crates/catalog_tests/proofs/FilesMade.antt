@@ -10,8 +10,8 @@ use Rattle.extent_map.specs.Extents.{extent_at}
 use Rattle.file_directory.specs.Files.{head_at}
 use Rattle.catalog.specs.FilePlans.{IsAttributePlan, IsRemovalPlan, IsSizePlan, MayGrow, is_on_file, with_size}
 use Rattle.catalog.specs.FilePlans.{sized as sized_to, removed as removed_from}
-use Rattle.catalog.specs.Rules.{HasExtents, has_copies}
-use Rattle.catalog.specs.Tables.{Catalogued, Tables}
+use Rattle.catalog_tables.specs.Rules.{HasExtents, has_copies}
+use Rattle.catalog_tables.specs.Tables.{Catalogued, Tables}
 use Rattle.catalog_tests.specs.Planned.{IsPlanned}
 
 pub may_grow : (s : Shape) (t : Tables) (f size n : ℕ) (head : FileHead) → head_at t.files f ≡ Some head → ((i : ℕ) → (i < n) ↔ (has_extent head.stripe s.au s.step size i ≡ true))

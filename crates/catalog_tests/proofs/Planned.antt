@@ -6,7 +6,7 @@ use Rattle.asm_formats.specs.Items.{Key}
 use Rattle.asm_base.specs.Records.{Entry}
 use Rattle.catalog.specs.Plans.{AreOwned, IsPlan, IsTemplatePlan}
 use Rattle.catalog.specs.TreePlans.{IsTreePlan}
-use Rattle.catalog.specs.Tables.{Catalogued, Tables}
+use Rattle.catalog_tables.specs.Tables.{Catalogued, Tables}
 use Rattle.catalog_tests.specs.Planned.{IsPlanned}
 
 pub planned : (c : Catalogued) (put : List Entry) (gone : List Key) (u : Tables) → IsPlan c put gone u → IsPlanned c put gone

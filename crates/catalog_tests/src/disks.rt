@@ -2,13 +2,14 @@
 
 ghost use Rattle.std.specs.Prelude.{◌≡◌, IfOk, None};
 ghost use Rattle.std.specs.Bool.{OnTrue};
-ghost use Rattle.catalog.specs.Disks.{info_at};
+ghost use Rattle.catalog_tables.specs.Disks.{info_at};
 ghost use Rattle.catalog_tests.specs.Planned.{IsPlanned};
 
 use crate::operations::name;
 use crate::steps::{Answer, answer_of};
 use asm_base::Change;
-use catalog::{Catalog, DiskInfo};
+use catalog::Catalog;
+use catalog_tables::DiskInfo;
 use std::alloc::Global;
 
 fn info(alloc: Global, birth: u64) -> Result<DiskInfo, Answer> {

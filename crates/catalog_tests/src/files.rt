@@ -5,7 +5,7 @@ ghost use Rattle.std.specs.Bool.{OnTrue};
 ghost use Rattle.asm_group.specs.Shape.{is_shape};
 ghost use Rattle.asm_placement.specs.Layout.{has_extent};
 ghost use Rattle.catalog.specs.FilePlans.{MayGrow, is_on_file};
-ghost use Rattle.catalog.specs.Rules.{has_copies};
+ghost use Rattle.catalog_tables.specs.Rules.{has_copies};
 ghost use Rattle.extent_map.specs.Extents.{extent_at};
 ghost use Rattle.catalog_tests.specs.Planned.{IsPlanned};
 

@@ -4,7 +4,7 @@ ghost use Rattle.std.specs.Prelude.{◌≡◌, IfOk, None};
 ghost use Rattle.std.specs.Bool.{OnTrue};
 ghost use Rattle.asm_group.specs.declared.Stripe.TheVariants.{Fine};
 ghost use Rattle.catalog.specs.NamePlans.{IsCreated, is_within_file};
-ghost use Rattle.catalog.specs.Rules.{first_wrong};
+ghost use Rattle.catalog_tables.specs.Rules.{first_wrong};
 ghost use Rattle.catalog_tests.specs.Planned.{IsPlanned};
 
 use crate::steps::{Answer, answer_of};

@@ -3,7 +3,8 @@
 use crate::disk_units::with_second;
 use crate::making::judged;
 use asm_base::{NodeKind, Records};
-use catalog::{Catalog, CatalogError};
+use catalog::Catalog;
+use catalog_tables::CatalogError;
 use sample_group::{Edit, NO, disks, edited, read};
 use status_table::PstRecord;
 use std::alloc::Global;

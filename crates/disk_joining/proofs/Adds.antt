@@ -12,7 +12,7 @@ use Rattle.asm_group.specs.Names.{Bytes}
 use Rattle.asm_world.specs.NewDisks.{PlannedDisk}
 use Rattle.asm_world.specs.Statement.{NewFailgroup}
 use Rattle.catalog.specs.Plans.{MayAdd}
-use Rattle.catalog.specs.Tables.{Tables}
+use Rattle.catalog_tables.specs.Tables.{Tables}
 use Rattle.file_extents.specs.Closing.{or_shut}
 use Rattle.group_disks.proofs.Told.{rose_before, rose_later}
 use Rattle.group_disks.proofs.Staying.{stays_keeps}

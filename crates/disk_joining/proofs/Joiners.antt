@@ -20,9 +20,9 @@ use Rattle.asm_formats.specs.Status.{Entry, Status, entry_of}
 use Rattle.asm_group.specs.Shape.{Shape, is_shape}
 use Rattle.asm_images.proofs.Members.{member_shape}
 use Rattle.asm_formats.specs.Among.{IsAmong}
-use Rattle.catalog.specs.Disks.{Disk, info_at, with_info}
+use Rattle.catalog_tables.specs.Disks.{Disk, info_at, with_info}
 use Rattle.catalog.specs.Plans as plans
-use Rattle.catalog.proofs.NumberedLists.{either, number_is}
+use Rattle.catalog_tables.proofs.NumberedLists.{either, number_is}
 use Rattle.disk_images.specs.Headers.{HasHeaderSlot}
 use Rattle.disk_images.specs.Looks.{AreLooked, IsLooked}
 use Rattle.disk_images.specs.declared.looking.Looked.{Looked}

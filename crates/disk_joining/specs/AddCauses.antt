@@ -12,8 +12,8 @@ use Rattle.asm_group.specs.Refusal as r
 use Rattle.asm_world.specs.NewDisks.{PlannedDisk, is_name_taken}
 use Rattle.asm_world.specs.Reports.{DiskRow}
 use Rattle.asm_world.specs.Statement.{NewFailgroup}
-use Rattle.catalog.specs.Rules.{blocks_used}
-use Rattle.catalog.specs.Tables.{Catalogued}
+use Rattle.catalog_tables.specs.Rules.{blocks_used}
+use Rattle.catalog_tables.specs.Tables.{Catalogued}
 use Rattle.disk_images.specs.Looks.{AreLooked}
 use Rattle.disk_images.specs.declared.looking.Looked.{Looked}
 use Rattle.group_engine.specs.Mounts.{MountedGroup}

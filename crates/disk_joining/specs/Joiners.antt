@@ -13,7 +13,7 @@ use Rattle.asm_group.specs.Shape.{Shape}
 use Rattle.asm_images.specs.Kept.{header_in}
 use Rattle.asm_formats.specs.Among.{IsAmong}
 use Rattle.asm_world.specs.NewDisks.{PlannedDisk}
-use Rattle.catalog.specs.Disks.{Disk, info_at}
+use Rattle.catalog_tables.specs.Disks.{Disk, info_at}
 use Rattle.catalog.specs.Plans.{MayAdd}
 use Rattle.disk_images.specs.declared.looking.Looked.{Looked}
 use Rattle.group_disks.specs.Holding.{IsHeldSlot}

@@ -19,7 +19,7 @@ use crate::recording::write_next;
 use crate::returning::give_back;
 use asm_base::{DiskSet, Mode, NoMemory, Refusal};
 use bay::Bay;
-use catalog::DiskInfo;
+use catalog_tables::DiskInfo;
 use file_extents::or_shut;
 use group_engine::Mounted;
 use group_mount::Headed;

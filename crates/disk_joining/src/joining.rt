@@ -15,7 +15,7 @@ use crate::checking::{are_asked, may_join};
 use crate::looking::{Fitting, fit_disks, known_with};
 use asm_base::{NoMemory, Refusal};
 use bay::Bay;
-use catalog::DiskInfo;
+use catalog_tables::DiskInfo;
 use disk_header::Header;
 use disk_images::{Looked, look_at_images};
 use group_engine::Mounted;

@@ -7,10 +7,10 @@ use Rattle.asm_base.specs.Records as records
 use Rattle.asm_formats.specs.Items.{Key}
 use Rattle.asm_formats.specs.Sets.{has_bit}
 use Rattle.asm_formats.specs.Status.{Status}
-use Rattle.catalog.specs.Changing.{IsAfter}
+use Rattle.catalog_tables.specs.Changing.{IsAfter}
 use Rattle.catalog.specs.Plans.{IsPlan}
-use Rattle.catalog.specs.Tables.{Catalogued, Tables}
-use Rattle.catalog.proofs.AfterLaws.{one_after}
+use Rattle.catalog_tables.specs.Tables.{Catalogued, Tables}
+use Rattle.catalog_tables.proofs.AfterLaws.{one_after}
 use Rattle.group_engine.specs.Commits.{KeepsRecord}
 use Rattle.group_engine.specs.Mounts.{MountedGroup}
 use Rattle.status_register.specs.Holders.{numbered}

@@ -7,7 +7,7 @@ use Rattle.asm_formats.specs.Sets.{has_bit}
 use Rattle.asm_formats.specs.Status.{Entry}
 use Rattle.asm_placement.specs.Modes.{is_dropping}
 use Rattle.asm_placement.specs.Partners.{with_partners}
-use Rattle.catalog.specs.Tables.{Tables}
+use Rattle.catalog_tables.specs.Tables.{Tables}
 use Rattle.group_engine.specs.Commits.{KeepsRecord}
 use Rattle.group_engine.specs.Mounts.{MountedGroup}
 use Rattle.group_reports.specs.Disks.{expiring}

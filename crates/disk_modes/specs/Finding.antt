@@ -6,8 +6,8 @@ use Rattle.asm_formats.specs.Items.{DiskInfo}
 use Rattle.asm_formats.specs.Sets.{has_bit}
 use Rattle.asm_formats.specs.Status.{Entry}
 use Rattle.asm_placement.specs.Modes.{serves}
-use Rattle.catalog.specs.Disks.{info_at}
-use Rattle.catalog.specs.Tables.{Catalogued}
+use Rattle.catalog_tables.specs.Disks.{info_at}
+use Rattle.catalog_tables.specs.Tables.{Catalogued}
 use Rattle.group_engine.specs.Mounts.{MountedGroup, slot_at}
 use Rattle.group_reports.specs.Disks as reports
 use Rattle.disk_modes.specs.declared.finding.GroupSort.{GroupSort}

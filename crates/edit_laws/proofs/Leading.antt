@@ -13,8 +13,8 @@ use Rattle.asm_base.specs.declared.refusal.Refusal.{Refusal}
 use Rattle.asm_images.specs.Kept.{Kept}
 use Rattle.alias_edits.specs.Edits as names
 use Rattle.template_directory.specs.Meant as templates
-use Rattle.catalog.specs.Changing.{IsAfter}
-use Rattle.catalog.specs.Tables.{AreTables, Tables}
+use Rattle.catalog_tables.specs.Changing.{IsAfter}
+use Rattle.catalog_tables.specs.Tables.{AreTables, Tables}
 use Rattle.group_engine.specs.Becoming.{HoldsIn, SameBytes}
 use Rattle.group_engine.specs.Commits.{LeadsTo}
 use Rattle.group_engine.specs.Mounts.{MountedGroup, Mounts}

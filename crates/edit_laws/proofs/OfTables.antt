@@ -8,9 +8,9 @@ use Rattle.asm_formats.specs.Items.{Key}
 use Rattle.asm_base.specs.Records.{Entry}
 use Rattle.alias_edits.specs.Edits as names
 use Rattle.template_directory.specs.Meant as templates
-use Rattle.catalog.specs.Changing.{IsAfter}
-use Rattle.catalog.specs.Tables.{Tables}
-use Rattle.catalog.proofs.AfterLaws.{one_after}
+use Rattle.catalog_tables.specs.Changing.{IsAfter}
+use Rattle.catalog_tables.specs.Tables.{Tables}
+use Rattle.catalog_tables.proofs.AfterLaws.{one_after}
 use Rattle.group_files.specs.declared.edit.GroupEdit.TheVariants.{Tree, Templates, SetAttribute}
 use Rattle.group_of.specs.Edits.{with_settings, with_templates, with_tree}
 use Rattle.group_of.specs.Groups.{HasCells, group_of}

@@ -19,8 +19,8 @@ use Rattle.asm_world.specs.Edits as world
 use Rattle.asm_world.specs.Settings as settings
 use Rattle.alias_edits.specs.Edits as names
 use Rattle.template_directory.specs.Meant as templates
-use Rattle.catalog.specs.Changing.{IsAfter}
-use Rattle.catalog.specs.Tables.{Catalogued, Tables}
+use Rattle.catalog_tables.specs.Changing.{IsAfter}
+use Rattle.catalog_tables.specs.Tables.{Catalogued, Tables}
 use Rattle.group_engine.specs.Commits.{LeadsTo, StandsIn}
 use Rattle.group_engine.specs.Frames.{SparesGroup}
 use Rattle.group_engine.specs.Mounts.{HasOnly, IsMounted, IsOwn, MountedGroup, Mounts}

@@ -8,7 +8,7 @@ use Rattle.asm_formats.specs.Items.{FileHead, Pending}
 use Rattle.asm_placement.specs.Naming.{is_pending}
 use Rattle.file_directory.specs.Files.{head_at}
 use Rattle.extent_map.specs.Extents.{Chunked, has_extent}
-use Rattle.catalog.specs.Tables.{Tables}
+use Rattle.catalog_tables.specs.Tables.{Tables}
 use Rattle.group_engine.specs.Mounts.{MountedGroup, Takes}
 use Rattle.group_engine.specs.Pending.{GoesOn}
 use Rattle.group_engine.proofs.Causes.{nothing_kept}

@@ -14,11 +14,11 @@ use Rattle.file_directory.specs.Files.{head_at, is_file}
 use Rattle.extent_map.specs.Extents.{Chunked, chunk_at, chunk_or_blank, count_in, has_extent, has_home, extent_at}
 use Rattle.extent_map.proofs.FileEnds.{same_place}
 use Rattle.catalog.specs.ExtentPlans.{MayAppend}
-use Rattle.catalog.specs.Placing.{after_homes}
+use Rattle.catalog_tables.specs.Placing.{after_homes}
 use Rattle.catalog.specs.Plans.{AreOwned}
 use Rattle.catalog.proofs.NumberedEntries.{passes_where}
-use Rattle.catalog.specs.Rules.{are_marks_of, are_on_disks, are_within, are_within_head, first_wrong, has_copies, is_owned}
-use Rattle.catalog.specs.Tables.{Catalogued, Tables}
+use Rattle.catalog_tables.specs.Rules.{are_marks_of, are_on_disks, are_within, are_within_head, first_wrong, has_copies, is_owned}
+use Rattle.catalog_tables.specs.Tables.{Catalogued, Tables}
 use Rattle.group_engine.specs.Mounts.{IsWhole, MountedGroup}
 use Rattle.file_extents.specs.Appending.{AreMarks, HasAll, MayStand, are_copies, has_owner}
 use Rattle.file_extents.specs.declared.appending.Part.{Part}

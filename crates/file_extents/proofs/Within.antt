@@ -12,7 +12,7 @@ use Rattle.asm_base.specs.Records.{Ascend}
 use Rattle.extent_map.specs.Extents.{Chunked, chunks_from}
 use Rattle.asm_base.specs.Chunks.{chunk_cmp, is_before}
 use Rattle.catalog.specs.NamePlans.{is_within_file}
-use Rattle.catalog.specs.Rules.{are_within, first_wrong}
+use Rattle.catalog_tables.specs.Rules.{are_within, first_wrong}
 
 -- ---- the order of chunks
 

@@ -5,8 +5,8 @@ use Rattle.asm_formats.specs.Items.{FileHead, Homes}
 use Rattle.asm_placement.specs.Naming.{is_pending}
 use Rattle.file_directory.specs.Files.{head_at}
 use Rattle.extent_map.specs.Extents.{chunk_or_blank, count_in, extent_at, follows}
-use Rattle.catalog.specs.Rules.{are_marks_of, are_on_disks, are_within, has_copies}
-use Rattle.catalog.specs.Tables.{Tables}
+use Rattle.catalog_tables.specs.Rules.{are_marks_of, are_on_disks, are_within, has_copies}
+use Rattle.catalog_tables.specs.Tables.{Tables}
 use Rattle.file_extents.specs.declared.appending.Part.{Part}
 
 -- an extent with these homes has its copies and no others, on different disks

@@ -5,9 +5,9 @@ use Rattle.asm_group.specs.declared.PendingKind.{PendingKind}
 use Rattle.asm_base.specs.Records.{Entry}
 use Rattle.asm_base.specs.declared.refusal.Refusal.{Refusal}
 use Rattle.asm_formats.specs.Items.{Key}
-use Rattle.catalog.specs.Changing.{IsAfter}
+use Rattle.catalog_tables.specs.Changing.{IsAfter}
 use Rattle.catalog.specs.Plans.{IsPlan}
-use Rattle.catalog.specs.Tables.{Tables}
+use Rattle.catalog_tables.specs.Tables.{Tables}
 use Rattle.group_engine.specs.Commits.{StatusCause}
 use Rattle.group_engine.specs.Mounts.{IsMounted, MountedGroup}
 use Rattle.file_extents.specs.Rows.{SpaceCause}

@@ -1,7 +1,7 @@
 // Homes of new extents in the unit maps.
 ghost use Rattle.std.specs.Prelude.{◌≡◌, ◌<◌, ◌+◌, ◌∷◌, [], ◌^◌, if◌then◌else◌, length, IfOk, None, Some};
 ghost use Rattle.asm_placement.specs.Placed.{placed_copies, placed_extents};
-ghost use Rattle.catalog.specs.Placing.{after_homes, home_placed, home_taken};
+ghost use Rattle.catalog_tables.specs.Placing.{after_homes, home_placed, home_taken};
 
 use allocator::Units;
 use asm_base::{Home, Homes, NoMemory};
@@ -21,7 +21,7 @@ pub(crate) fn copy_units(alloc: Global, units: &[Units]) -> Result<Vec<Units>, N
 
 /// Makes the units of the homes of extents used, the first of which has this index. `false` where one has a home whose units aren't
 /// free.
-#[tactic(auto, using(catalog::proofs::PlacingLaws::next_extent, catalog::proofs::PlacingLaws::extent_refused, catalog::proofs::PlacingLaws::no_extents))]
+#[tactic(auto, using(catalog_tables::proofs::PlacingLaws::next_extent, catalog_tables::proofs::PlacingLaws::extent_refused, catalog_tables::proofs::PlacingLaws::no_extents))]
 pub(crate) fn place_row(
     units: &mut [Units],
     step: u32,
@@ -59,7 +59,7 @@ fn place_extent(units: &mut [Units], file: u32, index: u64, len: u32, homes: &Ho
     )
 }
 
-#[tactic(auto, using(catalog::proofs::PlacingLaws::first_refused, catalog::proofs::PlacingLaws::second_refused, catalog::proofs::PlacingLaws::third_is))]
+#[tactic(auto, using(catalog_tables::proofs::PlacingLaws::first_refused, catalog_tables::proofs::PlacingLaws::second_refused, catalog_tables::proofs::PlacingLaws::third_is))]
 fn place_three(
     units: &mut [Units],
     file: u32,
@@ -93,7 +93,7 @@ fn place(units: &mut [Units], home: Option<Home>, len: u32) -> bool
 }
 
 /// Makes a run of units used, where they are free user units of its disk.
-#[tactic(auto, using(catalog::proofs::PlacingLaws::no_disk, catalog::proofs::PlacingLaws::taken_is))]
+#[tactic(auto, using(catalog_tables::proofs::PlacingLaws::no_disk, catalog_tables::proofs::PlacingLaws::taken_is))]
 fn take(units: &mut [Units], home: Home, len: u32) -> bool
     requires { 0 < len }
     ensures { home_taken units.old home len ≡ (if result then Some units.new else None) }

@@ -12,11 +12,11 @@ use Rattle.asm_base.specs.declared.refusal.DiskRef.TheVariants.{Number, Spelt}
 use Rattle.asm_base.specs.declared.refusal.Refusal.{Refusal}
 use Rattle.asm_base.specs.declared.refusal.Refusal.TheVariants as cause
 use Rattle.asm_formats.specs.Items.{Key}
-use Rattle.catalog.specs.Changing.{IsAfter}
+use Rattle.catalog_tables.specs.Changing.{IsAfter}
 use Rattle.catalog.specs.FilePlans.{IsRemovalPlan, IsSizePlan, is_on_file, removed, sized}
 use Rattle.catalog.specs.NamePlans.{IsNamePlan, made_file}
 use Rattle.catalog.specs.Plans.{IsPlan}
-use Rattle.catalog.specs.Tables.{Catalogued, Tables}
+use Rattle.catalog_tables.specs.Tables.{Catalogued, Tables}
 use Rattle.catalog.specs.TreePlans.{IsTreePlan, IsTreeRefusal}
 use Rattle.catalog.specs.declared.new_file.NewFile.{NewFile}
 use Rattle.group_engine.specs.Commits.{StatusCause}

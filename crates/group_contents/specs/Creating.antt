@@ -10,15 +10,15 @@ use Rattle.asm_base.specs.Records.{Entry}
 use Rattle.asm_formats.specs.Items.{Key}
 use Rattle.asm_placement.specs.Layout.{has_extent}
 use Rattle.asm_world.specs.Files.{copies_for}
-use Rattle.catalog.specs.Changing.{IsAfter}
+use Rattle.catalog_tables.specs.Changing.{IsAfter}
 use Rattle.catalog.specs.NameChecks.{IsCheckRefusal}
 use Rattle.catalog.specs.NamePlans.{IsNamePlan, made_file}
 use Rattle.catalog.specs.Numbers.{IsNextFile}
-use Rattle.catalog.specs.Rules.{blocks_used, has_copies}
+use Rattle.catalog_tables.specs.Rules.{blocks_used, has_copies}
 use Rattle.extent_map.specs.Extents.{extent_at}
 use Rattle.file_directory.specs.Files.{head_at}
 use Rattle.asm_group.specs.declared.PendingKind.TheVariants.{Create}
-use Rattle.catalog.specs.Tables.{Catalogued, Tables}
+use Rattle.catalog_tables.specs.Tables.{Catalogued, Tables}
 use Rattle.catalog.specs.declared.new_file.FileBy.{FileBy}
 use Rattle.catalog.specs.declared.new_file.FileBy.TheVariants as by
 use Rattle.catalog.specs.declared.new_file.NewFile.{NewFile}

@@ -11,7 +11,7 @@ use Rattle.asm_formats.specs.Items.{FileHead, Node}
 use Rattle.asm_placement.specs.Naming.{is_directory}
 use Rattle.alias_tree.specs.Nodes.{node_at, number_of}
 use Rattle.file_directory.specs.Files.{head_at}
-use Rattle.catalog.specs.Tables.{Tables}
+use Rattle.catalog_tables.specs.Tables.{Tables}
 use Rattle.group_engine.specs.Commits.{DismountCause}
 use Rattle.group_engine.specs.Mounts.{MountedGroup}
 use Rattle.group_pieces.specs.Usable.{IsLost}

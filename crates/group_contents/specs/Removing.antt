@@ -8,9 +8,9 @@ use Rattle.asm_base.specs.declared.refusal.Refusal.{Refusal}
 use Rattle.asm_formats.specs.Items.{Key, Node}
 use Rattle.asm_placement.specs.Naming.{is_directory}
 use Rattle.alias_tree.specs.Nodes.{node_at, number_of}
-use Rattle.catalog.specs.Changing.{IsAfter}
+use Rattle.catalog_tables.specs.Changing.{IsAfter}
 use Rattle.catalog.specs.FilePlans.{IsRemovalPlan}
-use Rattle.catalog.specs.Tables.{Tables}
+use Rattle.catalog_tables.specs.Tables.{Tables}
 use Rattle.catalog.specs.TreePlans.{IsTreePlan, IsTreeRefusal}
 use Rattle.group_engine.specs.Commits.{StatusCause}
 use Rattle.group_engine.specs.Mounts.{MountedGroup}

@@ -9,9 +9,9 @@ use Rattle.asm_base.specs.declared.refusal.Refusal.{Refusal}
 use Rattle.asm_base.specs.declared.refusal.Refusal.TheVariants as cause
 use Rattle.asm_formats.specs.Items.{Key}
 use Rattle.asm_placement.specs.Layout.{has_extent}
-use Rattle.catalog.specs.Changing.{IsAfter}
+use Rattle.catalog_tables.specs.Changing.{IsAfter}
 use Rattle.catalog.specs.FilePlans.{IsSizePlan}
-use Rattle.catalog.specs.Tables.{Catalogued}
+use Rattle.catalog_tables.specs.Tables.{Catalogued}
 use Rattle.group_engine.specs.Commits.{StatusCause}
 use Rattle.group_engine.specs.Mounts.{IsMounted, IsWhole, MountedGroup}
 use Rattle.group_engine.specs.Own.{IsSameGroup}

@@ -11,7 +11,7 @@ use Rattle.asm_base.specs.declared.refusal.Refusal.{Refusal}
 use Rattle.asm_base.specs.declared.refusal.Refusal.TheVariants as refusal
 use Rattle.catalog.specs.Applying.{Leaves}
 use Rattle.catalog.specs.Plans.{IsDiskRefusal, IsPlan}
-use Rattle.catalog.specs.Tables.{Catalogued, Tables}
+use Rattle.catalog_tables.specs.Tables.{Catalogued, Tables}
 use Rattle.group_engine.specs.Commits.{CommitCause, DismountCause, StatusCause}
 use Rattle.group_engine.specs.Mounts.{IsMounted, MountedGroup, slot_at}
 use Rattle.group_engine.specs.Own.{KeepsGroup}

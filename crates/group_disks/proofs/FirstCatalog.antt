@@ -14,15 +14,15 @@ use Rattle.asm_formats.specs.Items.{Item, Key, is_item, key}
 use Rattle.asm_formats.specs.Values.{value}
 use Rattle.asm_formats.specs.Status as status
 use Rattle.asm_formats.proofs.Bodies.{item_codec}
-use Rattle.catalog.specs.declared.error.CatalogError.{CatalogError}
-use Rattle.catalog.specs.declared.error.CatalogError.TheVariants as answer
-use Rattle.catalog.specs.Faults.{IsAtFault, IsCatalogOf, Names}
-use Rattle.catalog.specs.Placing.{HasUnits, after_chunks, unused_maps}
-use Rattle.catalog.specs.Rules.{KeepsRules}
-use Rattle.catalog.specs.Tables.{AreTables, Catalogued, HasRecords, Tables, first_unreadable, is_record}
-use Rattle.catalog.proofs.NoCatalog.{fault_refuses}
-use Rattle.catalog.proofs.SameTables.{same_lookups}
-use Rattle.catalog.proofs.TableItems.{key_total, keys_exact}
+use Rattle.catalog_tables.specs.declared.error.CatalogError.{CatalogError}
+use Rattle.catalog_tables.specs.declared.error.CatalogError.TheVariants as answer
+use Rattle.catalog_tables.specs.Faults.{IsAtFault, IsCatalogOf, Names}
+use Rattle.catalog_tables.specs.Placing.{HasUnits, after_chunks, unused_maps}
+use Rattle.catalog_tables.specs.Rules.{KeepsRules}
+use Rattle.catalog_tables.specs.Tables.{AreTables, Catalogued, HasRecords, Tables, first_unreadable, is_record}
+use Rattle.catalog_laws.proofs.NoCatalog.{fault_refuses}
+use Rattle.catalog_tables.proofs.SameTables.{same_lookups}
+use Rattle.catalog_tables.proofs.TableItems.{key_total, keys_exact}
 use Rattle.directory_store.specs.Stores.{AreFirst}
 use Rattle.page_map.proofs.Keys.{same_key, key_itself}
 use Rattle.page_map.specs.Tables.{PageTable}

@@ -6,11 +6,11 @@ use Rattle.asm_base.specs.Records.{is_key, record_at}
 use Rattle.asm_formats.specs.Among.{IsAmong}
 use Rattle.asm_formats.specs.Items.{Item, Key, key}
 use Rattle.asm_formats.specs.Values.{value}
-use Rattle.catalog.specs.Items.{AreItemsOf}
+use Rattle.catalog_tables.specs.Items.{AreItemsOf}
 use Rattle.page_map.specs.Contents.{IsItemOf}
-use Rattle.catalog.specs.Tables.{AreTables, HasRecords, Tables}
-use Rattle.catalog.proofs.HavingItems.{items_are_one}
-use Rattle.catalog.proofs.TableItems.{items_of_records}
+use Rattle.catalog_tables.specs.Tables.{AreTables, HasRecords, Tables}
+use Rattle.catalog_laws.proofs.HavingItems.{items_are_one}
+use Rattle.catalog_tables.proofs.TableItems.{items_of_records}
 use Rattle.directory_store.specs.Stores.{AreFirst}
 use Rattle.page_map.specs.Tables.{PageTable}
 use Rattle.page_map.proofs.Keys.{same_key}

@@ -10,9 +10,9 @@ use Rattle.asm_formats.specs.Following.{disks_of, sets_of}
 use Rattle.asm_formats.specs.Sets.{elements, has_bit}
 use Rattle.asm_formats.specs.Status.{Entry, Status, entry_of}
 use Rattle.asm_formats.specs.Among.{IsAmong}
-use Rattle.catalog.specs.Faults.{IsCatalogOf}
-use Rattle.catalog.specs.Tables.{Catalogued}
-use Rattle.catalog.proofs.ToldRecords.{records_told}
+use Rattle.catalog_tables.specs.Faults.{IsCatalogOf}
+use Rattle.catalog_tables.specs.Tables.{Catalogued}
+use Rattle.catalog_laws.proofs.ToldRecords.{records_told}
 use Rattle.change_directory.specs.Places.{IsCopy}
 use Rattle.change_directory.specs.declared.copy.DirCopy.{DirCopy}
 use Rattle.directory_store.specs.Stores.{Stored}

@@ -9,7 +9,7 @@ use Rattle.asm_formats.specs.Items.{Item}
 use Rattle.asm_formats.specs.Metadata.{metadata}
 use Rattle.asm_images.specs.Bridge.{disk_bytes}
 use Rattle.asm_images.specs.Kept.{Kept}
-use Rattle.catalog.specs.Items.{AreItemsOf}
+use Rattle.catalog_tables.specs.Items.{AreItemsOf}
 use Rattle.directory_store.specs.Stores.{Keeps, Stored, AreFirst}
 use Rattle.group_engine.specs.Commits.{turns_at_most}
 use Rattle.group_engine.specs.Frames.{SameDisk}

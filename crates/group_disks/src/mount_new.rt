@@ -2,7 +2,7 @@
 ghost use Rattle.std.specs.Prelude.{◌≡◌, [], Some, IfErr, IfOk};
 ghost use Rattle.asm_base.specs.Refusals.{said};
 ghost use Rattle.asm_group.specs.Refusal.{NoMemory as WithoutMemory};
-ghost use Rattle.catalog.specs.Faults.{IsCatalogOf};
+ghost use Rattle.catalog_tables.specs.Faults.{IsCatalogOf};
 ghost use Rattle.directory_store.specs.Stores.{AreFirst};
 ghost use Rattle.group_disks.specs.Creating.{usual_shape};
 ghost use Rattle.group_disks.specs.FirstParts.{IsFirstStore, IsMountedAs, first_disks};
@@ -11,7 +11,8 @@ ghost use Rattle.group_disks.specs.Planned.{IsPlan, first_entries, record_of_pla
 use crate::new_group::{NewGroup, first_status};
 use asm_base::{GroupKind, NoMemory, Refusal, Shape};
 use bay::Bay;
-use catalog::{Catalog, CatalogError};
+use catalog::Catalog;
+use catalog_tables::CatalogError;
 use directory_store::Store;
 use group_engine::{Attached, Mounted};
 use status_register::{Member, Register};

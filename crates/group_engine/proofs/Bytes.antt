@@ -23,9 +23,9 @@ use Rattle.asm_images.proofs.Bridges.{disks_are_listed}
 use Rattle.asm_images.proofs.History.{status_counts}
 use Rattle.asm_images.proofs.Membership.{among_within}
 use Rattle.asm_images.proofs.OneContent.{found_is_held}
-use Rattle.catalog.specs.Rules.{marks_of}
-use Rattle.catalog.proofs.HavingItems.{have_items, items_are_one}
-use Rattle.catalog.proofs.ItemLists.{items_say}
+use Rattle.catalog_tables.specs.Rules.{marks_of}
+use Rattle.catalog_laws.proofs.HavingItems.{have_items, items_are_one}
+use Rattle.catalog_laws.proofs.ItemLists.{items_say}
 use Rattle.extent_map.specs.Extents.{Chunked, chunk_at}
 use Rattle.staleness_directory.specs.Marks.{Marked}
 use Rattle.group_engine.specs.Becoming.{HoldsIn, SameBytesHold}

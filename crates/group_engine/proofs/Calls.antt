@@ -11,9 +11,9 @@ use Rattle.asm_formats.specs.Status.{Status}
 use Rattle.asm_base.specs.Records.{record_at}
 use Rattle.asm_formats.specs.Among.{IsAmong}
 use Rattle.asm_images.specs.Kept.{Kept, IsHeld}
-use Rattle.catalog.specs.Items.{AreItemsOf}
-use Rattle.catalog.specs.Tables.{AreTables, Tables, records_of}
-use Rattle.catalog.proofs.HavingItems.{have_items}
+use Rattle.catalog_tables.specs.Items.{AreItemsOf}
+use Rattle.catalog_tables.specs.Tables.{AreTables, Tables, records_of}
+use Rattle.catalog_laws.proofs.HavingItems.{have_items}
 use Rattle.change_directory.specs.declared.copy.DirCopy.{DirCopy}
 use Rattle.change_directory.specs.Changes.{content_in}
 use Rattle.directory_store.specs.Contents.{HasRecords}

@@ -17,7 +17,7 @@ use Rattle.asm_formats.specs.Following.{sets}
 use Rattle.asm_formats.specs.Sets.{elements}
 use Rattle.asm_formats.specs.Status.{Status, status_spelling}
 use Rattle.asm_formats.specs.Among.{IsAmong}
-use Rattle.catalog.proofs.TableItems.{from_map}
+use Rattle.catalog_tables.proofs.TableItems.{from_map}
 use Rattle.change_directory.specs.declared.copy.DirCopy.{DirCopy}
 use Rattle.directory_store.specs.Copies.{IsSlotOf, RegionsOf}
 use Rattle.status_register.specs.Holders.{SlotsDiffer, attached_to, numbered}

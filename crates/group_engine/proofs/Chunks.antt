@@ -16,10 +16,10 @@ use Rattle.asm_formats.specs.Among.{IsAmong}
 use Rattle.asm_placement.specs.Naming.{is_pending}
 use Rattle.catalog.specs.ExtentPlans.{IsUndue}
 use Rattle.catalog.specs.Plans.{AreOwned}
-use Rattle.catalog.specs.Rules.{first_wrong, is_due, is_owned}
-use Rattle.catalog.specs.Tables.{Tables}
+use Rattle.catalog_tables.specs.Rules.{first_wrong, is_due, is_owned}
+use Rattle.catalog_tables.specs.Tables.{Tables}
 use Rattle.catalog.proofs.NumberedEntries.{passes_where}
-use Rattle.catalog.proofs.TableItems.{below, chunks_exact, found_is, some_found, tail_up}
+use Rattle.catalog_tables.proofs.TableItems.{below, chunks_exact, found_is, some_found, tail_up}
 use Rattle.extent_map.specs.Extents.{Chunked, chunk_at, chunks_from, has_extent, has_home}
 use Rattle.asm_base.specs.Chunks.{Chunk, chunk_cmp, is_before}
 use Rattle.extent_map.proofs.Laws.{chunk_total}

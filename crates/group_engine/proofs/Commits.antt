@@ -13,9 +13,9 @@ use Rattle.asm_base.specs.Records.{Entry}
 use Rattle.page_map.specs.Changes.{value_after}
 use Rattle.asm_formats.specs.Among.{IsAmong}
 use Rattle.asm_images.specs.Kept.{Kept, IsHeld}
-use Rattle.catalog.specs.Changing.{IsAfter}
-use Rattle.catalog.specs.Placing.{HasUnits}
-use Rattle.catalog.specs.Tables.{Catalogued, Tables}
+use Rattle.catalog_tables.specs.Changing.{IsAfter}
+use Rattle.catalog_tables.specs.Placing.{HasUnits}
+use Rattle.catalog_tables.specs.Tables.{Catalogued, Tables}
 use Rattle.change_directory.specs.declared.copy.DirCopy.{DirCopy}
 use Rattle.change_directory.specs.StoreLaws.{SameRegion}
 use Rattle.directory_store.specs.Stores.{Stored, others}

@@ -20,7 +20,7 @@ use Rattle.asm_images.specs.Sound.{SoundBy}
 use Rattle.asm_images.proofs.Bridges.{disks_are_listed, same_disk}
 use Rattle.asm_formats.specs.Bytes.{block_size}
 use Rattle.asm_formats.specs.Regions.{least_size, region_end}
-use Rattle.catalog.proofs.TableItems.{from_map}
+use Rattle.catalog_tables.proofs.TableItems.{from_map}
 use Rattle.directory_store.specs.Stores as stores
 use Rattle.directory_store.proofs.Storing.{keeps_elsewhere}
 use Rattle.change_directory.specs.Places.{IsCopy}

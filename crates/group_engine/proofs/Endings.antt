@@ -9,10 +9,10 @@ use Rattle.asm_base.specs.declared.refusal.Refusal.{Refusal}
 use Rattle.asm_base.specs.declared.refusal.Refusal.TheVariants as cause
 use Rattle.asm_formats.specs.Items.{Key}
 use Rattle.asm_base.specs.Records.{Entry}
-use Rattle.catalog.specs.Changing.{IsAfter}
+use Rattle.catalog_tables.specs.Changing.{IsAfter}
 use Rattle.catalog.specs.ExtentPlans.{with_cut, with_fewer, with_released}
-use Rattle.catalog.specs.Tables.{Tables}
-use Rattle.catalog.proofs.AfterLaws.{one_after}
+use Rattle.catalog_tables.specs.Tables.{Tables}
+use Rattle.catalog_tables.proofs.AfterLaws.{one_after}
 use Rattle.group_engine.specs.Commits.{DismountCause, KeepsRecord, StatusCause}
 use Rattle.group_engine.specs.Making.{closed}
 use Rattle.group_engine.specs.Mounts.{IsMounted, IsReady, IsWhole, MountedGroup}

@@ -12,7 +12,7 @@ use Rattle.asm_formats.specs.Following.{Follows, FollowsSets, Holder, disks_of, 
 use Rattle.asm_formats.specs.Sets.{elements, has_bit}
 use Rattle.asm_formats.specs.Status.{Entry, Status, entry_of, is_status}
 use Rattle.asm_formats.specs.Among.{IsAmong}
-use Rattle.catalog.specs.Placing.{HasUnits}
+use Rattle.catalog_tables.specs.Placing.{HasUnits}
 use Rattle.change_directory.specs.declared.copy.DirCopy.{DirCopy}
 use Rattle.directory_store.specs.Stores.{has_disk}
 use Rattle.status_register.specs.declared.member.Member.{Member}

@@ -15,8 +15,8 @@ use Rattle.asm_placement.specs.Partners.{HasPartners}
 use Rattle.asm_placement.specs.Placed.{places_fit}
 use Rattle.asm_placement.proofs.Membership.{among_filtered}
 use Rattle.asm_images.specs.Describing.{AreRegular, DescribesGroup, has_info}
-use Rattle.catalog.specs.Placing.{HasUnits}
-use Rattle.catalog.specs.Tables.{Catalogued}
+use Rattle.catalog_tables.specs.Placing.{HasUnits}
+use Rattle.catalog_tables.specs.Tables.{Catalogued}
 use Rattle.change_directory.specs.declared.copy.DirCopy.{DirCopy}
 use Rattle.directory_store.specs.Copies.{RegionsOf}
 use Rattle.directory_store.specs.Stores.{Stored, others}

@@ -13,7 +13,7 @@ use Rattle.asm_formats.proofs.Orders.{same_sets_follow}
 use Rattle.asm_group.specs.Shape.{Shape}
 use Rattle.asm_formats.specs.Among.{IsAmong}
 use Rattle.asm_images.specs.RecordLaws.{bare}
-use Rattle.catalog.specs.Placing.{after_chunks, disk_units, entry_units, unused_maps}
+use Rattle.catalog_tables.specs.Placing.{after_chunks, disk_units, entry_units, unused_maps}
 use Rattle.status_register.specs.Holders.{is_of}
 use Rattle.status_register.specs.Registered.{is_birth}
 use Rattle.status_register.specs.declared.member.Member.{Member}

@@ -9,9 +9,9 @@ use Rattle.asm_base.specs.declared.refusal.Refusal.{Refusal}
 use Rattle.asm_base.specs.declared.refusal.Refusal.TheVariants as cause
 use Rattle.page_map.specs.Listing.{key_of_place}
 use Rattle.page_map.specs.Tables.{new_in, room}
-use Rattle.catalog.specs.Blocks.{PlansHaveRoom}
+use Rattle.catalog_laws.specs.Blocks.{PlansHaveRoom}
 use Rattle.catalog.specs.Plans.{IsPlan}
-use Rattle.catalog.specs.Tables.{Tables}
+use Rattle.catalog_tables.specs.Tables.{Tables}
 use Rattle.group_engine.specs.Commits.{CommitCause, IsFull, StatusCause}
 use Rattle.group_engine.specs.Mounts.{IsReady, IsWhole, MountedGroup, Takes}
 use Rattle.group_engine.proofs.Commits.{one_of}

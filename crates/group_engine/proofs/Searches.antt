@@ -12,12 +12,12 @@ use Rattle.asm_base.specs.Records as records
 use Rattle.extent_map.specs.Extents.{Chunked, chunk_at}
 use Rattle.asm_base.specs.Chunks.{Chunk, chunk_cmp}
 use Rattle.extent_map.proofs.Laws.{chunk_total}
-use Rattle.catalog.specs.Changing.{IsAfter}
-use Rattle.catalog.specs.Rules.{AreOnRegular, first_wrong, is_regular_chunk}
-use Rattle.catalog.specs.Tables.{AreTables, Catalogued, Tables}
-use Rattle.catalog.proofs.AfterLaws.{one_after}
+use Rattle.catalog_tables.specs.Changing.{IsAfter}
+use Rattle.catalog_tables.specs.Rules.{AreOnRegular, first_wrong, is_regular_chunk}
+use Rattle.catalog_tables.specs.Tables.{AreTables, Catalogued, Tables}
+use Rattle.catalog_tables.proofs.AfterLaws.{one_after}
 use Rattle.catalog.proofs.NumberedEntries.{passes_each, passes_more}
-use Rattle.catalog.proofs.TableItems.{among_found, chunks_exact, found_is}
+use Rattle.catalog_tables.proofs.TableItems.{among_found, chunks_exact, found_is}
 use Rattle.rebalance.specs.Cursors.{IsFollowed, IsSameBut, Places, passes_at, passes_found}
 use Rattle.group_engine.specs.Searches.{IsPlanIn, IsSearchOf, Searched, WasSearchOf}
 

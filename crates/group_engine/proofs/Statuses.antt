@@ -11,10 +11,10 @@ use Rattle.asm_group.specs.Shape.{Shape, is_shape}
 use Rattle.asm_formats.specs.Sets.{has_bit, elements}
 use Rattle.asm_formats.specs.Status.{Status, status_spelling}
 use Rattle.asm_images.specs.Kept.{Kept, IsHeld}
-use Rattle.catalog.specs.Items.{AreItemsOf}
-use Rattle.catalog.specs.Placing.{HasUnits}
-use Rattle.catalog.specs.Tables.{AreTables, Catalogued, Tables, records_of}
-use Rattle.catalog.proofs.TableItems.{from_map}
+use Rattle.catalog_tables.specs.Items.{AreItemsOf}
+use Rattle.catalog_tables.specs.Placing.{HasUnits}
+use Rattle.catalog_tables.specs.Tables.{AreTables, Catalogued, Tables, records_of}
+use Rattle.catalog_tables.proofs.TableItems.{from_map}
 use Rattle.change_directory.specs.declared.copy.DirCopy.{DirCopy}
 use Rattle.directory_store.specs.Stores.{Stored}
 use Rattle.directory_store.specs.Stores as stores

@@ -12,9 +12,9 @@ use Rattle.asm_images.specs.Bridge.{disks_in}
 use Rattle.asm_images.specs.Kept.{Kept, IsHeld}
 use Rattle.asm_images.proofs.Held.{same_is_held}
 use Rattle.asm_images.proofs.Spans.{widen_keeps}
-use Rattle.catalog.specs.Items.{AreItemsOf}
-use Rattle.catalog.specs.Placing.{HasUnits}
-use Rattle.catalog.specs.Tables.{AreTables, Catalogued, Tables, records_of}
+use Rattle.catalog_tables.specs.Items.{AreItemsOf}
+use Rattle.catalog_tables.specs.Placing.{HasUnits}
+use Rattle.catalog_tables.specs.Tables.{AreTables, Catalogued, Tables, records_of}
 use Rattle.change_directory.specs.declared.copy.DirCopy.{DirCopy}
 use Rattle.directory_store.specs.Answers.{IsUnchanged}
 use Rattle.directory_store.specs.Stores.{Stored}

@@ -14,8 +14,8 @@ use Rattle.asm_base.specs.declared.refusal.Refusal.{Refusal}
 use Rattle.asm_base.specs.declared.refusal.Refusal.TheVariants as cause
 use Rattle.asm_formats.specs.Among.{IsAmong}
 use Rattle.asm_images.specs.Kept.{Kept, IsHeld}
-use Rattle.catalog.specs.Changing.{IsAfter}
-use Rattle.catalog.specs.Tables.{Tables}
+use Rattle.catalog_tables.specs.Changing.{IsAfter}
+use Rattle.catalog_tables.specs.Tables.{Tables}
 use Rattle.asm_formats.specs.Sets.{elements, has_bit}
 use Rattle.asm_formats.specs.Status.{Status}
 use Rattle.directory_store.specs.Answers.{NoCalls}

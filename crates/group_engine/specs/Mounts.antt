@@ -22,9 +22,9 @@ use Rattle.status_register.specs.Keeping as registers
 use Rattle.status_register.specs.Reaching.{Reaches}
 use Rattle.status_register.specs.Registered.{Registered}
 use Rattle.status_register.specs.declared.member.Member.{Member}
-use Rattle.catalog.specs.Items.{AreItemsOf}
-use Rattle.catalog.specs.Placing.{HasUnits}
-use Rattle.catalog.specs.Tables.{AreTables, Catalogued, records_of}
+use Rattle.catalog_tables.specs.Items.{AreItemsOf}
+use Rattle.catalog_tables.specs.Placing.{HasUnits}
+use Rattle.catalog_tables.specs.Tables.{AreTables, Catalogued, records_of}
 use Rattle.group_engine.specs.declared.attached.Attached.{Attached}
 use Rattle.group_engine.specs.declared.flight.Flight.{Flight}
 use Rattle.group_engine.specs.declared.access.Access.{Access}

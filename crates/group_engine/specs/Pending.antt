@@ -5,7 +5,7 @@ use Rattle.asm_group.specs.Shape.{Shape}
 use Rattle.asm_base.specs.declared.refusal.Refusal.{Refusal}
 use Rattle.asm_formats.specs.Items.{FileHead}
 use Rattle.catalog.specs.FilePlans.{HasSoMany}
-use Rattle.catalog.specs.Tables.{Tables}
+use Rattle.catalog_tables.specs.Tables.{Tables}
 use Rattle.extent_map.specs.Extents.{Chunked}
 use Rattle.asm_base.specs.Chunks.{Chunk}
 use Rattle.group_engine.specs.Commits.{KeepsRecord, StatusCause}

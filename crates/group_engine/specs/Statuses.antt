@@ -11,7 +11,7 @@ use Rattle.asm_formats.specs.Among.{IsAmong}
 use Rattle.change_directory.specs.declared.copy.DirCopy.{DirCopy}
 use Rattle.asm_group.specs.Group.{Group}
 use Rattle.asm_images.specs.Kept.{Kept}
-use Rattle.catalog.specs.Placing.{HasUnits, HaveSameUnits}
+use Rattle.catalog_tables.specs.Placing.{HasUnits, HaveSameUnits}
 use Rattle.status_register.specs.Holders.{numbered}
 use Rattle.status_register.specs.Reaching.{Reaches}
 use Rattle.group_engine.specs.Commits.{StandsIn, StatusCause}

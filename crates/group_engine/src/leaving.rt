@@ -2,7 +2,7 @@
 ghost use Rattle.std.specs.Prelude.{◌≡◌, ◌<◌, IfErr, IfOk, None, OnErr, OnOk};
 ghost use Rattle.asm_formats.specs.Status.{entry_of};
 ghost use Rattle.catalog.specs.Plans.{IsPlan};
-ghost use Rattle.catalog.specs.Tables.{Tables};
+ghost use Rattle.catalog_tables.specs.Tables.{Tables};
 ghost use Rattle.group_engine.specs.Members.{LeavesOne, LetsGo, LettingCause};
 ghost use Rattle.group_engine.specs.Mounts.{IsMounted, IsReady, IsWhole, Takes, slot_at};
 ghost use Rattle.group_engine.specs.Pending.{GoesOn};

@@ -2,7 +2,7 @@
 ghost use Rattle.std.specs.Prelude.{◌≡◌, ◌<◌, ℕ, IfErr, IfNone, IfSome, None, OnOk, Some, get_or, length};
 ghost use Rattle.std.specs.Bool.{OnFalse, OnTrue};
 ghost use Rattle.std.specs.Option.{option_map};
-ghost use Rattle.catalog.specs.Rules.{AreOnRegular};
+ghost use Rattle.catalog_tables.specs.Rules.{AreOnRegular};
 ghost use Rattle.group_engine.specs.declared.attached.Attached.{Attached as AttachedDisk};
 ghost use Rattle.group_engine.specs.Making.{IsShut, closed, dismounted_by, made};
 ghost use Rattle.group_engine.specs.Mounts.{IsMounted, IsWhole, slot_at};

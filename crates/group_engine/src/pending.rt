@@ -5,7 +5,7 @@ ghost use Rattle.asm_group.specs.Shape.{is_shape};
 ghost use Rattle.catalog.specs.ExtentPlans.{MayCut};
 ghost use Rattle.catalog.specs.FilePlans.{HasSoMany};
 ghost use Rattle.catalog.specs.Plans.{AreOwned};
-ghost use Rattle.catalog.specs.Tables.{AreTables};
+ghost use Rattle.catalog_tables.specs.Tables.{AreTables};
 ghost use Rattle.extent_map.specs.Extents.{chunk_at, chunks_from};
 ghost use Rattle.file_directory.specs.Files.{head_at};
 ghost use Rattle.group_engine.specs.Commits.{KeepsRecord, StatusCause};

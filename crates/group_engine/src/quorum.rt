@@ -3,8 +3,8 @@ ghost use Rattle.std.specs.Bool.{OnFalse, OnTrue};
 ghost use Rattle.std.specs.List.{list_all};
 ghost use Rattle.std.specs.Prelude.{◌≡◌};
 ghost use Rattle.asm_placement.specs.Work.{is_regular};
-ghost use Rattle.catalog.specs.Rules.{AreOnRegular, are_on_regular, first_wrong, is_on_regular, is_regular_chunk};
-ghost use Rattle.catalog.specs.Tables.{AreTables};
+ghost use Rattle.catalog_tables.specs.Rules.{AreOnRegular, are_on_regular, first_wrong, is_on_regular, is_regular_chunk};
+ghost use Rattle.catalog_tables.specs.Tables.{AreTables};
 ghost use Rattle.rebalance.specs.Cursors.{passes_at};
 
 use asm_base::{Home, Homes};

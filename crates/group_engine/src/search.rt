@@ -1,9 +1,9 @@
 // What a mounted group knows of the search for the next move of its rebalance.
 ghost use Rattle.std.specs.Prelude.{◌/◌, IfNone, IfSome, IsTrue};
 ghost use Rattle.asm_formats.specs.Status.{Status, is_status};
-ghost use Rattle.catalog.specs.Placing.{HasUnits};
-ghost use Rattle.catalog.specs.Rules.{AreOnRegular};
-ghost use Rattle.catalog.specs.Tables.{AreTables, Catalogued};
+ghost use Rattle.catalog_tables.specs.Placing.{HasUnits};
+ghost use Rattle.catalog_tables.specs.Rules.{AreOnRegular};
+ghost use Rattle.catalog_tables.specs.Tables.{AreTables, Catalogued};
 ghost use Rattle.group_engine.specs.Searches.{IsNextMove, IsSearchOf, WasSearchOf};
 
 use crate::quorum::{are_all_regular, is_chunk_regular};

@@ -3,7 +3,7 @@ ghost use Rattle.std.specs.Prelude.{◌≡◌, ◌∷◌, [], ℕ, IfErr, OnErr,
 ghost use Rattle.bay.specs.Moments.{LeavesOnly};
 ghost use Rattle.asm_group.specs.Group.{Group};
 ghost use Rattle.asm_images.specs.Kept.{Kept};
-ghost use Rattle.catalog.specs.Placing.{HaveSameUnits};
+ghost use Rattle.catalog_tables.specs.Placing.{HaveSameUnits};
 ghost use Rattle.status_register.specs.Holders.{numbered};
 ghost use Rattle.group_engine.specs.Commits.{StandsIn, StatusCause};
 ghost use Rattle.group_engine.specs.Mounts.{IsMounted, IsReady, IsWhole, Mounts};

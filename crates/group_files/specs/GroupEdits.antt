@@ -8,7 +8,7 @@ use Rattle.alias_edits.specs.Edits as names
 use Rattle.template_directory.specs.Meant as templates
 use Rattle.catalog.specs.FilePlans.{IsAttributePlan, IsAttributeRefusal}
 use Rattle.catalog.specs.Plans.{IsTemplatePlan}
-use Rattle.catalog.specs.Tables.{Catalogued}
+use Rattle.catalog_tables.specs.Tables.{Catalogued}
 use Rattle.catalog.specs.TreePlans.{IsTreePlan, IsTreeRefusal, keeps_files}
 use Rattle.group_files.specs.Edits.{IsTemplateRefusal}
 use Rattle.group_files.specs.declared.edit.GroupEdit.{GroupEdit}

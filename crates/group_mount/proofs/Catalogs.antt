@@ -13,11 +13,11 @@ use Rattle.asm_formats.specs.Status.{Entry, entry_of}
 use Rattle.asm_group.specs.Shape.{Shape}
 use Rattle.asm_images.specs.RecordLaws.{bare}
 use Rattle.asm_placement.specs.Naming.{is_birth}
-use Rattle.catalog.specs.Disks.{info_at}
-use Rattle.catalog.specs.Faults.{IsCatalogOf}
-use Rattle.catalog.specs.Placing.{after_chunks, disk_units, entry_units, unused_maps}
-use Rattle.catalog.specs.Rules.{AreOnRegular, first_unknown, first_wrong, has_info, is_on_regular}
-use Rattle.catalog.specs.Tables.{Catalogued, Tables}
+use Rattle.catalog_tables.specs.Disks.{info_at}
+use Rattle.catalog_tables.specs.Faults.{IsCatalogOf}
+use Rattle.catalog_tables.specs.Placing.{after_chunks, disk_units, entry_units, unused_maps}
+use Rattle.catalog_tables.specs.Rules.{AreOnRegular, first_unknown, first_wrong, has_info, is_on_regular}
+use Rattle.catalog_tables.specs.Tables.{Catalogued, Tables}
 use Rattle.group_mount.proofs.Bare.{same_entry, same_regular}
 
 abbrev Bare : Type 0

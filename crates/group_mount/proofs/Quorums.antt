@@ -22,9 +22,9 @@ use Rattle.status_register.proofs.Filling.{still_slots}
 use Rattle.asm_formats.specs.Status.{Status, is_entry, is_status}
 use Rattle.asm_group.specs.Shape.{Shape, is_shape}
 use Rattle.asm_images.proofs.Members.{member_shape}
-use Rattle.catalog.specs.Faults.{IsAtFault, Names}
-use Rattle.catalog.specs.declared.error.CatalogError.{CatalogError}
-use Rattle.catalog.specs.declared.error.CatalogError.TheVariants as answer
+use Rattle.catalog_tables.specs.Faults.{IsAtFault, Names}
+use Rattle.catalog_tables.specs.declared.error.CatalogError.{CatalogError}
+use Rattle.catalog_tables.specs.declared.error.CatalogError.TheVariants as answer
 use Rattle.directory_store.specs.Loading.{AreDurable as AreSettled}
 use Rattle.directory_store.specs.Reading.{ArePartOf}
 use Rattle.directory_store.specs.Stores.{Keeps, Stored}

@@ -6,11 +6,11 @@ use Rattle.asm_group.specs.Shape.{Shape}
 use Rattle.asm_formats.specs.Items.{DiskInfo, Key}
 use Rattle.asm_formats.specs.Status.{Status, Entry}
 use Rattle.asm_formats.specs.Among.{IsAmong}
-use Rattle.catalog.specs.Disks.{info_at}
-use Rattle.catalog.specs.Faults.{IsAtFault, IsCatalogOf}
-use Rattle.catalog.specs.Tables.{Catalogued, Tables}
-use Rattle.catalog.specs.declared.error.CatalogError.{CatalogError}
-use Rattle.catalog.specs.declared.error.CatalogError.TheVariants as answer
+use Rattle.catalog_tables.specs.Disks.{info_at}
+use Rattle.catalog_tables.specs.Faults.{IsAtFault, IsCatalogOf}
+use Rattle.catalog_tables.specs.Tables.{Catalogued, Tables}
+use Rattle.catalog_tables.specs.declared.error.CatalogError.{CatalogError}
+use Rattle.catalog_tables.specs.declared.error.CatalogError.TheVariants as answer
 use Rattle.directory_store.specs.Places.{block_read}
 use Rattle.directory_store.specs.Reading.{ArePartOf}
 use Rattle.directory_store.specs.Stores.{Keeps, Stored}

@@ -18,11 +18,11 @@ use Rattle.extent_map.specs.Extents as extents
 use Rattle.alias_tree.specs.Nodes as nodes
 use Rattle.staleness_directory.specs.Marks as stale
 use Rattle.operations_directory.specs.Operations as operations
-use Rattle.catalog.specs.Disks as disks
-use Rattle.catalog.specs.Tables.{AreTables, Tables}
-use Rattle.catalog.specs.Rules.{blocks_used}
-use Rattle.catalog.specs.Items.{AreItemsOf}
-use Rattle.catalog.proofs.TableItems.{IsOf, a_file, a_chunk, a_disk, an_operation, the_templates, a_node, the_settings, marks, above_least, below, left_among, map_among, numbers_exact, rank, ranks, right_among, said, says, tail_up}
+use Rattle.catalog_tables.specs.Disks as disks
+use Rattle.catalog_tables.specs.Tables.{AreTables, Tables}
+use Rattle.catalog_tables.specs.Rules.{blocks_used}
+use Rattle.catalog_tables.specs.Items.{AreItemsOf}
+use Rattle.catalog_tables.proofs.TableItems.{IsOf, a_file, a_chunk, a_disk, an_operation, the_templates, a_node, the_settings, marks, above_least, below, left_among, map_among, numbers_exact, rank, ranks, right_among, said, says, tail_up}
 
 -- ---- a list without repetitions whose elements are all in another is no longer
 

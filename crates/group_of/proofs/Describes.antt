@@ -22,15 +22,15 @@ use Rattle.file_directory.specs.Files as heads
 use Rattle.file_directory.specs.Files.{head_at}
 use Rattle.alias_tree.specs.Trees.{tree_of}
 use Rattle.alias_edits.proofs.Growing as trees
-use Rattle.catalog.specs.Disks.{Disk, info_at}
-use Rattle.catalog.specs.Tables.{AreTables, Tables}
-use Rattle.catalog.specs.Rules as rules
-use Rattle.catalog.specs.Rules.{KeepsRules}
-use Rattle.catalog.specs.Items.{AreItemsOf}
-use Rattle.catalog.proofs.RegularHomes.{homes_are_regular}
-use Rattle.catalog.proofs.TableItems.{items_of_records}
-use Rattle.catalog.proofs.ItemLaws.{heads_are}
-use Rattle.catalog.proofs.HavingItems.{have_items}
+use Rattle.catalog_tables.specs.Disks.{Disk, info_at}
+use Rattle.catalog_tables.specs.Tables.{AreTables, Tables}
+use Rattle.catalog_tables.specs.Rules as rules
+use Rattle.catalog_tables.specs.Rules.{KeepsRules}
+use Rattle.catalog_tables.specs.Items.{AreItemsOf}
+use Rattle.catalog_laws.proofs.RegularHomes.{homes_are_regular}
+use Rattle.catalog_tables.proofs.TableItems.{items_of_records}
+use Rattle.catalog_laws.proofs.ItemLaws.{heads_are}
+use Rattle.catalog_laws.proofs.HavingItems.{have_items}
 use Rattle.group_of.specs.Groups.{HasCells, cells_in_file, cells_of, files_by_number, group_of}
 use Rattle.group_of.specs.Describing.{CatalogDescribes, DescribedHasCells, DescribedIsOfTables, KeepsNames, KeepsPlaces, NextTablesDescribe, StandUnder, SurplusDescribes, TablesDescribe}
 use Rattle.extent_map.specs.Extents.{Chunked}

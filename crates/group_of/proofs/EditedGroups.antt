@@ -23,9 +23,9 @@ use Rattle.file_directory.specs.Files as heads
 use Rattle.file_directory.specs.Files.{head_at, with_head}
 use Rattle.alias_tree.specs.Nodes.{Numbered, number_of}
 use Rattle.alias_tree.specs.Trees.{tree_of}
-use Rattle.catalog.specs.Tables.{Tables}
+use Rattle.catalog_tables.specs.Tables.{Tables}
 use Rattle.catalog.specs.TreePlans.{aliased, aliased_head, files_after, with_alias}
-use Rattle.catalog.proofs.NumberedLists.{number_is, put_at}
+use Rattle.catalog_tables.proofs.NumberedLists.{number_is, put_at}
 use Rattle.group_of.specs.Groups.{files_by_number, group_of}
 use Rattle.group_of.specs.Edits.{AttributeIsWorlds, TemplateEditIsWorlds, TreeEditIsWorlds, TreeEditKeepsCells}
 use Rattle.group_of.specs.Describing.{NamesAreGroup}

@@ -23,12 +23,12 @@ use Rattle.extent_map.proofs.Laws.{chunk_total}
 use Rattle.extent_map.proofs.Numbering.{numbers_extents}
 use Rattle.staleness_directory.specs.Marks.{marks_at}
 use Rattle.staleness_directory.specs.Marks as stale
-use Rattle.catalog.specs.Tables.{AreTables, Tables}
-use Rattle.catalog.specs.Rules.{HasExtents, KeepsRules, are_within, are_within_head, has_chunk, has_copies, has_marks, is_copied, is_due, is_owned, is_within, keeps_copies}
-use Rattle.catalog.specs.Items.{AreItemsOf}
+use Rattle.catalog_tables.specs.Tables.{AreTables, Tables}
+use Rattle.catalog_tables.specs.Rules.{HasExtents, KeepsRules, are_within, are_within_head, has_chunk, has_copies, has_marks, is_copied, is_due, is_owned, is_within, keeps_copies}
+use Rattle.catalog_tables.specs.Items.{AreItemsOf}
 use Rattle.catalog.proofs.NumberedEntries.{passes_each}
-use Rattle.catalog.proofs.TableItems.{chunks_exact, each_of, found_is}
-use Rattle.catalog.proofs.ItemLaws.{heads_are, homes_are, marks_are}
+use Rattle.catalog_tables.proofs.TableItems.{chunks_exact, each_of, found_is}
+use Rattle.catalog_laws.proofs.ItemLaws.{heads_are, homes_are, marks_are}
 use Rattle.group_of.specs.Groups.{HasCells, file_of_head, files_by_number}
 use Rattle.group_of.proofs.HeadedFiles.{file_at, files_are, head_among, head_is}
 use Rattle.group_of.proofs.Says as says

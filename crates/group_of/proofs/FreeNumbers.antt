@@ -11,8 +11,8 @@ use Rattle.asm_placement.specs.Naming.{is_pending}
 use Rattle.file_directory.specs.Files as heads
 use Rattle.file_directory.specs.Files.{head_at, is_file}
 use Rattle.catalog.specs.Numbers.{is_taken}
-use Rattle.catalog.specs.Rules.{KeepsRules}
-use Rattle.catalog.specs.Tables.{Tables}
+use Rattle.catalog_tables.specs.Rules.{KeepsRules}
+use Rattle.catalog_tables.specs.Tables.{Tables}
 use Rattle.group_of.proofs.Counts.{AllApart, no_longer}
 use Rattle.group_of.proofs.HeadedFiles.{head_among}
 

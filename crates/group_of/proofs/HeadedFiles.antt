@@ -15,11 +15,11 @@ use Rattle.asm_placement.specs.Tables.{head_of}
 use Rattle.asm_images.specs.Describing.{SameFile}
 use Rattle.file_directory.specs.Files as heads
 use Rattle.file_directory.specs.Files.{head_at}
-use Rattle.catalog.specs.Tables.{AreTables, Tables}
-use Rattle.catalog.specs.Items.{AreItemsOf}
-use Rattle.catalog.proofs.NumberedLists.{number_is}
-use Rattle.catalog.proofs.TableItems.{each_of, found_is, numbers_exact}
-use Rattle.catalog.proofs.ItemLaws.{heads_are}
+use Rattle.catalog_tables.specs.Tables.{AreTables, Tables}
+use Rattle.catalog_tables.specs.Items.{AreItemsOf}
+use Rattle.catalog_tables.proofs.NumberedLists.{number_is}
+use Rattle.catalog_tables.proofs.TableItems.{each_of, found_is, numbers_exact}
+use Rattle.catalog_laws.proofs.ItemLaws.{heads_are}
 use Rattle.group_of.specs.Groups.{HasCells, file_of_head, files_by_number}
 
 abbrev pub file_at : (ℕ → List Cell) → ℕ → Option FileHead → Option File

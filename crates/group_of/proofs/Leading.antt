@@ -15,13 +15,13 @@ use Rattle.asm_world.specs.Files as bytes
 use Rattle.asm_world.specs.Settings as settings
 use Rattle.allocator.specs.UnitMaps.{UnitMap}
 use Rattle.catalog.specs.FilePlans.{removed, sized, with_size}
-use Rattle.catalog.specs.Items.{AreItemsOf}
+use Rattle.catalog_tables.specs.Items.{AreItemsOf}
 use Rattle.catalog.specs.NamePlans.{made_file, named}
-use Rattle.catalog.specs.Placing.{HasUnits}
+use Rattle.catalog_tables.specs.Placing.{HasUnits}
 use Rattle.catalog.specs.Plans.{IsPlan}
-use Rattle.catalog.specs.Rules.{KeepsRules}
-use Rattle.catalog.specs.Tables.{Catalogued, Tables}
-use Rattle.catalog.proofs.HavingItems.{have_items}
+use Rattle.catalog_tables.specs.Rules.{KeepsRules}
+use Rattle.catalog_tables.specs.Tables.{Catalogued, Tables}
+use Rattle.catalog_laws.proofs.HavingItems.{have_items}
 use Rattle.group_of.specs.Groups.{AreCellsButFor, HasCells, cells_of, file_of_head, files_by_number, group_of}
 use Rattle.group_of.specs.Describing.{DescribedIsOfCatalog, HaveGroup, IsDescribed, KeepsPlaces}
 use Rattle.group_of.specs.Edits.{AttributeLeadsOn, LeadsOn, TemplateEditLeadsOn, TreeEditLeadsOn, attribute_meant, with_settings, with_templates, with_tree}

@@ -12,7 +12,7 @@ use Rattle.alias_edits.specs.Filing.{file_causes, with_file}
 use Rattle.alias_tree.specs.Trees.{tree_of}
 use Rattle.catalog.specs.NameChecks.{check_causes}
 use Rattle.catalog.specs.NamePlans.{filed_as, made_file, name_at, system_path}
-use Rattle.catalog.proofs.NameLaws.{refuses_as_world}
+use Rattle.catalog_laws.proofs.NameLaws.{refuses_as_world}
 use Rattle.group_of.specs.Groups.{group_of}
 use Rattle.group_of.specs.Edits.{IsRefusedBeside, IsWorldsRefusal, full, no_memory, refused, worlds}
 use Rattle.group_of.specs.Files.{CheckIsWorlds, HasTemplate, NameRefusalIsWorlds, new_file_answer}

@@ -22,7 +22,7 @@ use Rattle.alias_edits.specs.Filing as of_tree
 use Rattle.catalog.specs.FilePlans.{with_size}
 use Rattle.catalog.specs.NamePlans.{made_file, named}
 use Rattle.catalog.proofs.NumberedEntries.{number_other}
-use Rattle.catalog.proofs.NumberedLists.{either, number_is, number_itself, put_at}
+use Rattle.catalog_tables.proofs.NumberedLists.{either, number_is, number_itself, put_at}
 use Rattle.group_of.specs.Groups.{AreCellsButFor, file_of_head, files_by_number, group_of}
 use Rattle.group_of.specs.Files.{NewFileIsWorlds, NewNameIsWorlds, PutHasCells, ResizedCellsAreLong, ResizedHasCells, SizeIsWorlds, head_planned}
 use Rattle.group_of.proofs.EditedGroups.{done, same_files, size_of}

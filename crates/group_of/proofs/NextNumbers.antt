@@ -15,9 +15,9 @@ use Rattle.file_directory.specs.Files.{head_at, is_file}
 use Rattle.file_directory.specs.Files as heads
 use Rattle.catalog.specs.NamePlans.{made_file}
 use Rattle.catalog.specs.Numbers.{IsNextFile, is_taken}
-use Rattle.catalog.specs.Tables.{Tables}
+use Rattle.catalog_tables.specs.Tables.{Tables}
 use Rattle.catalog.proofs.NumberedEntries.{number_other}
-use Rattle.catalog.proofs.NumberedLists.{number_itself}
+use Rattle.catalog_tables.proofs.NumberedLists.{number_itself}
 use Rattle.group_of.specs.Groups.{files_by_number, group_of}
 use Rattle.group_of.specs.Files.{IsAtRest, MadeNumberIsWorlds, NextNumberIsWorlds}
 use Rattle.group_of.proofs.FreeNumbers.{HasFreeNumber, number_is_free}

@@ -18,15 +18,15 @@ use Rattle.extent_map.specs.Extents as extents
 use Rattle.extent_map.specs.Extents.{Chunked}
 use Rattle.asm_base.specs.Chunks.{chunk_cmp, is_before}
 use Rattle.extent_map.proofs.Laws.{chunk_total}
-use Rattle.catalog.specs.Tables.{Tables}
-use Rattle.catalog.specs.Rules.{KeepsRules, are_on_disks, are_on_two, is_on_disks}
-use Rattle.catalog.specs.Items.{AreItemsOf}
-use Rattle.catalog.specs.Placing.{HasUnits, disk_units, entry_units, homes_of, unused_maps}
-use Rattle.catalog.proofs.HomeUnits.{chunks_are_homes, three_true}
-use Rattle.catalog.proofs.ItemLists.{items_say}
+use Rattle.catalog_tables.specs.Tables.{Tables}
+use Rattle.catalog_tables.specs.Rules.{KeepsRules, are_on_disks, are_on_two, is_on_disks}
+use Rattle.catalog_tables.specs.Items.{AreItemsOf}
+use Rattle.catalog_tables.specs.Placing.{HasUnits, disk_units, entry_units, homes_of, unused_maps}
+use Rattle.catalog_tables.proofs.HomeUnits.{chunks_are_homes, three_true}
+use Rattle.catalog_laws.proofs.ItemLists.{items_say}
 use Rattle.catalog.proofs.NumberedEntries.{passes_each}
-use Rattle.catalog.proofs.PlacingLaws.{units_some}
-use Rattle.catalog.proofs.TableItems.{append_among, below, chunks_exact, each_of, tail_up}
+use Rattle.catalog_tables.proofs.PlacingLaws.{units_some}
+use Rattle.catalog_tables.proofs.TableItems.{append_among, below, chunks_exact, each_of, tail_up}
 use Rattle.allocator.specs.UnitMaps.{UnitMap, is_free, unused}
 use Rattle.group_of.proofs.Runs.{AllPairs, AreLong, AreTaken, DontOverlap, IsFreeIn, all_taken, unused_is, unused_whole}
 

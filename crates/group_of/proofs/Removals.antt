@@ -24,12 +24,12 @@ use Rattle.alias_edits.proofs.Growing.{NamesGone, unnamed_tree}
 use Rattle.alias_tree.proofs.Keeping.{at_without, without_items}
 use Rattle.alias_tree.proofs.Leading.{same_bool}
 use Rattle.alias_tree.proofs.Ways.{no_root}
-use Rattle.catalog.specs.Tables.{Tables}
+use Rattle.catalog_tables.specs.Tables.{Tables}
 use Rattle.catalog.specs.FilePlans.{without_names}
-use Rattle.catalog.specs.Rules as rules
-use Rattle.catalog.specs.Rules.{KeepsRules}
+use Rattle.catalog_tables.specs.Rules as rules
+use Rattle.catalog_tables.specs.Rules.{KeepsRules}
 use Rattle.catalog.proofs.NumberedEntries.{found_passes, number_other}
-use Rattle.catalog.proofs.NumberedLists.{either, gone_at, number_is, number_itself}
+use Rattle.catalog_tables.proofs.NumberedLists.{either, gone_at, number_is, number_itself}
 use Rattle.group_of.specs.Groups.{files_by_number, group_of}
 use Rattle.group_of.specs.Files.{RemovalIsWorlds, RemovalKeepsCells}
 use Rattle.group_of.proofs.HeadedFiles as files

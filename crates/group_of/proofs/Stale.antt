@@ -14,12 +14,12 @@ use Rattle.extent_map.proofs.Laws.{chunk_total}
 use Rattle.extent_map.proofs.Numbering.{size_of}
 use Rattle.staleness_directory.specs.Marks as stale
 use Rattle.staleness_directory.specs.Marks.{Marked, marks_at}
-use Rattle.catalog.specs.Items.{AreItemsOf}
-use Rattle.catalog.specs.Tables.{Tables}
-use Rattle.catalog.specs.Rules.{KeepsRules, are_chunk_marks, are_marks_of, has_chunk, is_mark_of, is_marked_right, marks_of}
+use Rattle.catalog_tables.specs.Items.{AreItemsOf}
+use Rattle.catalog_tables.specs.Tables.{Tables}
+use Rattle.catalog_tables.specs.Rules.{KeepsRules, are_chunk_marks, are_marks_of, has_chunk, is_mark_of, is_marked_right, marks_of}
 use Rattle.catalog.proofs.NumberedEntries.{passes_each}
-use Rattle.catalog.proofs.TableItems.{chunks_exact, each_of, found_is}
-use Rattle.catalog.proofs.ItemLaws.{stale_are}
+use Rattle.catalog_tables.proofs.TableItems.{chunks_exact, each_of, found_is}
+use Rattle.catalog_laws.proofs.ItemLaws.{stale_are}
 use Rattle.group_of.proofs.Extents.{home_by, or_else}
 
 clash : (b : Bool) → b ≡ true → b ≡ false → ⊥

@@ -23,12 +23,12 @@ use Rattle.alias_tree.specs.Nodes as nodes
 use Rattle.alias_tree.specs.Nodes.{child, node_at}
 use Rattle.alias_tree.specs.Trees.{number_by, tree_of}
 use Rattle.alias_tree.proofs.Ways.{ChildAt, child_at, child_found, no_root, reaches_more, tree_has}
-use Rattle.catalog.specs.Tables.{AreTables, Tables, item_at}
-use Rattle.catalog.specs.Rules as rules
-use Rattle.catalog.specs.Rules.{KeepsRules}
-use Rattle.catalog.specs.Items.{AreItemsOf}
+use Rattle.catalog_tables.specs.Tables.{AreTables, Tables, item_at}
+use Rattle.catalog_tables.specs.Rules as rules
+use Rattle.catalog_tables.specs.Rules.{KeepsRules}
+use Rattle.catalog_tables.specs.Items.{AreItemsOf}
 use Rattle.catalog.proofs.NumberedEntries.{found_passes}
-use Rattle.catalog.proofs.ItemLaws.{heads_are}
+use Rattle.catalog_laws.proofs.ItemLaws.{heads_are}
 use Rattle.group_of.proofs.Says.{first_is, first_none, nodes_are}
 use Rattle.group_of.proofs.Counts.{few_nodes}
 use Rattle.asm_group.specs.Shape.{Shape}

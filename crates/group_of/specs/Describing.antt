@@ -9,11 +9,11 @@ use Rattle.asm_base.specs.Records.{Entry}
 use Rattle.asm_placement.specs.Partners.{HasPartners}
 use Rattle.asm_images.specs.Describing.{DescribesGroup}
 use Rattle.allocator.specs.UnitMaps.{UnitMap}
-use Rattle.catalog.specs.Faults.{IsCatalogOf}
-use Rattle.catalog.specs.Items.{AreItemsIn, AreItemsOf}
-use Rattle.catalog.specs.Placing.{HasUnits}
-use Rattle.catalog.specs.Rules.{AreOnRegular, KeepsRules, first_unknown}
-use Rattle.catalog.specs.Tables.{AreTables, Catalogued, Tables}
+use Rattle.catalog_tables.specs.Faults.{IsCatalogOf}
+use Rattle.catalog_tables.specs.Items.{AreItemsIn, AreItemsOf}
+use Rattle.catalog_tables.specs.Placing.{HasUnits}
+use Rattle.catalog_tables.specs.Rules.{AreOnRegular, KeepsRules, first_unknown}
+use Rattle.catalog_tables.specs.Tables.{AreTables, Catalogued, Tables}
 use Rattle.group_of.specs.Groups.{HasCells, cells_of, group_of}
 
 -- The tables of a group of this shape may stand under the record.

@@ -21,7 +21,7 @@ use Rattle.alias_tree.specs.Nodes.{Numbered}
 use Rattle.template_directory.specs.Meant.{IsRefusal}
 use Rattle.catalog.specs.FilePlans.{IsAttributePlan, IsAttributeRefusal}
 use Rattle.catalog.specs.Plans.{IsTemplatePlan}
-use Rattle.catalog.specs.Tables.{Catalogued, Tables}
+use Rattle.catalog_tables.specs.Tables.{Catalogued, Tables}
 use Rattle.catalog.specs.TreePlans.{IsTreePlan, IsTreeRefusal, files_after}
 use Rattle.group_of.specs.Groups.{HasCells, group_of}
 use Rattle.group_of.specs.Describing.{HaveGroup, IsDescribed}

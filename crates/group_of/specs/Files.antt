@@ -20,8 +20,8 @@ use Rattle.catalog.specs.NameChecks.{IsCheckRefusal}
 use Rattle.catalog.specs.NamePlans.{IsNamePlan, IsNameRefusal, made_file, name_at, named, new_head}
 use Rattle.catalog.specs.Numbers.{IsNextFile}
 use Rattle.catalog.specs.Plans.{AreOwned}
-use Rattle.catalog.specs.Rules.{KeepsRules}
-use Rattle.catalog.specs.Tables.{Catalogued, Tables}
+use Rattle.catalog_tables.specs.Rules.{KeepsRules}
+use Rattle.catalog_tables.specs.Tables.{Catalogued, Tables}
 use Rattle.group_of.specs.Groups.{AreCellsButFor, HasCells, file_of_head, group_of}
 use Rattle.group_of.specs.Describing.{HaveGroup, IsDescribed}
 use Rattle.group_of.specs.Edits.{IsRefusedBeside, IsWorldsRefusal}

@@ -26,9 +26,9 @@ use Rattle.asm_images.specs.Bridge.{disks_in}
 use Rattle.asm_images.specs.Copies.{IsCurrent, is_disk_in, is_kept}
 use Rattle.asm_images.specs.Kept.{Kept}
 use Rattle.asm_images.specs.Members.{Member as Disk, byte}
-use Rattle.catalog.specs.Tables.{Tables}
-use Rattle.catalog.proofs.HavingItems.{have_items}
-use Rattle.catalog.proofs.ItemLists.{items_say}
+use Rattle.catalog_tables.specs.Tables.{Tables}
+use Rattle.catalog_laws.proofs.HavingItems.{have_items}
+use Rattle.catalog_laws.proofs.ItemLists.{items_say}
 use Rattle.extent_copies.specs.declared.extent.Extent.{Extent}
 use Rattle.extent_copies.specs.Extents.{can_be_read_at, copy_of}
 use Rattle.extent_map.specs.Extents.{absent, chunk_at, extent_at, has_home}

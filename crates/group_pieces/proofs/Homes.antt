@@ -23,14 +23,14 @@ use Rattle.asm_base.proofs.Exact.{bind_some}
 use Rattle.extent_map.specs.Extents.{absent, chunk_at, extent_at, has_home}
 use Rattle.asm_base.specs.Chunks.{chunk_cmp}
 use Rattle.extent_map.proofs.Laws.{chunk_total, same_chunk}
-use Rattle.catalog.specs.Items.{AreItemsOf}
-use Rattle.catalog.specs.Placing.{HasUnits, after_homes, disk_units, home_taken, is_run_free, unused_maps}
-use Rattle.catalog.specs.Rules.{are_on_disks, first_wrong, is_on_disks}
-use Rattle.catalog.specs.Tables.{AreTables, Tables}
-use Rattle.catalog.proofs.EntryLaws.{right_at}
-use Rattle.catalog.proofs.HomeUnits.{chunks_are_homes, set_here, set_other, takes, unused_at}
-use Rattle.catalog.proofs.ItemLists.{items_say}
-use Rattle.catalog.proofs.PlacingLaws.{run_is}
+use Rattle.catalog_tables.specs.Items.{AreItemsOf}
+use Rattle.catalog_tables.specs.Placing.{HasUnits, after_homes, disk_units, home_taken, is_run_free, unused_maps}
+use Rattle.catalog_tables.specs.Rules.{are_on_disks, first_wrong, is_on_disks}
+use Rattle.catalog_tables.specs.Tables.{AreTables, Tables}
+use Rattle.catalog_tables.proofs.EntryLaws.{right_at}
+use Rattle.catalog_tables.proofs.HomeUnits.{chunks_are_homes, set_here, set_other, takes, unused_at}
+use Rattle.catalog_laws.proofs.ItemLists.{items_say}
+use Rattle.catalog_tables.proofs.PlacingLaws.{run_is}
 
 -- ---- on different disks
 

@@ -9,8 +9,8 @@ use Rattle.asm_formats.specs.Items.{Home, Homes, chunk_len}
 use Rattle.asm_formats.specs.Sets.{has_bit}
 use Rattle.extent_map.specs.Extents.{absent, chunk_at, extent_at, has_home}
 use Rattle.catalog.specs.ExtentPlans.{MayMark, homes_at}
-use Rattle.catalog.specs.Rules.{is_mark_of}
-use Rattle.catalog.specs.Tables.{Tables}
+use Rattle.catalog_tables.specs.Rules.{is_mark_of}
+use Rattle.catalog_tables.specs.Tables.{Tables}
 use Rattle.group_engine.specs.Mounts.{MountedGroup}
 use Rattle.group_pieces.specs.Marking.{is_left, left_of, three_bits}
 use Rattle.group_pieces.specs.Usable.{extent_of}

@@ -13,9 +13,9 @@ use Rattle.extent_map.proofs.Laws.{same_chunk}
 use Rattle.extent_map.proofs.Lookups.{put_here}
 use Rattle.extent_map.proofs.Numbering.{found_self}
 use Rattle.catalog.specs.ExtentPlans.{MayMark, marks_changed, marks_or_none, with_marks_changed}
-use Rattle.catalog.specs.Faults.{IsCatalog}
-use Rattle.catalog.specs.Rules.{marks_of}
-use Rattle.catalog.specs.Tables.{Catalogued, Tables}
+use Rattle.catalog_tables.specs.Faults.{IsCatalog}
+use Rattle.catalog_tables.specs.Rules.{marks_of}
+use Rattle.catalog_tables.specs.Tables.{Catalogued, Tables}
 use Rattle.catalog.proofs.MarkPlans.{stands}
 use Rattle.group_engine.specs.Mounts.{MountedGroup}
 use Rattle.group_pieces.specs.Marking.{AreMarked, is_left, left_of}

@@ -11,7 +11,7 @@ use Rattle.asm_placement.specs.Layout.{units_of}
 use Rattle.asm_formats.specs.Items.{Home, Homes}
 use Rattle.asm_formats.proofs.Fields.{passes_if_all}
 use Rattle.asm_base.specs.declared.kinds.ExtentId.{ExtentId}
-use Rattle.catalog.specs.Rules.{are_on_disks, are_on_two}
+use Rattle.catalog_tables.specs.Rules.{are_on_disks, are_on_two}
 use Rattle.extent_copies.specs.declared.extent.Extent.{Extent}
 use Rattle.extent_copies.specs.Extents.{can_be_read_at}
 use Rattle.status_register.specs.declared.member.Member.{Member}

@@ -2,8 +2,8 @@
 use Rattle.std.specs.Prelude.{◌≡◌, ℕ, ◌+◌, ◌<◌, Bool, true, false, ◌&&◌, not, if◌then◌else◌, get_or, Option, Some, None, is_some}
 use Rattle.asm_base.specs.declared.kinds.ExtentId.{ExtentId}
 use Rattle.asm_formats.specs.Sets.{has_bit}
-use Rattle.catalog.specs.Rules.{marks_of}
-use Rattle.catalog.specs.Tables.{Tables}
+use Rattle.catalog_tables.specs.Rules.{marks_of}
+use Rattle.catalog_tables.specs.Tables.{Tables}
 use Rattle.extent_copies.specs.declared.extent.Extent.{Extent}
 use Rattle.group_engine.specs.Mounts.{MountedGroup}
 use Rattle.group_pieces.specs.declared.copies.Place.{Place}

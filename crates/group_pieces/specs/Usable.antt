@@ -10,7 +10,7 @@ use Rattle.asm_placement.specs.Layout.{units_of}
 use Rattle.asm_images.specs.Describing.{extent_size}
 use Rattle.asm_images.specs.Spans.{Span}
 use Rattle.extent_map.specs.Extents.{absent, extent_at}
-use Rattle.catalog.specs.Rules.{marks_of}
+use Rattle.catalog_tables.specs.Rules.{marks_of}
 use Rattle.extent_copies.specs.declared.extent.Extent.{Extent}
 use Rattle.extent_copies.specs.Extents.{can_be_read_at}
 use Rattle.group_engine.specs.declared.attached.Attached.{Attached}

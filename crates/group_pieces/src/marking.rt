@@ -1,7 +1,7 @@
 // Copies that didn't take what was written are marked stale.
 ghost use Rattle.std.specs.Prelude.{◌≡◌, ◌<◌, ◌≤◌, ◌^◌, IsTrue, OnOk, ℕ};
 ghost use Rattle.asm_group.specs.Shape.{is_shape};
-ghost use Rattle.catalog.specs.Faults.{IsCatalog};
+ghost use Rattle.catalog_tables.specs.Faults.{IsCatalog};
 ghost use Rattle.group_engine.specs.Mounts.{IsMounted, Takes};
 ghost use Rattle.group_engine.specs.Pending.{GoesOn};
 ghost use Rattle.group_pieces.specs.Marking.{AreMarked, bit_if, is_left, left_of, took};

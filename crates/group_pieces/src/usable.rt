@@ -1,8 +1,8 @@
 // Which copies of an extent are usable, and where a piece of it stands on them.
 ghost use Rattle.std.specs.Prelude.{◌≡◌, ◌+◌, ◌*◌, ◌<◌, ◌≤◌, ◌^◌, None, Some, IsTrue, false, get_or, true};
 ghost use Rattle.asm_group.specs.Shape.{is_shape};
-ghost use Rattle.catalog.specs.Faults.{IsCatalog};
-ghost use Rattle.catalog.specs.Rules.{are_on_disks};
+ghost use Rattle.catalog_tables.specs.Faults.{IsCatalog};
+ghost use Rattle.catalog_tables.specs.Rules.{are_on_disks};
 ghost use Rattle.group_pieces.specs.Usable.{IsLost, at_home, extent_of, first_disk, on_disk, place_at, places_at, places_in};
 
 use crate::copies::Place;

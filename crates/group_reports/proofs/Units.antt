@@ -15,10 +15,10 @@ use Rattle.asm_placement.specs.Placed.{Placed, placed, placed_copies, placed_ext
 use Rattle.asm_base.specs.Records.{Ascend}
 use Rattle.extent_map.specs.Extents.{Chunked, chunks_from}
 use Rattle.asm_base.specs.Chunks.{Chunk, chunk_cmp, is_before}
-use Rattle.catalog.specs.Items.{AreItemsOf}
-use Rattle.catalog.specs.Placing.{homes_of}
-use Rattle.catalog.specs.Tables.{AreTables, Catalogued}
-use Rattle.catalog.proofs.ItemLists.{items_say}
+use Rattle.catalog_tables.specs.Items.{AreItemsOf}
+use Rattle.catalog_tables.specs.Placing.{homes_of}
+use Rattle.catalog_tables.specs.Tables.{AreTables, Catalogued}
+use Rattle.catalog_laws.proofs.ItemLists.{items_say}
 use Rattle.group_reports.specs.Extents.{file_units, file_units_in, units_at, units_of_file}
 
 -- the units of one home of a file

@@ -1,7 +1,7 @@
 //! An extent of a group's files.
 
 ghost use Rattle.std.specs.Prelude.{◌≡◌, ◌≤◌, IfSome, length};
-ghost use Rattle.catalog.specs.Tables.{AreTables};
+ghost use Rattle.catalog_tables.specs.Tables.{AreTables};
 ghost use Rattle.group_reports.specs.Extents.{extent_there};
 
 use asm_base::{ExtentId, Homes};

@@ -1,7 +1,7 @@
 //! The files of a group, one after the other.
 
 ghost use Rattle.std.specs.Prelude.{◌≡◌, ◌≤◌, ◌+◌, [], ◌∷◌, IfSome, MatchOption};
-ghost use Rattle.catalog.specs.Faults.{IsCatalog};
+ghost use Rattle.catalog_tables.specs.Faults.{IsCatalog};
 ghost use Rattle.group_reports.specs.Files.{files_from};
 
 use catalog::Catalog;

@@ -3,8 +3,8 @@
 ghost use Rattle.std.specs.Prelude.{◌≡◌, ◌≤◌, ◌<◌, ◌+◌, ◌^◌, ℕ, List, length};
 ghost use Rattle.asm_formats.specs.Items.{Item};
 ghost use Rattle.asm_placement.specs.Placed.{placed_copies, placed_extents};
-ghost use Rattle.catalog.specs.Items.{AreItemsOf};
-ghost use Rattle.catalog.specs.Tables.{AreTables};
+ghost use Rattle.catalog_tables.specs.Items.{AreItemsOf};
+ghost use Rattle.catalog_tables.specs.Tables.{AreTables};
 ghost use Rattle.group_reports.specs.Extents.{file_units, file_units_in, units_at, units_of_file};
 
 use crate::extents::most_chunks;

@@ -9,10 +9,10 @@ use Rattle.asm_formats.specs.Items.{FileHead, Key, file_item, is_item}
 use Rattle.asm_formats.specs.Values.{value}
 use Rattle.asm_base.specs.Records.{Entry, is_key}
 use Rattle.extent_map.specs.Extents.{Chunked}
-use Rattle.catalog.specs.Faults.{IsCatalog}
+use Rattle.catalog_tables.specs.Faults.{IsCatalog}
 use Rattle.catalog.specs.Plans.{AreOwned, IsPlan}
-use Rattle.catalog.specs.Rules.{first_wrong, is_owned}
-use Rattle.catalog.specs.Tables.{Catalogued, Tables, item_at, records_of}
+use Rattle.catalog_tables.specs.Rules.{first_wrong, is_owned}
+use Rattle.catalog_tables.specs.Tables.{Catalogued, Tables, item_at, records_of}
 use Rattle.catalog.specs.TreePlans.{IsTreePlan}
 use Rattle.file_directory.specs.Files.{head_at, record_of}
 use Rattle.directory_store.specs.Contents.{ArePutItems, IsPutItem}

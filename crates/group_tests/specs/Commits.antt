@@ -3,7 +3,7 @@ use Rattle.std.specs.Prelude.{◌≡◌, ◌+◌, ◌≤◌, true, List, None, l
 use Rattle.asm_formats.specs.Items.{Key}
 use Rattle.asm_base.specs.Records.{Entry}
 use Rattle.catalog.specs.Applying.{Leaves}
-use Rattle.catalog.specs.Tables.{Catalogued, Tables, records_of}
+use Rattle.catalog_tables.specs.Tables.{Catalogued, Tables, records_of}
 use Rattle.directory_store.specs.Contents.{ArePutItems}
 use Rattle.page_map.specs.Changes.{is_gone, is_put}
 

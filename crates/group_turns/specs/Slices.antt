@@ -7,7 +7,7 @@ use Rattle.asm_base.specs.declared.refusal.DiskRef.TheVariants as disk
 use Rattle.asm_base.specs.declared.refusal.Refusal.{Refusal}
 use Rattle.asm_base.specs.declared.refusal.Refusal.TheVariants as cause
 use Rattle.asm_world.specs.Reply as w
-use Rattle.catalog.specs.Disks.{info_at}
+use Rattle.catalog_tables.specs.Disks.{info_at}
 use Rattle.group_engine.specs.Mounts.{MountedGroup}
 use Rattle.group_turns.specs.declared.failure.Failure.{Failure}
 use Rattle.group_turns.specs.declared.failure.Failure.TheVariants as failure

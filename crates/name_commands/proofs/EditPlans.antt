@@ -13,8 +13,8 @@ use Rattle.asm_group.specs.TreeEdits as e
 use Rattle.asm_world.specs.Edits as world
 use Rattle.alias_edits.specs.Edits as names
 use Rattle.alias_tree.specs.Trees.{tree_of}
-use Rattle.catalog.specs.Changing.{IsAfter}
-use Rattle.catalog.specs.Tables.{Catalogued, Tables}
+use Rattle.catalog_tables.specs.Changing.{IsAfter}
+use Rattle.catalog_tables.specs.Tables.{Catalogued, Tables}
 use Rattle.edit_laws.specs.Edits.{edited_by}
 use Rattle.edit_laws.proofs.OfTables.{refusal_is_of_tables}
 use Rattle.group_files.specs.GroupEdits.{IsEditPlan, IsRefusedAs}

@@ -22,9 +22,9 @@ use Rattle.asm_formats.specs.Among.{IsAmong}
 use Rattle.asm_world.specs.Below.{GroupBelow}
 use Rattle.asm_world.specs.Reply.{Reply, Done, Refused}
 use Rattle.asm_world.specs.World.{SessionEntry, SessionState, World, Mounted, DismountedBy, entry_among, groups_of, is_mounted, with_group}
-use Rattle.catalog.specs.Changing.{IsAfter}
-use Rattle.catalog.specs.Tables.{Tables}
-use Rattle.catalog.proofs.AfterLaws.{one_after}
+use Rattle.catalog_tables.specs.Changing.{IsAfter}
+use Rattle.catalog_tables.specs.Tables.{Tables}
+use Rattle.catalog_tables.proofs.AfterLaws.{one_after}
 use Rattle.edit_laws.specs.Edits.{edited_by}
 use Rattle.edit_laws.proofs.OfTables.{edit_is_of_tables}
 use Rattle.group_disks.specs.Found.{counts_of}

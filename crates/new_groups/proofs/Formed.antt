@@ -12,9 +12,9 @@ use Rattle.asm_group.specs.Names.{Bytes}
 use Rattle.asm_group.specs.Shape.{Shape, is_shape}
 use Rattle.asm_images.proofs.Members.{member_shape}
 use Rattle.asm_formats.specs.Among.{IsAmong}
-use Rattle.catalog.specs.Faults.{IsCatalogOf}
-use Rattle.catalog.specs.Tables.{Catalogued}
-use Rattle.catalog.proofs.ToldRecords.{records_told}
+use Rattle.catalog_tables.specs.Faults.{IsCatalogOf}
+use Rattle.catalog_tables.specs.Tables.{Catalogued}
+use Rattle.catalog_laws.proofs.ToldRecords.{records_told}
 use Rattle.change_directory.specs.declared.copy.DirCopy.{DirCopy}
 use Rattle.directory_store.specs.Stores.{Keeps, Stored}
 use Rattle.directory_store.proofs.Storing.{keeps_elsewhere}

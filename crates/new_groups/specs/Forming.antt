@@ -10,8 +10,8 @@ use Rattle.asm_formats.specs.Regions.{region_end}
 use Rattle.asm_group.specs.Refusal as r
 use Rattle.asm_group.specs.Shape.{Shape}
 use Rattle.asm_formats.specs.Among.{IsAmong}
-use Rattle.catalog.specs.Faults.{IsCatalogOf}
-use Rattle.catalog.specs.Tables.{Catalogued}
+use Rattle.catalog_tables.specs.Faults.{IsCatalogOf}
+use Rattle.catalog_tables.specs.Tables.{Catalogued}
 use Rattle.directory_store.specs.Stores.{Keeps}
 use Rattle.disk_images.specs.Headers.{HasHeaderSlot}
 use Rattle.group_disks.specs.Mounting.{by_number}

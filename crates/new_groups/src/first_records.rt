@@ -9,7 +9,7 @@ ghost use Rattle.directory_store.specs.Contents.{ArePutItems, IsPutItem};
 use asm_base::{
     Block, Change, GroupKind, Key, List, Name, NoMemory, Value, Writer, put_name, put_u64,
 };
-use catalog::DiskInfo;
+use catalog_tables::DiskInfo;
 use group_mount::Headed;
 use std::alloc::Global;
 use template_directory::{Settings, are_allowed, settings_value, system, templates_value};

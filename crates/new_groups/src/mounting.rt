@@ -1,6 +1,6 @@
 //! A group that was formed is mounted as it is.
 ghost use Rattle.std.specs.Prelude.{◌≡◌, IfOk};
-ghost use Rattle.catalog.specs.Faults.{IsCatalogOf};
+ghost use Rattle.catalog_tables.specs.Faults.{IsCatalogOf};
 ghost use Rattle.group_disks.specs.Mounting.{by_number};
 ghost use Rattle.group_engine.specs.Making.{made};
 ghost use Rattle.group_engine.specs.Mounts.{IsWhole};
@@ -13,7 +13,8 @@ use crate::forming::Formed;
 use crate::lists::by_number;
 use asm_base::NoMemory;
 use bay::Bay;
-use catalog::{Catalog, CatalogError};
+use catalog::Catalog;
+use catalog_tables::CatalogError;
 use directory_store::Store;
 use group_engine::Mounted;
 use std::alloc::Global;

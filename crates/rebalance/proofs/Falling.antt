@@ -4,11 +4,11 @@ use Rattle.asm_formats.specs.Status.{Status}
 use Rattle.asm_formats.specs.Items.{Item}
 use Rattle.asm_placement.specs.Work.{AreRecords}
 use Rattle.asm_placement.proofs.Falling.{work_falls}
-use Rattle.catalog.specs.Faults.{IsCatalog}
-use Rattle.catalog.specs.Items.{AreItemsOf}
-use Rattle.catalog.specs.Tables.{Catalogued}
-use Rattle.catalog.proofs.ItemLists.{items_say}
-use Rattle.catalog.proofs.RegularHomes.{copies_are_regular}
+use Rattle.catalog_tables.specs.Faults.{IsCatalog}
+use Rattle.catalog_tables.specs.Items.{AreItemsOf}
+use Rattle.catalog_tables.specs.Tables.{Catalogued}
+use Rattle.catalog_laws.proofs.ItemLists.{items_say}
+use Rattle.catalog_laws.proofs.RegularHomes.{copies_are_regular}
 use Rattle.rebalance.specs.declared.moves.Next.{Next as CodeNext}
 use Rattle.rebalance.specs.Falling.{Falls}
 use Rattle.rebalance.specs.Moves.{next_meant}

@@ -20,9 +20,9 @@ use Rattle.extent_map.proofs.Laws.{chunk_total, same_chunk}
 use Rattle.extent_map.proofs.Lookups.{put_other, set_other}
 use Rattle.staleness_directory.specs.Marks.{Marked, marks_at}
 use Rattle.catalog.specs.ExtentPlans.{homes_moved, marks_changed, marks_or_none, with_marks_at}
-use Rattle.catalog.specs.Tables.{AreTables, Catalogued}
-use Rattle.catalog.specs.Rules.{marks_of}
-use Rattle.catalog.proofs.TableItems.{below, chunks_exact, each_of, found_is, tail_up}
+use Rattle.catalog_tables.specs.Tables.{AreTables, Catalogued}
+use Rattle.catalog_tables.specs.Rules.{marks_of}
+use Rattle.catalog_tables.proofs.TableItems.{below, chunks_exact, each_of, found_is, tail_up}
 use Rattle.extent_copies.specs.declared.extent.Extent.{Extent}
 use Rattle.rebalance.specs.declared.stages.Stage.{Stage}
 use Rattle.rebalance.specs.declared.stages.Stage.TheVariants as stage

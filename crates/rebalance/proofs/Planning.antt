@@ -35,22 +35,22 @@ use Rattle.asm_base.specs.Chunks.{chunk_cmp}
 use Rattle.extent_map.proofs.Laws.{chunk_total}
 use Rattle.file_directory.specs.Files.{head_at}
 use Rattle.catalog.specs.ExtentPlans.{MayMove, home_at, homes_at, is_copy_of}
-use Rattle.catalog.specs.Faults.{IsCatalog}
-use Rattle.catalog.specs.Items.{AreItemsOf, chunk_copies}
-use Rattle.catalog.specs.Placing.{home_taken}
-use Rattle.catalog.specs.Rules.{AreOnRegular, are_on_disks, are_on_two, is_on_regular}
-use Rattle.catalog.specs.Tables.{Catalogued, Tables}
+use Rattle.catalog_tables.specs.Faults.{IsCatalog}
+use Rattle.catalog_tables.specs.Items.{AreItemsOf, chunk_copies}
+use Rattle.catalog_tables.specs.Placing.{home_taken}
+use Rattle.catalog_tables.specs.Rules.{AreOnRegular, are_on_disks, are_on_two, is_on_regular}
+use Rattle.catalog_tables.specs.Tables.{Catalogued, Tables}
 use Rattle.catalog.proofs.EditLaws.{chunk_right}
 use Rattle.catalog.proofs.ExtentCounts.{few_copies}
-use Rattle.catalog.proofs.ItemLists.{items_say}
+use Rattle.catalog_laws.proofs.ItemLists.{items_say}
 use Rattle.catalog.proofs.MarkPlans.{some_of}
-use Rattle.catalog.proofs.MoveItems.{moves_items}
+use Rattle.catalog_laws.proofs.MoveItems.{moves_items}
 use Rattle.catalog.proofs.MovePlans.{all_at}
-use Rattle.catalog.proofs.PlacingLaws.{all_in, units_some}
-use Rattle.catalog.proofs.RegularHomes.{moving_keeps}
-use Rattle.catalog.proofs.RecopyItems.{clears_items, may_clear}
-use Rattle.catalog.proofs.TableItems.{among_found, chunks_exact, each_of}
-use Rattle.catalog.proofs.UnitLaws.{units_are}
+use Rattle.catalog_tables.proofs.PlacingLaws.{all_in, units_some}
+use Rattle.catalog_laws.proofs.RegularHomes.{moving_keeps}
+use Rattle.catalog_laws.proofs.RecopyItems.{clears_items, may_clear}
+use Rattle.catalog_tables.proofs.TableItems.{among_found, chunks_exact, each_of}
+use Rattle.catalog_laws.proofs.UnitLaws.{units_are}
 use Rattle.status_table.proofs.Allowed.{entry_fits, parts_of}
 use Rattle.rebalance.specs.Falling.{MayBePlanned, NextMayBePlanned, PlannedMovesAreRegular, PlannedWorkFalls, planned}
 use Rattle.rebalance.specs.Searching.{IsStatusOf}

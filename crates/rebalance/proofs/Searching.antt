@@ -22,15 +22,15 @@ use Rattle.extent_map.specs.Extents.{Chunked, chunk_at, has_home, is_blank, item
 use Rattle.asm_base.specs.Chunks.{chunk_cmp}
 use Rattle.extent_map.proofs.Laws.{chunk_total}
 use Rattle.file_directory.specs.Files.{head_at}
-use Rattle.catalog.specs.Tables.{AreTables, Catalogued, Tables}
-use Rattle.catalog.specs.Items.{AreItemsOf, SayTables, chunk_copies}
-use Rattle.catalog.specs.Rules.{marks_of}
-use Rattle.catalog.specs.Faults.{IsCatalog}
+use Rattle.catalog_tables.specs.Tables.{AreTables, Catalogued, Tables}
+use Rattle.catalog_tables.specs.Items.{AreItemsOf, SayTables, chunk_copies}
+use Rattle.catalog_tables.specs.Rules.{marks_of}
+use Rattle.catalog_tables.specs.Faults.{IsCatalog}
 use Rattle.catalog.proofs.ExtentCounts.{few_extents}
-use Rattle.catalog.proofs.ItemLists.{items_say}
-use Rattle.catalog.proofs.PlacingLaws.{units_some}
-use Rattle.catalog.proofs.TableItems.{among_found, chunks_exact, each_of}
-use Rattle.catalog.proofs.UnitLaws.{units_are}
+use Rattle.catalog_laws.proofs.ItemLists.{items_say}
+use Rattle.catalog_tables.proofs.PlacingLaws.{units_some}
+use Rattle.catalog_tables.proofs.TableItems.{among_found, chunks_exact, each_of}
+use Rattle.catalog_laws.proofs.UnitLaws.{units_are}
 use Rattle.status_table.proofs.Allowed.{parts_of}
 use Rattle.extent_copies.specs.declared.extent.Extent.{Extent}
 use Rattle.rebalance.specs.declared.moves.Next.{Next as CodeNext}

@@ -9,7 +9,7 @@ use Rattle.asm_base.specs.Chunks.{Chunk, chunk_cmp, is_before}
 use Rattle.file_directory.specs.Files.{head_at}
 use Rattle.staleness_directory.specs.Marks.{marks_at}
 use Rattle.catalog.specs.ExtentPlans.{with_marks_changed, with_move}
-use Rattle.catalog.specs.Tables.{Catalogued, Tables}
+use Rattle.catalog_tables.specs.Tables.{Catalogued, Tables}
 use Rattle.rebalance.specs.declared.stages.Stage.{Stage}
 use Rattle.rebalance.specs.declared.stages.Stage.TheVariants as stage
 use Rattle.rebalance.specs.Sums.{Sums, sums_at}

@@ -6,10 +6,10 @@ use Rattle.asm_placement.specs.Moves.{items_after, record_after}
 use Rattle.asm_placement.specs.Rebalancing.{Move, Next, directory, fill, move, next, recopy, shift, tables}
 use Rattle.asm_placement.specs.Work.{IsLess, work}
 use Rattle.catalog.specs.ExtentPlans.{MayMark, MayMove, with_marks_changed, with_move}
-use Rattle.catalog.specs.Faults.{IsCatalog}
-use Rattle.catalog.specs.Items.{AreItemsOf}
-use Rattle.catalog.specs.Rules.{AreOnRegular}
-use Rattle.catalog.specs.Tables.{Catalogued, Tables}
+use Rattle.catalog_tables.specs.Faults.{IsCatalog}
+use Rattle.catalog_tables.specs.Items.{AreItemsOf}
+use Rattle.catalog_tables.specs.Rules.{AreOnRegular}
+use Rattle.catalog_tables.specs.Tables.{Catalogued, Tables}
 use Rattle.rebalance.specs.Searching.{IsStatusOf}
 
 -- Where the next is a move, the work that is left once it is committed is less.

@@ -9,9 +9,9 @@ use Rattle.asm_placement.specs.Rebalancing.{Next, done, next_directory, next_tab
 use Rattle.allocator.specs.UnitMaps.{UnitMap}
 use Rattle.extent_map.specs.Extents.{Chunked, has_home}
 use Rattle.file_directory.specs.Files.{head_at}
-use Rattle.catalog.specs.Tables.{Catalogued, Tables}
-use Rattle.catalog.specs.Rules.{AreOnRegular, marks_of}
-use Rattle.catalog.specs.Placing.{HasUnits}
+use Rattle.catalog_tables.specs.Tables.{Catalogued, Tables}
+use Rattle.catalog_tables.specs.Rules.{AreOnRegular, marks_of}
+use Rattle.catalog_tables.specs.Placing.{HasUnits}
 use Rattle.extent_copies.specs.declared.extent.Extent.{Extent}
 use Rattle.rebalance.specs.declared.stages.Stage.{Stage}
 use Rattle.rebalance.specs.declared.stages.Stage.TheVariants as stage

@@ -2,7 +2,7 @@
 
 ghost use Rattle.std.specs.Prelude.{◌≡◌, ◌/◌};
 ghost use Rattle.asm_formats.specs.Status.{Status};
-ghost use Rattle.catalog.specs.Tables.{AreTables, Catalogued};
+ghost use Rattle.catalog_tables.specs.Tables.{AreTables, Catalogued};
 ghost use Rattle.rebalance.specs.Cursors.{IsCursor, IsFollowed, followed, is_passed, passes_at, place_after, start};
 ghost use Rattle.rebalance.specs.Due.{is_due_in};
 ghost use Rattle.rebalance.specs.Sums.{sums_at};

@@ -2,7 +2,7 @@
 
 ghost use Rattle.std.specs.Prelude.{IfOk};
 ghost use Rattle.asm_formats.specs.Status.{Status};
-ghost use Rattle.catalog.specs.Tables.{Catalogued};
+ghost use Rattle.catalog_tables.specs.Tables.{Catalogued};
 ghost use Rattle.rebalance.specs.Cursors.{IsCursor};
 ghost use Rattle.rebalance.specs.Searching.{IsStatusOf};
 

@@ -10,8 +10,8 @@ use Rattle.asm_base.specs.declared.refusal.Refusal.{Refusal}
 use Rattle.asm_base.specs.declared.refusal.Refusal.TheVariants as cause
 use Rattle.asm_base.specs.declared.records.Change.{Change}
 use Rattle.catalog.specs.Plans.{IsPlan}
-use Rattle.catalog.specs.Tables.{Catalogued, Tables}
-use Rattle.catalog.proofs.TableItems.{from_map}
+use Rattle.catalog_tables.specs.Tables.{Catalogued, Tables}
+use Rattle.catalog_tables.proofs.TableItems.{from_map}
 use Rattle.asm_base.specs.Chunks.{Chunk}
 use Rattle.rebalance.specs.Cursors.{IsSameBut}
 use Rattle.group_engine.specs.Searches.{IsPlanIn}

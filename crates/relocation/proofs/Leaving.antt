@@ -14,7 +14,7 @@ use Rattle.bay.proofs.Images.{changes-within}
 use Rattle.gate_slot.specs.Slot.{GateOf, MayClose}
 use Rattle.gate_slot.specs.declared.place.Place.{Place}
 use Rattle.asm_group.specs.Shape.{Shape, is_dir_blocks, is_sector, is_shape, is_step, is_unit_size}
-use Rattle.catalog.proofs.TableItems.{from_map}
+use Rattle.catalog_tables.proofs.TableItems.{from_map}
 use Rattle.disk_images.specs.Headers.{HasHeaderSlot}
 use Rattle.status_register.specs.declared.member.Member.{Member}
 use Rattle.group_engine.specs.Members.{LetsGo}

@@ -18,7 +18,7 @@ use Rattle.asm_world.specs.Paths.{resolved}
 use Rattle.asm_world.specs.Reply.{Done, Refused}
 use Rattle.asm_world.specs.Step.{GoesTo, Step}
 use Rattle.asm_world.specs.World.{World}
-use Rattle.catalog.specs.Tables.{AreTables}
+use Rattle.catalog_tables.specs.Tables.{AreTables}
 use Rattle.group_disks.specs.Found.{Counts}
 use Rattle.group_engine.specs.Mounts.{MountedGroup}
 use Rattle.group_reports.specs.Places.{directory_at}

@@ -2,7 +2,7 @@
 use Rattle.std.specs.Prelude.{◌≡◌, ℕ, List, map, Ok}
 use Rattle.asm_group.specs.Names.{Bytes, Path}
 use Rattle.asmcmd.specs.Texts as texts
-use Rattle.catalog.specs.Rules.{KeepsRules}
+use Rattle.catalog_tables.specs.Rules.{KeepsRules}
 use Rattle.group_engine.specs.Mounts.{MountedGroup}
 use Rattle.group_reports.specs.Files.{paths_found}
 use Rattle.group_reports.specs.Places.{directory_at}

@@ -36,9 +36,9 @@ use Rattle.alias_tree.specs.Trees.{node_by, number_by, tree_of}
 use Rattle.alias_tree.proofs.Spelled.{leads_there}
 use Rattle.alias_tree.proofs.Ways.{key_is, key_other, key_self, is_key, no_root, tree_has, way, way_is, way_leads}
 use Rattle.file_directory.specs.Files.{File, head_at}
-use Rattle.catalog.specs.Rules as rules
-use Rattle.catalog.specs.Rules.{KeepsRules}
-use Rattle.catalog.specs.Tables.{Tables}
+use Rattle.catalog_tables.specs.Rules as rules
+use Rattle.catalog_tables.specs.Rules.{KeepsRules}
+use Rattle.catalog_tables.specs.Tables.{Tables}
 use Rattle.catalog.proofs.NumberedEntries.{found_passes, passes_each}
 use Rattle.group_of.specs.Groups.{group_of}
 use Rattle.group_of.proofs.HeadedFiles.{head_among}

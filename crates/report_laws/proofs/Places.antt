@@ -13,7 +13,7 @@ use Rattle.asm_world.specs.Causes.{IsCaused, When, decided, dir_causes}
 use Rattle.asm_world.specs.Edits as world
 use Rattle.alias_tree.specs.Nodes.{number_of}
 use Rattle.alias_tree.specs.Trees.{tree_of}
-use Rattle.catalog.specs.Tables.{AreTables, Tables}
+use Rattle.catalog_tables.specs.Tables.{AreTables, Tables}
 use Rattle.group_of.specs.Groups.{group_of}
 use Rattle.group_reports.specs.Places.{directory_in, is_directory_at}
 use Rattle.report_laws.specs.Places.{DirectoriesAreWorlds, IsDirectory, NoDirectoriesAreWorlds, spelt_by}

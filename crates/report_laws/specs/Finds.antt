@@ -5,8 +5,8 @@ use Rattle.asm_group.specs.Names.{Bytes, Path}
 use Rattle.asm_group.specs.Shape.{Shape}
 use Rattle.asm_world.specs.Listings as world
 use Rattle.asmcmd.specs.Texts.{path_line}
-use Rattle.catalog.specs.Rules.{KeepsRules}
-use Rattle.catalog.specs.Tables.{Tables}
+use Rattle.catalog_tables.specs.Rules.{KeepsRules}
+use Rattle.catalog_tables.specs.Tables.{Tables}
 use Rattle.group_of.specs.Groups.{group_of}
 use Rattle.group_reports.specs.Files.{paths_found}
 

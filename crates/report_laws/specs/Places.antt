@@ -8,7 +8,7 @@ use Rattle.asm_group.specs.Shape.{Shape}
 use Rattle.asm_world.specs.Causes.{IsCaused, decided, dir_causes}
 use Rattle.asm_world.specs.Edits as world
 use Rattle.alias_tree.specs.Spelling.{names_to}
-use Rattle.catalog.specs.Tables.{AreTables, Tables}
+use Rattle.catalog_tables.specs.Tables.{AreTables, Tables}
 use Rattle.group_of.specs.Groups.{group_of}
 use Rattle.group_reports.specs.Places.{directory_at}
 

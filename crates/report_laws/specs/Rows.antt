@@ -6,7 +6,7 @@ use Rattle.asm_group.specs.Shape.{Shape}
 use Rattle.asm_world.specs.Listings.{template_rows}
 use Rattle.asm_world.specs.Reports as world
 use Rattle.asmcmd.specs.Texts as texts
-use Rattle.catalog.specs.Tables.{AreTables, Tables}
+use Rattle.catalog_tables.specs.Tables.{AreTables, Tables}
 use Rattle.group_of.specs.Groups.{group_of}
 
 abbrev pub AttributesAreWorlds : Type 0

@@ -9,8 +9,8 @@ use Rattle.asm_formats.specs.Sets.{has_bit}
 use Rattle.asm_formats.specs.Status.{Entry, Status}
 use Rattle.asm_images.specs.RecordLaws.{bare}
 use Rattle.catalog.specs.ExtentPlans.{MayMark, homes_at}
-use Rattle.catalog.specs.Rules.{are_marks_of}
-use Rattle.catalog.specs.Tables.{Tables}
+use Rattle.catalog_tables.specs.Rules.{are_marks_of}
+use Rattle.catalog_tables.specs.Tables.{Tables}
 use Rattle.extent_map.specs.Extents.{chunk_at, extent_at, has_home}
 use Rattle.group_engine.specs.NextRecords.{KeepsDisks}
 use Rattle.status_table.specs.Changes.{entry_with_mode, status_with_mode}

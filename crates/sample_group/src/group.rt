@@ -4,7 +4,8 @@ use asm_base::{
     Block, DiskSet, GroupKind, Key, Mode, Name, NodeKind, PendingKind, Records, Shape, Stripe,
     Value, Writer, put_node_kind, put_pending_kind, put_text, put_u32, put_u64,
 };
-use catalog::{Catalog, CatalogError};
+use catalog::Catalog;
+use catalog_tables::CatalogError;
 use file_directory::{FileHead, record_of};
 use staleness_directory::{Marks, StaleTable};
 use status_table::{PstEntry, PstRecord, is_status};

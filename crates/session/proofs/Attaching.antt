@@ -12,7 +12,7 @@ use Rattle.asm_base.specs.declared.refusal.Refusal.{Refusal}
 use Rattle.asm_group.specs.Names.{Bytes}
 use Rattle.asm_formats.specs.Among.{IsAmong}
 use Rattle.asm_world.specs.World.{SessionEntry}
-use Rattle.catalog.proofs.TableItems.{from_map}
+use Rattle.catalog_tables.proofs.TableItems.{from_map}
 use Rattle.disk_joining.specs.Taking.{IsApart, TakesIn}
 use Rattle.group_disks.specs.Holding.{IsHeldSlot, SameHeld}
 use Rattle.group_engine.specs.Mounts.{IsMounted, IsOwn, IsWhole, MountedGroup, Takes, slot_at}

@@ -9,7 +9,7 @@ use Rattle.asm_group.specs.Group.{Group}
 use Rattle.asm_group.specs.Names.{Bytes, ByNumber, folded, is_same_name}
 use Rattle.asm_formats.specs.Among.{IsAmong}
 use Rattle.asm_world.specs.World.{SessionEntry, World, entry_among, groups_of, is_mounted, mounted_entry, without_entry}
-use Rattle.catalog.proofs.HavingItems.{have_items}
+use Rattle.catalog_laws.proofs.HavingItems.{have_items}
 use Rattle.group_engine.specs.Mounts.{IsWhole, MountedGroup, Represents}
 use Rattle.group_of.specs.Describing.{IsDescribed}
 use Rattle.group_of.specs.Groups.{cells_of, group_of}

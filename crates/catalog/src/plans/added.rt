@@ -3,15 +3,15 @@
 ghost use Rattle.std.specs.Prelude.{◌≡◌, ◌≤◌, ◌+◌, ◌++◌, [], IfErr, IfOk, OnOk, length, map, true};
 ghost use Rattle.std.specs.List.{All};
 ghost use Rattle.asm_formats.specs.Items.{disk_item, is_item};
-ghost use Rattle.catalog.specs.Disks.{Disk, record_of};
+ghost use Rattle.catalog_tables.specs.Disks.{Disk, record_of};
 ghost use Rattle.catalog.specs.Plans.{IsAddRefusal, IsPlan, MayAdd, with_records};
-ghost use Rattle.catalog.specs.Rules.{blocks_used};
+ghost use Rattle.catalog_tables.specs.Rules.{blocks_used};
 
 use crate::catalog::Catalog;
-use crate::disk_info::DiskInfo;
 use crate::plans::disks::disk_record;
 use crate::plans::making::no_memory;
 use asm_base::{Change, Key, List, NoMemory, Refusal, Value};
+use catalog_tables::DiskInfo;
 use std::alloc::Global;
 
 impl Catalog {

@@ -10,9 +10,9 @@ ghost use Rattle.catalog.specs.Plans.{IsPlan};
 
 use crate::catalog::Catalog;
 use crate::plans::making::{no_memory, one_put};
-use crate::reading::SETTINGS;
 use asm_base::{Change, Key, Name, NoMemory, Refusal, Text, Value};
 use attribute_values::with_attribute;
+use catalog_tables::SETTINGS;
 use std::alloc::Global;
 use template_directory::{Settings, settings_value};
 

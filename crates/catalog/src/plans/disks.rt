@@ -7,15 +7,14 @@ ghost use Rattle.asm_group.specs.Names.{is_name};
 ghost use Rattle.asm_formats.specs.Items.{DiskInfo as FormatInfo, disk_item, is_item};
 ghost use Rattle.asm_formats.specs.Values.{value};
 ghost use Rattle.asm_base.specs.Tables.{item_record};
-ghost use Rattle.catalog.specs.Disks.{info_at, with_info, without_disk};
+ghost use Rattle.catalog_tables.specs.Disks.{info_at, with_info, without_disk};
 ghost use Rattle.catalog.specs.Plans.{IsDiskRefusal, IsPlan, LacksBlock, may_be_record, with_record};
-ghost use Rattle.catalog.specs.Rules.{blocks_used};
+ghost use Rattle.catalog_tables.specs.Rules.{blocks_used};
 
 use crate::catalog::Catalog;
-use crate::checking::disk_key;
-use crate::disk_info::DiskInfo;
 use crate::plans::making::{no_memory, one_gone, one_put};
 use asm_base::{Block, Change, Key, Name, NoMemory, Refusal, Value, Writer, put_name, put_u64};
+use catalog_tables::{DiskInfo, disk_key};
 use std::alloc::Global;
 
 impl Catalog {

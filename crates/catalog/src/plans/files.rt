@@ -5,15 +5,14 @@ ghost use Rattle.asm_group.specs.declared.PendingKind.TheVariants.{Shrink};
 ghost use Rattle.asm_group.specs.Shape.{is_shape};
 ghost use Rattle.file_directory.specs.Files.{head_at, is_file};
 ghost use Rattle.asm_base.specs.declared.refusal.Refusal.TheVariants.{NoMemory as WithoutMemory};
-ghost use Rattle.catalog.specs.Faults.{IsCatalog, file_key, node_key};
+ghost use Rattle.catalog_tables.specs.Faults.{IsCatalog, file_key, node_key};
 ghost use Rattle.catalog.specs.FilePlans.{HasSoMany, IsRemovalPlan, IsSizePlan, MayGrow, removal_of, with_size};
 
 use crate::catalog::Catalog;
-use crate::checking::file_key;
 use crate::plans::making::{no_memory, one_put, two_put};
 use crate::plans::operations::{PENDING, fits};
-use crate::reading::node_key;
 use asm_base::{Change, Key, List, NoMemory, Refusal, Shape, Value};
+use catalog_tables::{file_key, node_key};
 use file_directory::{FileHead, record_of};
 use operations_directory::{Pending, PendingKind, pending_record};
 use std::alloc::Global;

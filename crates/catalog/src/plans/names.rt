@@ -12,7 +12,7 @@ ghost use Rattle.alias_tree.specs.Nodes.{IsTable, Numbered, node_at, record_of a
 ghost use Rattle.alias_tree.specs.Trees.{tree_of};
 ghost use Rattle.file_directory.specs.Files.{record_of as file_entry};
 ghost use Rattle.catalog.specs.NamePlans.{AreNewNodes, HasParts, IsCreated, IsNamePlan, IsNameRefusal, made_file, name_at, name_meant, new_head, settings_next, system_path};
-ghost use Rattle.catalog.specs.Rules.{blocks_used};
+ghost use Rattle.catalog_tables.specs.Rules.{blocks_used};
 
 use crate::catalog::Catalog;
 use crate::new_file::NewFile;

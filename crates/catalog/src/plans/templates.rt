@@ -10,8 +10,8 @@ ghost use Rattle.catalog.specs.Plans.{IsPlan, IsTemplatePlan};
 
 use crate::catalog::Catalog;
 use crate::plans::making::{no_memory, one_put};
-use crate::reading::TEMPLATES;
 use asm_base::{Change, Key, NoMemory, Refusal, Value};
+use catalog_tables::TEMPLATES;
 use std::alloc::Global;
 use template_directory::{Template, TemplateEdit, templates_value};
 

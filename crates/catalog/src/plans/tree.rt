@@ -10,15 +10,15 @@ ghost use Rattle.alias_tree.specs.Nodes.{IsTable, node_at, with_node, without_no
 ghost use Rattle.alias_tree.specs.Trees.{tree_of};
 ghost use Rattle.file_directory.specs.Files.{head_at};
 ghost use Rattle.catalog.specs.Plans.{IsPlan};
-ghost use Rattle.catalog.specs.Rules.{blocks_used};
+ghost use Rattle.catalog_tables.specs.Rules.{blocks_used};
 ghost use Rattle.catalog.specs.TreePlans.{IsFull, IsNewAlias, IsTreePlan, IsTreeRefusal, KeepsName, MayChange, MayGo, MayPut, aliased_head, heads_after, heads_with, heads_without, keeps_files, with_alias};
 
 use crate::catalog::Catalog;
 use crate::plans::making::{no_memory, one_gone, one_put, two_put};
-use crate::reading::node_key;
 use alias_edits::{TreeChange, TreeEdit, TreeError, plan};
 use alias_tree::{Node, node_record};
 use asm_base::{Change, Key, NoMemory, NodeKind, Refusal, Value};
+use catalog_tables::node_key;
 use file_directory::{FileHead, record_of};
 use std::alloc::Global;
 

@@ -1,5 +1,5 @@
 use Rattle.std.proofs.Common.{◌/◌, refl, sym, subst}
-use Rattle.catalog.specs.Tables.{Tables}
+use Rattle.catalog_tables.specs.Tables.{Tables}
 use Rattle.rebalance.specs.Cursors.{IsSameBut}
 use Rattle.benchmarks.proofs.moves.make_next.Goals as goal
 

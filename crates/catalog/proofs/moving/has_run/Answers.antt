@@ -4,7 +4,7 @@ use Rattle.std.specs.Bool.{OnTrue}
 use Rattle.std.proofs.lemmas.Option.{slice_get-get_or}
 use Rattle.asm_formats.specs.Items.{Home}
 use Rattle.allocator.specs.UnitMaps.{UnitMap}
-use Rattle.catalog.specs.Placing.{home_taken}
+use Rattle.catalog_tables.specs.Placing.{home_taken}
 use Rattle.catalog.proofs.MovedHomes.{run_taken}
 use Rattle.catalog.proofs.moving.has_run.Goals as goal
 

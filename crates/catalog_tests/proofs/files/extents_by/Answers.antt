@@ -1,4 +1,4 @@
-use Rattle.catalog.proofs.FileLaws.{layout_is}
+use Rattle.catalog_tables.proofs.FileLaws.{layout_is}
 use Rattle.catalog_tests.proofs.files.extents_by.Goals as goal
 
 pub extents_for-count-requires : goal.extents_for-count-requires

@@ -1,6 +1,6 @@
 use Rattle.std.proofs.Common.{◌≡◌, ℕ, ◌<◌, true}
 use Rattle.extent_map.specs.Extents.{extent_at}
-use Rattle.catalog.specs.Rules.{has_copies}
+use Rattle.catalog_tables.specs.Rules.{has_copies}
 use Rattle.catalog_tests.proofs.files.has_extents.Given as goal
 
 abbrev pub invariant-loop-index : goal.invariant-loop-index

@@ -1,6 +1,6 @@
 use Rattle.std.proofs.Common.{◌≡◌}
 use Rattle.catalog.specs.NamePlans.{is_within_file}
-use Rattle.catalog.specs.Rules.{first_wrong}
+use Rattle.catalog_tables.specs.Rules.{first_wrong}
 use Rattle.catalog_tests.proofs.names.has_no_chunk.Given as goal
 
 abbrev pub invariant-loop-at : goal.invariant-loop-at

@@ -1,5 +1,5 @@
 use Rattle.std.proofs.Common.{◌≡◌}
-use Rattle.catalog.specs.Rules.{first_wrong, is_owned}
+use Rattle.catalog_tables.specs.Rules.{first_wrong, is_owned}
 use Rattle.catalog_tests.proofs.operations.are_owned.Given as goal
 
 abbrev pub invariant-loop-at : goal.invariant-loop-at

@@ -1,6 +1,6 @@
 use Rattle.std.proofs.Common.{◌≡◌, refl, true, sym, ap, subst, ◌∙◌}
 use Rattle.asm_group.specs.Shape.{Shape, is_shape}
-use Rattle.catalog.specs.Tables.{Catalogued}
+use Rattle.catalog_tables.specs.Tables.{Catalogued}
 use Rattle.group_disks.proofs.Staying.{stays_keeps}
 use Rattle.new_groups.specs.Forming.{AreLong}
 use Rattle.disk_joining.proofs.Adds.{given_back}

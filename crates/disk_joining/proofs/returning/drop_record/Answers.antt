@@ -1,6 +1,6 @@
 use Rattle.std.proofs.Common.{subst}
 use Rattle.catalog.specs.Plans.{IsPlan}
-use Rattle.catalog.specs.Tables.{Catalogued, Tables}
+use Rattle.catalog_tables.specs.Tables.{Catalogued, Tables}
 use Rattle.disk_joining.proofs.Takings.{nothing_goes}
 use Rattle.disk_joining.proofs.returning.drop_record.Goals as goal
 

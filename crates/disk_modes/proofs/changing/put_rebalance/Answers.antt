@@ -1,6 +1,6 @@
 use Rattle.std.proofs.Common.{subst}
 use Rattle.catalog.specs.Plans.{IsPlan}
-use Rattle.catalog.specs.Tables.{Catalogued, Tables}
+use Rattle.catalog_tables.specs.Tables.{Catalogued, Tables}
 use Rattle.disk_modes.proofs.Effects.{rebalance_put}
 use Rattle.disk_modes.proofs.Steps.{goes_short, kept}
 use Rattle.disk_modes.proofs.changing.put_rebalance.Goals as goal

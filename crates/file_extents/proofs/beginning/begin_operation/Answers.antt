@@ -1,6 +1,6 @@
 use Rattle.std.proofs.Common.{subst, ◌∙◌, ap}
 use Rattle.catalog.specs.Plans.{IsPlan}
-use Rattle.catalog.specs.Tables.{Catalogued, Tables}
+use Rattle.catalog_tables.specs.Tables.{Catalogued, Tables}
 use Rattle.asm_formats.specs.Items.{Pending}
 use Rattle.group_engine.proofs.Endings.{goes_on, on_true}
 use Rattle.file_extents.specs.Beginning.{begun}

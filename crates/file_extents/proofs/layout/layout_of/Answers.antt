@@ -1,5 +1,5 @@
 use Rattle.std.proofs.Common.{sym, ◌∙◌}
-use Rattle.catalog.proofs.FileLaws.{layout_is}
+use Rattle.catalog_tables.proofs.FileLaws.{layout_is}
 use Rattle.file_extents.proofs.layout.layout_of.Goals as goal
 
 pub returns-clause-layout : goal.returns-clause-layout

@@ -1,5 +1,5 @@
 use Rattle.std.proofs.Common.{arith}
-use Rattle.catalog.proofs.PlacingLaws.{extent_next, extent_not, extents_end, units_some}
+use Rattle.catalog_tables.proofs.PlacingLaws.{extent_next, extent_not, extents_end, units_some}
 use Rattle.file_extents.proofs.placing.place_row.Goals as goal
 
 pub place_extent-requires : goal.place_extent-requires

@@ -1,6 +1,6 @@
 use Rattle.std.proofs.Common.{◌≡◌, ◌+◌, drop}
 use Rattle.asm_placement.specs.Placed.{placed_extents}
-use Rattle.catalog.specs.Placing.{after_homes}
+use Rattle.catalog_tables.specs.Placing.{after_homes}
 use Rattle.file_extents.proofs.placing.place_row.Given as goal
 
 abbrev pub invariant-loop-homes : goal.invariant-loop-homes

@@ -1,4 +1,4 @@
-use Rattle.catalog.proofs.PlacingLaws.{taken_here}
+use Rattle.catalog_tables.proofs.PlacingLaws.{taken_here}
 use Rattle.file_extents.proofs.placing.take.Goals as goal
 
 pub returns : goal.returns

@@ -1,6 +1,6 @@
 use Rattle.std.proofs.Common.{◌≡◌, ◌∙◌, refl, subst, sym}
 use Rattle.catalog.specs.NamePlans.{IsCreated, IsNamePlan, made_file}
-use Rattle.catalog.specs.Tables.{Catalogued}
+use Rattle.catalog_tables.specs.Tables.{Catalogued}
 use Rattle.group_engine.proofs.Endings.{on_true}
 use Rattle.file_extents.proofs.Chains.{goes_short, kept}
 use Rattle.group_contents.proofs.Steps.{names}

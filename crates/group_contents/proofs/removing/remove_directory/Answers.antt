@@ -2,7 +2,7 @@ use Rattle.std.proofs.Common.{inl, inr, subst, ◌⊎◌}
 use Rattle.asm_group.specs.TreeEdits as e
 use Rattle.asm_base.specs.declared.refusal.Refusal.{Refusal}
 use Rattle.catalog.specs.Plans.{IsPlan}
-use Rattle.catalog.specs.Tables.{Catalogued, Tables}
+use Rattle.catalog_tables.specs.Tables.{Catalogued, Tables}
 use Rattle.catalog.specs.TreePlans.{IsTreePlan, IsTreeRefusal}
 use Rattle.group_engine.specs.Commits.{StatusCause}
 use Rattle.file_extents.proofs.Chains.{kept}

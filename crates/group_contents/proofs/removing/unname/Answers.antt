@@ -1,6 +1,6 @@
 use Rattle.std.proofs.Common.{ap, subst}
 use Rattle.catalog.specs.FilePlans.{IsRemovalPlan}
-use Rattle.catalog.specs.Tables.{Catalogued}
+use Rattle.catalog_tables.specs.Tables.{Catalogued}
 use Rattle.group_engine.specs.Mounts.{MountedGroup}
 use Rattle.group_engine.proofs.Endings.{goes_on, on_true}
 use Rattle.file_extents.proofs.Chains.{given_mounted, given_up, goes_short, takes_on}

@@ -1,6 +1,6 @@
 use Rattle.std.proofs.Common.{refl, subst, true, ◌≡◌}
 use Rattle.catalog.specs.FilePlans.{IsSizePlan}
-use Rattle.catalog.specs.Tables.{Catalogued}
+use Rattle.catalog_tables.specs.Tables.{Catalogued}
 use Rattle.group_engine.proofs.Endings.{on_true}
 use Rattle.file_extents.proofs.Chains.{goes_short, kept}
 use Rattle.group_contents.proofs.Steps.{size_plan, sizes}

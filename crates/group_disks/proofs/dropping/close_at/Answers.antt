@@ -1,7 +1,7 @@
 use Rattle.std.proofs.Common.{sym, ap, subst, ◌∙◌}
 use Rattle.std.proofs.lemmas.Option.{none-some}
 use Rattle.asm_group.specs.Shape.{Shape}
-use Rattle.catalog.specs.Tables.{Catalogued}
+use Rattle.catalog_tables.specs.Tables.{Catalogued}
 use Rattle.disk_images.specs.Headers.{HasHeaderSlot}
 use Rattle.group_disks.proofs.Drops.{no_runs, one_out, one_runs}
 use Rattle.group_disks.proofs.dropping.close_at.Goals as goal

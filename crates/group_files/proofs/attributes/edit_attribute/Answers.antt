@@ -1,6 +1,6 @@
 use Rattle.std.proofs.Common.{inl, refl, subst}
 use Rattle.catalog.specs.FilePlans.{IsAttributeRefusal}
-use Rattle.catalog.specs.Tables.{Catalogued}
+use Rattle.catalog_tables.specs.Tables.{Catalogued}
 use Rattle.group_files.proofs.Edits.{none_run}
 use Rattle.group_files.proofs.attributes.edit_attribute.Goals as goal
 

@@ -1,6 +1,6 @@
 use Rattle.std.proofs.Common.{inl, refl, subst}
 use Rattle.alias_edits.specs.Edits.{edit_meant}
-use Rattle.catalog.specs.Tables.{Catalogued}
+use Rattle.catalog_tables.specs.Tables.{Catalogued}
 use Rattle.catalog.specs.TreePlans.{IsTreeRefusal}
 use Rattle.group_files.proofs.Edits.{none_run}
 use Rattle.group_files.proofs.names.edit_tree.Goals as goal

@@ -1,6 +1,6 @@
 use Rattle.std.proofs.Common.{List, subst}
 use Rattle.asm_base.specs.Records.{Entry}
-use Rattle.catalog.specs.Faults.{IsAtFault, Names}
+use Rattle.catalog_tables.specs.Faults.{IsAtFault, Names}
 use Rattle.group_mount.proofs.Quorums.{catalog_refused}
 use Rattle.group_mount.proofs.quorum.catalog_of.Goals as goal
 

@@ -1,7 +1,7 @@
 use Rattle.std.proofs.Common.{ℕ, ap, sym, subst, ◌∙◌}
-use Rattle.catalog.proofs.AfterLaws.{one_after}
+use Rattle.catalog_tables.proofs.AfterLaws.{one_after}
 use Rattle.catalog.specs.Plans.{IsPlan}
-use Rattle.catalog.specs.Tables.{Catalogued}
+use Rattle.catalog_tables.specs.Tables.{Catalogued}
 use Rattle.catalog.specs.ExtentPlans.{MayMark, with_marks_changed}
 use Rattle.group_engine.proofs.Endings.{goes_begin, goes_without}
 use Rattle.group_pieces.proofs.Leaving.{may_mark}

@@ -1,5 +1,5 @@
 use Rattle.std.proofs.Common.{sym, subst, ◌∙◌}
-use Rattle.catalog.specs.Tables.{Tables}
+use Rattle.catalog_tables.specs.Tables.{Tables}
 use Rattle.group_engine.proofs.Endings.{goes_on}
 use Rattle.group_pieces.specs.Marking.{AreMarked}
 use Rattle.group_pieces.proofs.Steps.{any_ok, takes_next}

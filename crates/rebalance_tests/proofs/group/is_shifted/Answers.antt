@@ -1,7 +1,7 @@
 use Rattle.std.proofs.Common.{◌≡◌, ◌/◌, Bool, refl, sym, subst}
 use Rattle.std.specs.Bool.{OnTrue}
 use Rattle.catalog.specs.ExtentPlans.{with_move}
-use Rattle.catalog.specs.Tables.{Tables}
+use Rattle.catalog_tables.specs.Tables.{Tables}
 use Rattle.rebalance.specs.Cursors.{IsSameBut}
 use Rattle.rebalance_tests.proofs.group.is_shifted.Goals as goal
 

@@ -1,6 +1,6 @@
 use Rattle.std.proofs.Common.{subst}
 use Rattle.catalog.specs.Plans.{IsPlan}
-use Rattle.catalog.specs.Tables.{Catalogued, Tables}
+use Rattle.catalog_tables.specs.Tables.{Catalogued, Tables}
 use Rattle.group_engine.proofs.Endings.{goes_without}
 use Rattle.relocation.proofs.ending.end_active.Goals as goal
 

@@ -1,5 +1,5 @@
 use Rattle.std.proofs.Common.{◌/◌, sym, subst}
-use Rattle.catalog.specs.Tables.{Catalogued}
+use Rattle.catalog_tables.specs.Tables.{Catalogued}
 use Rattle.group_engine.specs.Searches.{IsPlanIn}
 use Rattle.group_engine.proofs.Endings.{goes_without}
 use Rattle.resync.proofs.Marks.{may_clear}

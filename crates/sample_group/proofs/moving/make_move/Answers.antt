@@ -1,7 +1,7 @@
 use Rattle.std.proofs.Common.{sym, subst}
-use Rattle.catalog.specs.Rules.{AreOnRegular}
-use Rattle.catalog.specs.Tables.{Tables}
-use Rattle.catalog.proofs.RegularHomes.{moving_keeps}
+use Rattle.catalog_tables.specs.Rules.{AreOnRegular}
+use Rattle.catalog_tables.specs.Tables.{Tables}
+use Rattle.catalog_laws.proofs.RegularHomes.{moving_keeps}
 use Rattle.sample_group.proofs.moving.make_move.Goals as goal
 
 pub returns-clause-moved : goal.returns-clause-moved

@@ -1,7 +1,7 @@
 use Rattle.std.proofs.Common.{subst}
 use Rattle.catalog.specs.ExtentPlans.{with_cut}
 use Rattle.catalog.specs.Plans.{IsPlan}
-use Rattle.catalog.specs.Tables.{Catalogued}
+use Rattle.catalog_tables.specs.Tables.{Catalogued}
 use Rattle.group_engine.proofs.Endings.{cut_heads, ends_planned}
 use Rattle.group_engine.proofs.mounted.Mounted.cut_chunk.Goals as goal
 

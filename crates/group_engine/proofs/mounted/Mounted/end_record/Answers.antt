@@ -1,6 +1,6 @@
 use Rattle.std.proofs.Common.{refl, sym, subst, ◌∙◌}
 use Rattle.catalog.specs.Plans.{AreOwned, IsPlan}
-use Rattle.catalog.specs.Tables.{Catalogued}
+use Rattle.catalog_tables.specs.Tables.{Catalogued}
 use Rattle.group_engine.specs.Pending.{without_pending}
 use Rattle.group_engine.proofs.Endings.{ended_if, ends_planned, ends_without, on_true}
 use Rattle.group_engine.proofs.mounted.Mounted.end_record.Goals as goal

@@ -1,6 +1,6 @@
 use Rattle.std.proofs.Common.{◌≡◌, ◌∙◌, ◌/◌, Bool, true, false, ◌&&◌, List, sym, ap, subst}
 use Rattle.asm_formats.specs.Status.{Entry}
-use Rattle.catalog.specs.Rules.{is_regular_chunk}
+use Rattle.catalog_tables.specs.Rules.{is_regular_chunk}
 use Rattle.rebalance.specs.Cursors.{IsFollowed, passes_at}
 use Rattle.group_engine.specs.Searches.{Searched}
 use Rattle.group_engine.proofs.Searches.{followed_search}

@@ -1,5 +1,5 @@
 use Rattle.std.proofs.Common.{◌≡◌, ◌≤◌, length}
-use Rattle.catalog.specs.Faults.{IsCatalog}
+use Rattle.catalog_tables.specs.Faults.{IsCatalog}
 use Rattle.group_tests.specs.Commits.{PutsNone}
 use Rattle.group_tests.proofs.calls.changes.heads_change.Given as goal
 

@@ -1,8 +1,0 @@
-use Rattle.std.proofs.Common.{◌≡◌, List, Some, take}
-use Rattle.allocator.specs.UnitMaps.{UnitMap}
-use Rattle.catalog.specs.Giving.{AreUnitsOfKept, keys_of, stays}
-use Rattle.catalog.specs.Placing.{after_chunks}
-use Rattle.catalog.proofs.changed_units.give_all.Given as goal
-
-abbrev pub invariant-loop-place : goal.invariant-loop-place
-invariant-loop-place l = (first : List UnitMap) → after_chunks l.step first l.extents ≡ Some l.fn.units → AreUnitsOfKept l.step first (stays (take l.place (keys_of l.put l.gone))) l.extents l.units

@@ -1,7 +1,0 @@
-use Rattle.std.proofs.Common.{◌≡◌, false, take}
-use Rattle.page_map.specs.Changes.{is_gone}
-use Rattle.catalog.specs.Giving.{keys_of}
-use Rattle.catalog.proofs.changed_units.is_earlier.Given as goal
-
-abbrev pub invariant-loop-earlier : goal.invariant-loop-earlier
-invariant-loop-earlier l = is_gone (take l.earlier (keys_of l.put l.gone)) l.key ≡ false

@@ -1,5 +1,0 @@
-use Rattle.catalog.proofs.MoveItems.{moves_items}
-use Rattle.catalog.proofs.laws.a_planned_move_is_a_move.Goals as goal
-
-pub returns : goal.returns
-returns c = moves_items

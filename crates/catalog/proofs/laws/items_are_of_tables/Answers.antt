@@ -1,5 +1,0 @@
-use Rattle.catalog.proofs.TableItems.{items_of_records}
-use Rattle.catalog.proofs.laws.items_are_of_tables.Goals as goal
-
-pub returns : goal.returns
-returns c = items_of_records

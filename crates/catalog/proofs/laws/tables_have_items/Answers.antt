@@ -1,5 +1,0 @@
-use Rattle.catalog.proofs.HavingItems.{have_items, items_are_one}
-use Rattle.catalog.proofs.laws.tables_have_items.Goals as goal
-
-pub returns : goal.returns
-returns c = record { there = have_items; one = items_are_one }

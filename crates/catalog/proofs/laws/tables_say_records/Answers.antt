@@ -1,5 +1,0 @@
-use Rattle.catalog.proofs.ToldRecords.{records_told}
-use Rattle.catalog.proofs.laws.tables_say_records.Goals as goal
-
-pub returns : goal.returns
-returns c = records_told

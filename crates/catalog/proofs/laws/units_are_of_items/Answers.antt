@@ -1,5 +1,0 @@
-use Rattle.catalog.proofs.UnitLaws.{units_are}
-use Rattle.catalog.proofs.laws.units_are_of_items.Goals as goal
-
-pub returns : goal.returns
-returns c = units_are

@@ -1,8 +1,0 @@
-use Rattle.catalog.proofs.ResizedUnits.{units_are_resized, units_resize}
-use Rattle.catalog.proofs.laws.units_resize.Goals as goal
-
-pub returns-clause-there : goal.returns-clause-there
-returns-clause-there c = units_resize
-
-pub returns-clause-alone : goal.returns-clause-alone
-returns-clause-alone c = units_are_resized

@@ -1,9 +1,0 @@
-use Rattle.catalog.specs.Changing.{IsOpen, tables_of}
-use Rattle.catalog.proofs.AfterLaws.{Forgets}
-use Rattle.catalog.proofs.opening.OpenParts.forget_nodes.Given as goal
-
-abbrev pub invariant-loop-key : goal.invariant-loop-key
-invariant-loop-key l = record {
-  others : Forgets l.put l.key-index (tables_of l.fn.self) (tables_of l.self);
-  open_ : IsOpen l.self;
-}

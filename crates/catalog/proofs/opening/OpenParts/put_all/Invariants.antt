@@ -1,9 +1,0 @@
-use Rattle.catalog.specs.Changing.{IsOpen, tables_of}
-use Rattle.catalog.proofs.AfterLaws.{Puts}
-use Rattle.catalog.proofs.opening.OpenParts.put_all.Given as goal
-
-abbrev pub invariant-loop-key : goal.invariant-loop-key
-invariant-loop-key l = record {
-  puts : Puts l.put l.key-index (tables_of l.fn.self) (tables_of l.self);
-  open_ : IsOpen l.self;
-}

@@ -1,7 +1,0 @@
-use Rattle.std.proofs.Common.{Some}
-use Rattle.catalog.proofs.SetLaws.{marks_taken}
-use Rattle.catalog.specs.Changing.{tables_of}
-use Rattle.catalog.proofs.opening.OpenParts.put_marks.Goals as goal
-
-pub returns-clause-put : goal.returns-clause-put
-returns-clause-put c = marks_taken c.taken.result c.in_ok-put_record.field-0 (tables_of c.args.self.now) c.put_record.new.self c.args.key (Some c.args.value.now) c.requires.kind c.taken.ensures c.in_ok-put_record.ensures.put

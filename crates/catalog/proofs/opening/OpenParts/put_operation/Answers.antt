@@ -1,7 +1,0 @@
-use Rattle.std.proofs.Common.{Some}
-use Rattle.catalog.proofs.SetLaws.{operation_taken}
-use Rattle.catalog.specs.Changing.{tables_of}
-use Rattle.catalog.proofs.opening.OpenParts.put_operation.Goals as goal
-
-pub returns-clause-put : goal.returns-clause-put
-returns-clause-put c = operation_taken c.taken.result c.put_record.result (tables_of c.args.self.now) c.put_record.new.self c.args.key (Some c.args.value.now) c.requires.kind c.taken.ensures c.put_record.ensures.put

@@ -1,7 +1,0 @@
-use Rattle.std.proofs.Common.{None}
-use Rattle.catalog.proofs.SetLaws.{extents_set}
-use Rattle.catalog.specs.Changing.{tables_of}
-use Rattle.catalog.proofs.opening.OpenParts.remove_chunk.Goals as goal
-
-pub returns-clause-gone : goal.returns-clause-gone
-returns-clause-gone c = extents_set (tables_of c.args.self.now) c.remove_record.new.self c.args.file c.args.chunk None c.remove_record.ensures.gone

@@ -1,7 +1,0 @@
-use Rattle.std.proofs.Common.{◌≡◌}
-use Rattle.staleness_directory.specs.Marks.{marks_from}
-use Rattle.catalog.specs.MarkedExtents.{first_marked}
-use Rattle.catalog.proofs.parts.Parts.first_marked.Given as goal
-
-abbrev pub invariant-loop-at : goal.invariant-loop-at
-invariant-loop-at l = first_marked l.self l.disk l.at-iterator ≡ first_marked l.self l.disk (marks_from l.self.stale l.fn.first)

@@ -1,6 +1,0 @@
-use Rattle.std.proofs.Common.{◌≡◌}
-use Rattle.catalog.specs.Rules.{first_wrong, keeps_copies}
-use Rattle.catalog.proofs.parts.Parts.too_many_copies.Given as goal
-
-abbrev pub invariant-loop-at : goal.invariant-loop-at
-invariant-loop-at l = first_wrong (keeps_copies l.self) l.at-iterator ≡ first_wrong (keeps_copies l.self) l.self.extents

@@ -1,6 +1,0 @@
-use Rattle.std.proofs.Common.{◌≡◌}
-use Rattle.catalog.specs.Rules.{first_wrong, has_marks}
-use Rattle.catalog.proofs.parts.Parts.unmarked.Given as goal
-
-abbrev pub invariant-loop-at : goal.invariant-loop-at
-invariant-loop-at l = first_wrong (has_marks l.self) l.at-iterator ≡ first_wrong (has_marks l.self) l.self.extents

@@ -1,9 +1,0 @@
-use Rattle.std.proofs.Common.{◌≡◌}
-use Rattle.catalog.specs.Placing.{after_chunks, misplaced}
-use Rattle.catalog.proofs.placing.place_all.Given as goal
-
-abbrev pub invariant-loop-at : goal.invariant-loop-at
-invariant-loop-at l = record {
-  fault : misplaced l.step l.units l.at-iterator ≡ misplaced l.step l.fn.units l.extents;
-  after : after_chunks l.step l.units l.at-iterator ≡ after_chunks l.step l.fn.units l.extents;
-}

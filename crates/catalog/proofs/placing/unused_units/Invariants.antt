@@ -1,9 +1,0 @@
-use Rattle.std.proofs.Common.{◌≡◌, map}
-use Rattle.std.specs.List.{range_with_len}
-use Rattle.asm_formats.specs.Regions.{reserved_units}
-use Rattle.allocator.specs.UnitMaps.{unused}
-use Rattle.catalog.specs.Placing.{disk_units}
-use Rattle.catalog.proofs.placing.unused_units.Given as goal
-
-abbrev pub invariant-loop-number : goal.invariant-loop-number
-invariant-loop-number l = l.units.items ≡ map (λ d. unused (reserved_units l.shape) (disk_units l.entries d)) (range_with_len 0 l.number)

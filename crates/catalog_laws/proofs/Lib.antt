@@ -1,0 +1,11 @@
+pub mod HavingItems
+pub mod ItemLaws
+pub mod ItemLists
+pub mod NoCatalog
+pub mod UnitLaws
+pub mod PageCounts
+pub mod NameLaws
+pub mod RegularHomes
+pub mod MoveItems
+pub mod RecopyItems
+pub mod ToldRecords

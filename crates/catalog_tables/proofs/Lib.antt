@@ -1,0 +1,16 @@
+pub mod DiskLaws
+pub mod FaultLaws
+pub mod FileLaws
+pub mod HomeUnits
+pub mod PlacingLaws
+pub mod ReadableLaws
+pub mod ReadingLaws
+pub mod TableItems
+pub mod UnusedLaws
+pub mod SetLaws
+pub mod SameTables
+pub mod AfterLaws
+pub mod NewRecords
+pub mod NumberedLists
+pub mod EntryLaws
+pub mod SameUnits

@@ -1,0 +1,356 @@
+-- From records that can be read each table is made.
+use Rattle.std.proofs.Common.{◌≡◌, ℕ, ◌+◌, Bool, true, false, List, [], ◌∷◌, map, Option, Some, None, refl, sym, ap, subst, ◌∙◌, arith}
+use Rattle.std.specs.Prelude.{is_some}
+use Rattle.std.specs.declared.cmp.Ordering.{Ordering}
+use Rattle.std.specs.declared.cmp.Ordering.TheVariants.{Less, Equal, Greater}
+use Rattle.std.specs.Cmp.{Equal-is}
+use Rattle.std.specs.Ordering.{nat_cmp, is_lt, ordering_then}
+use Rattle.std.specs.List.{AllByRecursion}
+use Rattle.std.specs.List.Sorted.{IsStrictlySortedBy}
+use Rattle.std.proofs.lemmas.Bool.{ne_eqb, true≢false}
+use Rattle.std.proofs.lemmas.Option.{none-some}
+use Rattle.asm_group.specs.Group.{Template}
+use Rattle.asm_formats.specs.Items.{Item, Key, Settings, file_item, chunk_item, disk_item, rebalance_item, pending_item, templates_item, node_item, settings_item, marks_item, key, is_item}
+use Rattle.asm_formats.specs.Values.{decoded_item}
+use Rattle.asm_formats.proofs.Bodies.{item_codec}
+use Rattle.asm_base.specs.Records.{Ascend, Entry, is_key, key_cmp, keys_of, of_kinds, record_at}
+use Rattle.asm_base.specs.Tables.{IsItemTable, item_record}
+use Rattle.file_directory.specs.Files as files
+use Rattle.extent_map.specs.Extents as extents
+use Rattle.extent_map.specs.Faults.{IsWithoutGap}
+use Rattle.alias_tree.specs.Nodes as nodes
+use Rattle.alias_tree.specs.Faults.{IsWithoutFault}
+use Rattle.template_directory.specs.Tables as templates
+use Rattle.staleness_directory.specs.Marks as stale
+use Rattle.operations_directory.specs.Operations as operations
+use Rattle.operations_directory.specs.Readings.{item_of}
+use Rattle.operations_directory.specs.declared.reading.Operation.{Operation}
+use Rattle.operations_directory.specs.declared.reading.Operation.TheVariants.{Rebalance, Pending as PendingOne}
+use Rattle.catalog_tables.specs.Disks as disks
+use Rattle.catalog_tables.specs.Tables.{first_unreadable}
+use Rattle.catalog_tables.specs.Faults.{settings_key, templates_key}
+use Rattle.catalog_tables.specs.Readable.{AreReadable, HasNeeded}
+use Rattle.catalog_tables.proofs.TableItems.{keys_exact}
+
+-- ---- the records of some kinds
+
+-- the record of an item of the formats, of one of the kinds
+record IsRecordOf (p : Key → Bool) (e : Entry) : Type 0 where
+  item : Item
+  allowed : is_item item ≡ true
+  mine : p (key item) ≡ true
+  same : e ≡ item_record item
+
+record_of_item : (p : Key → Bool) (e : Entry) (i : Item) → p e.0 ≡ true → decoded_item e.0 e.1 ≡ Some i → IsRecordOf p e
+record_of_item p e i mine read =
+    let d = item_codec.decoded e.0 e.1 i read in
+    record {
+      item = i;
+      allowed = d.0;
+      mine = ap p d.1 ∙ mine;
+      same = λ j. (sym d.1 j, d.2 j);
+    }
+
+-- records of the formats are those of items
+each_read : (p : Key → Bool) (content : List Entry) → first_unreadable content ≡ None → AllByRecursion (IsRecordOf p) (of_kinds p content)
+each_read p [] all = tt
+each_read p (e ∷ es) all = by (decoded_item e.0 e.1) (p e.0) refl refl (each_read p es) where
+  by : (o : Option Item) (b : Bool) → decoded_item e.0 e.1 ≡ o → p e.0 ≡ b → (first_unreadable es ≡ None → AllByRecursion (IsRecordOf p) (of_kinds p es)) → AllByRecursion (IsRecordOf p) (of_kinds p (e ∷ es))
+  by None b read mine rest = absurd (none-some e.0 (sym (rw read at all)))
+  by (Some i) true read mine rest = rw mine (record_of_item p e i mine read, rest (rw read at all))
+  by (Some i) false read mine rest = rw mine (rest (rw read at all))
+
+-- records of some kinds stay in order
+kept_all : (P : Key → Type 0) (p : Key → Bool) (content : List Entry) → AllByRecursion P (keys_of content) → AllByRecursion P (keys_of (of_kinds p content))
+kept_all P p [] all = tt
+kept_all P p (e ∷ es) all = by (p e.0) refl (kept_all P p es all.1) where
+  by : (b : Bool) → p e.0 ≡ b → AllByRecursion P (keys_of (of_kinds p es)) → AllByRecursion P (keys_of (of_kinds p (e ∷ es)))
+  by true mine rest = rw mine (all.0, rest)
+  by false mine rest = rw mine rest
+
+abbrev InOrder : List Entry → Type 0
+InOrder es = IsStrictlySortedBy key_cmp (keys_of es)
+
+kept_order : (p : Key → Bool) (content : List Entry) → InOrder content → InOrder (of_kinds p content)
+unfolding IsStrictlySortedBy
+kept_order p [] up = tt
+kept_order p (e ∷ es) up = by (p e.0) refl (kept_order p es up.1) where
+  by : (b : Bool) → p e.0 ≡ b → InOrder (of_kinds p es) → InOrder (of_kinds p (e ∷ es))
+  by true mine rest = rw mine (kept_all (λ y. key_cmp e.0 y ≡ Less) p es up.0, rest)
+  by false mine rest = rw mine rest
+
+record AreRecordsOf (p : Key → Bool) (es : List Entry) : Type 0 where
+  each : AllByRecursion (IsRecordOf p) es
+  ordered : InOrder es
+
+records_read : (p : Key → Bool) (content : List Entry) → AreReadable content → AreRecordsOf p (of_kinds p content)
+records_read p content are = record { each = each_read p content are.all; ordered = kept_order p content are.ordered }
+
+-- ---- the entries that they are
+
+record HasEntries {X : Type 0} (item_of : X → Item) (es : List Entry) : Type 0 where
+  entries : List X
+  same : es ≡ map (λ x. item_record (item_of x)) entries
+  allowed : AllByRecursion (λ x. is_item (item_of x) ≡ true) entries
+
+module _ {X : Type 0} (p : Key → Bool) (item_of : X → Item) (entry : (i : Item) → p (key i) ≡ true → (x : X) × (i ≡ item_of x)) where
+  entries_of : (es : List Entry) → AllByRecursion (IsRecordOf p) es → HasEntries item_of es
+  entries_of [] each = record { entries = []; same = refl; allowed = tt }
+  entries_of (e ∷ es) each = more (entry each.0.item each.0.mine) (entries_of es each.1) where
+    more : (x : X) × (each.0.item ≡ item_of x) → HasEntries item_of es → HasEntries item_of (e ∷ es)
+    more x rest = record {
+      entries = x.0 ∷ rest.entries;
+      same = λ j. (each.0.same ∙ ap item_record x.1) j ∷ rest.same j;
+      allowed = (ap is_item (sym x.1) ∙ each.0.allowed, rest.allowed);
+    }
+
+-- ---- a table of items by key
+
+then_equal : (o : Ordering) → ordering_then o Equal ≡ Less → is_lt o ≡ true
+then_equal Less e = refl
+then_equal Equal e = absurd cc
+then_equal Greater e = absurd cc
+
+-- the items of the kinds are the table's entries, in whose order their keys are
+record IsKind {K T : Type 0} (p : Key → Bool) (is_below : K → K → Bool) (item_of : K × T → Item) : Type 0 where
+  entry : (i : Item) → p (key i) ≡ true → (x : K × T) × (i ≡ item_of x)
+  below : (x y : K × T) → key_cmp (key (item_of x)) (key (item_of y)) ≡ Less → is_below x.0 y.0 ≡ true
+
+module _ {K T : Type 0} {p : Key → Bool} {is_below : K → K → Bool} {item_of : K × T → Item} (law : IsKind p is_below item_of) where
+  abbrev record_of : K × T → Entry
+  record_of x = item_record (item_of x)
+
+  ascends : (xs : List (K × T)) → InOrder (map record_of xs) → Ascend is_below xs
+  unfolding IsStrictlySortedBy
+  ascends [] up = tt
+  ascends (x ∷ []) up = tt
+  ascends (x ∷ y ∷ xs) up = (law.below x y up.0.0, ascends (y ∷ xs) up.1)
+
+  table_of : (content : List Entry) → AreReadable content → (xs : List (K × T)) × IsItemTable is_below item_of xs × (of_kinds p content ≡ map record_of xs)
+  table_of content are =
+      let r = records_read p content are in
+      let h = entries_of p item_of law.entry (of_kinds p content) r.each in
+      (h.entries, (ascends h.entries (subst InOrder h.same r.ordered), h.allowed), h.same)
+
+  -- so such a table is read
+  always : (content : List Entry) (read : Option (List (K × T))) → AreReadable content
+      → ((t : List (K × T)) → IsItemTable is_below item_of t → of_kinds p content ≡ map record_of t → read ≡ Some t) → read ≡ None → ⊥
+  always content read are only none = let t = table_of content are in none-some t.0 (sym none ∙ only t.0 t.1 t.2)
+
+-- ---- the kinds
+
+file_kind : IsKind files.is_mine files.is_before files.item_of
+file_kind = record { entry = entry; below = λ x y e. then_equal (nat_cmp x.0 y.0) e } where
+  entry : (i : Item) → files.is_mine (key i) ≡ true → (x : files.File) × (i ≡ files.item_of x)
+  entry (file_item f h) e = ((f, h), refl)
+  entry (chunk_item f c homes) e = absurd (true≢false (sym e ∙ ne_eqb (c + 1) 0 (λ same. omega (arith, same))))
+  entry (disk_item d info) e = absurd cc
+  entry (rebalance_item power) e = absurd cc
+  entry (pending_item op) e = absurd cc
+  entry (templates_item ts) e = absurd cc
+  entry (node_item n node) e = absurd cc
+  entry (settings_item s) e = absurd cc
+  entry (marks_item f c marks) e = absurd cc
+
+-- chunk c has the number c + 1 in its key
+next_cmp : (c d : ℕ) → nat_cmp (c + 1) (d + 1) ≡ nat_cmp c d
+next_cmp c d = by (nat_cmp c d) refl where
+  by : (o : Ordering) → nat_cmp c d ≡ o → nat_cmp (c + 1) (d + 1) ≡ o
+  by Less e = grind (arith, e)
+  by Equal e = grind (arith, e)
+  by Greater e = grind (arith, e)
+
+chunk_kind : IsKind extents.is_chunk extents.is_before extents.item_of
+chunk_kind = record { entry = entry; below = below } where
+  entry : (i : Item) → extents.is_chunk (key i) ≡ true → (x : extents.Chunked) × (i ≡ extents.item_of x)
+  entry (chunk_item f c homes) e = (((f, c), homes), refl)
+  entry (file_item f h) e = absurd cc
+  entry (disk_item d info) e = absurd cc
+  entry (rebalance_item power) e = absurd cc
+  entry (pending_item op) e = absurd cc
+  entry (templates_item ts) e = absurd cc
+  entry (node_item n node) e = absurd cc
+  entry (settings_item s) e = absurd cc
+  entry (marks_item f c marks) e = absurd cc
+
+  below : (x y : extents.Chunked) → key_cmp (key (extents.item_of x)) (key (extents.item_of y)) ≡ Less → extents.is_before x.0 y.0 ≡ true
+  below x y e = ap is_lt (ap (ordering_then (nat_cmp x.0.0 y.0.0)) (sym (next_cmp x.0.1 y.0.1)) ∙ e)
+
+node_kind : IsKind nodes.is_mine nodes.is_before nodes.item_of
+node_kind = record { entry = entry; below = λ x y e. then_equal (nat_cmp x.0 y.0) e } where
+  entry : (i : Item) → nodes.is_mine (key i) ≡ true → (x : nodes.Numbered) × (i ≡ nodes.item_of x)
+  entry (node_item n node) e = ((n, node), refl)
+  entry (file_item f h) e = absurd cc
+  entry (chunk_item f c homes) e = absurd cc
+  entry (disk_item d info) e = absurd cc
+  entry (rebalance_item power) e = absurd cc
+  entry (pending_item op) e = absurd cc
+  entry (templates_item ts) e = absurd cc
+  entry (settings_item s) e = absurd cc
+  entry (marks_item f c marks) e = absurd cc
+
+marks_kind : IsKind stale.is_marks stale.is_before stale.item_of
+marks_kind = record { entry = entry; below = λ x y e. ap is_lt e } where
+  entry : (i : Item) → stale.is_marks (key i) ≡ true → (x : stale.Marked) × (i ≡ stale.item_of x)
+  entry (marks_item f c marks) e = (((f, c), marks), refl)
+  entry (file_item f h) e = absurd cc
+  entry (chunk_item f c homes) e = absurd cc
+  entry (disk_item d info) e = absurd cc
+  entry (rebalance_item power) e = absurd cc
+  entry (pending_item op) e = absurd cc
+  entry (templates_item ts) e = absurd cc
+  entry (node_item n node) e = absurd cc
+  entry (settings_item s) e = absurd cc
+
+disk_kind : IsKind disks.is_mine disks.is_before disks.item_of
+disk_kind = record { entry = entry; below = λ x y e. then_equal (nat_cmp x.0 y.0) e } where
+  entry : (i : Item) → disks.is_mine (key i) ≡ true → (x : disks.Disk) × (i ≡ disks.item_of x)
+  entry (disk_item d info) e = ((d, info), refl)
+  entry (file_item f h) e = absurd cc
+  entry (chunk_item f c homes) e = absurd cc
+  entry (rebalance_item power) e = absurd cc
+  entry (pending_item op) e = absurd cc
+  entry (templates_item ts) e = absurd cc
+  entry (node_item n node) e = absurd cc
+  entry (settings_item s) e = absurd cc
+  entry (marks_item f c marks) e = absurd cc
+
+-- ---- templates and settings
+
+-- what one of the two records says
+data Part : Type 0 where
+  a_list : List Template → Part
+  a_set : Settings → Part
+
+part_item : Part → Item
+part_item (a_list ts) = templates_item ts
+part_item (a_set s) = settings_item s
+
+a_part : (i : Item) → templates.is_mine (key i) ≡ true → (x : Part) × (i ≡ part_item x)
+unfolding part_item
+a_part (templates_item ts) e = (a_list ts, refl)
+a_part (settings_item s) e = (a_set s, refl)
+a_part (file_item f h) e = absurd cc
+a_part (chunk_item f c homes) e = absurd cc
+a_part (disk_item d info) e = absurd cc
+a_part (rebalance_item power) e = absurd cc
+a_part (pending_item op) e = absurd cc
+a_part (node_item n node) e = absurd cc
+a_part (marks_item f c marks) e = absurd cc
+
+-- a record that is there is among those of its kinds
+kept_there : (p : Key → Bool) (content : List Entry) (k : Key) → p k ≡ true → is_some (record_at content k) ≡ true → is_some (record_at (of_kinds p content) k) ≡ true
+kept_there p [] k mine there = absurd cc
+kept_there p (e ∷ es) k mine there = by (is_key k e.0) (p e.0) refl refl (kept_there p es k mine) where
+  by : (a b : Bool) → is_key k e.0 ≡ a → p e.0 ≡ b → (is_some (record_at es k) ≡ true → is_some (record_at (of_kinds p es) k) ≡ true) → is_some (record_at (of_kinds p (e ∷ es)) k) ≡ true
+  by true true is kind rest = rw (kind, is) refl
+  by true false is kind rest = absurd (true≢false (sym mine ∙ ap p (keys_exact k e.0 ((Equal-is (key_cmp k e.0)).0 is)) ∙ kind))
+  by false true is kind rest = rw (kind, is) (rest (rw is at there))
+  by false false is kind rest = rw kind (rest (rw is at there))
+
+abbrev part_record : Part → Entry
+part_record x = item_record (part_item x)
+
+record IsBoth (es : List Entry) : Type 0 where
+  table : templates.Table
+  is_table : templates.IsTable table
+  same : es ≡ templates.records_of table
+
+-- where both are there, in order, there is no third
+both_of : (xs : List Part) → AllByRecursion (λ x. is_item (part_item x) ≡ true) xs → InOrder (map part_record xs) → HasNeeded (map part_record xs) → IsBoth (map part_record xs)
+unfolding IsStrictlySortedBy part_item
+both_of [] all up has = let h : false ≡ true = has.templates in absurd cc
+both_of (a_list ts ∷ []) all up has = let h : false ≡ true = has.settings in absurd cc
+both_of (a_set s ∷ []) all up has = let h : false ≡ true = has.templates in absurd cc
+both_of (a_list ts ∷ a_set s ∷ []) all up has = record { table = record { templates = ts; settings = s }; is_table = record { templates = all.0; settings = all.1.0 }; same = refl }
+both_of (a_list ts ∷ a_list us ∷ xs) all up has = let h : Equal ≡ Less = up.0.0 in absurd cc
+both_of (a_set s ∷ a_list us ∷ xs) all up has = let h : Greater ≡ Less = up.0.0 in absurd cc
+both_of (a_set s ∷ a_set u ∷ xs) all up has = let h : Equal ≡ Less = up.0.0 in absurd cc
+both_of (a_list ts ∷ a_set s ∷ a_list us ∷ xs) all up has = let h : Greater ≡ Less = up.1.0.0 in absurd cc
+both_of (a_list ts ∷ a_set s ∷ a_set u ∷ xs) all up has = let h : Equal ≡ Less = up.1.0.0 in absurd cc
+
+both_there : (content : List Entry) → AreReadable content → HasNeeded content → IsBoth (of_kinds templates.is_mine content)
+both_there content are has =
+    let r = records_read templates.is_mine content are in
+    let h = entries_of templates.is_mine part_item a_part (of_kinds templates.is_mine content) r.each in
+    let there : HasNeeded (of_kinds templates.is_mine content) = record {
+      templates = kept_there templates.is_mine content templates_key refl has.templates;
+      settings = kept_there templates.is_mine content settings_key refl has.settings;
+    } in
+    subst IsBoth (sym h.same) (both_of h.entries h.allowed (subst InOrder h.same r.ordered) (subst HasNeeded h.same there))
+
+-- ---- operations
+
+operation_item : (i : Item) → operations.is_operation (key i) ≡ true → (x : Operation) × (i ≡ item_of x)
+operation_item (rebalance_item power) e = (Rebalance power, refl)
+operation_item (pending_item op) e = (PendingOne op, refl)
+operation_item (file_item f h) e = absurd cc
+operation_item (chunk_item f c homes) e = absurd cc
+operation_item (disk_item d info) e = absurd cc
+operation_item (templates_item ts) e = absurd cc
+operation_item (node_item n node) e = absurd cc
+operation_item (settings_item s) e = absurd cc
+operation_item (marks_item f c marks) e = absurd cc
+
+abbrev operation_record : Operation → Entry
+operation_record x = item_record (item_of x)
+
+record AreBegun (es : List Entry) : Type 0 where
+  table : operations.Operations
+  is_table : operations.IsTable table
+  same : es ≡ operations.records_of table
+
+-- in order there is at most one of each
+begun_of : (xs : List Operation) → AllByRecursion (λ x. is_item (item_of x) ≡ true) xs → InOrder (map operation_record xs) → AreBegun (map operation_record xs)
+unfolding IsStrictlySortedBy
+begun_of [] all up = record { table = operations.nothing_begun; is_table = tt; same = refl }
+begun_of (Rebalance n ∷ []) all up = record { table = record { pending = None; rebalance = Some n }; is_table = all; same = refl }
+begun_of (PendingOne p ∷ []) all up = record { table = record { pending = Some p; rebalance = None }; is_table = all; same = refl }
+begun_of (Rebalance n ∷ PendingOne p ∷ []) all up = record { table = record { pending = Some p; rebalance = Some n }; is_table = all; same = refl }
+begun_of (Rebalance n ∷ Rebalance m ∷ xs) all up = let h : Equal ≡ Less = up.0.0 in absurd cc
+begun_of (PendingOne p ∷ Rebalance m ∷ xs) all up = let h : Greater ≡ Less = up.0.0 in absurd cc
+begun_of (PendingOne p ∷ PendingOne q ∷ xs) all up = let h : Equal ≡ Less = up.0.0 in absurd cc
+begun_of (Rebalance n ∷ PendingOne p ∷ Rebalance m ∷ xs) all up = let h : Greater ≡ Less = up.1.0.0 in absurd cc
+begun_of (Rebalance n ∷ PendingOne p ∷ PendingOne q ∷ xs) all up = let h : Equal ≡ Less = up.1.0.0 in absurd cc
+
+begun_in : (content : List Entry) → AreReadable content → AreBegun (of_kinds operations.is_operation content)
+begun_in content are =
+    let r = records_read operations.is_operation content are in
+    let h = entries_of operations.is_operation item_of operation_item (of_kinds operations.is_operation content) r.each in
+    subst AreBegun (sym h.same) (begun_of h.entries h.allowed (subst InOrder h.same r.ordered))
+
+-- ---- the tables are read
+
+pub readable_is : (content : List Entry) → first_unreadable content ≡ None → InOrder content → AreReadable content
+readable_is content all up = record { all = all; ordered = up }
+
+pub needed_is : (content : List Entry) → is_some (record_at content templates_key) ≡ true → is_some (record_at content settings_key) ≡ true → HasNeeded content
+needed_is content first second = record { templates = first; settings = second }
+
+pub files_read : (content : List Entry) (read : Option (List files.File)) → AreReadable content
+    → ((t : List files.File) → files.IsTable t → of_kinds files.is_mine content ≡ map files.record_of t → read ≡ Some t) → read ≡ None → ⊥
+files_read content read are only none = always file_kind content read are only none
+
+pub stale_read : (content : List Entry) (read : Option (List stale.Marked)) → AreReadable content
+    → ((t : List stale.Marked) → stale.IsTable t → of_kinds stale.is_marks content ≡ map stale.record_of t → read ≡ Some t) → read ≡ None → ⊥
+stale_read content read are only none = always marks_kind content read are only none
+
+pub disks_read : (content : List Entry) (read : Option (List disks.Disk)) → AreReadable content
+    → ((t : List disks.Disk) → disks.IsTable t → of_kinds disks.is_mine content ≡ map disks.record_of t → read ≡ Some t) → read ≡ None → ⊥
+disks_read content read are only none = always disk_kind content read are only none
+
+pub extents_read : (content : List Entry) (read : Option (List extents.Chunked)) → AreReadable content → IsWithoutGap content
+    → ((t : List extents.Chunked) → extents.IsTable t → of_kinds extents.is_chunk content ≡ map extents.record_of t → read ≡ Some t) → read ≡ None → ⊥
+extents_read content read are without only none = always chunk_kind content read are (λ t fits same. only t (fits, without t fits same) same) none
+
+pub tree_read : (content : List Entry) (read : Option (List nodes.Numbered)) → AreReadable content → IsWithoutFault content
+    → ((t : List nodes.Numbered) → nodes.IsTable t → of_kinds nodes.is_mine content ≡ map nodes.record_of t → read ≡ Some t) → read ≡ None → ⊥
+tree_read content read are without only none = always node_kind content read are (λ t fits same. only t (record { items = fits; rule = without t fits same }) same) none
+
+pub templates_read : (content : List Entry) (read : Option templates.Table) → AreReadable content → HasNeeded content
+    → ((t : templates.Table) → templates.IsTable t → of_kinds templates.is_mine content ≡ templates.records_of t → read ≡ Some t) → read ≡ None → ⊥
+templates_read content read are has only none = let b = both_there content are has in none-some b.table (sym none ∙ only b.table b.is_table b.same)
+
+pub operations_read : (content : List Entry) (read : Option operations.Operations) → AreReadable content
+    → ((t : operations.Operations) → operations.IsTable t → of_kinds operations.is_operation content ≡ operations.records_of t → read ≡ Some t) → read ≡ None → ⊥
+operations_read content read are only none = let b = begun_in content are in none-some b.table (sym none ∙ only b.table b.is_table b.same)

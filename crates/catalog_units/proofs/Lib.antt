@@ -1,0 +1,4 @@
+pub mod ChunkUnits
+pub mod GivingLaws
+pub mod ChangeUnits
+pub mod UnitOrder

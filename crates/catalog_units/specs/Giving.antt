@@ -1,0 +1,39 @@
+-- The units of some chunks of a table.
+use Rattle.std.specs.Prelude.{◌≡◌, ℕ, Bool, ◌&&◌, not, List, ◌++◌, ◌<◌, map, filter, take, true, false, Some}
+use Rattle.std.specs.BTreeMap.{is_at}
+use Rattle.asm_formats.specs.Items.{Key}
+use Rattle.asm_base.specs.Records.{Entry}
+use Rattle.page_map.specs.Changes.{is_gone}
+use Rattle.allocator.specs.UnitMaps.{UnitMap}
+use Rattle.extent_map.specs.Extents.{Chunked, chunk_key}
+use Rattle.asm_base.specs.Chunks.{Chunk, chunk_cmp}
+use Rattle.catalog_tables.specs.Placing.{after_chunks}
+
+-- the chunks that are meant
+abbrev pub chunks_kept : (Chunk → Bool) → List Chunked → List Chunked
+chunks_kept keep t = filter (λ (x : Chunked). keep x.0) t
+
+-- the same but for one chunk
+abbrev pub but : (Chunk → Bool) → Chunk → Chunk → Bool
+but keep k c = keep c && not (is_at (chunk_cmp k) c)
+
+-- from some maps, the homes of the chunks that are meant make these
+abbrev pub AreUnitsOfKept : ℕ → List UnitMap → (Chunk → Bool) → List Chunked → List UnitMap → Type 0
+AreUnitsOfKept step first keep t ms = after_chunks step first (chunks_kept keep t) ≡ Some ms
+
+-- the keys of a change: those of the records that are put, and those that go
+abbrev pub keys_of : List Entry → List Key → List Key
+keys_of put gone = map (λ (e : Entry). e.0) put ++ gone
+
+-- the record of the chunk isn't among these
+abbrev pub stays : List Key → Chunk → Bool
+stays keys c = not (is_gone keys (chunk_key c.0 c.1))
+
+-- a key at a place of a change: the first of a chunk's record, or none that is new
+pub record IsNew (keys : List Key) (place : ℕ) (k : Key) : Type 0 where
+  pub kind : k.kind ≡ 1
+  pub some : 0 < k.b
+  pub first : is_gone (take place keys) k ≡ false
+
+abbrev pub IsOld : List Key → ℕ → Key → Type 0
+IsOld keys place k = k.kind ≡ 1 → 0 < k.b → is_gone (take place keys) k ≡ true
