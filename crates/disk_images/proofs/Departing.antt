@@ -10,8 +10,8 @@ use Rattle.bay.specs.Image.{Range, ChangesOnly, Makes, MayMake}
 use Rattle.bay.proofs.Images.{window-same, changes-within}
 use Rattle.gate_slot.specs.Slot.{GateOf, is_open_in, shown, MayClose}
 use Rattle.gate_slot.proofs.Steps.{shown-closed, shown-shut}
-use Rattle.mount_states.specs.Places.{slot_at}
-use Rattle.mount_states.specs.Gates.{MayCloseAll}
+use Rattle.disk_forming.specs.Places.{slot_at}
+use Rattle.disk_forming.specs.Gates.{MayCloseAll}
 use Rattle.asm_formats.specs.Bytes.{block_size, is_open, block}
 use Rattle.asm_formats.specs.Regions.{least_size, header_gate}
 use Rattle.asm_formats.specs.Header.{Header, decoded_header}

@@ -7,7 +7,7 @@ use Rattle.bay.specs.Image.{Image, Same, window}
 use Rattle.bay.proofs.Images.{window-same}
 use Rattle.gate_slot.specs.Slot.{shown, is_open_in, body_in}
 use Rattle.gate_slot.proofs.Steps.{shown-shut}
-use Rattle.mount_states.specs.Places.{slot_at}
+use Rattle.disk_forming.specs.Places.{slot_at}
 use Rattle.asm_formats.specs.Bytes.{block, is_open}
 use Rattle.asm_formats.specs.Regions.{least_size, header_gate}
 use Rattle.asm_formats.specs.Header.{Header, is_header, header_spelling, decoded_header}

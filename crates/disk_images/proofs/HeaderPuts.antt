@@ -9,10 +9,10 @@ use Rattle.bay.specs.State.{BayState, IsSound, size_of}
 use Rattle.bay.proofs.Images.{changes-within}
 use Rattle.gate_slot.specs.Slot.{IsUsable, PlaceOf, is_open_in, shown, MayPut}
 use Rattle.gate_slot.proofs.Steps.{shown-closed}
-use Rattle.mount_states.specs.Places.{slot_at}
-use Rattle.mount_states.specs.Gates.{ClosesAll}
-use Rattle.mount_states.proofs.Steps.{has_put_header}
-use Rattle.mount_states.proofs.Shutting.{block_sectors, short_sector, some_sector}
+use Rattle.disk_forming.specs.Places.{slot_at}
+use Rattle.disk_forming.specs.Gates.{ClosesAll}
+use Rattle.disk_forming.proofs.Steps.{has_put_header}
+use Rattle.disk_forming.proofs.Shutting.{block_sectors, short_sector, some_sector}
 use Rattle.asm_formats.specs.Bytes.{block_size, is_open}
 use Rattle.asm_formats.specs.Regions.{least_size, region_end, header_gate}
 use Rattle.asm_formats.specs.Header.{Header, is_header, header_spelling}

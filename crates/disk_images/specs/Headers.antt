@@ -3,9 +3,9 @@ use Rattle.std.specs.Prelude.{◌≡◌, ◌⊎◌, ℕ, ◌*◌, ◌<◌, ◌�
 use Rattle.bay.specs.Image.{Image, MayMake}
 use Rattle.bay.specs.State.{BayState, size_of}
 use Rattle.gate_slot.specs.Slot.{MayClose, MayPut, HasPut}
-use Rattle.mount_states.specs.Places.{slot_at}
-use Rattle.mount_states.specs.Gates.{MayCloseAll, ClosesAll}
-use Rattle.mount_states.specs.Forming.{HasHeader}
+use Rattle.disk_forming.specs.Places.{slot_at}
+use Rattle.disk_forming.specs.Gates.{MayCloseAll, ClosesAll}
+use Rattle.disk_forming.specs.Forming.{HasHeader}
 use Rattle.asm_group.specs.Group.{Group}
 use Rattle.asm_formats.specs.Bytes.{block_size, is_open}
 use Rattle.asm_formats.specs.Regions.{least_size, header_gate, region_end, first_log, second_log}

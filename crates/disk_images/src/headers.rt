@@ -3,8 +3,8 @@ ghost use Rattle.std.specs.Prelude.{◌≡◌, ◌+◌, ◌*◌, Some, None, OnO
 ghost use Rattle.bay.specs.Moments.{NowOnly};
 ghost use Rattle.bay.specs.Calls.{Call, Done, cost};
 ghost use Rattle.gate_slot.specs.Slot.{MayClose, Closes, MayPut, HasPut};
-ghost use Rattle.mount_states.specs.Places.{slot_at};
-ghost use Rattle.mount_states.specs.Gates.{HasRegion, MayCloseAll, ClosesAll};
+ghost use Rattle.disk_forming.specs.Places.{slot_at};
+ghost use Rattle.disk_forming.specs.Gates.{HasRegion, MayCloseAll, ClosesAll};
 ghost use Rattle.asm_group.specs.Shape.{is_shape};
 ghost use Rattle.asm_formats.specs.Header.{is_header, header_spelling};
 ghost use Rattle.asm_images.specs.Kept.{header_in};
@@ -14,7 +14,7 @@ use asm_base::{Block, Shape};
 use bay::{Bay, Fault};
 use disk_header::{Header, encode};
 use gate_slot::{close_gate, put};
-use mount_states::{close_all_gates, header_slot};
+use disk_forming::{close_all_gates, header_slot};
 
 /// Closes every gate of a disk, the header's first: before another gate is written no image that a stop may leave has
 /// the header open. After Ok the disk is blank. A Fault is that of the disk, whose gates may then be open or shut.

@@ -14,7 +14,7 @@ use asm_base::{Block, NoMemory};
 use bay::{Bay, BayError, Fault};
 use disk_header::{Header, decode};
 use gate_slot::is_open;
-use mount_states::header_slot;
+use disk_forming::header_slot;
 use std::alloc::Global;
 
 /// The bytes of a block.

@@ -38,7 +38,7 @@ use Rattle.group_engine.specs.Mounts.{IsOwn, IsWhole, MountedGroup, Takes}
 use Rattle.group_mount.specs.Verdicts.{IsSlotIn}
 use Rattle.group_mount.specs.declared.finding.Headed.{Headed}
 use Rattle.group_mount.proofs.Searches.{sector_of}
-use Rattle.mount_states.specs.Gates.{HasRegion}
+use Rattle.disk_forming.specs.Gates.{HasRegion}
 use Rattle.status_register.specs.Holders.{numbered}
 use Rattle.status_register.specs.Registered.{Registered}
 use Rattle.status_register.specs.declared.member.Member.{Member}

@@ -1,7 +1,7 @@
 //! New disks get their headers.
 ghost use Rattle.std.specs.Prelude.{◌<◌, ◌≤◌, ◌∷◌, [], IfErr, IsTrue, OnErr, OnOk, length};
 ghost use Rattle.asm_group.specs.Shape.{is_shape};
-ghost use Rattle.mount_states.specs.Gates.{HasRegion};
+ghost use Rattle.disk_forming.specs.Gates.{HasRegion};
 ghost use Rattle.new_groups.specs.Drafts.{AreApart};
 ghost use Rattle.new_groups.specs.Forming.{AreHeadable, AreLong, IsHeadable, Works};
 ghost use Rattle.disk_joining.specs.AddCauses.{SomeFailed};

@@ -4,7 +4,7 @@ use Rattle.std.specs.Prelude.{◌&&◌, nat_le}
 use Rattle.std.proofs.lemmas.Bool.{cond-true, cond-false, and_from, le-leb}
 use Rattle.bay.specs.Image.{Image}
 use Rattle.gate_slot.specs.Slot.{shown}
-use Rattle.mount_states.specs.Places.{slot_at}
+use Rattle.disk_forming.specs.Places.{slot_at}
 use Rattle.asm_formats.specs.Bytes.{block, is_open}
 use Rattle.asm_formats.specs.Regions.{least_size}
 use Rattle.asm_formats.specs.Header.{Header, decoded_header}

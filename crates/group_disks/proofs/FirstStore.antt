@@ -32,7 +32,7 @@ use Rattle.change_directory.specs.declared.copy.DirCopy.{DirCopy}
 use Rattle.change_directory.specs.Places.{IsCopy}
 use Rattle.change_directory.specs.Formatting.{AreShut}
 use Rattle.change_directory.specs.StoreLaws.{RegionOf, SameRegion}
-use Rattle.mount_states.specs.Forming.{RecordsOf}
+use Rattle.disk_forming.specs.Forming.{RecordsOf}
 use Rattle.group_disks.specs.Planned.{Plan, IsPlan, disk_of_plan, items_of_plan, first_entries}
 use Rattle.asm_images.specs.Created.{first_templates, first_settings}
 use Rattle.group_disks.specs.FirstParts.{IsFirstStore}

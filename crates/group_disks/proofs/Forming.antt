@@ -7,9 +7,9 @@ use Rattle.bay.specs.Image.{Image, ChangesOnly}
 use Rattle.bay.proofs.Images.{window-same}
 use Rattle.gate_slot.specs.Slot.{is_open_in, shown, MayClose}
 use Rattle.gate_slot.proofs.Steps.{shown-closed, shown-shut}
-use Rattle.mount_states.specs.Places.{slot_at}
-use Rattle.mount_states.specs.Gates.{MayCloseAll}
-use Rattle.mount_states.specs.Forming.{MetaOf}
+use Rattle.disk_forming.specs.Places.{slot_at}
+use Rattle.disk_forming.specs.Gates.{MayCloseAll}
+use Rattle.disk_forming.specs.Forming.{MetaOf}
 use Rattle.asm_formats.specs.Bytes.{block_size, is_open, block}
 use Rattle.asm_formats.specs.Regions.{least_size, header_gate}
 use Rattle.asm_formats.specs.Header.{Header, decoded_header}

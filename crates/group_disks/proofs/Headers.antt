@@ -9,7 +9,7 @@ use Rattle.bay.specs.State.{BayState, IsSound}
 use Rattle.bay.specs.Moments.{Runs}
 use Rattle.bay.proofs.Images.{window-same}
 use Rattle.gate_slot.specs.Slot.{is_open_in}
-use Rattle.mount_states.specs.Places.{slot_at}
+use Rattle.disk_forming.specs.Places.{slot_at}
 use Rattle.asm_formats.specs.Bytes.{block, is_open}
 use Rattle.asm_formats.specs.Header.{Header, decoded_header}
 use Rattle.asm_formats.specs.Regions.{least_size}

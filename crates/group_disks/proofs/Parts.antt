@@ -15,10 +15,10 @@ use Rattle.change_directory.specs.Changes.{content_in}
 use Rattle.change_directory.specs.Formatting.{AreShut}
 use Rattle.change_directory.specs.StoreLaws.{IsShaped, RegionOf}
 use Rattle.change_directory.proofs.Elsewhere.{region_is_same}
-use Rattle.mount_states.specs.Places.{slot_at}
-use Rattle.mount_states.specs.Gates as gates
-use Rattle.mount_states.specs.Forming as parts
-use Rattle.mount_states.specs.Forming.{Shows, LogsAreShut, MetaOf, MayGiveHeader, HasHeader, RecordsOf, MayGiveRecord, HasRecord, IsRecording}
+use Rattle.disk_forming.specs.Places.{slot_at}
+use Rattle.disk_forming.specs.Gates as gates
+use Rattle.disk_forming.specs.Forming as parts
+use Rattle.disk_forming.specs.Forming.{Shows, LogsAreShut, MetaOf, MayGiveHeader, HasHeader, RecordsOf, MayGiveRecord, HasRecord, IsRecording}
 use Rattle.group_disks.specs.Planned.{Plan, header_body, claim_body, status_body}
 use Rattle.group_disks.specs.Ready.{HasRoom}
 use Rattle.group_disks.specs.Stages.{first_copy, HasFirst, HasNoneOrFirst, IsForming, bare, headed, claimed, whole, HasAll, MayForm, HasFormed, IsHeaded}

@@ -5,7 +5,7 @@ use Rattle.std.proofs.lemmas.Option.{same_Some, none-some}
 use Rattle.bay.specs.Image.{Image, window}
 use Rattle.gate_slot.specs.Slot.{shown, is_open_in, body_in}
 use Rattle.gate_slot.proofs.Steps.{shown-shut}
-use Rattle.mount_states.specs.Places.{slot_at}
+use Rattle.disk_forming.specs.Places.{slot_at}
 use Rattle.asm_formats.specs.Bytes.{is_open, block}
 use Rattle.asm_images.specs.Bridge.{disk_bytes}
 use Rattle.asm_images.proofs.Bridges.{bytes_are_listed}

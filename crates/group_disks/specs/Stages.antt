@@ -4,8 +4,8 @@ use Rattle.bay.specs.Image.{Image, ChangesOnly}
 use Rattle.change_directory.specs.declared.copy.DirCopy.{DirCopy}
 use Rattle.change_directory.specs.Changes.{content_in}
 use Rattle.change_directory.specs.Formatting.{AreShut}
-use Rattle.mount_states.specs.Gates.{MayCloseAll}
-use Rattle.mount_states.specs.Forming.{Shows, MetaOf}
+use Rattle.disk_forming.specs.Gates.{MayCloseAll}
+use Rattle.disk_forming.specs.Forming.{Shows, MetaOf}
 use Rattle.group_disks.specs.Planned.{Plan, content_of_plan, header_body, claim_body, status_body}
 
 -- ---- the directory copy

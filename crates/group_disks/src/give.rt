@@ -5,7 +5,7 @@ ghost use Rattle.bay.specs.State.{IsSlot, KeepsAttached};
 ghost use Rattle.bay.specs.Counts.{Rose};
 ghost use Rattle.bay.specs.Moments.{Runs, Ends, NowOnly, LeavesOnly};
 ghost use Rattle.bay.specs.declared.fault.BayError.TheVariants.{Fault};
-ghost use Rattle.mount_states.specs.Forming.{MetaOf};
+ghost use Rattle.disk_forming.specs.Forming.{MetaOf};
 ghost use Rattle.group_disks.specs.FirstParts.{IsFirstStore};
 ghost use Rattle.group_disks.specs.Planned.{IsPlan};
 ghost use Rattle.group_disks.specs.Ready.{AreBodies, HasRoom};
@@ -15,7 +15,7 @@ use crate::directory::give_directory;
 use crate::new_group::{Bodies, NewGroup};
 use bay::{Bay, BayError, Fault};
 use directory_store::Store;
-use mount_states::{give_header, give_record};
+use disk_forming::{give_header, give_record};
 use std::alloc::Global;
 
 /// Gives the disk of a new group all its parts. Memory is taken for the directory copy, after the header is there.

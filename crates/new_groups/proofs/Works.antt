@@ -17,8 +17,8 @@ use Rattle.directory_store.specs.declared.error.StoreError.{StoreError}
 use Rattle.directory_store.specs.declared.error.StoreError.TheVariants.{Gone}
 use Rattle.gate_slot.specs.Slot.{MayPut, PlaceOf}
 use Rattle.gate_slot.specs.declared.place.Place.{Place}
-use Rattle.mount_states.specs.Gates.{GatesOf, MayCloseAll}
-use Rattle.mount_states.specs.Places.{all_gates}
+use Rattle.disk_forming.specs.Gates.{GatesOf, MayCloseAll}
+use Rattle.disk_forming.specs.Places.{all_gates}
 use Rattle.group_mount.specs.Verdicts.{IsSlotIn}
 use Rattle.group_mount.specs.Writing.{FrontOf}
 use Rattle.group_mount.specs.declared.finding.Headed.{Headed}

@@ -17,7 +17,7 @@ use Rattle.disk_images.specs.Headers.{HasHeaderSlot}
 use Rattle.group_disks.specs.Mounting.{by_number}
 use Rattle.group_engine.specs.Making.{made}
 use Rattle.group_engine.specs.Mounts.{MountedGroup}
-use Rattle.mount_states.specs.Gates.{HasRegion}
+use Rattle.disk_forming.specs.Gates.{HasRegion}
 use Rattle.group_mount.specs.Verdicts.{IsSlotIn}
 use Rattle.group_mount.specs.declared.finding.Headed.{Headed}
 use Rattle.status_register.specs.Keeping.{IsReady}

@@ -1,8 +1,8 @@
 use Rattle.std.proofs.Common.{inl, arith}
 use Rattle.std.proofs.lemmas.Result.{on_ok_weaker}
 use Rattle.bay.proofs.Calls.{goes_on, both_done, widened}
-use Rattle.mount_states.proofs.Steps.{may_put_header, has_put_header}
-use Rattle.mount_states.proofs.forming.give_header.Goals as goal
+use Rattle.disk_forming.proofs.Steps.{may_put_header, has_put_header}
+use Rattle.disk_forming.proofs.forming.give_header.Goals as goal
 
 pub returns-clause-runs : goal.returns-clause-runs
 returns-clause-runs g c =

@@ -5,11 +5,11 @@ use Rattle.bay.specs.Image.{Image, ChangesOnly}
 use Rattle.bay.proofs.Images.{changes-within, changes-trans}
 use Rattle.gate_slot.specs.Slot.{PlaceOf, shown, is_open_in, MayPut, HasPut}
 use Rattle.gate_slot.proofs.Steps.{shown-elsewhere, shown-closed}
-use Rattle.mount_states.proofs.Shutting.{other_gates_inside}
-use Rattle.mount_states.specs.Places.{slot_at, all_gates}
+use Rattle.disk_forming.proofs.Shutting.{other_gates_inside}
+use Rattle.disk_forming.specs.Places.{slot_at, all_gates}
 use Rattle.asm_formats.specs.Regions.{region_end}
-use Rattle.mount_states.specs.Gates.{GatesOf, ClosesAll}
-use Rattle.mount_states.specs.Forming.{Shows, LogsAreShut, MetaOf, MayGiveHeader, HasHeader, RecordsOf, headed, claimed, recorded, MayGiveRecord, HasRecord}
+use Rattle.disk_forming.specs.Gates.{GatesOf, ClosesAll}
+use Rattle.disk_forming.specs.Forming.{Shows, LogsAreShut, MetaOf, MayGiveHeader, HasHeader, RecordsOf, headed, claimed, recorded, MayGiveRecord, HasRecord}
 
 module _ (slot sector : ℕ) (some : 0 < sector) (short : sector ≤ 4096) where
   in_two_blocks : (g k : ℕ) → PlaceOf (slot_at g 1 sector) slot slot k → (g * 4096 ≤ k) × (k < g * 4096 + 8192)

@@ -1,7 +1,7 @@
 use Rattle.std.proofs.Common.{◌≡◌, ◌≤◌, ◌+◌, ◌*◌, arith}
 use Rattle.bay.proofs.Calls.{goes_on, both_done, attached-trans}
-use Rattle.mount_states.proofs.Shutting.{usable_gate, still_region, short_sector, may_shut_more, shuts_more}
-use Rattle.mount_states.proofs.gates.close_other_gates.Goals as goal
+use Rattle.disk_forming.proofs.Shutting.{usable_gate, still_region, short_sector, may_shut_more, shuts_more}
+use Rattle.disk_forming.proofs.gates.close_other_gates.Goals as goal
 
 pub close_gate-requires : goal.close_gate-requires
 close_gate-requires g c = rw c.block_slot.ensures (usable_gate c.loop-gate.gate-index (still_region c.requires c.loop-gate.invariant.attached) c.loop-gate-test.true)

@@ -9,10 +9,10 @@ use Rattle.bay.proofs.Images.{changes-within, changes-trans}
 use Rattle.gate_slot.specs.declared.place.Place.{Place}
 use Rattle.gate_slot.specs.Slot.{IsUsable, GateOf, is_open_in, Closes, MayClose}
 use Rattle.gate_slot.proofs.Steps.{shown-shut}
-use Rattle.mount_states.specs.Places.{slot_at, all_gates, other_gates}
+use Rattle.disk_forming.specs.Places.{slot_at, all_gates, other_gates}
 use Rattle.asm_formats.specs.Regions.{region_end}
 use Rattle.asm_formats.specs.Bytes.{block_size}
-use Rattle.mount_states.specs.Gates.{HasRegion, GatesOf, ShutsGates, MayCloseAll}
+use Rattle.disk_forming.specs.Gates.{HasRegion, GatesOf, ShutsGates, MayCloseAll}
 
 -- whole blocks are whole sectors
 pub block_sectors : (n sector : ℕ) → (sector ≡ 512) ⊎ (sector ≡ 4096) → (n * 4096) % sector ≡ 0

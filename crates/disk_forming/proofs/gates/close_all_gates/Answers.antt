@@ -1,8 +1,8 @@
 use Rattle.std.proofs.Common.{arith}
 use Rattle.std.proofs.lemmas.Result.{on_ok_weaker}
 use Rattle.bay.proofs.Calls.{goes_on, both_done, widened}
-use Rattle.mount_states.proofs.Shutting.{usable_slot, still_region, short_sector, some_sector, may_close_header, may_close_others, closes_all}
-use Rattle.mount_states.proofs.gates.close_all_gates.Goals as goal
+use Rattle.disk_forming.proofs.Shutting.{usable_slot, still_region, short_sector, some_sector, may_close_header, may_close_others, closes_all}
+use Rattle.disk_forming.proofs.gates.close_all_gates.Goals as goal
 
 pub close_gate-requires : goal.close_gate-requires
 close_gate-requires g c = rw c.header_slot.ensures (usable_slot 0 1 c.requires (omega (arith, c.requires.long)))

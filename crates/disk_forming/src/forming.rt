@@ -3,9 +3,9 @@ ghost use Rattle.std.specs.Prelude.{◌≡◌, ◌≤◌, ◌+◌, ◌*◌, OnOk
 ghost use Rattle.bay.specs.State.{KeepsAttached, IsSlot};
 ghost use Rattle.bay.specs.Counts.{Rose};
 ghost use Rattle.bay.specs.Moments.{Runs, Ends};
-ghost use Rattle.mount_states.specs.Gates.{HasRegion};
+ghost use Rattle.disk_forming.specs.Gates.{HasRegion};
 ghost use Rattle.asm_formats.specs.Bytes.{block_size};
-ghost use Rattle.mount_states.specs.Forming.{MayGiveHeader, HasHeader, MayGiveRecord, HasRecord};
+ghost use Rattle.disk_forming.specs.Forming.{MayGiveHeader, HasHeader, MayGiveRecord, HasRecord};
 
 use crate::gates::close_all_gates;
 use crate::places::{block_slot, header_slot};

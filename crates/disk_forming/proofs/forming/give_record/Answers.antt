@@ -1,8 +1,8 @@
 use Rattle.std.proofs.Common.{arith}
 use Rattle.std.proofs.lemmas.Result.{on_ok_weaker}
 use Rattle.bay.proofs.Calls.{goes_on, both_done, widened}
-use Rattle.mount_states.proofs.Steps.{may_put_claim, may_put_status, has_put_status}
-use Rattle.mount_states.proofs.forming.give_record.Goals as goal
+use Rattle.disk_forming.proofs.Steps.{may_put_claim, may_put_status, has_put_status}
+use Rattle.disk_forming.proofs.forming.give_record.Goals as goal
 
 pub returns-in_err-put-clause-runs : goal.returns-in_err-put-clause-runs
 returns-in_err-put-clause-runs g c =

@@ -2,8 +2,8 @@ use Rattle.std.proofs.Common.{◌≤◌, ◌+◌, ◌*◌}
 use Rattle.bay.specs.State.{KeepsAttached, IsSlot}
 use Rattle.bay.specs.Moments.{Runs, Ends}
 use Rattle.bay.specs.Image.{ChangesOnly}
-use Rattle.mount_states.specs.Gates.{GatesOf, ShutsGates}
-use Rattle.mount_states.proofs.gates.close_other_gates.Given as goal
+use Rattle.disk_forming.specs.Gates.{GatesOf, ShutsGates}
+use Rattle.disk_forming.proofs.gates.close_other_gates.Given as goal
 
 abbrev pub invariant-loop-gate : goal.invariant-loop-gate
 invariant-loop-gate g l = record {

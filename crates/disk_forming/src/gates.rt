@@ -4,8 +4,8 @@ ghost use Rattle.bay.specs.State.{KeepsAttached, IsSlot};
 ghost use Rattle.bay.specs.Counts.{Rose};
 ghost use Rattle.bay.specs.Moments.{Runs, Ends};
 ghost use Rattle.bay.specs.Image.{ChangesOnly};
-ghost use Rattle.mount_states.specs.Places.{other_gates};
-ghost use Rattle.mount_states.specs.Gates.{HasRegion, GatesOf, ShutsGates, MayCloseAll, ClosesAll};
+ghost use Rattle.disk_forming.specs.Places.{other_gates};
+ghost use Rattle.disk_forming.specs.Gates.{HasRegion, GatesOf, ShutsGates, MayCloseAll, ClosesAll};
 
 use crate::places::{block_slot, header_slot};
 use bay::{Bay, Fault};
