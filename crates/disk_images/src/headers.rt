@@ -12,9 +12,9 @@ ghost use Rattle.disk_images.specs.Headers.{HasHeaderSlot, IsBlank};
 
 use asm_base::{Block, Shape};
 use bay::{Bay, Fault};
+use disk_forming::{close_all_gates, header_slot};
 use disk_header::{Header, encode};
 use gate_slot::{close_gate, put};
-use disk_forming::{close_all_gates, header_slot};
 
 /// Closes every gate of a disk, the header's first: before another gate is written no image that a stop may leave has
 /// the header open. After Ok the disk is blank. A Fault is that of the disk, whose gates may then be open or shut.

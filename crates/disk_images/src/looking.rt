@@ -12,9 +12,9 @@ ghost use Rattle.disk_images.specs.Looks.{Looks, IsAllowed, HeaderIs, IsLooked, 
 
 use asm_base::{Block, NoMemory};
 use bay::{Bay, BayError, Fault};
+use disk_forming::header_slot;
 use disk_header::{Header, decode};
 use gate_slot::is_open;
-use disk_forming::header_slot;
 use std::alloc::Global;
 
 /// The bytes of a block.
