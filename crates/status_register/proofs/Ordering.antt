@@ -18,7 +18,7 @@ use Rattle.status_register.specs.Tallies.{IsSlotOf}
 use Rattle.status_register.specs.declared.member.Member.{Member}
 use Rattle.status_register.proofs.Filling.{same_puts, may_put_next, puts_next}
 use Rattle.status_register.proofs.Holding.{Apart, among_below, below_apart, held_in, held_test}
-use Rattle.status_register.proofs.Shown.{same_shown, same_status_gate}
+use Rattle.status_register.proofs.Shown.{same_shown}
 use Rattle.status_register.proofs.Taking.{status_gate_either}
 use Rattle.status_register.proofs.Tallying.{RoseAt}
 use Rattle.status_register.proofs.Telling.{SameBytes}
@@ -114,24 +114,24 @@ none_tried s = record { held = λ image holds. (image, holds, same-refl image); 
 rose_still : {slots : ℕ → Type 0} {step : Image → Image → Type 0} (s t u : BayState) → Runs slots step t u → (slot : ℕ) → RoseAt s t slot → RoseAt s u slot
 rose_still s t u next slot rose = omega (arith, rose, next.faults slot)
 
-module _ (id : ℕ) (body : List ℕ) (s t u : BayState) {on late : ℕ → Type 0} where
-  tried_now : {step : Image → Image → Type 0} → Runs on step s t → (m : Member) (old new : List Member) → Takes (status_gate id) m body old new t u → Runs late (MayPutNext (status_gate id) m.slot body) t u
-      → Ends (IsTried (status_gate id) body (RoseAt s u) m) t u
+module _ (gate_of : ℕ → Image → ℕ) (depends : (slot : ℕ) (x y : Image) → SameBytes slot x y → gate_of slot y ≡ gate_of slot x) (body : List ℕ) (s t u : BayState) {on late : ℕ → Type 0} where
+  tried_now : {step : Image → Image → Type 0} → Runs on step s t → (m : Member) (old new : List Member) → Takes gate_of m body old new t u → Runs late (MayPutNext gate_of m.slot body) t u
+      → Ends (IsTried gate_of body (RoseAt s u) m) t u
   tried_now first m old new takes next = ⊎_elim
       (λ failed. done_less (λ x y part. inr (omega (arith, failed.0, first.faults m.slot), part)) (stops next))
       (λ took. done_less (λ x y puts. inl puts) took.0)
       takes
 
-  pub tried_on : {step : Image → Image → Type 0} → Runs on step s t → (m : Member) → Runs late (MayPutNext (status_gate id) m.slot body) t u → (old new : List Member) → Takes (status_gate id) m body old new t u
-      → (ms : List Member) → Ends (AreTried (status_gate id) body (RoseAt s t) ms) s t → Ends (AreTried (status_gate id) body (RoseAt s u) (ms ++ m ∷ [])) s u
-  tried_on first m next old new takes ms before = both_done (all_next (status_gate id) body (RoseAt s u) m (same_status_gate id m.slot) ms)
-      (done_less (all_still (status_gate id) body (RoseAt s t) (RoseAt s u) (rose_still s t u next) ms) before) (tried_now first m old new takes next)
+  pub tried_on : {step : Image → Image → Type 0} → Runs on step s t → (m : Member) → Runs late (MayPutNext gate_of m.slot body) t u → (old new : List Member) → Takes gate_of m body old new t u
+      → (ms : List Member) → Ends (AreTried gate_of body (RoseAt s t) ms) s t → Ends (AreTried gate_of body (RoseAt s u) (ms ++ m ∷ [])) s u
+  tried_on first m next old new takes ms before = both_done (all_next gate_of body (RoseAt s u) m (depends m.slot) ms)
+      (done_less (all_still gate_of body (RoseAt s t) (RoseAt s u) (rose_still s t u next) ms) before) (tried_now first m old new takes next)
 
-  pub run_on : (m : Member) (ms : List Member) → Runs on (PutsInOrder (status_gate id) body (RoseAt s t) ms) s t → Runs on (MayPutNext (status_gate id) m.slot body) t u → Runs late (MayPutNext (status_gate id) m.slot body) t u
-      → Ends (AreTried (status_gate id) body (RoseAt s t) ms) s t → Runs on (PutsInOrder (status_gate id) body (RoseAt s u) (ms ++ m ∷ [])) s u
-  run_on m ms first next own before = goes_on (order_next (status_gate id) body (RoseAt s u) m (same_status_gate id m.slot) ms)
-      (widened (λ x y puts. order_longer (status_gate id) body (RoseAt s u) m ms x y (order_still (status_gate id) body (RoseAt s t) (RoseAt s u) (rose_still s t u own) ms x y puts)) first)
-      (done_less (all_still (status_gate id) body (RoseAt s t) (RoseAt s u) (rose_still s t u own) ms) before) next
+  pub run_on : (m : Member) (ms : List Member) → Runs on (PutsInOrder gate_of body (RoseAt s t) ms) s t → Runs on (MayPutNext gate_of m.slot body) t u → Runs late (MayPutNext gate_of m.slot body) t u
+      → Ends (AreTried gate_of body (RoseAt s t) ms) s t → Runs on (PutsInOrder gate_of body (RoseAt s u) (ms ++ m ∷ [])) s u
+  run_on m ms first next own before = goes_on (order_next gate_of body (RoseAt s u) m (depends m.slot) ms)
+      (widened (λ x y puts. order_longer gate_of body (RoseAt s u) m ms x y (order_still gate_of body (RoseAt s t) (RoseAt s u) (rose_still s t u own) ms x y puts)) first)
+      (done_less (all_still gate_of body (RoseAt s t) (RoseAt s u) (rose_still s t u own) ms) before) next
 
 -- ---- the greater numbers first
 

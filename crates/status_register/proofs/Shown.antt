@@ -12,7 +12,9 @@ use Rattle.gate_slot.specs.Slot.{is_open_in}
 use Rattle.asm_images.specs.Bridge.{shown}
 use Rattle.status_register.specs.Places.{place_at}
 use Rattle.status_register.specs.Told.{Told}
-use Rattle.status_register.specs.Slots.{said, claim_number, record_number, other_gate, claim_gate, status_gate}
+use Rattle.status_register.specs.Slots.{said, claim_number, record_number, other_gate, claim_gate, status_gate, next_gate}
+use Rattle.status_register.specs.declared.places.SlotPair.{SlotPair}
+use Rattle.status_register.specs.declared.places.SlotPair.TheVariants.{Claims, Records}
 use Rattle.asm_formats.specs.Claim.{Claim, decoded_claim}
 use Rattle.asm_formats.specs.Status.{Status, decoded_status}
 use Rattle.status_register.proofs.Telling.{SameBytes}
@@ -59,6 +61,10 @@ same_claim_gate id slot x y same = λ i. other_gate 2 4 (claim_number id (same_s
 pub same_status_gate : (id slot : ℕ) (x y : Image) → SameBytes slot x y → status_gate id slot y ≡ status_gate id slot x
 unfolding status_gate
 same_status_gate id slot x y same = λ i. other_gate 6 8 (record_number id (same_said decoded_status slot 6 x y same i)) (record_number id (same_said decoded_status slot 8 x y same i))
+
+pub same_next_gate : (pair : SlotPair) (id slot : ℕ) (x y : Image) → SameBytes slot x y → next_gate pair id slot y ≡ next_gate pair id slot x
+same_next_gate Claims id = same_claim_gate id
+same_next_gate Records id = same_status_gate id
 
 pub claim_gate_is : (id slot : ℕ) (image : Image) (a b : Option (Option Claim)) → a ≡ said decoded_claim image slot 2 → b ≡ said decoded_claim image slot 4
     → claim_gate id slot image ≡ other_gate 2 4 (claim_number id a) (claim_number id b)

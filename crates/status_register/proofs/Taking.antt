@@ -11,10 +11,12 @@ use Rattle.asm_formats.specs.Among.{IsAmong}
 use Rattle.asm_images.specs.Bridge.{shown}
 use Rattle.asm_formats.specs.Claim.{decoded_claim}
 use Rattle.asm_formats.specs.Status.{decoded_status}
-use Rattle.status_register.specs.Slots.{MayPutNext, PutsNext, other_gate, claim_gate, status_gate, claim_number, record_number, said}
-use Rattle.status_register.specs.Rows.{PutsRow, one_put, HasBody, HaveBody, Takes, AreApart}
+use Rattle.status_register.specs.Slots.{MayPutNext, PutsNext, other_gate, claim_gate, status_gate, claim_number, record_number, said, next_gate, first_gate, second_gate}
+use Rattle.status_register.specs.Rows.{HasBody, HaveBody, Takes, AreApart}
 use Rattle.status_register.specs.Surveys.{AreRead, none_yet, one_read, one_failed}
 use Rattle.status_register.specs.declared.member.Member.{Member}
+use Rattle.status_register.specs.declared.places.SlotPair.{SlotPair}
+use Rattle.status_register.specs.declared.places.SlotPair.TheVariants.{Claims, Records}
 use Rattle.status_register.proofs.Shown.{same_shown}
 use Rattle.status_register.proofs.Tallying.{RoseAt, still_read}
 
@@ -61,13 +63,17 @@ either_gate p q None b = inl refl
 either_gate p q (Some n) None = inr refl
 either_gate p q (Some n) (Some m) = cond_both (nat_le m n) q p (λ (g : ℕ). (g ≡ p) ⊎ (g ≡ q)) (λ le. inr refl) (λ above. inl refl)
 
-pub claim_gate_either : (id slot : ℕ) (image : Image) → (claim_gate id slot image ≡ 2) ⊎ (claim_gate id slot image ≡ 4)
+claim_gate_either : (id slot : ℕ) (image : Image) → (claim_gate id slot image ≡ 2) ⊎ (claim_gate id slot image ≡ 4)
 unfolding claim_gate
 claim_gate_either id slot image = either_gate 2 4 (claim_number id (said decoded_claim image slot 2)) (claim_number id (said decoded_claim image slot 4))
 
 pub status_gate_either : (id slot : ℕ) (image : Image) → (status_gate id slot image ≡ 6) ⊎ (status_gate id slot image ≡ 8)
 unfolding status_gate
 status_gate_either id slot image = either_gate 6 8 (record_number id (said decoded_status image slot 6)) (record_number id (said decoded_status image slot 8))
+
+pub next_gate_either : (pair : SlotPair) (id slot : ℕ) (image : Image) → (next_gate pair id slot image ≡ first_gate pair) ⊎ (next_gate pair id slot image ≡ second_gate pair)
+next_gate_either Claims id = claim_gate_either id
+next_gate_either Records id = status_gate_either id
 
 -- ---- one more
 
@@ -128,6 +134,3 @@ pub kept_few : (failed : ℕ → Type 0) (ms kept : List Member) → AreRead fai
 kept_few failed ms kept none_yet = omega arith
 kept_few failed ms kept (one_read before earlier m are) = omega (arith, kept_few failed before earlier are, length-append before (m ∷ []), length-append earlier (m ∷ []))
 kept_few failed ms kept (one_failed before earlier m rose are) = omega (arith, kept_few failed before earlier are, length-append before (m ∷ []))
-
-pub row_more : (gate_of : ℕ → Image → ℕ) (ms : List Member) (body : List ℕ) (m : Member) → IsAmong ms m → Joins (PutsRow gate_of ms body) (MayPutNext gate_of m.slot body) (PutsRow gate_of ms body)
-row_more gate_of ms body m among x y z row step = one_put x y z m among row step

@@ -7,6 +7,8 @@ use Rattle.asm_formats.specs.Claim.{Claim, decoded_claim}
 use Rattle.asm_formats.specs.Status.{Status, decoded_status}
 use Rattle.asm_formats.specs.Following.{rank}
 use Rattle.asm_images.specs.Bridge.{shown}
+use Rattle.status_register.specs.declared.places.SlotPair.{SlotPair}
+use Rattle.status_register.specs.declared.places.SlotPair.TheVariants.{Claims, Records}
 
 -- what the body behind a gate says: nothing where the gate is shut, and no value where the body is none
 abbrev pub said : {A : Type 0} → (List ℕ → Option A) → Image → ℕ → ℕ → Option (Option A)
@@ -37,6 +39,20 @@ claim_gate id slot image = other_gate 2 4 (claim_number id (said decoded_claim i
 
 unfoldable pub status_gate : ℕ → ℕ → Image → ℕ
 status_gate id slot image = other_gate 6 8 (record_number id (said decoded_status image slot 6)) (record_number id (said decoded_status image slot 8))
+
+-- the same of a pair of slots
+abbrev pub next_gate : SlotPair → ℕ → ℕ → Image → ℕ
+next_gate Claims id = claim_gate id
+next_gate Records id = status_gate id
+
+-- the gates of both
+abbrev pub first_gate : SlotPair → ℕ
+first_gate Claims = 2
+first_gate Records = 6
+
+abbrev pub second_gate : SlotPair → ℕ
+second_gate Claims = 4
+second_gate Records = 8
 
 -- the disks are the same, and it is known which gate is the next
 pub record FoundGate (gate_of : Image → ℕ) (gate : ℕ) (old new : Image) : Type 0 where

@@ -6,10 +6,10 @@ ghost use Rattle.bay.specs.Image.{Same};
 ghost use Rattle.bay.specs.Counts.{Rose};
 ghost use Rattle.bay.specs.Moments.{Runs, Ends};
 ghost use Rattle.status_register.specs.Places.{HasSlots};
-ghost use Rattle.status_register.specs.Slots.{FoundGate, claim_gate, claim_number, other_gate, record_number, status_gate};
+ghost use Rattle.status_register.specs.Slots.{FoundGate, claim_number, next_gate, other_gate, record_number};
 
 use crate::bodies::{read_claims, read_records};
-use crate::places::{FIRST_CLAIM, FIRST_STATUS, SECOND_CLAIM, SECOND_STATUS};
+use crate::places::{FIRST_CLAIM, FIRST_STATUS, SECOND_CLAIM, SECOND_STATUS, SlotPair};
 use bay::{Bay, Fault};
 use status_table::{Claim, PstRecord};
 
@@ -68,44 +68,42 @@ fn other_gate(first: u64, second: u64, number: Option<u128>, other: Option<u128>
     }
 }
 
-/// The gate of the slot that the next claim is put into, in each image that a stop may leave.
-pub fn next_claim_gate<B: Bay>(bay: &mut B, id: u64, slot: u32, sector: u32) -> Result<u64, Fault>
+/// The gate of the slot of a pair that the next body is put into, in each image that a stop may leave.
+pub fn next_gate<B: Bay>(
+    bay: &mut B,
+    pair: SlotPair,
+    id: u64,
+    slot: u32,
+    sector: u32,
+) -> Result<u64, Fault>
     requires slots { HasSlots (B.state bay.old) slot sector }
     ensures small { IfOk result (λ gate. gate ≤ 8) }
     ensures attached { KeepsAttached (B.state bay.old) (B.state bay.new) }
     ensures calls { (B.state bay.new).calls ≤ (B.state bay.old).calls + 5 }
     ensures written { (B.state bay.new).written slot ≡ (B.state bay.old).written slot }
     ensures runs { Runs (IsSlot slot) Same (B.state bay.old) (B.state bay.new) }
-    ensures done { IfOk result (λ gate. Ends (FoundGate (claim_gate id slot) gate) (B.state bay.old) (B.state bay.new)) }
+    ensures done { IfOk result (λ gate. Ends (FoundGate (next_gate pair id slot) gate) (B.state bay.old) (B.state bay.new)) }
     ensures cause { OnErr result (Rose ((B.state bay.old).faults slot) ((B.state bay.new).faults slot)) }
 {
     bay.sync(slot)?;
-    let (first, second) = read_claims(bay, slot, sector)?;
-    Ok(other_gate(
-        FIRST_CLAIM,
-        SECOND_CLAIM,
-        claim_number(id, &first),
-        claim_number(id, &second),
-    ))
-}
-
-/// The gate of the slot that the next record is put into, in each image that a stop may leave.
-pub fn next_status_gate<B: Bay>(bay: &mut B, id: u64, slot: u32, sector: u32) -> Result<u64, Fault>
-    requires slots { HasSlots (B.state bay.old) slot sector }
-    ensures small { IfOk result (λ gate. gate ≤ 8) }
-    ensures attached { KeepsAttached (B.state bay.old) (B.state bay.new) }
-    ensures calls { (B.state bay.new).calls ≤ (B.state bay.old).calls + 5 }
-    ensures written { (B.state bay.new).written slot ≡ (B.state bay.old).written slot }
-    ensures runs { Runs (IsSlot slot) Same (B.state bay.old) (B.state bay.new) }
-    ensures done { IfOk result (λ gate. Ends (FoundGate (status_gate id slot) gate) (B.state bay.old) (B.state bay.new)) }
-    ensures cause { OnErr result (Rose ((B.state bay.old).faults slot) ((B.state bay.new).faults slot)) }
-{
-    bay.sync(slot)?;
-    let (first, second) = read_records(bay, slot, sector)?;
-    Ok(other_gate(
-        FIRST_STATUS,
-        SECOND_STATUS,
-        record_number(id, &first),
-        record_number(id, &second),
-    ))
+    match pair {
+        SlotPair::Claims => {
+            let (first, second) = read_claims(bay, slot, sector)?;
+            Ok(other_gate(
+                FIRST_CLAIM,
+                SECOND_CLAIM,
+                claim_number(id, &first),
+                claim_number(id, &second),
+            ))
+        }
+        SlotPair::Records => {
+            let (first, second) = read_records(bay, slot, sector)?;
+            Ok(other_gate(
+                FIRST_STATUS,
+                SECOND_STATUS,
+                record_number(id, &first),
+                record_number(id, &second),
+            ))
+        }
+    }
 }

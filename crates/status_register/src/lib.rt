@@ -14,7 +14,6 @@ mod member;
 mod members;
 mod places;
 mod reading;
-mod recording;
 mod register;
 mod storing;
 mod survey;

@@ -17,6 +17,13 @@ pub const FIRST_STATUS: u64 = 6;
 
 pub const SECOND_STATUS: u64 = 8;
 
+/// The pairs of slots of a disk.
+#[derive(Clone, Copy, Debug, PartialEq, Eq)]
+pub enum SlotPair {
+    Claims,
+    Records,
+}
+
 /// The slot whose gate is in a block, with its body in the block behind it.
 pub fn place_at(gate: u64, sector: u32) -> Place
     requires { gate ≤ 8 }

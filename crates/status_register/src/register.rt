@@ -18,12 +18,12 @@ ghost use Rattle.status_register.specs.Rows.{AreApart, PutsRow, RunsInOrder};
 ghost use Rattle.status_register.specs.Slots.{claim_gate, status_gate};
 ghost use Rattle.status_register.specs.Tallies.{HaveSlots, IsSlotOf};
 
-use crate::claiming::claim_all;
 use crate::holders::{attached_to, is_of_entry};
 use crate::majorities::missing;
 use crate::members::MemberList;
-use crate::recording::renumbered;
-use crate::writing::{write_first, write_record};
+use crate::places::SlotPair;
+use crate::storing::put_on_all;
+use crate::writing::{renumbered, write_first, write_record};
 use crate::{Dead, Member, SurveyError};
 use asm_base::{Block, DiskSet};
 use bay::Bay;
@@ -237,7 +237,7 @@ pub fn claim_epoch<B: Bay>(
     };
     let mut body = Block::zeros();
     encode_claim(&claim, &mut body);
-    let took = claim_all(bay, id, members.members(), &body);
+    let took = put_on_all(bay, SlotPair::Claims, id, members.members(), &body);
     match missing(took.members(), &value) {
         Some((seen, need)) => Err(SurveyError::NoMajority { seen, need }),
         None => Ok(Register {

@@ -1,13 +1,18 @@
-// A claim or a record is put on one disk.
-ghost use Rattle.std.specs.Prelude.{◌≡◌, ◌≤◌, ◌+◌, ◌*◌, OnErr, OnOk};
+// A claim or a record is put on one disk, and on the members one after another.
+ghost use Rattle.std.specs.Prelude.{◌≡◌, ◌<◌, ◌≤◌, ◌+◌, ◌*◌, length, OnErr, OnOk};
 ghost use Rattle.bay.specs.State.{KeepsAttached, IsSlot};
 ghost use Rattle.bay.specs.Counts.{Rose};
 ghost use Rattle.bay.specs.Moments.{Runs, Ends};
 ghost use Rattle.status_register.specs.Places.{HasSlots};
-ghost use Rattle.status_register.specs.Slots.{MayFill, Fills, MayPutNext, PutsNext, claim_gate, status_gate};
+ghost use Rattle.status_register.specs.Rows.{AreApart, HaveBody, PutsRow, RunsInOrder, Takes};
+ghost use Rattle.status_register.specs.Slots.{MayFill, Fills, MayPutNext, PutsNext, first_gate, next_gate, second_gate};
+ghost use Rattle.status_register.specs.Surveys.{AreRead};
+ghost use Rattle.status_register.specs.Tallies.{HaveSlots, IsSlotOf};
 
-use crate::gates::{next_claim_gate, next_status_gate};
-use crate::places::place_at;
+use crate::Member;
+use crate::gates::next_gate;
+use crate::members::MemberList;
+use crate::places::{SlotPair, place_at};
 use asm_base::Block;
 use bay::{Bay, Fault};
 use gate_slot::put;
@@ -32,9 +37,10 @@ fn fill_slot<B: Bay>(
     put(bay, slot, place_at(gate, sector), &body.bytes[..])
 }
 
-/// Puts the body of a claim into the claim slot of a disk that doesn't hold.
-pub fn store_claim<B: Bay>(
+/// Puts a body into the slot of a pair that doesn't hold.
+fn put_next<B: Bay>(
     bay: &mut B,
+    pair: SlotPair,
     id: u64,
     slot: u32,
     sector: u32,
@@ -44,30 +50,58 @@ pub fn store_claim<B: Bay>(
     ensures attached { KeepsAttached (B.state bay.old) (B.state bay.new) }
     ensures calls { (B.state bay.new).calls ≤ (B.state bay.old).calls + 13 }
     ensures written { (B.state bay.new).written slot ≤ (B.state bay.old).written slot + 2 * sector + 4096 }
-    ensures runs { Runs (IsSlot slot) (MayPutNext (claim_gate id) slot body.now.bytes) (B.state bay.old) (B.state bay.new) }
-    ensures done { OnOk result (Ends (PutsNext (claim_gate id) slot body.now.bytes) (B.state bay.old) (B.state bay.new)) }
+    ensures runs { Runs (IsSlot slot) (MayPutNext (next_gate pair id) slot body.now.bytes) (B.state bay.old) (B.state bay.new) }
+    ensures done { OnOk result (Ends (PutsNext (next_gate pair id) slot body.now.bytes) (B.state bay.old) (B.state bay.new)) }
     ensures cause { OnErr result (Rose ((B.state bay.old).faults slot) ((B.state bay.new).faults slot)) }
 {
-    let gate = next_claim_gate(bay, id, slot, sector)?;
+    let gate = next_gate(bay, pair, id, slot, sector)?;
     fill_slot(bay, slot, gate, sector, body)
 }
 
-/// Puts the body of a record into the status slot of a disk that doesn't hold.
-pub fn store_record<B: Bay>(
+/// Puts a body on one member more. `took` are those that took it.
+fn put_on<B: Bay>(
     bay: &mut B,
+    pair: SlotPair,
     id: u64,
-    slot: u32,
-    sector: u32,
+    member: Member,
     body: &Block,
-) -> Result<(), Fault>
-    requires slots { HasSlots (B.state bay.old) slot sector }
+    took: MemberList,
+) -> MemberList
+    requires slots { HasSlots (B.state bay.old) member.slot member.sector }
+    requires room { length took < 512 }
+    ensures takes { Takes (next_gate pair id) member body.now.bytes took result (B.state bay.old) (B.state bay.new) }
     ensures attached { KeepsAttached (B.state bay.old) (B.state bay.new) }
     ensures calls { (B.state bay.new).calls ≤ (B.state bay.old).calls + 13 }
-    ensures written { (B.state bay.new).written slot ≤ (B.state bay.old).written slot + 2 * sector + 4096 }
-    ensures runs { Runs (IsSlot slot) (MayPutNext (status_gate id) slot body.now.bytes) (B.state bay.old) (B.state bay.new) }
-    ensures done { OnOk result (Ends (PutsNext (status_gate id) slot body.now.bytes) (B.state bay.old) (B.state bay.new)) }
-    ensures cause { OnErr result (Rose ((B.state bay.old).faults slot) ((B.state bay.new).faults slot)) }
+    ensures runs { Runs (IsSlot member.slot) (MayPutNext (next_gate pair id) member.slot body.now.bytes) (B.state bay.old) (B.state bay.new) }
 {
-    let gate = next_status_gate(bay, id, slot, sector)?;
-    fill_slot(bay, slot, gate, sector, body)
+    match put_next(bay, pair, id, member.slot, member.sector, body) {
+        Ok(()) => took.with(member),
+        Err(Fault) => took,
+    }
+}
+
+/// Puts a body on the members in their order, past faults, and gives those that took it.
+pub fn put_on_all<B: Bay>(
+    bay: &mut B,
+    pair: SlotPair,
+    id: u64,
+    members: &[Member],
+    body: &Block,
+) -> MemberList
+    requires slots { HaveSlots (B.state bay.old) members.now }
+    requires few { length members.now ≤ 512 }
+    requires apart { AreApart members.now }
+    ensures took { AreRead (λ slot. Rose ((B.state bay.old).faults slot) ((B.state bay.new).faults slot)) members.now result }
+    ensures done { Ends (HaveBody (first_gate pair) (second_gate pair) body.now.bytes result) (B.state bay.old) (B.state bay.new) }
+    ensures attached { KeepsAttached (B.state bay.old) (B.state bay.new) }
+    ensures calls { (B.state bay.new).calls ≤ (B.state bay.old).calls + 13 * length members.now }
+    ensures runs { RunsInOrder (next_gate pair id) members.now body.now.bytes (B.state bay.old) (B.state bay.new) }
+    // Where their order doesn't matter.
+    ensures row { Runs (IsSlotOf members.now) (PutsRow (next_gate pair id) members.now body.now.bytes) (B.state bay.old) (B.state bay.new) }
+{
+    let mut took = MemberList::empty();
+    for member in members {
+        took = put_on(bay, pair, id, *member, body, took);
+    }
+    took
 }

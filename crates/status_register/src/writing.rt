@@ -12,11 +12,25 @@ ghost use Rattle.status_register.specs.Writes.{IsDeadOf, IsWriteAnswer};
 
 use crate::holders::attached_to;
 use crate::losses::{failed_set, first_failed, lost_disk};
-use crate::recording::record_all;
+use crate::places::SlotPair;
+use crate::storing::put_on_all;
 use crate::{Dead, Member};
 use asm_base::{Block, DiskSet};
 use bay::Bay;
 use status_table::{PstRecord, encode};
+
+/// The record under another number.
+#[tactic(auto, unfolding(asm_formats::specs::Status::is_status))]
+pub fn renumbered(status: &PstRecord, epoch: u64, turn: u64) -> PstRecord
+    ensures value { result ≡ record status.now { epoch = epoch; turn = turn } }
+    // A record of the format stays one.
+    ensures kept { IsTrue (is_status status.now) → IsTrue (is_status result) }
+{
+    let mut status = status.copy();
+    status.epoch = epoch;
+    status.turn = turn;
+    status
+}
 
 /// The body of a record.
 fn body_of(status: &PstRecord) -> Block
@@ -47,7 +61,7 @@ pub fn write_on_majorities<B: Bay>(
     ensures runs { RunsInOrder (status_gate id) holders.now (status_spelling status.now) (B.state bay.old) (B.state bay.new) }
 {
     let body = body_of(status);
-    let took = record_all(bay, id, holders, &body);
+    let took = put_on_all(bay, SlotPair::Records, id, holders, &body);
     match lost_disk(holders, took.members(), status) {
         Some(member) => Err(Dead { slot: member.slot }),
         None => Ok(failed_set(holders, took.members())),
@@ -72,7 +86,7 @@ pub fn write_on_all<B: Bay>(
     ensures runs { RunsInOrder (status_gate id) holders.now (status_spelling status.now) (B.state bay.old) (B.state bay.new) }
 {
     let body = body_of(status);
-    let took = record_all(bay, id, holders, &body);
+    let took = put_on_all(bay, SlotPair::Records, id, holders, &body);
     match first_failed(holders, took.members()) {
         Some(member) => Err(Dead { slot: member.slot }),
         None => Ok(()),

@@ -4,15 +4,16 @@ use Rattle.bay.proofs.Calls.{on_more, started, attached-trans}
 use Rattle.bay.proofs.Images.{same-refl}
 use Rattle.bay.specs.Moments.{Ends, Runs}
 use Rattle.status_register.specs.Rows.{HaveBody, PutsInOrder}
-use Rattle.status_register.specs.Slots.{status_gate}
+use Rattle.status_register.specs.Slots.{first_gate, next_gate, second_gate}
 use Rattle.status_register.specs.Surveys.{AreRead, none_yet}
 use Rattle.status_register.specs.declared.member.Member.{Member}
 use Rattle.status_register.specs.Tallies.{IsSlotOf}
 use Rattle.status_register.proofs.Filling.{still_slots}
-use Rattle.status_register.proofs.Ordering.{AreTried, none_tried, run_on, tried_on}
+use Rattle.status_register.proofs.Shown.{same_next_gate}
+use Rattle.status_register.proofs.Ordering.{AreTried, none_tried, row_runs, run_on, tried_on}
 use Rattle.status_register.proofs.Tallying.{RoseAt, among_get}
-use Rattle.status_register.proofs.Taking.{none_have, takes_few, takes_kept, takes_more, kept_among, earlier_slot, status_gate_either}
-use Rattle.status_register.proofs.recording.record_all.Goals as goal
+use Rattle.status_register.proofs.Taking.{none_have, takes_few, takes_kept, takes_more, kept_among, earlier_slot, next_gate_either}
+use Rattle.status_register.proofs.storing.put_on_all.Goals as goal
 
 pub loop-member-init : goal.loop-member-init
 loop-member-init g c =
@@ -20,15 +21,15 @@ loop-member-init g c =
     record {
       few = omega (arith, ap length c.empty-took.ensures);
       took = subst (λ (l : List Member). AreRead (RoseAt s s) [] l) (sym c.empty-took.ensures) none_yet;
-      done = subst (λ (l : List Member). Ends (HaveBody 6 8 c.args.body.now.bytes l) s s) (sym c.empty-took.ensures) (none_have s 6 8 c.args.body.now.bytes);
+      done = subst (λ (l : List Member). Ends (HaveBody (first_gate c.args.pair) (second_gate c.args.pair) c.args.body.now.bytes l) s s) (sym c.empty-took.ensures) (none_have s (first_gate c.args.pair) (second_gate c.args.pair) c.args.body.now.bytes);
       attached = record { same = λ slot. refl };
       calls = omega arith;
       tried = none_tried s;
       runs = started same-refl;
     }
 
-pub record_one-took-requires-clause-slots : goal.record_one-took-requires-clause-slots
-record_one-took-requires-clause-slots g c =
+pub put_on-took-requires-clause-slots : goal.put_on-took-requires-clause-slots
+put_on-took-requires-clause-slots g c =
     let none : Member = record { slot = 0; number = 0; birth = 0; sector = 0 } in
     still_slots (c.requires.slots (get_or c.args.members.now c.loop-member.member-index none) (among_get c.args.members.now c.loop-member.member-index none c.loop-member-test.true)) c.loop-member.invariant.attached
 
@@ -36,30 +37,31 @@ pub loop-member-preserved : goal.loop-member-preserved
 loop-member-preserved g c =
     let s = g.B.Bay.state c.args.bay.now in
     let t = g.B.Bay.state c.loop-member.bay in
-    let u = g.B.Bay.state c.record_one-took.new.bay in
+    let u = g.B.Bay.state c.put_on-took.new.bay in
     let ms = c.args.members.now in
     let body = c.args.body.now.bytes in
-    let gate = status_gate c.args.id in
+    let gate = next_gate c.args.pair c.args.id in
+    let depends = same_next_gate c.args.pair c.args.id in
     let i = c.loop-member.member-index in
     let none : Member = record { slot = 0; number = 0; birth = 0; sector = 0 } in
     let member = get_or ms i none in
     let among = among_get ms i none c.loop-member-test.true in
     let first = c.loop-member.invariant.runs in
-    let next = c.record_one-took.ensures.runs in
+    let next = c.put_on-took.ensures.runs in
     let old = c.loop-member.took in
-    let new = c.record_one-took.result in
-    let takes = c.record_one-took.ensures.takes in
+    let new = c.put_on-took.result in
+    let takes = c.put_on-took.ensures.takes in
     let front = take_more ms i none c.loop-member-test.true in
     record {
       few = omega (arith, c.loop-member.invariant.few, takes_few t u gate member body old new takes);
       took = subst (λ (l : List Member). AreRead (RoseAt s u) l new) (sym front) (takes_kept s t u first next gate member body old new takes (take i ms) c.loop-member.invariant.took);
-      done = takes_more gate 6 8 (status_gate_either c.args.id) body member old
+      done = takes_more gate (first_gate c.args.pair) (second_gate c.args.pair) (next_gate_either c.args.pair c.args.id) body member old
           (λ n h. earlier_slot ms i none n c.requires.apart c.loop-member-test.true (kept_among (RoseAt s t) (take i ms) old c.loop-member.invariant.took n h)) new takes next c.loop-member.invariant.done;
-      attached = attached-trans c.loop-member.invariant.attached c.record_one-took.ensures.attached;
-      calls = omega (arith, c.loop-member.invariant.calls, c.record_one-took.ensures.calls);
-      tried = subst (λ (l : List Member). Ends (AreTried gate body (RoseAt s u) l) s u) (sym front) (tried_on c.args.id body s t u first member next old new takes (take i ms) c.loop-member.invariant.tried);
+      attached = attached-trans c.loop-member.invariant.attached c.put_on-took.ensures.attached;
+      calls = omega (arith, c.loop-member.invariant.calls, c.put_on-took.ensures.calls);
+      tried = subst (λ (l : List Member). Ends (AreTried gate body (RoseAt s u) l) s u) (sym front) (tried_on gate depends body s t u first member next old new takes (take i ms) c.loop-member.invariant.tried);
       runs = subst (λ (l : List Member). Runs (IsSlotOf ms) (PutsInOrder gate body (RoseAt s u) l) s u) (sym front)
-          (run_on c.args.id body s t u member (take i ms) first (on_more (λ slot is. (member, among, is)) next) next c.loop-member.invariant.tried);
+          (run_on gate depends body s t u member (take i ms) first (on_more (λ slot is. (member, among, is)) next) next c.loop-member.invariant.tried);
     }
 
 pub returns-clause-took : goal.returns-clause-took
@@ -71,5 +73,13 @@ pub returns-clause-runs : goal.returns-clause-runs
 returns-clause-runs g c =
     let s = g.B.Bay.state c.args.bay.now in
     let t = g.B.Bay.state c.loop-member.bay in
-    subst (λ (l : List Member). Runs (IsSlotOf c.args.members.now) (PutsInOrder (status_gate c.args.id) c.args.body.now.bytes (RoseAt s t) l) s t)
+    subst (λ (l : List Member). Runs (IsSlotOf c.args.members.now) (PutsInOrder (next_gate c.args.pair c.args.id) c.args.body.now.bytes (RoseAt s t) l) s t)
     (take_all c.loop-member.member-index c.args.members.now c.loop-member-test.false) c.loop-member.invariant.runs
+
+pub returns-clause-row : goal.returns-clause-row
+returns-clause-row g c =
+    let s = g.B.Bay.state c.args.bay.now in
+    let t = g.B.Bay.state c.loop-member.bay in
+    row_runs (next_gate c.args.pair c.args.id) c.args.members.now c.args.body.now.bytes s t
+    (subst (λ (l : List Member). Runs (IsSlotOf c.args.members.now) (PutsInOrder (next_gate c.args.pair c.args.id) c.args.body.now.bytes (RoseAt s t) l) s t)
+    (take_all c.loop-member.member-index c.args.members.now c.loop-member-test.false) c.loop-member.invariant.runs)

@@ -2,20 +2,20 @@ use Rattle.std.proofs.Common.{◌≤◌, ◌+◌, ◌*◌, length, take}
 use Rattle.bay.specs.State.{KeepsAttached}
 use Rattle.bay.specs.Moments.{Runs, Ends}
 use Rattle.status_register.specs.Rows.{HaveBody, PutsInOrder}
-use Rattle.status_register.specs.Slots.{status_gate}
+use Rattle.status_register.specs.Slots.{first_gate, next_gate, second_gate}
 use Rattle.status_register.specs.Surveys.{AreRead}
 use Rattle.status_register.specs.Tallies.{IsSlotOf}
 use Rattle.status_register.proofs.Ordering.{AreTried}
 use Rattle.status_register.proofs.Tallying.{RoseAt}
-use Rattle.status_register.proofs.recording.record_all.Given as goal
+use Rattle.status_register.proofs.storing.put_on_all.Given as goal
 
 abbrev pub invariant-loop-member : goal.invariant-loop-member
 invariant-loop-member g l = record {
   few : length l.took ≤ l.member-index;
   took : AreRead (RoseAt (g.B.Bay.state l.fn.bay) (g.B.Bay.state l.bay)) (take l.member-index l.members) l.took;
-  done : Ends (HaveBody 6 8 l.body.bytes l.took) (g.B.Bay.state l.fn.bay) (g.B.Bay.state l.bay);
+  done : Ends (HaveBody (first_gate l.pair) (second_gate l.pair) l.body.bytes l.took) (g.B.Bay.state l.fn.bay) (g.B.Bay.state l.bay);
   attached : KeepsAttached (g.B.Bay.state l.fn.bay) (g.B.Bay.state l.bay);
   calls : (g.B.Bay.state l.bay).calls ≤ (g.B.Bay.state l.fn.bay).calls + 13 * l.member-index;
-  tried : Ends (AreTried (status_gate l.id) l.body.bytes (RoseAt (g.B.Bay.state l.fn.bay) (g.B.Bay.state l.bay)) (take l.member-index l.members)) (g.B.Bay.state l.fn.bay) (g.B.Bay.state l.bay);
-  runs : Runs (IsSlotOf l.members) (PutsInOrder (status_gate l.id) l.body.bytes (RoseAt (g.B.Bay.state l.fn.bay) (g.B.Bay.state l.bay)) (take l.member-index l.members)) (g.B.Bay.state l.fn.bay) (g.B.Bay.state l.bay);
+  tried : Ends (AreTried (next_gate l.pair l.id) l.body.bytes (RoseAt (g.B.Bay.state l.fn.bay) (g.B.Bay.state l.bay)) (take l.member-index l.members)) (g.B.Bay.state l.fn.bay) (g.B.Bay.state l.bay);
+  runs : Runs (IsSlotOf l.members) (PutsInOrder (next_gate l.pair l.id) l.body.bytes (RoseAt (g.B.Bay.state l.fn.bay) (g.B.Bay.state l.bay)) (take l.member-index l.members)) (g.B.Bay.state l.fn.bay) (g.B.Bay.state l.bay);
 }
