@@ -15,6 +15,7 @@ use Rattle.asm_world.specs.Edits as e
 use Rattle.asm_world.specs.Files as f
 use Rattle.asm_world.specs.Listings.{has_star}
 use Rattle.asm_world.specs.NewDisks as n
+use Rattle.asm_world.specs.Numbers as code
 use Rattle.asm_world.specs.Numbers.{number_of}
 use Rattle.asm_world.specs.Paths.{up, last_part, target_from, resolved, resolved_pattern, resolved_or_here, clause_path, is_host_path}
 use Rattle.asm_world.specs.Reply.{Reply, Done, Refused}
@@ -92,9 +93,9 @@ too_many_groups w = When (nat_le 8 (mounted_count w)) (r.TooMany r.Groups 8)
 
 -- a commit may dismount the group, and where it makes a node it may want a block that isn't free
 abbrev pub commit_causes : e.TreeEdit → List Cause
-commit_causes (e.MakeDir path) = may (26 ∷ 32 ∷ [])
-commit_causes (e.AddAlias alias path) = may (26 ∷ 32 ∷ [])
-commit_causes other = May 32 ∷ []
+commit_causes (e.MakeDir path) = may (code.directory_full ∷ code.dismounted ∷ [])
+commit_causes (e.AddAlias alias path) = may (code.directory_full ∷ code.dismounted ∷ [])
+commit_causes other = May code.dismounted ∷ []
 
 abbrev pub tree_causes : Group → Option e.TreeEdit → List Cause
 tree_causes g None = When true r.NoName ∷ []
@@ -102,10 +103,10 @@ tree_causes g (Some edit) = tests (e.edit_causes g edit) ++ commit_causes edit
 
 abbrev pub file_drop_causes : Group → Option Path → List Cause
 file_drop_causes g None = When true r.NoName ∷ []
-file_drop_causes g (Some path) = When (not (e.is_file g path)) r.NoName ∷ May 32 ∷ []
+file_drop_causes g (Some path) = When (not (e.is_file g path)) r.NoName ∷ May code.dismounted ∷ []
 
 abbrev pub removal_causes : Group → Path → Option ℕ → List Cause
-removal_causes g path (Some file) = May 32 ∷ []
+removal_causes g path (Some file) = May code.dismounted ∷ []
 removal_causes g path None = tree_causes g (Some (e.DropDir path))
 
 -- an alias and its file are in one group
@@ -114,7 +115,7 @@ alias_causes None group alias g = When true r.NoGroup ∷ []
 alias_causes (Some (name, path)) group alias g = When (not (is_same_name name g.name)) r.NoName ∷ tree_causes g (Some (e.AddAlias alias path))
 
 abbrev pub template_clause_causes : World → Bytes → t.TemplateEdit → List Cause
-template_clause_causes w name edit = in_group w name (λ g. tests (t.template_causes g edit) ++ May 32 ∷ [])
+template_clause_causes w name edit = in_group w name (λ g. tests (t.template_causes g edit) ++ May code.dismounted ∷ [])
 
 -- ---- disks of a group
 
@@ -191,16 +192,16 @@ rebalance_causes (Some rebalance) = power_causes rebalance
 
 -- what comes last: a commit's failure, and under WAIT what ends the rebalance or the resync
 abbrev pub wait_causes : Wait → List Cause
-wait_causes Nothing = May 32 ∷ []
-wait_causes Rebalance = may (32 ∷ 25 ∷ 29 ∷ 30 ∷ 31 ∷ [])
-wait_causes (Resync disks) = may (32 ∷ 30 ∷ 31 ∷ [])
+wait_causes Nothing = May code.dismounted ∷ []
+wait_causes Rebalance = may (code.dismounted ∷ code.no_space ∷ code.lost ∷ code.read_fault ∷ code.write_fault ∷ [])
+wait_causes (Resync disks) = may (code.dismounted ∷ code.read_fault ∷ code.write_fault ∷ [])
 
 abbrev pub add_causes : Bytes → List DiskRow → List s.NewFailgroup → List Cause
 add_causes name rows groups =
     When (nat_lt 64 (length rows + length (n.disks_said groups))) (r.TooMany r.Disks 64)
-    ∷ May 5 ∷ May 6
+    ∷ May code.no_disk ∷ May code.disk_taken
     ∷ When (n.is_name_taken rows (n.planned name rows groups)) r.NameTaken
-    ∷ may (8 ∷ 26 ∷ 31 ∷ [])
+    ∷ may (code.too_small ∷ code.directory_full ∷ code.write_fault ∷ [])
 
 -- ---- statements
 
@@ -213,11 +214,11 @@ creation_causes w name kind groups attributes =
     ∷ When (is_some (entry_in w name)) r.GroupExists
     ∷ by_result (t.creation kind attributes)
     ++ When (nat_lt 64 (length (n.disks_said groups))) (r.TooMany r.Disks 64)
-    ∷ May 5 ∷ May 6
+    ∷ May code.no_disk ∷ May code.disk_taken
     ∷ When (n.is_name_taken [] disks) r.NameTaken
-    ∷ May 8
+    ∷ May code.too_small
     ∷ When (nat_lt have need) (r.TooFewGroups need have)
-    ∷ May 31 ∷ []
+    ∷ May code.write_fault ∷ []
 
 abbrev pub is_mounted_as : Option SessionEntry → Bool
 is_mounted_as None = false
@@ -241,27 +242,27 @@ clause_causes below w name (s.DropFile path) = in_group w name (λ g. file_drop_
 clause_causes below w name (s.DropDisks disks rebalance) = in_group w name (λ g.
     rebalance_causes rebalance
     ++ When (list_any (λ (d : s.DroppedDisk). lacks_name (rows_in below w name) d.name) disks) r.NoName
-    ∷ drop_tests (rows_in below w name) disks disks ++ may (40 ∷ 33 ∷ 7 ∷ []) ++ wait_causes (rebalance_wait rebalance))
+    ∷ drop_tests (rows_in below w name) disks disks ++ may (code.holds_directories ∷ code.would_lose ∷ code.too_few_groups ∷ []) ++ wait_causes (rebalance_wait rebalance))
 clause_causes below w name (s.DropFailgroup kind failgroup force rebalance) = in_group w name (λ g.
     rebalance_causes rebalance
-    ++ disks_causes (can_drop force) (rows_in below w name) (s.InFailgroup kind failgroup) ++ may (40 ∷ 33 ∷ 7 ∷ []) ++ wait_causes (rebalance_wait rebalance))
-clause_causes below w name s.UndropDisks = in_group w name (λ g. May 32 ∷ [])
-clause_causes below w name (s.ResizeAll size rebalance) = in_group w name (λ g. rebalance_causes rebalance ++ May 8 ∷ wait_causes (rebalance_wait rebalance))
+    ++ disks_causes (can_drop force) (rows_in below w name) (s.InFailgroup kind failgroup) ++ may (code.holds_directories ∷ code.would_lose ∷ code.too_few_groups ∷ []) ++ wait_causes (rebalance_wait rebalance))
+clause_causes below w name s.UndropDisks = in_group w name (λ g. May code.dismounted ∷ [])
+clause_causes below w name (s.ResizeAll size rebalance) = in_group w name (λ g. rebalance_causes rebalance ++ May code.too_small ∷ wait_causes (rebalance_wait rebalance))
 clause_causes below w name (s.ResizeDisk disk size rebalance) = in_group w name (λ g.
-    rebalance_causes rebalance ++ disks_causes serves (rows_in below w name) (s.Named (disk ∷ [])) ++ May 8 ∷ wait_causes (rebalance_wait rebalance))
+    rebalance_causes rebalance ++ disks_causes serves (rows_in below w name) (s.Named (disk ∷ [])) ++ May code.too_small ∷ wait_causes (rebalance_wait rebalance))
 clause_causes below w name (s.Rebalancing rebalance) = in_group w name (λ g. power_causes rebalance ++ wait_causes (rebalance_wait (Some rebalance)))
 clause_causes below w name s.Check = in_group w name (λ g. [])
 clause_causes below w name (s.Mount force) =
-    When (is_mounted_as (entry_in w name)) r.AlreadyMounted ∷ too_many_groups w ∷ may (2 ∷ 12 ∷ 9 ∷ 13 ∷ 10 ∷ 11 ∷ 32 ∷ [])
+    When (is_mounted_as (entry_in w name)) r.AlreadyMounted ∷ too_many_groups w ∷ may (code.no_group ∷ code.two_groups ∷ code.no_majority ∷ code.damaged ∷ code.directories_lost ∷ code.missing_disks ∷ code.dismounted ∷ [])
 clause_causes below w name (s.Dismount force) = When (is_none (entry_in w name)) r.NoGroup ∷ []
-clause_causes below w name (s.Online disks wait) = in_group w name (λ g. disks_causes is_offline (rows_in below w name) disks ++ May 5 ∷ wait_causes (resync_wait disks wait))
-clause_causes below w name (s.Offline disks minutes) = in_group w name (λ g. disks_causes is_online (rows_in below w name) disks ++ may (40 ∷ 33 ∷ 32 ∷ []))
-clause_causes below w name (s.SetAttribute attribute) = in_group w name (λ g. by_result (t.attribute_set g attribute) ++ May 32 ∷ [])
+clause_causes below w name (s.Online disks wait) = in_group w name (λ g. disks_causes is_offline (rows_in below w name) disks ++ May code.no_disk ∷ wait_causes (resync_wait disks wait))
+clause_causes below w name (s.Offline disks minutes) = in_group w name (λ g. disks_causes is_online (rows_in below w name) disks ++ may (code.holds_directories ∷ code.would_lose ∷ code.dismounted ∷ []))
+clause_causes below w name (s.SetAttribute attribute) = in_group w name (λ g. by_result (t.attribute_set g attribute) ++ May code.dismounted ∷ [])
 
 abbrev pub statement_causes : Below → World → s.Statement → List Cause
-statement_causes below w (s.CreateDisk path size) = may (5 ∷ 30 ∷ 6 ∷ [])
+statement_causes below w (s.CreateDisk path size) = may (code.no_disk ∷ code.read_fault ∷ code.disk_taken ∷ [])
 statement_causes below w (s.CreateGroup name kind groups attributes) = creation_causes w name kind groups attributes
-statement_causes below w (s.DropGroup name contents) = in_group w name (λ g. When (has_files g && not contents) r.GroupNotEmpty ∷ May 32 ∷ [])
+statement_causes below w (s.DropGroup name contents) = in_group w name (λ g. When (has_files g && not contents) r.GroupNotEmpty ∷ May code.dismounted ∷ [])
 statement_causes below w (s.Alter name clause) = clause_causes below w name clause
 
 -- ---- verbs
@@ -292,7 +293,7 @@ searching_causes w (Some []) = When true r.NoGroup ∷ []
 searching_causes w (Some (name ∷ path)) = in_group w name (λ g. dir_causes g path)
 
 abbrev pub new_file_causes : Group → Path → ℕ → Option Bytes → List Cause
-new_file_causes g path size template = tests (f.new_file_causes g (f.new_name path) size template) ++ may (26 ∷ 25 ∷ 31 ∷ 32 ∷ [])
+new_file_causes g path size template = tests (f.new_file_causes g (f.new_name path) size template) ++ may (code.directory_full ∷ code.no_space ∷ code.write_fault ∷ code.dismounted ∷ [])
 
 -- the size of a file outside, where the host tells it
 abbrev pub host_size : HostFile → Option ℕ
@@ -309,30 +310,30 @@ source_size w path true = host_size (w.host path)
 source_size w path false = group_file_size w (target_from w.place path)
 
 abbrev pub source_causes : World → Bytes → Bool → List Cause
-source_causes w path true = May 37 ∷ []
-source_causes w path false = at_path w path (λ p g. When (not (e.is_file g p)) r.NoName ∷ May 29 ∷ [])
+source_causes w path true = May code.host_fault ∷ []
+source_causes w path false = at_path w path (λ p g. When (not (e.is_file g p)) r.NoName ∷ May code.lost ∷ [])
 
 -- Where the source's size isn't told, it may not be whole sectors.
 abbrev pub copied_causes : Group → Path → Option ℕ → List Cause
-copied_causes g path None = May 28 ∷ new_file_causes g path 0 None
+copied_causes g path None = May code.not_sectors ∷ new_file_causes g path 0 None
 copied_causes g path (Some size) = new_file_causes g path size None
 
 abbrev pub target_causes : World → Bytes → Bool → Option ℕ → List Cause
-target_causes w path true size = May 37 ∷ []
+target_causes w path true size = May code.host_fault ∷ []
 target_causes w path false size = at_path w path (λ p g. copied_causes g p size)
 
 -- The source's refusals come first, then the target's, and then faults of the source's disks.
 abbrev pub copy_causes : World → Bytes → Bytes → List Cause
 copy_causes w source target =
     source_causes w source (is_host_path source)
-    ++ target_causes w target (is_host_path target) (source_size w source (is_host_path source)) ++ may (30 ∷ 32 ∷ [])
+    ++ target_causes w target (is_host_path target) (source_size w source (is_host_path source)) ++ may (code.read_fault ∷ code.dismounted ∷ [])
 
 abbrev pub verb_causes : Below → World → c.Verb → List Cause
 verb_causes below w (c.DbCreate path size template) = at_path w path (λ p g. new_file_causes g p size template)
-verb_causes below w (c.DbWrite path at bytes) = at_path w path (λ p g. tests (f.span_causes g p at (length bytes)) ++ may (29 ∷ 31 ∷ 32 ∷ []))
-verb_causes below w (c.DbFill path at size byte) = at_path w path (λ p g. tests (f.span_causes g p at size) ++ may (29 ∷ 31 ∷ 32 ∷ []))
-verb_causes below w (c.DbRead path at size) = at_path w path (λ p g. tests (f.span_causes g p at size) ++ may (29 ∷ 30 ∷ 32 ∷ []))
-verb_causes below w (c.DbResize path size) = at_path w path (λ p g. tests (f.resize_causes g p size) ++ may (29 ∷ 26 ∷ 25 ∷ 31 ∷ 32 ∷ []))
+verb_causes below w (c.DbWrite path at bytes) = at_path w path (λ p g. tests (f.span_causes g p at (length bytes)) ++ may (code.lost ∷ code.write_fault ∷ code.dismounted ∷ []))
+verb_causes below w (c.DbFill path at size byte) = at_path w path (λ p g. tests (f.span_causes g p at size) ++ may (code.lost ∷ code.write_fault ∷ code.dismounted ∷ []))
+verb_causes below w (c.DbRead path at size) = at_path w path (λ p g. tests (f.span_causes g p at size) ++ may (code.lost ∷ code.read_fault ∷ code.dismounted ∷ []))
+verb_causes below w (c.DbResize path size) = at_path w path (λ p g. tests (f.resize_causes g p size) ++ may (code.lost ∷ code.directory_full ∷ code.no_space ∷ code.write_fault ∷ code.dismounted ∷ []))
 verb_causes below w (c.Ls long path) = listed_causes w (resolved_pattern w.place path)
 verb_causes below w (c.Cd path) = going_causes w (resolved w.place path)
 verb_causes below w c.Pwd = []

@@ -44,3 +44,65 @@ number_of (r.HostFault path) = 37
 number_of r.GroupNotEmpty = 38
 number_of r.NoMemory = 39
 number_of (r.HoldsDirectories disk) = 40
+
+-- ---- numbers by name, of refusals that may come by what lies below the world
+
+abbrev pub no_group : ℕ
+no_group = 2
+
+abbrev pub no_disk : ℕ
+no_disk = 5
+
+abbrev pub disk_taken : ℕ
+disk_taken = 6
+
+abbrev pub too_few_groups : ℕ
+too_few_groups = 7
+
+abbrev pub too_small : ℕ
+too_small = 8
+
+abbrev pub no_majority : ℕ
+no_majority = 9
+
+abbrev pub directories_lost : ℕ
+directories_lost = 10
+
+abbrev pub missing_disks : ℕ
+missing_disks = 11
+
+abbrev pub two_groups : ℕ
+two_groups = 12
+
+abbrev pub damaged : ℕ
+damaged = 13
+
+abbrev pub no_space : ℕ
+no_space = 25
+
+abbrev pub directory_full : ℕ
+directory_full = 26
+
+abbrev pub not_sectors : ℕ
+not_sectors = 28
+
+abbrev pub lost : ℕ
+lost = 29
+
+abbrev pub read_fault : ℕ
+read_fault = 30
+
+abbrev pub write_fault : ℕ
+write_fault = 31
+
+abbrev pub dismounted : ℕ
+dismounted = 32
+
+abbrev pub would_lose : ℕ
+would_lose = 33
+
+abbrev pub host_fault : ℕ
+host_fault = 37
+
+abbrev pub holds_directories : ℕ
+holds_directories = 40

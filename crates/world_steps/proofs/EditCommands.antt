@@ -17,6 +17,7 @@ use Rattle.asm_world.specs.Edits as e
 use Rattle.asm_world.specs.Paths.{clause_path, target_from}
 use Rattle.asm_world.specs.Reply.{Done, Refused}
 use Rattle.asm_world.specs.Settings as t
+use Rattle.asm_world.specs.Numbers as code
 use Rattle.asm_world.specs.Statement as s
 use Rattle.asm_world.specs.Step.{AddsAlias, ChangesNames, ChangesTemplates, DoneClause, DoneCommand, Edits, Has, edit_of, on_path, on_paths}
 use Rattle.asm_world.specs.Waits.{HasLines}
@@ -28,8 +29,8 @@ use Rattle.world_steps.proofs.Tests.{all_plain}
 
 -- what may come behind the tests: a commit, and where it makes a name perhaps want of a block
 abbrev pub commit : Bool → List Cause
-commit true = may (26 ∷ 32 ∷ [])
-commit false = May 32 ∷ []
+commit true = may (code.directory_full ∷ code.dismounted ∷ [])
+commit false = May code.dismounted ∷ []
 
 pub decided_commit : (makes : Bool) → decided (commit makes) ≡ None
 decided_commit true = refl
@@ -166,7 +167,7 @@ abbrev result_changed : Result Group r.Refusal → Group → Group
 result_changed (Ok h) g = h
 result_changed (Err cause) g = g
 
-result_parts : (result : Result Group r.Refusal) → Parts false (by_result result ++ May 32 ∷ []) (result_tests result)
+result_parts : (result : Result Group r.Refusal) → Parts false (by_result result ++ May code.dismounted ∷ []) (result_tests result)
 result_parts (Ok h) = record { rest = commit false; split = refl; commits = λ none. refl }
 result_parts (Err cause) = record { rest = commit false; split = refl; commits = λ none. refl }
 
@@ -207,10 +208,10 @@ module _ (w : World) (name : Bytes) (clause : s.Clause) where
       → Edit w (c.Said (s.Alter name clause)) (name, λ g. t.templates_edited g edit)
   template_clause edit are commits done lines = record {
     named = refl;
-    list_of = λ g. tests (t.template_causes g edit) ++ May 32 ∷ [];
+    list_of = λ g. tests (t.template_causes g edit) ++ May code.dismounted ∷ [];
     causes_are = are;
     tests_of = λ g. t.template_causes g edit;
-    parts = λ g. record { rest = May 32 ∷ []; split = refl; commits = λ none. sym commits };
+    parts = λ g. record { rest = May code.dismounted ∷ []; split = refl; commits = λ none. sym commits };
     all_are = λ g. plain_template g edit;
     changed = λ g. t.with_template_edit g edit;
     change_is = λ g. refl;
@@ -221,7 +222,7 @@ module _ (w : World) (name : Bytes) (clause : s.Clause) where
 attribute_clause : (w : World) (name : Bytes) (a : s.Attribute) → Edit w (c.Said (s.Alter name (s.SetAttribute a))) (name, λ g. t.attribute_set g a)
 attribute_clause w name a = record {
   named = refl;
-  list_of = λ g. by_result (t.attribute_set g a) ++ May 32 ∷ [];
+  list_of = λ g. by_result (t.attribute_set g a) ++ May code.dismounted ∷ [];
   causes_are = λ below. refl;
   tests_of = λ g. result_tests (t.attribute_set g a);
   parts = λ g. result_parts (t.attribute_set g a);
