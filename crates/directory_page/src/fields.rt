@@ -46,7 +46,7 @@ pub(crate) fn pass_system(from: &mut Reader) -> Option<()>
 }
 
 /// Passes over a home. An absent one is 255 and 0.
-#[tactic(auto, unfolding(crate::specs::Values::home_reading))]
+#[tactic(auto, unfolding(asm_base::specs::Parts::home_reading))]
 pub(crate) fn pass_home(from: &mut Reader) -> Option<()>
     ensures { Passes from.new result (passed home_reading from.old) }
 {

@@ -75,7 +75,7 @@ fn take_extent(from: &mut Reader) -> Option<Homes>
 }
 
 /// An absent home is 255 and 0.
-#[tactic(auto, unfolding(crate::specs::Readings::home_reading))]
+#[tactic(auto, unfolding(asm_base::specs::Parts::home_reading))]
 fn take_home(from: &mut Reader) -> Option<Option<Home>>
     ensures { Reads from.new result (home_reading from.old) }
 {
