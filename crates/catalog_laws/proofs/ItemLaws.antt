@@ -17,6 +17,7 @@ use Rattle.asm_placement.specs.Tables.{first_said, head_of, homes_in, if_is, is_
 use Rattle.asm_base.specs.Records.{Ascend}
 use Rattle.asm_base.proofs.Exact.{bind_some, some_is, test_some}
 use Rattle.asm_base.proofs.ItemTables.{IsEntry}
+use Rattle.asm_base.specs.Chunks as chunk_order
 use Rattle.file_directory.specs.Files as files
 use Rattle.extent_map.specs.Extents as extents
 use Rattle.extent_map.proofs.Laws.{chunk_entry, chunk_total}
@@ -84,7 +85,7 @@ module _ {K T : Type 0} {item_of : K × T → Item} {entry_of : Item → Option 
 same_number : IsTest (λ (f g : ℕ). eqb g f)
 same_number = record { exact = λ f g e. eqb-true g f e; itself = λ f. eq-eqb f f refl }
 
-abbrev is_chunk_at : extents.Chunk → extents.Chunk → Bool
+abbrev is_chunk_at : chunk_order.Chunk → chunk_order.Chunk → Bool
 is_chunk_at x y = eqb y.0 x.0 && eqb y.1 x.1
 
 same_chunk : IsTest is_chunk_at
@@ -162,7 +163,7 @@ module _ (t : Tables) (items : List Item) (a : AreTables t) (is : AreItemsOf t i
     back = λ x h.
         let m = from_map (marks_item x.0.0 x.0.1) (stale.marks_at t.stale x.0) (stale.item_of x) (is.to_table (stale.item_of x) h) in
         let e : stale.marks_at t.stale x.0 ≡ Some x.1 = m.1 ∙ ap (option_map (λ (y : stale.Marked). y.1)) (ap stale.marked m.2) in
-        found_is stale.chunk_cmp chunk_total chunks_exact x.0 t.stale x.1 e;
+        found_is chunk_order.chunk_cmp chunk_total chunks_exact x.0 t.stale x.1 e;
   }
 
   chunk_back : (x : extents.Chunked) → item_at t (key (extents.item_of x)) ≡ Some (extents.item_of x) → IsAmong t.extents x
@@ -173,7 +174,7 @@ module _ (t : Tables) (items : List Item) (a : AreTables t) (is : AreItemsOf t i
       let here : option_map (chunk_item x.0.0 x.0.1) (extents.chunk_at t.extents x.0) ≡ Some (extents.item_of x) = rw (some, less) at e in
       let m = from_map (chunk_item x.0.0 x.0.1) (extents.chunk_at t.extents x.0) (extents.item_of x) here in
       let same : extents.chunk_at t.extents x.0 ≡ Some x.1 = m.1 ∙ ap (option_map (λ (y : extents.Chunked). y.1)) (ap extents.chunked m.2) in
-      found_is extents.chunk_cmp chunk_total chunks_exact x.0 t.extents x.1 same
+      found_is chunk_order.chunk_cmp chunk_total chunks_exact x.0 t.extents x.1 same
 
   pub chunk_entries : AreEntries extents.item_of t.extents items
   chunk_entries = record { into = λ x h. item_there (extents.item_of x) (a_chunk x h refl); back = λ x h. chunk_back x (is.to_table (extents.item_of x) h) }
@@ -182,10 +183,10 @@ module _ (t : Tables) (items : List Item) (a : AreTables t) (is : AreItemsOf t i
   heads_are f = head_said items f ∙ looks_up head_entry nat_cmp nat_cmp_total numbers_exact (λ (f g : ℕ). eqb g f) same_number t.files items a.files.0 head_entries f
 
   pub homes_are : (f c : ℕ) → homes_in items f c ≡ extents.chunk_at t.extents (f, c)
-  homes_are f c = homes_said items f c ∙ looks_up chunk_entry extents.chunk_cmp chunk_total chunks_exact is_chunk_at same_chunk t.extents items a.extents.0.0 chunk_entries (f, c)
+  homes_are f c = homes_said items f c ∙ looks_up chunk_entry chunk_order.chunk_cmp chunk_total chunks_exact is_chunk_at same_chunk t.extents items a.extents.0.0 chunk_entries (f, c)
 
   pub marks_are : (f c : ℕ) → marks_in items f c ≡ stale.marks_at t.stale (f, c)
-  marks_are f c = marks_said items f c ∙ looks_up marks_entry stale.chunk_cmp chunk_total chunks_exact is_chunk_at same_chunk t.stale items a.stale.0 marks_entries (f, c)
+  marks_are f c = marks_said items f c ∙ looks_up marks_entry chunk_order.chunk_cmp chunk_total chunks_exact is_chunk_at same_chunk t.stale items a.stale.0 marks_entries (f, c)
 
   pub stale_are : (f i k : ℕ) → is_stale items f i k ≡ has_bit (marks_of t f i) k
   unfolding is_stale

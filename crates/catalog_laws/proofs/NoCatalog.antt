@@ -12,6 +12,7 @@ use Rattle.asm_base.specs.Records.{Entry, add_item, of_kinds, read_from, record_
 use Rattle.asm_base.specs.Tables.{entry_of_record}
 use Rattle.asm_base.proofs.Exact.{some_is}
 use Rattle.asm_base.proofs.ItemTables.{items_again}
+use Rattle.asm_base.specs.Chunks as chunk_order
 use Rattle.allocator.specs.UnitMaps.{UnitMap}
 use Rattle.file_directory.specs.Files as files
 use Rattle.file_directory.proofs.Laws as file_laws
@@ -83,7 +84,7 @@ no_break s es t ms k r infos regular units (fault.no_room e is) = omega (arith, 
 
 -- ---- rules of one table
 
-no_gap : (past : Option extents.Chunk) (t : List extents.Chunked) (at : extents.Chunk) → gap_from past t ≡ Some at → extents.has_no_gap past t ≡ true → ⊥
+no_gap : (past : Option chunk_order.Chunk) (t : List extents.Chunked) (at : chunk_order.Chunk) → gap_from past t ≡ Some at → extents.has_no_gap past t ≡ true → ⊥
 no_gap past [] at e right = none-some at e
 no_gap past (x ∷ t) at e right = by (extents.stands_at past x) refl (no_gap (extents.opened x) t at) where
   by : (b : Bool) → extents.stands_at past x ≡ b → (gap_from (extents.opened x) t ≡ Some at → extents.has_no_gap (extents.opened x) t ≡ true → ⊥) → ⊥
@@ -105,10 +106,10 @@ no_loose content u n b g f =
       | inr twin ↦ node_laws.no_clash f.nodes table twin.clash
     ]
 
-no_chunk_gap : (content : List Entry) (u : Tables) (at : extents.Chunk) → AreTables u → HasRecords content u → HasGap content at → ⊥
+no_chunk_gap : (content : List Entry) (u : Tables) (at : chunk_order.Chunk) → AreTables u → HasRecords content u → HasGap content at → ⊥
 no_chunk_gap content u at b g h =
     let read = read_from extents.is_chunk extents.add [] content in
-    let same : h.table ≡ u.extents = same_of read h.table u.extents (items_again extent_laws.chunk_entry extents.is_chunk extents.is_before content read h.table refl h.items h.same) (items_again extent_laws.chunk_entry extents.is_chunk extents.is_before content read u.extents refl b.extents.0 g.extents) in
+    let same : h.table ≡ u.extents = same_of read h.table u.extents (items_again extent_laws.chunk_entry extents.is_chunk chunk_order.is_before content read h.table refl h.items h.same) (items_again extent_laws.chunk_entry extents.is_chunk chunk_order.is_before content read u.extents refl b.extents.0 g.extents) in
     no_gap None u.extents at (subst (λ (t : List extents.Chunked). gap_from None t ≡ Some at) same h.gap) b.extents.1
 
 -- ---- records that must be there

@@ -15,6 +15,7 @@ use Rattle.asm_formats.specs.Values.{decoded_item}
 use Rattle.asm_formats.proofs.Bodies.{item_codec}
 use Rattle.asm_base.specs.Records.{Ascend, Entry, is_key, key_cmp, keys_of, of_kinds, record_at}
 use Rattle.asm_base.specs.Tables.{IsItemTable, item_record}
+use Rattle.asm_base.specs.Chunks as chunk_order
 use Rattle.file_directory.specs.Files as files
 use Rattle.extent_map.specs.Extents as extents
 use Rattle.extent_map.specs.Faults.{IsWithoutGap}
@@ -160,7 +161,7 @@ next_cmp c d = by (nat_cmp c d) refl where
   by Equal e = grind (arith, e)
   by Greater e = grind (arith, e)
 
-chunk_kind : IsKind extents.is_chunk extents.is_before extents.item_of
+chunk_kind : IsKind extents.is_chunk chunk_order.is_before extents.item_of
 chunk_kind = record { entry = entry; below = below } where
   entry : (i : Item) → extents.is_chunk (key i) ≡ true → (x : extents.Chunked) × (i ≡ extents.item_of x)
   entry (chunk_item f c homes) e = (((f, c), homes), refl)
@@ -173,7 +174,7 @@ chunk_kind = record { entry = entry; below = below } where
   entry (settings_item s) e = absurd cc
   entry (marks_item f c marks) e = absurd cc
 
-  below : (x y : extents.Chunked) → key_cmp (key (extents.item_of x)) (key (extents.item_of y)) ≡ Less → extents.is_before x.0 y.0 ≡ true
+  below : (x y : extents.Chunked) → key_cmp (key (extents.item_of x)) (key (extents.item_of y)) ≡ Less → chunk_order.is_before x.0 y.0 ≡ true
   below x y e = ap is_lt (ap (ordering_then (nat_cmp x.0.0 y.0.0)) (sym (next_cmp x.0.1 y.0.1)) ∙ e)
 
 node_kind : IsKind nodes.is_mine nodes.is_before nodes.item_of
@@ -189,7 +190,7 @@ node_kind = record { entry = entry; below = λ x y e. then_equal (nat_cmp x.0 y.
   entry (settings_item s) e = absurd cc
   entry (marks_item f c marks) e = absurd cc
 
-marks_kind : IsKind stale.is_marks stale.is_before stale.item_of
+marks_kind : IsKind stale.is_marks chunk_order.is_before stale.item_of
 marks_kind = record { entry = entry; below = λ x y e. ap is_lt e } where
   entry : (i : Item) → stale.is_marks (key i) ≡ true → (x : stale.Marked) × (i ≡ stale.item_of x)
   entry (marks_item f c marks) e = (((f, c), marks), refl)

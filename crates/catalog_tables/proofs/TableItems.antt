@@ -21,6 +21,7 @@ use Rattle.asm_formats.proofs.ItemReading.{decoded_again}
 use Rattle.asm_base.specs.Records.{Ascend, Entry, key_cmp, of_kinds}
 use Rattle.asm_base.specs.Tables.{item_record}
 use Rattle.asm_base.proofs.Exact.{some_is}
+use Rattle.asm_base.specs.Chunks as chunk_order
 use Rattle.file_directory.specs.Files as files
 use Rattle.extent_map.specs.Extents as extents
 use Rattle.extent_map.proofs.Laws.{chunk_total}
@@ -56,7 +57,7 @@ both_equal Less p e = absurd cc
 both_equal Equal p e = (refl, e)
 both_equal Greater p e = absurd cc
 
-pub chunks_exact : AreExact extents.chunk_cmp
+pub chunks_exact : AreExact chunk_order.chunk_cmp
 chunks_exact x y e =
     let p = both_equal (nat_cmp x.0 y.0) (nat_cmp x.1 y.1) e in
     let first = numbers_exact x.0 y.0 p.0 in
@@ -187,7 +188,7 @@ module _ (t : Tables) (k : Key) (i : Item) where
   said_chunk : k.kind ≡ 1 → (k.b ≡ 0 → ⊥) → option_map (chunk_item k.a (k.b - 1)) (extents.chunk_at t.extents (k.a, k.b - 1)) ≡ Some i → Said t k i
   said_chunk one some e =
       let m = from_map (chunk_item k.a (k.b - 1)) (extents.chunk_at t.extents (k.a, k.b - 1)) i e in
-      (a_chunk ((k.a, k.b - 1), m.0) (found_is extents.chunk_cmp chunk_total chunks_exact (k.a, k.b - 1) t.extents m.0 m.1) (sym m.2), ap key (sym m.2) ∙ at_key k 1 k.a (k.b - 1 + 1) (sym one) refl (omega (arith, some)))
+      (a_chunk ((k.a, k.b - 1), m.0) (found_is chunk_order.chunk_cmp chunk_total chunks_exact (k.a, k.b - 1) t.extents m.0 m.1) (sym m.2), ap key (sym m.2) ∙ at_key k 1 k.a (k.b - 1 + 1) (sym one) refl (omega (arith, some)))
 
   said_disk : k.kind ≡ 2 → k.b ≡ 0 → option_map (disk_item k.a) (disks.info_at t.disks k.a) ≡ Some i → Said t k i
   said_disk two zero e =
@@ -227,7 +228,7 @@ module _ (t : Tables) (k : Key) (i : Item) where
   said_marks : k.kind ≡ 12 → option_map (marks_item k.a k.b) (stale.marks_at t.stale (k.a, k.b)) ≡ Some i → Said t k i
   said_marks twelve e =
       let m = from_map (marks_item k.a k.b) (stale.marks_at t.stale (k.a, k.b)) i e in
-      (marks ((k.a, k.b), m.0) (found_is stale.chunk_cmp chunk_total chunks_exact (k.a, k.b) t.stale m.0 m.1) (sym m.2), ap key (sym m.2) ∙ at_key k 12 k.a k.b (sym twelve) refl refl)
+      (marks ((k.a, k.b), m.0) (found_is chunk_order.chunk_cmp chunk_total chunks_exact (k.a, k.b) t.stale m.0 m.1) (sym m.2), ap key (sym m.2) ∙ at_key k 12 k.a k.b (sym twelve) refl refl)
 
   -- a choice by a number
   choose : (n m : ℕ) (x y : Option Item) → (n ≡ m → x ≡ Some i → Said t k i) → ((n ≡ m → ⊥) → y ≡ Some i → Said t k i) → cond (eqb n m) x y ≡ Some i → Said t k i
@@ -259,7 +260,7 @@ unfolding item_at
 chunk_says t x a h =
     let some : eqb (x.0.1 + 1) 0 ≡ false = ne_eqb (x.0.1 + 1) 0 (λ e. omega (arith, e)) in
     let less : x.0.1 + 1 - 1 ≡ x.0.1 = omega arith in
-    rw (some, less) (ap (option_map (chunk_item x.0.0 x.0.1)) (among_found extents.chunk_cmp chunk_total chunks_exact t.extents x a.extents.0.0 h))
+    rw (some, less) (ap (option_map (chunk_item x.0.0 x.0.1)) (among_found chunk_order.chunk_cmp chunk_total chunks_exact t.extents x a.extents.0.0 h))
 
 pub says : (t : Tables) (i : Item) → AreTables t → IsOf t i → item_at t (key i) ≡ Some i
 unfolding item_at
@@ -270,7 +271,7 @@ says t i a (an_operation h) = operation_says t i h
 says t i a (the_templates e) = subst (λ (j : Item). item_at t (key j) ≡ Some j) (sym e) refl
 says t i a (a_node x h e) = subst (λ (j : Item). item_at t (key j) ≡ Some j) (sym e) (ap (option_map (node_item x.0)) (among_found nat_cmp nat_cmp_total numbers_exact t.nodes x a.nodes.items.0 h))
 says t i a (the_settings e) = subst (λ (j : Item). item_at t (key j) ≡ Some j) (sym e) refl
-says t i a (marks x h e) = subst (λ (j : Item). item_at t (key j) ≡ Some j) (sym e) (ap (option_map (marks_item x.0.0 x.0.1)) (among_found stale.chunk_cmp chunk_total chunks_exact t.stale x a.stale.0 h))
+says t i a (marks x h e) = subst (λ (j : Item). item_at t (key j) ≡ Some j) (sym e) (ap (option_map (marks_item x.0.0 x.0.1)) (among_found chunk_order.chunk_cmp chunk_total chunks_exact t.stale x a.stale.0 h))
 
 -- it is one of the formats
 pub allowed : (t : Tables) (i : Item) → AreTables t → IsOf t i → is_item i ≡ true

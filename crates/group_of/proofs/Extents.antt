@@ -19,10 +19,10 @@ use Rattle.file_directory.specs.Files.{head_at, is_file}
 use Rattle.extent_map.specs.Extents as extents
 use Rattle.extent_map.specs.Extents.{Chunked, chunk_at, has_extent, has_home}
 use Rattle.asm_base.specs.Chunks.{chunk_cmp}
+use Rattle.asm_base.specs.Chunks as chunk_order
 use Rattle.extent_map.proofs.Laws.{chunk_total}
 use Rattle.extent_map.proofs.Numbering.{numbers_extents}
 use Rattle.staleness_directory.specs.Marks.{marks_at}
-use Rattle.staleness_directory.specs.Marks as stale
 use Rattle.catalog_tables.specs.Tables.{AreTables, Tables}
 use Rattle.catalog_tables.specs.Rules.{HasExtents, KeepsRules, are_within, are_within_head, has_chunk, has_copies, has_marks, is_copied, is_due, is_owned, is_within, keeps_copies}
 use Rattle.catalog_tables.specs.Items.{AreItemsOf}
@@ -154,7 +154,7 @@ module _ (s : Shape) (t : Tables) (items : List Item) (k : KeepsRules s t) (is :
     by None e None g = refl
     by (Some homes) e (Some ms) g = refl
     by (Some homes) e None g = absurd (clash (is_some (marks_at t.stale (f, c))) (passes_each (has_marks t) t.extents k.marked ((f, c), homes) (chunk_among f c homes e)) (ap is_some g))
-    by None e (Some ms) g = absurd (clash (is_some (chunk_at t.extents (f, c))) (passes_each (has_chunk t) t.stale k.chunks ((f, c), ms) (found_is stale.chunk_cmp chunk_total chunks_exact (f, c) t.stale ms g)) (ap is_some e))
+    by None e (Some ms) g = absurd (clash (is_some (chunk_at t.extents (f, c))) (passes_each (has_chunk t) t.stale k.chunks ((f, c), ms) (found_is chunk_order.chunk_cmp chunk_total chunks_exact (f, c) t.stale ms g)) (ap is_some e))
 
   pub all_copies : (cells : ℕ → List Cell) (f i copy : ℕ) (file : File) → HasCells t cells → maps.get (files_by_number cells t.files) f ≡ Some file
       → layout.has_extent file.stripe s.au s.step (length file.cells) i ≡ true → copy < file.copies → is_some (home_of items f i copy) ≡ true

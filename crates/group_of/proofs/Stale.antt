@@ -21,6 +21,7 @@ use Rattle.catalog.proofs.NumberedEntries.{passes_each}
 use Rattle.catalog_tables.proofs.TableItems.{chunks_exact, each_of, found_is}
 use Rattle.catalog_laws.proofs.ItemLaws.{stale_are}
 use Rattle.group_of.proofs.Extents.{home_by, or_else}
+use Rattle.asm_base.specs.Chunks as chunk_order
 
 clash : (b : Bool) → b ≡ true → b ≡ false → ⊥
 clash true e f = absurd cc
@@ -80,10 +81,10 @@ marks_are_of_homes s t items k is f i copy e = ap is_some (home_by t items k.tab
       → is_some (get_or (get_or (unwrap_or (chunk_at t.extents (f, i / chunk_len)) []) (i % chunk_len) []) copy None) ≡ true
   by None m p c bit = absurd (clash (has_bit 0 copy) (ap (λ (o : Option (List ℕ)). has_bit (get_or (unwrap_or o []) (i % chunk_len) 0) copy) (sym m) ∙ bit) (empty_is copy))
   by (Some ms) m None c bit =
-      let there = passes_each (has_chunk t) t.stale k.chunks ((f, i / chunk_len), ms) (found_is stale.chunk_cmp chunk_total chunks_exact (f, i / chunk_len) t.stale ms m) in
+      let there = passes_each (has_chunk t) t.stale k.chunks ((f, i / chunk_len), ms) (found_is chunk_order.chunk_cmp chunk_total chunks_exact (f, i / chunk_len) t.stale ms m) in
       absurd (clash (is_some (chunk_at t.extents (f, i / chunk_len))) there (ap is_some c))
   by (Some ms) m (Some homes) c bit =
-      let among = found_is stale.chunk_cmp chunk_total chunks_exact (f, i / chunk_len) t.stale ms m in
+      let among = found_is chunk_order.chunk_cmp chunk_total chunks_exact (f, i / chunk_len) t.stale ms m in
       let right : are_chunk_marks (Some homes) ms ≡ true = ap (λ (o : Option (List Homes)). are_chunk_marks o ms) (sym c) ∙ passes_each (is_marked_right t) t.stale k.stale ((f, i / chunk_len), ms) among in
       let long = long_marks f (i / chunk_len) ms (each_of (λ (x : Marked). is_item (stale.item_of x) ≡ true) t.stale ((f, i / chunk_len), ms) k.tables.stale.1 among) in
       let size = size_of t.extents (f, i / chunk_len) homes k.tables.extents.0.1 c in
