@@ -1,5 +1,5 @@
 -- A disk's record is read from its one spelling alone.
-use Rattle.std.proofs.Common.{◌≡◌, ℕ, ◌^◌, ◌<◌, Bool, true, false, ltb, eqb, cond, List, [], ◌∷◌, ◌++◌, map, Option, Some, None, inl, inr, ◌⊎◌, refl, sym, ap, subst, ◌∙◌, arith}
+use Rattle.std.proofs.Common.{◌≡◌, ℕ, ◌^◌, ◌<◌, Bool, true, false, ltb, eqb, cond, List, [], ◌∷◌, ◌++◌, map, Option, Some, None, inl, inr, ◌⊎◌, refl, sym, ap, subst, ◌∙◌, arith, ◌&&◌}
 use Rattle.std.specs.Prelude.{IfSome}
 use Rattle.std.specs.Int.{w64}
 use Rattle.std.specs.Option.{option_map}
@@ -164,6 +164,6 @@ pub step_taken_inside : (disks new : List Disk) {v k : Key} (bytes : List ℕ) (
 step_taken_inside disks new {v} {k} bytes d same mine table read ends put =
     step_taken disks new (k, bytes) (k.a, d) mine table read (subst (λ (j : Key). ends_below is_before disks j.a ≡ true) same ends) (subst (λ (j : Key). new ≡ with_info disks j.a d) same put)
 
-pub is_allowed_item : (d birth : ℕ) (name failgroup : Bytes) → birth < 2 ^ 64 → is_item (disk_item d (record { birth = birth; name = name; failgroup = failgroup })) ≡ (ltb d 64 && (is_name name && is_name failgroup))
+pub is_allowed_item : (d birth : ℕ) (name failgroup : List ℕ) → birth < 2 ^ 64 → is_item (disk_item d (record { birth = birth; name = name; failgroup = failgroup })) ≡ (ltb d 64 && (is_name name && is_name failgroup))
 unfolding is_item
 is_allowed_item d birth name failgroup fits = rw (lt-ltb birth (2 ^ 64) fits) refl
