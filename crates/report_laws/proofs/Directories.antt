@@ -27,7 +27,7 @@ pub root : (nodes : List Numbered) → number_of nodes [] ≡ Some 0
 unfolding number_of
 root nodes = refl
 
-filled : (part : Bytes) (path : Path) → is_root (part ∷ path) ≡ false
+pub filled : (part : Bytes) (path : Path) → is_root (part ∷ path) ≡ false
 filled part path = ne_eqb (length (part ∷ path)) 0 (λ e. absurd (omega (arith, e)))
 
 module _ (nodes : List Numbered) (is : IsTable nodes) (g : Group) (tree : g.tree ≡ tree_of nodes) where

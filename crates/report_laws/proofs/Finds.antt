@@ -3,12 +3,9 @@ use Rattle.std.proofs.Common.{◌≡◌, ◌⊎◌, ⊎_elim, ℕ, ◌+◌, ◌<
 use Rattle.std.specs.Prelude.{◌&&◌, ◌==◌, nat_le, filter_map}
 use Rattle.std.specs.Int.{is_in_range}
 use Rattle.std.specs.FinMap as maps
-use Rattle.std.specs.FinMap.Entries.{below_all}
-use Rattle.std.proofs.Math.Dec.{T}
 use Rattle.std.specs.Option.{option_and_then, option_map, option_to_list}
-use Rattle.std.specs.Ordering.{nat_cmp, is_eq, is_lt}
+use Rattle.std.specs.Ordering.{nat_cmp}
 use Rattle.std.specs.declared.cmp.Ordering.{Ordering}
-use Rattle.std.specs.declared.cmp.Ordering.TheVariants.{Less, Equal, Greater}
 use Rattle.std.specs.Cmp.Lexicographic.{slice_cmp}
 use Rattle.std.proofs.lemmas.Bool.{and_parts, cases_Bool, cond-false, cond-true, eqb-true, false≢true, true≢false, leb-true, lt-leb}
 use Rattle.std.proofs.lemmas.Option.{none-some, same_Some}
@@ -34,7 +31,7 @@ use Rattle.alias_tree.specs.Nodes.{IsTable, Numbered, node_at, number_of}
 use Rattle.alias_tree.specs.Spelling.{names_to}
 use Rattle.alias_tree.specs.Trees.{node_by, number_by, tree_of}
 use Rattle.alias_tree.proofs.Spelled.{leads_there}
-use Rattle.alias_tree.proofs.Ways.{key_is, key_other, key_self, is_key, no_root, tree_has, way, way_is, way_leads}
+use Rattle.alias_tree.proofs.Ways.{no_root, paths_total, tree_has, way, way_is, way_leads}
 use Rattle.file_directory.specs.Files.{File, head_at}
 use Rattle.catalog_tables.specs.Rules as rules
 use Rattle.catalog_tables.specs.Rules.{KeepsRules}
@@ -47,6 +44,7 @@ use Rattle.group_reports.specs.Places.{path_of_parts}
 use Rattle.report_laws.specs.Finds.{FoundAreWorlds}
 use Rattle.report_laws.proofs.Ordered.{AreApart, order_is, same_texts}
 use Rattle.report_laws.proofs.PathTexts.{names_are_parts, parts_told, same_text}
+use Rattle.report_laws.proofs.Sorted.{find_among, sorted_find, t_true}
 use Rattle.report_laws.proofs.Spelling.{from_folded, spelt_is, to_folded}
 
 -- ---- folded twice
@@ -95,14 +93,14 @@ module _ {B : Type 0} where
   append_back (x ∷ a) b y m = inr (append_back a b y m)
 
 module _ {A B : Type 0} where
-  mapped_from : (f : A → B) (xs : List A) (y : B) → IsAmong (map f xs) y → (x : A) × IsAmong xs x × (y ≡ f x)
+  pub mapped_from : (f : A → B) (xs : List A) (y : B) → IsAmong (map f xs) y → (x : A) × IsAmong xs x × (y ≡ f x)
   mapped_from f [] y m = absurd m
   mapped_from f (x ∷ xs) y m = elim m [
     | inl here ↦ (x, inl refl, here)
     | inr later ↦ let z = mapped_from f xs y later in (z.0, inr z.1, z.2)
   ]
 
-  mapped_to : (f : A → B) (xs : List A) (x : A) → IsAmong xs x → IsAmong (map f xs) (f x)
+  pub mapped_to : (f : A → B) (xs : List A) (x : A) → IsAmong xs x → IsAmong (map f xs) (f x)
   mapped_to f [] x m = absurd m
   mapped_to f (y ∷ xs) x m = elim m [ inl here ↦ inl (ap f here) | inr later ↦ inr (mapped_to f xs x later) ]
 
@@ -128,7 +126,7 @@ module _ {A B : Type 0} where
       (λ later. let z = more later in (z.0, inr z.1, z.2))
       (rw e at m)
 
-  filtered_from : (f : A → Option B) (xs : List A) (y : B) → IsAmong (filter_map f xs) y → (x : A) × IsAmong xs x × (f x ≡ Some y)
+  pub filtered_from : (f : A → Option B) (xs : List A) (y : B) → IsAmong (filter_map f xs) y → (x : A) × IsAmong xs x × (f x ≡ Some y)
   filtered_from f [] y m = absurd m
   filtered_from f (x ∷ xs) y m = filtered_by f x xs y (f x) refl (filtered_from f xs y) m
 
@@ -136,7 +134,7 @@ module _ {A B : Type 0} where
   filtered_more f z xs y None e more = rw e more
   filtered_more f z xs y (Some v) e more = rw e (inr more)
 
-  filtered_to : (f : A → Option B) (xs : List A) (x : A) (y : B) → IsAmong xs x → f x ≡ Some y → IsAmong (filter_map f xs) y
+  pub filtered_to : (f : A → Option B) (xs : List A) (x : A) (y : B) → IsAmong xs x → f x ≡ Some y → IsAmong (filter_map f xs) y
   filtered_to f [] x y m is = absurd m
   filtered_to f (z ∷ xs) x y m is = elim m [
     | inl here ↦ let at : f z ≡ Some y = ap f (sym here) ∙ is in rw at (inl refl)
@@ -153,55 +151,20 @@ one_to (Some v) y e = inl (sym (same_Some v y e))
 
 -- ---- entries of the tree
 
-abbrev Entries : Type 0
+abbrev pub Entries : Type 0
 Entries = List (Path × TreeEntry)
 
-abbrev P : Path → Path → Ordering
+abbrev pub P : Path → Path → Ordering
 P = slice_cmp (slice_cmp nat_cmp)
 
-t_true : (b : Bool) → T b → b ≡ true
-t_true true h = refl
-t_true false h = absurd h
-
-not_both : (o : Ordering) → is_lt o ≡ true → is_eq o ≡ true → ⊥
-not_both Less a b = absurd cc
-not_both Equal a b = absurd cc
-not_both Greater a b = absurd cc
-
-not_first : (k : Path) (es : Entries) → below_all P k es ≡ true → (x : Path × TreeEntry) → IsAmong es x → x.0 ≡ k → ⊥
-not_first k [] below x m same = absurd m
-not_first k (y ∷ es) below x m same =
-    let p = and_parts (is_lt (P k y.0)) (below_all P k es) below in
-    elim m [
-      | inl here ↦ not_both (P k y.0) p.0 (subst (λ (q : Path). is_key k q ≡ true) (sym same ∙ ap (λ (e : Path × TreeEntry). e.0) here) (key_self k))
-      | inr later ↦ not_first k es p.1 x later same
-    ]
-
-sorted_find : (es : Entries) → maps.is_sorted P es ≡ true → (x : Path × TreeEntry) → IsAmong es x → maps.find P x.0 es ≡ Some x.1
-sorted_find [] up x m = absurd m
-sorted_find (y ∷ es) up x m =
-    let p = and_parts (below_all P y.0 es) (maps.is_sorted P es) up in
-    elim m [
-      | inl here ↦ subst (λ (e : Path × TreeEntry). maps.find P e.0 (y ∷ es) ≡ Some e.1) (sym here) (rw (key_self y.0) refl)
-      | inr later ↦
-          let other : is_key x.0 y.0 ≡ false = key_other x.0 y.0 (λ same. not_first y.0 es p.0 x later same) in
-          rw other (sorted_find es p.1 x later)
-    ]
+pub paths_same : maps.IsAntisymmetric P
+paths_same = maps.slice_cmp-IsAntisymmetric (maps.slice_cmp-IsAntisymmetric maps.nat_cmp-IsAntisymmetric)
 
 entry_got : (t : Tree) (x : Path × TreeEntry) → IsAmong (maps.entries t) x → maps.get t x.0 ≡ Some x.1
-entry_got t x m = maps.get-entries t x.0 ∙ sorted_find (maps.entries t) (t_true (maps.is_sorted P (maps.entries t)) (maps.entries_sorted t)) x m
-
-find_among : (es : Entries) (q : Path) (x : TreeEntry) → maps.find P q es ≡ Some x → IsAmong es (q, x)
-find_among [] q x h = absurd (none-some x h)
-find_among (y ∷ es) q x h = elim (cases_Bool (is_key q y.0)) [
-  | inl hit ↦
-      let v : y.1 ≡ x = same_Some y.1 x (rw hit at h) in
-      inl (ap (λ (p : Path). (p, x)) (key_is q y.0 hit) ∙ ap (λ (w : TreeEntry). (y.0, w)) (sym v))
-  | inr miss ↦ inr (find_among es q x (rw miss at h))
-]
+entry_got t x m = maps.get-entries t x.0 ∙ sorted_find P paths_total paths_same (maps.entries t) (t_true (maps.is_sorted P (maps.entries t)) (maps.entries_sorted t)) x m
 
 got_entry : (t : Tree) (q : Path) (x : TreeEntry) → maps.get t q ≡ Some x → IsAmong (maps.entries t) (q, x)
-got_entry t q x e = find_among (maps.entries t) q x (sym (maps.get-entries t q) ∙ e)
+got_entry t q x e = find_among P paths_total paths_same (maps.entries t) q x (sym (maps.get-entries t q) ∙ e)
 
 -- ---- kinds
 
@@ -255,14 +218,14 @@ module _ (name : Bytes) (s : Shape) (t : Tables) (cells : ℕ → List Cell) (di
     way_names : way nodes n ≡ folded_path (names n)
     way_names = way_is nodes (folded_path (names n)) n table leads
 
-    world_text : texts.path_text (edits.spelt g (way nodes n)) ≡ text_of n
+    pub world_text : texts.path_text (edits.spelt g (way nodes n)) ≡ text_of n
     world_text =
         let key : folded_path (way nodes n) ≡ folded_path (names n) = ap folded_path way_names ∙ path_same (names n) in
         let there : number_of nodes (way nodes n) ≡ Some n = from_folded nodes table (way nodes n) n (ap (λ (p : Path). number_by nodes 0 p) key ∙ leads) in
         let below : edits.spelt_below g [] (way nodes n) ≡ names n = spelt_is nodes table g tree_is (way nodes n) n there in
         (λ i. texts.path_text (name_is i ∷ below i)) ∙ same_text name (names n)
 
-    entry_there : IsAmong (maps.entries g.tree) (way nodes n, entry_of_node node)
+    pub entry_there : IsAmong (maps.entries g.tree) (way nodes n, entry_of_node node)
     entry_there = subst (λ (m : Tree). IsAmong (maps.entries m) (way nodes n, entry_of_node node)) (sym tree_is)
         (got_entry (tree_of nodes) (way nodes n) (entry_of_node node)
         (tree_has nodes (way nodes n) table ∙ ap (λ (o : Option ℕ). option_map entry_of_node (option_and_then (λ m. node_at nodes m) o)) (way_leads nodes n node table at) ∙ ap (option_map entry_of_node) at))
@@ -355,14 +318,14 @@ module _ (name : Bytes) (s : Shape) (t : Tables) (cells : ℕ → List Cell) (di
       (append_from (option_to_list (found_at t name dir pattern f.1.system)) (option_to_list (found_at t name dir pattern f.1.alias)) a.0 b.2))
 
   -- the node of an entry
-  record IsOf (x : Path × TreeEntry) : Type 0 where
-    n : ℕ
-    node : Node
-    at : node_at nodes n ≡ Some node
-    key : x.0 ≡ way nodes n
-    is : x.1 ≡ entry_of_node node
+  pub record IsOf (x : Path × TreeEntry) : Type 0 where
+    pub n : ℕ
+    pub node : Node
+    pub at : node_at nodes n ≡ Some node
+    pub key : x.0 ≡ way nodes n
+    pub is : x.1 ≡ entry_of_node node
 
-  entry_node : (x : Path × TreeEntry) → IsAmong (maps.entries g.tree) x → IsOf x
+  pub entry_node : (x : Path × TreeEntry) → IsAmong (maps.entries g.tree) x → IsOf x
   entry_node x m = by (number_by nodes 0 x.0) refl where
     got : option_map entry_of_node (node_by nodes x.0) ≡ Some x.1
     got = sym (tree_has nodes x.0 table) ∙ entry_got (tree_of nodes) x (subst (λ (w : Tree). IsAmong (maps.entries w) x) tree_is m)

@@ -6,4 +6,9 @@ pub mod Places
 pub mod Rows
 pub mod Ordered
 pub mod PathTexts
+pub mod Sorted
 pub mod Finds
+pub mod InOrder
+pub mod Named
+pub mod Lists
+pub mod ListCauses

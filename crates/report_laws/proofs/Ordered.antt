@@ -20,13 +20,13 @@ use Rattle.asm_world.specs.Listings.{by_folded_text}
 use Rattle.asmcmd.specs.Texts.{path_line}
 use Rattle.group_reports.specs.Files.{folded_text, in_order, placed_among}
 
-abbrev R : Bytes → Bytes → Ordering
+abbrev pub R : Bytes → Bytes → Ordering
 R = slice_cmp nat_cmp
 
-abbrev Entries : Type 0
+abbrev pub Entries : Type 0
 Entries = List (Bytes × Bytes)
 
-abbrev entry : Bytes → Bytes × Bytes
+abbrev pub entry : Bytes → Bytes × Bytes
 entry text = (folded text, text)
 
 -- ---- the program's order is the world's
@@ -77,10 +77,10 @@ key_self q = (eq_by_cmp_equiv nat_list_cmp_total).refl q
 abbrev pub AreApart : List Bytes → Type 0
 AreApart texts = (x y : Bytes) → IsAmong texts x → IsAmong texts y → folded x ≡ folded y → x ≡ y
 
-abbrev found : Bytes → List Bytes → Option Bytes
+abbrev pub found : Bytes → List Bytes → Option Bytes
 found q texts = maps.find R q (map entry texts)
 
-found_is : (q : Bytes) (texts : List Bytes) (x : Bytes) → found q texts ≡ Some x → IsAmong texts x × (folded x ≡ q)
+pub found_is : (q : Bytes) (texts : List Bytes) (x : Bytes) → found q texts ≡ Some x → IsAmong texts x × (folded x ≡ q)
 found_is q [] x e = absurd (none-some x e)
 found_is q (y ∷ texts) x e = elim (cases_Bool (is_key q (folded y))) [
   | inl hit ↦

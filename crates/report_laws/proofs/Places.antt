@@ -39,7 +39,7 @@ second_due false b c p q is = absurd (false≢true p)
 said_as : (refusal named : Refusal) → named ≡ refusal → said (λ _. []) refusal ≡ said (λ _. []) named
 said_as refusal named same = ap (λ (x : Refusal). said (λ _. []) x) (sym same)
 
-no_name : said (λ _. []) cause.NoName ≡ r.NoName
+pub no_name : said (λ _. []) cause.NoName ≡ r.NoName
 unfolding said
 no_name = refl
 
