@@ -15,12 +15,13 @@ use Rattle.asmcmd.specs.declared.rows.DiskRow.{DiskRow}
 use Rattle.asmcmd.specs.declared.rows.TemplateRow.{TemplateRow}
 use Rattle.asmcmd.specs.declared.rows.AttrRow.{AttrRow}
 use Rattle.asmcmd.specs.declared.text.Field.{Field}
-use Rattle.asmcmd.specs.declared.text.Field.TheVariants.{Word, Directory, Number}
+use Rattle.asmcmd.specs.declared.text.Field.TheVariants.{Word, Directory, Number, WideNumber}
 
 abbrev pub printed : Field → Bytes
 printed (Word word) = word.now
 printed (Directory name) = name.now ++ 47 ∷ []
 printed (Number n) = decimal n
+printed (WideNumber n) = decimal n
 
 -- ---- ls
 

@@ -119,10 +119,11 @@ pub fn path_lines(alloc: Global, paths: &[Path]) -> Result<List<Text>, NoMemory>
 }
 
 /// The bytes used by files, and by all copies of their extents, below a head line.
-pub fn usage_lines(alloc: Global, used: u64, mirrored: u64) -> Result<List<Text>, NoMemory>
+pub fn usage_lines(alloc: Global, used: u128, mirrored: u128) -> Result<List<Text>, NoMemory>
     ensures { IfOk result (λ lines. lines ≡ du_lines used mirrored) }
 {
     let mut lines = headed(alloc, b"Used Mirror_used")?;
-    lines.push(line_of(alloc, Field::Number(used), &[Field::Number(mirrored)])?)?;
+    let mirrored = Field::WideNumber(mirrored);
+    lines.push(line_of(alloc, Field::WideNumber(used), &[mirrored])?)?;
     Ok(lines)
 }

@@ -16,6 +16,8 @@ pub enum Field<'a> {
     /// A name, with `/` after it.
     Directory(&'a [u8]),
     Number(u64),
+    /// A number that 64 bits may not hold.
+    WideNumber(u128),
 }
 
 pub fn with_bytes(mut text: Vec<u8>, bytes: &[u8]) -> Result<Vec<u8>, NoMemory>
@@ -39,6 +41,7 @@ fn with_field(text: Vec<u8>, field: Field<'_>) -> Result<Vec<u8>, NoMemory>
         Field::Word(word) => with_bytes(text, word),
         Field::Directory(name) => with_byte(with_bytes(text, name)?, b'/'),
         Field::Number(n) => with_bytes(text, Buffer::new().format(n).as_bytes()),
+        Field::WideNumber(n) => with_bytes(text, Buffer::new().format(n).as_bytes()),
     }
 }
 

@@ -1,5 +1,5 @@
 -- The files of a group one after the other, what find shows of them, and what they take below a directory.
-use Rattle.std.specs.Prelude.{ℕ, ◌+◌, ◌*◌, ◌-◌, ◌^◌, min, Bool, nat_le, List, [], ◌∷◌, ◌++◌, filter, flat_map, sum_by, Option, Some, None, is_some, if◌then◌else◌}
+use Rattle.std.specs.Prelude.{ℕ, ◌*◌, Bool, nat_le, List, [], ◌∷◌, ◌++◌, filter, flat_map, sum_by, Option, Some, None, is_some, if◌then◌else◌}
 use Rattle.std.specs.BTreeMap.{insert_entry}
 use Rattle.std.specs.Map.{values_of}
 use Rattle.std.specs.Option.{option_and_then, option_to_list}
@@ -55,10 +55,6 @@ paths_found t group dir pattern = in_order (found_of_files t group dir pattern t
 
 -- ---- du
 
--- the greatest number of 64 bits, which stands for all that are greater
-abbrev pub capped : ℕ → ℕ
-capped n = min n (2 ^ 64 - 1)
-
 -- what a file takes, where its system name lies below the directory
 abbrev pub if_file_below : Tables → Bytes → Path → (File → ℕ) → File → ℕ
 if_file_below t group dir bytes f = if is_some (path_below t group dir f.1.system) then bytes f else 0
@@ -72,11 +68,11 @@ size_of f = f.1.size
 
 -- the bytes of all copies of its extents
 abbrev pub mirrored_of : Catalogued → File → ℕ
-mirrored_of c f = capped (file_units c f.0 * c.shape.au)
+mirrored_of c f = file_units c f.0 * c.shape.au
 
 -- the sizes of the files below a directory, and the bytes of all their copies
 abbrev pub usage_of : Catalogued → Bytes → Path → List File → Taken
 usage_of c group dir files = record {
-  used = capped (bytes_below c.tables group dir size_of files);
-  mirrored = capped (bytes_below c.tables group dir (mirrored_of c) files);
+  used = bytes_below c.tables group dir size_of files;
+  mirrored = bytes_below c.tables group dir (mirrored_of c) files;
 }

@@ -1,7 +1,7 @@
 //! What the files below a directory take: du.
 
-ghost use Rattle.std.specs.Prelude.{◌≡◌, ◌+◌, IfOk};
-ghost use Rattle.group_reports.specs.Files.{capped, if_file_below, mirrored_of, size_of, usage_of};
+ghost use Rattle.std.specs.Prelude.{◌≡◌, ◌≤◌, ◌<◌, ◌+◌, ◌^◌, IfOk};
+ghost use Rattle.group_reports.specs.Files.{if_file_below, mirrored_of, size_of, usage_of};
 
 use crate::files::next_file;
 use crate::places::path_below;
@@ -11,11 +11,11 @@ use catalog::Catalog;
 use file_directory::FileHead;
 use std::alloc::Global;
 
-/// Bytes of files, and of all copies of their extents. The greatest number of 64 bits stands for all that are greater.
+/// Bytes of files, and of all copies of their extents.
 #[derive(Clone, Copy, Debug, PartialEq, Eq)]
 pub struct Taken {
-    pub used: u64,
-    pub mirrored: u64,
+    pub used: u128,
+    pub mirrored: u128,
 }
 
 impl Taken {
@@ -29,11 +29,13 @@ impl Taken {
     }
 
     fn plus(self, others: Taken) -> Taken
-        ensures { result ≡ record { used = capped (self.used + others.used); mirrored = capped (self.mirrored + others.mirrored) } }
+        requires used { self.used + others.used < 2 ^ 128 }
+        requires mirrored { self.mirrored + others.mirrored < 2 ^ 128 }
+        ensures { result ≡ record { used = self.used + others.used; mirrored = self.mirrored + others.mirrored } }
     {
         Taken {
-            used: self.used.saturating_add(others.used),
-            mirrored: self.mirrored.saturating_add(others.mirrored),
+            used: self.used + others.used,
+            mirrored: self.mirrored + others.mirrored,
         }
     }
 }
@@ -69,13 +71,15 @@ fn usage_of_file(
 ) -> Result<Taken, NoMemory>
     ensures used { IfOk result (λ usage. usage.used ≡ if_file_below catalog.now.tables group.now dir.now size_of (number, head.now)) }
     ensures mirrored { IfOk result (λ usage. usage.mirrored ≡ if_file_below catalog.now.tables group.now dir.now (mirrored_of catalog.now) (number, head.now)) }
+    ensures small { IfOk result (λ usage. usage.used ≤ 2 ^ 64) }
+    ensures few { IfOk result (λ usage. usage.mirrored ≤ 2 ^ 78) }
 {
     if path_below(alloc, group, catalog, dir, head.system)?.is_none() {
         return Ok(Taken::none());
     }
     let shape = catalog.shape();
     Ok(Taken {
-        used: head.size,
-        mirrored: file_units(catalog, number).saturating_mul(shape.au as u64),
+        used: head.size as u128,
+        mirrored: file_units(catalog, number) as u128 * shape.au as u128,
     })
 }

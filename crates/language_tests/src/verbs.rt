@@ -204,7 +204,7 @@ fn other_prefix(alloc: Global) -> Option<usize> {
     None
 }
 
-fn usage(alloc: Global, used: u64, mirrored: u64) -> Option<List<Text>> {
+fn usage(alloc: Global, used: u128, mirrored: u128) -> Option<List<Text>> {
     usage_lines(alloc, used, mirrored).ok()
 }
 

@@ -1,11 +1,10 @@
 use Rattle.std.proofs.Common.{◌≤◌, ◌-◌, ◌^◌}
-use Rattle.group_reports.specs.Files.{files_from}
 use Rattle.group_reports.proofs.Sums.{AreTaken}
 use Rattle.group_reports.proofs.taking.usage_below.Given as goal
 
 abbrev pub invariant-loop-number : goal.invariant-loop-number
 invariant-loop-number l = record {
-  taken : AreTaken l.catalog l.group l.dir (files_from l.catalog.tables.files l.least) l.usage;
+  taken : AreTaken l.catalog l.group l.dir l.least l.usage;
   few : l.least ≤ 2 ^ 32;
 }
 
