@@ -1,17 +1,7 @@
-//! Tests of the two languages, DISKGROUP statements and asmcmd lines: texts that are read, refused at a place, and written, and reports.
+//! Tests of texts: the two languages, DISKGROUP statements and asmcmd lines, and the texts and words of a session.
 #![tactic(auto)]
 
 #[cfg(test)]
-mod play;
+mod languages;
 #[cfg(test)]
-mod readings;
-#[cfg(test)]
-mod refused_statements;
-#[cfg(test)]
-mod reports;
-#[cfg(test)]
-mod rewriting;
-#[cfg(test)]
-mod statements;
-#[cfg(test)]
-mod verbs;
+mod words;

@@ -1,1 +1,2 @@
 pub mod PutLast
+mod Trying

@@ -1,26 +1,16 @@
-//! Tests of the store of a group's directories over disks in memory: what a commit writes, commits that are stopped, and what
-//! a load takes and refuses; and of the map of its pages.
+//! Tests of what stands on disks, over disks in memory: headers and looks at images, the status register, a copy of the directories
+//! and the store of them all, and the creation of a group. Most cases are rows of steps, which one function plays.
 #![tactic(auto)]
 
 #[cfg(test)]
-mod commits;
+mod creations;
 #[cfg(test)]
-mod copies;
+mod directories;
 #[cfg(test)]
-mod costs;
+mod helpers;
 #[cfg(test)]
-mod counting;
+mod images;
 #[cfg(test)]
-mod loads;
+mod registers;
 #[cfg(test)]
-mod many;
-#[cfg(test)]
-mod page_maps;
-#[cfg(test)]
-mod play;
-#[cfg(test)]
-mod stale;
-#[cfg(test)]
-mod stops;
-#[cfg(test)]
-mod trials;
+mod stores;

@@ -1,26 +1,14 @@
-//! Tests of the tables of a group's directories. Their cases are rows, and of each table one function plays them, so that a row
-//! more costs no proof.
+//! Tests of the tables of a group: the shared types and blocks that they stand on, each table, the catalog of them all, and what a
+//! rebalance does by it. Their cases are rows that a function plays, so that a row more costs no proof.
 #![tactic(auto)]
 
 #[cfg(test)]
-mod extents;
+mod base;
 #[cfg(test)]
-mod files;
+mod catalogs;
 #[cfg(test)]
-mod given;
+mod helpers;
 #[cfg(test)]
-mod name_edits;
+mod rebalances;
 #[cfg(test)]
-mod names;
-#[cfg(test)]
-mod new_names;
-#[cfg(test)]
-mod operations;
-#[cfg(test)]
-mod play;
-#[cfg(test)]
-mod stale_marks;
-#[cfg(test)]
-mod template_edits;
-#[cfg(test)]
-mod templates;
+mod tables;

@@ -1,5 +1,0 @@
-use Rattle.attribute_values.specs.Creations.{IsNew}
-use Rattle.base_tests.proofs.attributes.created.Given as goal
-
-abbrev pub invariant-loop-given : goal.invariant-loop-given
-invariant-loop-given l = IsNew l.creation

@@ -1,7 +1,0 @@
-//! Tests of the status register over disks in memory: mounts that are stopped, disks that fail, and which record wins.
-#![tactic(auto)]
-
-#[cfg(test)]
-mod mounts;
-#[cfg(test)]
-mod trials;
