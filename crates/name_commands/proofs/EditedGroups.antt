@@ -61,7 +61,7 @@ use Rattle.session.specs.Naming as session
 use Rattle.session.specs.Naming.{CarriesOn, group_among}
 use Rattle.session.specs.OnDisks.{DiskWork, IsWorkDone, ReplyWork, work_of}
 use Rattle.session.specs.Proved.{HasOwnGroups}
-use Rattle.session.specs.Sessions.{AreToldBy, IsToldBy, Knows, Roster, SessionView, roster_of}
+use Rattle.session.specs.Sessions.{AreToldBy, IsToldBy, Knows, Roster, SessionView, groups_below, roster_of}
 use Rattle.session.specs.Views.{reply_view}
 use Rattle.name_commands.proofs.AskedEdits.{edit_alone}
 use Rattle.session.proofs.Creation.{groups_after, same_some}
@@ -451,4 +451,4 @@ edited_session paths text name edit allowed old new asks s t sound later apart p
     let asks_there = subst (λ (p : List Bytes). AsksFor p (meaning text) name edit) (sym knows.place_is) asks in
     let x = ends paths text name edit allowed w below asks_there (roster_of old) (roster_of new) carries.given new.entries s t sound later carries.calls carries.past
     (knows.told (paired ∙ ap (λ (l : List SessionEntry). length l) (sym knows.entries_are))) done.before done.after done.entry edited on done.is.mounted done.keeps done.answer result done.spelt done.edits in
-    (x.0, below, record { entries_are = x.1; place_is = x.2 ∙ knows.place_is ∙ sym carries.place; still = knows.still; told = λ lengths. x.3 }, x.4)
+    (x.0, groups_below new.entries new.groups, record { entries_are = x.1; place_is = x.2 ∙ knows.place_is ∙ sym carries.place; below_is = refl; told = λ lengths. x.3 }, x.4)

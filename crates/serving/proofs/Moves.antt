@@ -17,7 +17,7 @@ use Rattle.asm_group.specs.Refusal as r
 use Rattle.asm_world.specs.Below.{Found, GroupBelow}
 use Rattle.asm_world.specs.Reply.{Reply, Refused}
 use Rattle.asm_world.specs.World.{World, SessionEntry, entry_in, is_mounted}
-use Rattle.asm_world.specs.Run.{Phase, Resting, Expiring, Slicing, Starts, Answers, Rests, AnswersAt, next_expiry, next_slice, below_of_entry, expiring_of, due_resync, due_rebalance, slices_of, mounted_groups, phase_after, is_refusal, reply_in, times_of}
+use Rattle.asm_world.specs.Run.{Phase, Resting, Expiring, Slicing, Starts, Answers, Rests, AnswersAt, next_expiry, next_slice, below_of_entry, expiring_of, due_resync, due_rebalance, DueRebalance, DueResync, slices_of, mounted_groups, phase_after, is_refusal, reply_in, times_of}
 use Rattle.serving.specs.Acts.{scene, state_of, Acts}
 use Rattle.asm_world.specs.Waits.{HasLines}
 use Rattle.group_disks.specs.Found.{Counts, counts_of}
@@ -26,7 +26,6 @@ use Rattle.session.specs.Effects.{HasEffect, IsServed, below_with}
 use Rattle.session.specs.Families.{is_edit}
 use Rattle.session.specs.Proved.{is_proved_as}
 use Rattle.serving.specs.Manners.{after_reply, reply_style}
-use Rattle.session.specs.Quiet.{quiet}
 use Rattle.session.specs.Desks.{paths_on}
 use Rattle.serving.specs.Programs.{scene_of, AnswersOne, RunsOne, TellsEvents}
 use Rattle.session.specs.Sessions.{Roster, roster_of}
@@ -36,31 +35,32 @@ use Rattle.serving.specs.declared.manner.Manner.{Manner}
 use Rattle.serving.specs.declared.program.Program.{Program}
 use Rattle.serving.specs.declared.stop.Stop.{Stop}
 use Rattle.serving.proofs.Chains.{acts-none, acts-one, acts-then, acts-cut, or-false}
+use Rattle.session.proofs.Below.{IsStill, still_below}
 use Rattle.session.proofs.Languages.{other_is_proved, short_is_no_edit}
 use Rattle.serving.proofs.Pieces.{at-paths, at-phase}
 use Rattle.asm_world.proofs.Memory.{no_lines}
 
 -- ---- nothing is due
 
--- what is below a group that is mounted, or nothing
-below_if : (t : Bool) (id : ℕ) → (expiring_of (if t then Some (quiet id) else None) ≡ None) × ((name : Bytes) → (due_resync name (if t then Some (quiet id) else None) ≡ None) × (due_rebalance name (if t then Some (quiet id) else None) ≡ None))
-unfolding quiet
-below_if true id = (refl, λ name. (refl, refl))
-below_if false id = (refl, λ name. (refl, refl))
+module _ (w : World) (below : ℕ → GroupBelow) (still : (id : ℕ) → IsStill (below id)) where
+  -- what is below a group that is mounted, or nothing
+  below_if : (t : Bool) (id : ℕ) → (expiring_of (if t then Some (below id) else None) ≡ None) × ((name : Bytes) → (due_resync name (if t then Some (below id) else None) ≡ None) × (due_rebalance name (if t then Some (below id) else None) ≡ None))
+  below_if true id = ((still id).expires, λ name. (ap (λ (o : Option Bytes). elim o [ None ↦ None | Some disk ↦ Some (DueResync name disk) ]) (still id).syncs, ap (λ (t : Bool). if t then Some (DueRebalance name) else None) (still id).moves))
+  below_if false id = (refl, λ name. (refl, refl))
 
-none_below : (o : Option SessionEntry) → (expiring_of (below_of_entry quiet o) ≡ None) × ((name : Bytes) → (due_resync name (below_of_entry quiet o) ≡ None) × (due_rebalance name (below_of_entry quiet o) ≡ None))
-none_below None = (refl, λ name. (refl, refl))
-none_below (Some e) = below_if (is_mounted e) e.id
+  none_below : (o : Option SessionEntry) → (expiring_of (below_of_entry below o) ≡ None) × ((name : Bytes) → (due_resync name (below_of_entry below o) ≡ None) × (due_rebalance name (below_of_entry below o) ≡ None))
+  none_below None = (refl, λ name. (refl, refl))
+  none_below (Some e) = below_if (is_mounted e) e.id
 
-pub none_expires : (w : World) (names : List Bytes) → next_expiry w quiet names ≡ None
-none_expires w [] = refl
-none_expires w (name ∷ names) = rw ((none_below (entry_in w name)).0, next_expiry) (none_expires w names)
+  pub none_expires : (names : List Bytes) → next_expiry w below names ≡ None
+  none_expires [] = refl
+  none_expires (name ∷ names) = rw ((none_below (entry_in w name)).0, next_expiry) (none_expires names)
 
-pub none_due : (w : World) (names : List Bytes) → next_slice w quiet (slices_of names) ≡ None
-none_due w [] = refl
-none_due w (name ∷ names) =
-    let due = (none_below (entry_in w name)).1 name in
-    rw (due.0, due.1, next_slice, slices_of) (none_due w names)
+  pub none_due : (names : List Bytes) → next_slice w below (slices_of names) ≡ None
+  none_due [] = refl
+  none_due (name ∷ names) =
+      let due = (none_below (entry_in w name)).1 name in
+      rw (due.0, due.1, next_slice, slices_of) (none_due names)
 
 -- ---- marks
 
@@ -236,7 +236,7 @@ module _ {B H K C : Type 0} {bay : Bay.Ghosts B} {host : Host.Ghosts H} {sink : 
       ends-slicing (Ok done) new s =
           let all = acts-then clock.gives (paths_on old.desk) true (text ∷ []) [] _ _ _ answered
           (at-paths clock.gives _ _ true [] _ _ (late_paths ∙ mid_paths ∙ paths) (at-phase clock.gives _ true [] _ _ _ _ _ _ _ _ _ _ _ _ _ s.rests s.acts)) in
-          let rest = acts-rests clock.gives (paths_on old.desk) s.w' s.below' time' (roster_of new.desk.session) (bay.state new.desk.bay) (sink.taken new.sink) new.clock new.marks.items new.refused new.manner (rw s.knows.still (none_due s.w' (mounted_groups s.w'.session))) in
+          let rest = acts-rests clock.gives (paths_on old.desk) s.w' s.below' time' (roster_of new.desk.session) (bay.state new.desk.bay) (sink.taken new.sink) new.clock new.marks.items new.refused new.manner (none_due s.w' s.below' (still_below s.knows) (mounted_groups s.w'.session)) in
           record {
             w' = s.w';
             below' = s.below';

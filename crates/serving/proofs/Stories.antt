@@ -20,7 +20,7 @@ use Rattle.session.specs.Desks.{paths_on}
 use Rattle.serving.specs.Manners.{line_in, style_of}
 use Rattle.session.specs.Naming.{CarriesOn}
 use Rattle.serving.specs.Programs.{Tells, scene_of}
-use Rattle.session.specs.Sessions.{AreReady, Knows, Roster, roster_of}
+use Rattle.session.specs.Sessions.{AreReady, Knows, Roster, groups_below, roster_of}
 use Rattle.serving.specs.Stops.{IsOutputStop, StopsByOutput}
 use Rattle.group_turns.specs.Turns.{AfterReply, BeforeText, HasLine, IsTurnMove, When, move_at, phase_at}
 use Rattle.serving.specs.declared.manner.Manner.{Manner}
@@ -133,8 +133,12 @@ module _ {B H K C : Type 0} {bay : Bay.Ghosts B} {host : Host.Ghosts H} {sink : 
     abbrev after : World → World
     after w = record w { groups = maps.empty; session = new.desk.session.entries }
 
-    known : (w : World) (below : ℕ → GroupBelow) → Knows old.desk.session w below → Knows new.desk.session (after w) below
-    known w below knows = record { entries_are = refl; place_is = knows.place_is ∙ sym carries.place; still = knows.still; told = λ same. none_told (after w) refl new.desk.session.groups }
+    -- what is below them
+    abbrev below_them : ℕ → GroupBelow
+    below_them = groups_below new.desk.session.entries new.desk.session.groups
+
+    known : (w : World) (below : ℕ → GroupBelow) → Knows old.desk.session w below → Knows new.desk.session (after w) below_them
+    known w below knows = record { entries_are = refl; place_is = knows.place_is ∙ sym carries.place; below_is = refl; told = λ same. none_told (after w) refl new.desk.session.groups }
 
     -- by a move of which nothing is proved, and this text
     tells_move : {T : Type 0} (result : Result T Stop) (move : Move) (sent : Bytes) → IsSilent move → IsTurnMove when move → MatchBool (is_ok result) (sent ≡ text_of (style_of old.manner move) move) ((rest : List ℕ) × (text_of (style_of old.manner move) move ≡ sent ++ rest))
@@ -146,10 +150,10 @@ module _ {B H K C : Type 0} {bay : Bay.Ghosts B} {host : Host.Ghosts H} {sink : 
       marks_stay = marks;
       tells = λ w below time knows.
           let a = scene_of w below (phase_at when w.session) time old in
-          let b = scene_of (after w) below (phase_at when new.desk.session.entries) time new in
+          let b = scene_of (after w) below_them (phase_at when new.desk.session.entries) time new in
           record {
             w' = after w;
-            below' = below;
+            below' = below_them;
             phase = phase_at when new.desk.session.entries;
             knows = known w below knows;
             rests = on_ok result refl;

@@ -13,7 +13,7 @@ use Rattle.session.specs.Effects.{IsServed, Past}
 use Rattle.session.specs.Families.{is_proved}
 use Rattle.session.specs.Meaning.{meaning}
 use Rattle.session.specs.Naming.{CarriesOn}
-use Rattle.session.specs.Sessions.{AreReady, SessionView, Knows, roster_of}
+use Rattle.session.specs.Sessions.{AreReady, SessionView, Knows, groups_below, roster_of}
 use Rattle.session.specs.Views.{found_view, reply_view}
 use Rattle.session.proofs.Knowing.{none_told}
 use Rattle.session.proofs.Languages.{proved_so, unproved_meaning}
@@ -42,8 +42,8 @@ answered-only text answer old new none paths stays ready calls past = record {
   ready = ready;
   served = λ w below knows. (
     record w { groups = maps.empty; session = new.session.entries; place = new.session.place },
-    below,
-    record { entries_are = refl; place_is = refl; still = knows.still; told = λ lengths. none_told (record w { groups = maps.empty; session = new.session.entries; place = new.session.place }) refl new.session.groups },
+    groups_below new.session.entries new.session.groups,
+    record { entries_are = refl; place_is = refl; below_is = refl; told = λ lengths. none_told (record w { groups = maps.empty; session = new.session.entries; place = new.session.place }) refl new.session.groups },
     record { calls = calls; past = past; effect = λ proved met. absurd (false≢true (sym (unproved_meaning text none) ∙ proved_so (meaning text) (reply_view answer.reply) proved)) },
   );
 }

@@ -1,4 +1,5 @@
 pub mod Attaching
+pub mod Below
 pub mod Calls
 pub mod Carrying
 pub mod Causes

@@ -4,6 +4,7 @@ use Rattle.std.specs.String.{string_bytes}
 use Rattle.asm_world.specs.Generator.{generated_script}
 use Rattle.session.specs.Quiet.{quiet}
 use Rattle.session.specs.Sessions.{Knows}
+use Rattle.session.proofs.Below.{first_below}
 use Rattle.session.proofs.Knowing.{first_told}
 use Rattle.asm_run.proofs.Reporting.{first_roster, generated-none, generated-of}
 use Rattle.asm_run.proofs.Wording.{not_read_fault, not_usage}
@@ -12,7 +13,7 @@ use Rattle.asm_run.proofs.generating.generate.Goals as goal
 pub returns-in-Ok-clause-transcript : goal.returns-in-Ok-clause-transcript
 returns-in-Ok-clause-transcript g c = λ w first.
     let new = c.new-program.ensures in
-    let knows : Knows c.new-program.result.desk.session w quiet = record { entries_are = rw new.session.0 first.no_entries; place_is = rw new.place first.at_top; still = refl; told = λ lengths. first_told w first.no_entries c.new-program.result.desk.session.groups } in
+    let knows : Knows c.new-program.result.desk.session w quiet = record { entries_are = rw new.session.0 first.no_entries; place_is = rw new.place first.at_top; below_is = first_below c.new-program.result.desk.session.entries c.new-program.result.desk.session.groups new.session.0; told = λ lengths. first_told w first.no_entries c.new-program.result.desk.session.groups } in
     let s = c.serve-outcome.ensures.serves w quiet 0 knows in
     let served = rw (new.marks, new.refused, new.manner, new.bay, new.sink, new.clock, new.paths) at s.serves in
     rw (c.ended.ensures.outside.0, c.ended.ensures.outside.1, c.ended.ensures.outside.2) (generated-of _ c.args.number _ c.serve-outcome.result _ _ _ _ _ _ _ _ _ _ _ _ _ _ _ _ _ _ c.serve-outcome.new.self.refused _ first.no_entries (first_roster c.new-program.result.desk.session new.groups new.session.1)

@@ -5,7 +5,7 @@ use Rattle.asm_world.specs.Statement.{Alter, Dismount}
 use Rattle.asm_world.specs.World.{World, SessionEntry, entry_in, without_entry}
 use Rattle.group_engine.specs.Mounts.{MountedGroup}
 use Rattle.session.specs.Meaning.{meaning}
-use Rattle.session.specs.Sessions.{AreToldBy, Knows, without_groups}
+use Rattle.session.specs.Sessions.{AreToldBy, Knows, groups_below, without_groups}
 use Rattle.session.proofs.Languages.{served_meaning}
 use Rattle.session.proofs.Entries.{none-leaves}
 use Rattle.session.proofs.Knowing.{groups_without_none, left_told}
@@ -27,11 +27,11 @@ returns-then-not-leave g c =
             let stay : c.leave.new.self.groups ≡ c.args.desk.now.session.groups = c.leave.ensures.groups
             ∙ groups_without_none c.args.desk.now.session.entries c.args.desk.now.session.groups c.args.name c.leave.ensures.paired (sym c.leave.ensures.found ∙ c.if-not-leave.true) in (
               w,
-              below,
+              groups_below c.leave.new.self.entries c.leave.new.self.groups,
               record {
                 entries_are = sym (none-leaves w.session c.args.name none) ∙ rw (knows.entries_are, c.leave.ensures.left) refl;
                 place_is = knows.place_is ∙ sym c.leave.ensures.place;
-                still = knows.still;
+                below_is = refl;
                 told = λ lengths. subst (λ (l : List MountedGroup). AreToldBy w l) (sym stay) (knows.told (ap (λ (l : List MountedGroup). length l) (sym stay) ∙ lengths));
               },
               rw (c.refused.ensures.reply, c.refused.ensures.found, c.leave.ensures.given, stay) (absent _ c.args.text.now c.args.name _ says _ _ w none),
@@ -52,11 +52,11 @@ returns g c =
             let gone : c.leave.new.self.groups ≡ without_groups w.session c.args.desk.now.session.groups c.args.name = c.leave.ensures.groups
             ∙ ap (λ (l : List SessionEntry). without_groups l c.args.desk.now.session.groups c.args.name) (sym knows.entries_are) in (
               record w { session = without_entry w.session c.args.name },
-              below,
+              groups_below c.leave.new.self.entries c.leave.new.self.groups,
               record {
                 entries_are = rw (knows.entries_are, c.leave.ensures.left) refl;
                 place_is = knows.place_is ∙ sym c.leave.ensures.place;
-                still = knows.still;
+                below_is = refl;
                 told = λ lengths. subst (λ (l : List MountedGroup). AreToldBy (record w { session = without_entry w.session c.args.name }) l) (sym gone)
                     (left_told w c.args.desk.now.session.groups c.args.name (knows.told (c.leave.ensures.paired ∙ ap (λ (l : List SessionEntry). length l) (sym knows.entries_are))));
               },

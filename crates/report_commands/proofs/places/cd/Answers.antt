@@ -15,7 +15,7 @@ returns-in-Ok g c =
         served = λ w below knows. (
           record w { place = c.in-Ok.place },
           below,
-          rw c.go.ensures (record { entries_are = knows.entries_are; place_is = refl; still = knows.still; told = knows.told }),
+          rw c.go.ensures (record { entries_are = knows.entries_are; place_is = refl; below_is = knows.below_is; told = knows.told }),
           rw (c.plain.ensures.reply, c.plain.ensures.found, c.new.ensures, c.go.ensures)
               (gone _ c.args.text.now c.args.path (served_meaning c.args.text.now (Asked (Cd c.args.path)) c.requires.asked refl) c.requires.asked c.args.desk.now.session _ c.requires.ready w below knows c.in-Ok.place led),
         );
