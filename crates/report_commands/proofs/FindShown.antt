@@ -1,6 +1,6 @@
 -- find, as the world's.
-use Rattle.std.proofs.Common.{◌≡◌, ◌⊎◌, ⊎_elim, ℕ, List, [], ◌∷◌, Option, Some, None, Err, refl, sym, ◌∙◌, ap, subst}
-use Rattle.std.specs.Prelude.{is_some}
+use Rattle.std.proofs.Common.{◌≡◌, ◌⊎◌, ⊎_elim, ℕ, List, [], ◌∷◌, Option, Some, None, Result, Ok, Err, refl, sym, ◌∙◌, ap, subst}
+use Rattle.std.specs.Prelude.{IfErr, IfOk, is_some}
 use Rattle.std.proofs.lemmas.Bool.{false≢true}
 use Rattle.std.proofs.lemmas.Option.{same_Some}
 use Rattle.bay.specs.State.{BayState}
@@ -32,8 +32,9 @@ use Rattle.session.specs.Meaning.{meaning}
 use Rattle.session.specs.Naming.{IsGroupOf}
 use Rattle.session.specs.Proved.{HasOwnGroups}
 use Rattle.session.specs.Sessions.{AreReady, Knows, Roster, SessionView, roster_of}
-use Rattle.report_commands.specs.Shown.{IsFoundIn}
+use Rattle.report_commands.specs.Told.{IsFoundIn}
 use Rattle.report_commands.proofs.Gone.{are_tables, either_cause}
+use Rattle.session.proofs.AnsweredLines.{reply_of}
 use Rattle.session.proofs.Outcomes.{told, unread}
 use Rattle.report_commands.proofs.ShownGroups.{IsThere, ShowsIn, causes_inside, is_there, out_refused, refused, served_in}
 
@@ -87,7 +88,7 @@ module _ (paths : List Bytes) (text path pattern : Bytes) (says : meaning text �
     }
 
     module _ (m : MountedGroup) (group : IsGroupOf session name m) (lines : List Bytes) (found : IsFoundIn m inside pattern lines) (own : HasOwnGroups w) where
-      abbrev there : IsThere w name m
+      abbrev there : IsThere w below name m
       there = is_there session name m group w below knows own
 
       as_world : lines ≡ world.found_in there.group inside pattern
@@ -107,11 +108,11 @@ module _ (paths : List Bytes) (text path pattern : Bytes) (says : meaning text �
       listed = told paths text lines was s w (subst (λ (c : Command). Step (below_with below unread) w c (Done lines) w) (sym says) step)
           (subst (λ (c : Command). HasCause (below_with below unread) w c (Done lines)) (sym says) cause_is) (rw says tt) (rw says tt)
 
-    pub found_done : (lines : List Bytes) → IsInGroup session name (λ m. IsFoundIn m inside pattern lines) → IsServed paths unread text (Done lines) was was s s below w w
+    found_done : (lines : List Bytes) → IsInGroup session name (λ m. IsFoundIn m inside pattern lines) → IsServed paths unread text (Done lines) was was s s below w w
     found_done lines found = served_in paths text (Done lines) was s w w (rw says refl) (λ own. listed found.group found.is_group lines found.caused own)
 
     module _ (m : MountedGroup) (group : IsGroupOf session name m) (refusal : Refusal) (none : directory_at m.catalog.tables inside ≡ Err refusal) (own : HasOwnGroups w) where
-      abbrev there_none : IsThere w name m
+      abbrev there_none : IsThere w below name m
       there_none = is_there session name m group w below knows own
 
       caused : IsCaused (dir_causes there_none.group inside) (said (λ _. []) refusal)
@@ -135,8 +136,14 @@ module _ (paths : List Bytes) (text path pattern : Bytes) (says : meaning text �
       stayed : IsServed paths unread text (Refused [] (said (λ _. []) refusal)) was was s s below w w
       stayed = by_cause (said (λ _. []) refusal) whole (either_cause _ _ (said (λ _. []) refusal) caused)
 
-    pub found_out : (refusal : Refusal) → IsPathCause session name inside refusal → IsServed paths unread text (Refused [] (said (λ _. []) refusal)) was was s s below w w
+    found_out : (refusal : Refusal) → IsPathCause session name inside refusal → IsServed paths unread text (Refused [] (said (λ _. []) refusal)) was was s s below w w
     found_out refusal why = ⊎_elim
         (λ out. out_refused paths text command says counts was s w name (λ g. dir_causes g inside) shows refusal (rw knows.entries_are out))
         (λ none. served_in paths text (Refused [] (said (λ _. []) refusal)) was s w w (rw says refl) (λ own. stayed none.group none.is_group refusal none.caused own))
         why
+
+    -- ---- all of it
+
+    pub found_served : (result : Result (List Bytes) Refusal) → IfOk result (λ lines. IsInGroup session name (λ m. IsFoundIn m inside pattern lines)) → IfErr result (IsPathCause session name inside) → IsServed paths unread text (reply_of result) was was s s below w w
+    found_served (Ok lines) found out = found_done lines found
+    found_served (Err refusal) found out = found_out refusal out

@@ -84,7 +84,7 @@ module _ (paths : List Bytes) (text path : Bytes) (says : meaning text ≡ Asked
       -- ---- it went to a directory
 
       module _ (m : MountedGroup) (group : IsGroupOf session name m) (place : List Bytes) (directory : IsDirectoryOf m inside place) (own : HasOwnGroups w) where
-        abbrev there : IsThere w name m
+        abbrev there : IsThere w below name m
         there = is_there session name m group w below knows own
 
         is_directory : IsDirectory there.group inside place
@@ -110,7 +110,7 @@ module _ (paths : List Bytes) (text path : Bytes) (says : meaning text ≡ Asked
       -- ---- there is none
 
       module _ (m : MountedGroup) (group : IsGroupOf session name m) (refusal : Refusal) (none : directory_at m.catalog.tables inside ≡ Err refusal) (own : HasOwnGroups w) where
-        abbrev there_none : IsThere w name m
+        abbrev there_none : IsThere w below name m
         there_none = is_there session name m group w below knows own
 
         caused : IsCaused (dir_causes there_none.group inside) (said (λ _. []) refusal)

@@ -1,8 +1,12 @@
 -- The rows of lsdg, group by group.
-use Rattle.std.proofs.Common.{◌≡◌, true, false, List, [], ◌∷◌, ◌++◌, map, Option, refl, sym, ap, ◌∙◌, append_assoc, subst}
-use Rattle.std.specs.Prelude.{codes, is_none}
+use Rattle.std.proofs.Common.{◌≡◌, ⊎_elim, Bool, true, false, List, [], ◌∷◌, ◌++◌, map, Option, refl, sym, ap, ◌∙◌, append_assoc, subst}
+use Rattle.std.specs.Prelude.{codes, is_none, if◌then◌else◌}
+use Rattle.std.proofs.lemmas.Bool.{cases_Bool}
 use Rattle.std.proofs.lemmas.List.{append-nil}
 use Rattle.asm_group.specs.Names.{Bytes}
+use Rattle.asm_world.specs.Reports.{dismounted_line, group_head, mounted_line}
+use Rattle.asm_world.specs.World.{SessionEntry}
+use Rattle.asmcmd.proofs.Shown.{rows_are_lines}
 use Rattle.asmcmd.specs.Texts as texts
 use Rattle.asmcmd.specs.declared.rows.GroupRow.{GroupRow}
 use Rattle.group_engine.specs.Making.{dismounted_by}
@@ -11,7 +15,8 @@ use Rattle.group_reports.specs.Disks.{group_row}
 use Rattle.session.specs.declared.entry.Entry.{Entry}
 use Rattle.session.specs.declared.group_name.GroupName.{GroupName}
 use Rattle.session.specs.Entries.{entry_view, group_view}
-use Rattle.session.specs.GroupRows.{AreRows, IsRowOf, groups_asked, is_asked}
+use Rattle.session.specs.Sessions.{SessionView}
+use Rattle.report_commands.specs.GroupRows.{AreLinesOf, AreRows, AreRowsOf, AreStatesOf, IsRowOf, groups_asked, is_asked, line_of}
 
 abbrev pub Pairs : Type 0
 Pairs = List (GroupName × Entry)
@@ -65,3 +70,34 @@ pub asked_end : (group : Option Bytes) (left : Pairs) (rows : List GroupRow) (al
 asked_end group left rows all none so_far =
     let is : so_far.told ≡ all = sym (append-nil so_far.told) ∙ (ap (λ (es : Pairs). so_far.told ++ asked_of group es) (sym none) ∙ so_far.is) in
     subst (λ (gs : List Named). AreRows gs rows) is so_far.are
+
+-- ---- their lines
+
+row_line : (g : Named) (row : GroupRow) → IsRowOf g.0 g.1 row → texts.group_line row ≡ line_of g
+row_line g row is =
+    let on : Bool → Bytes = λ (t : Bool). if t then mounted_line g.0 g.1.catalog.shape (group_row g.1.catalog g.1.register.value.entries) else dismounted_line g.0 in
+    ⊎_elim
+    (λ (mounted : is_none (dismounted_by g.1.access) ≡ true).
+    let row_is : row ≡ texts.mounted_row g.0 g.1.catalog.shape (group_row g.1.catalog g.1.register.value.entries) = rw mounted at is in
+    ap texts.group_line row_is ∙ rows_are_lines.mounted g.0 g.1.catalog.shape (group_row g.1.catalog g.1.register.value.entries) ∙ ap on (sym mounted))
+    (λ (off : is_none (dismounted_by g.1.access) ≡ false).
+    let row_is : (row.state ≡ codes "DISMOUNTED") × (row.name ≡ g.0) = rw off at is in
+    rows_are_lines.dismounted row row_is.0 ∙ ap dismounted_line row_is.1 ∙ ap on (sym off))
+    (cases_Bool (is_none (dismounted_by g.1.access)))
+
+row_lines : (gs : List Named) (rows : List GroupRow) → AreRows gs rows → map texts.group_line rows ≡ map line_of gs
+row_lines [] [] are = refl
+row_lines (g ∷ gs) (row ∷ rows) are = λ i. row_line g row are.0 i ∷ row_lines gs rows are.1 i
+row_lines [] (row ∷ rows) are = absurd are
+row_lines (g ∷ gs) [] are = absurd are
+
+states_of : (es : Pairs) → AreStatesOf (map entry_view es) (map group_view es)
+states_of [] = tt
+states_of (p ∷ es) = (refl, states_of es)
+
+pub lines_are : (session : SessionView) (group : Option Bytes) (es : Pairs) (rows : List GroupRow) (lines : List Bytes) → map entry_view es ≡ session.entries → map group_view es ≡ session.groups → AreRowsOf session group rows
+    → lines ≡ texts.group_lines rows → AreLinesOf session group lines
+lines_are session group es rows lines entries groups are is = record {
+  states = subst (λ (l : List SessionEntry). AreStatesOf l session.groups) entries (subst (λ (l : List MountedGroup). AreStatesOf (map entry_view es) l) groups (states_of es));
+  are = is ∙ ap (λ (l : List Bytes). group_head ∷ l) (row_lines (groups_asked group session.entries session.groups) rows are);
+}

@@ -2,7 +2,7 @@ pub mod FindShown
 pub mod Going
 pub mod Gone
 pub mod GroupLists
-pub mod SettingsShown
+pub mod GroupsTold
+pub mod ReportsTold
 pub mod ShownGroups
-pub mod TextLines
 pub mod Texts

@@ -19,13 +19,15 @@ use Rattle.asm_world.specs.World.{SessionEntry, SessionState, World, Mounted, Di
 use Rattle.group_disks.specs.Found.{Counts, counts_of}
 use Rattle.group_engine.specs.Mounts.{MountedGroup}
 use Rattle.session_claims.specs.Claims.{IsPaired}
+use Rattle.world_steps.specs.Told.{AreIdsApart}
 use Rattle.session.specs.Counts.{ReplyCause}
 use Rattle.session.specs.Effects.{IsServed, below_with}
-use Rattle.session.specs.Families.{shows_group}
+use Rattle.session.specs.Families.{IsRefused, shows_group}
 use Rattle.session.specs.Meaning.{meaning}
 use Rattle.session.specs.Naming.{IsGroupOf, group_among, in_state, of_entry}
 use Rattle.session.specs.Proved.{HasOwnGroups}
-use Rattle.session.specs.Sessions.{IsToldBy, Knows, Roster, SessionView}
+use Rattle.session.specs.Sessions.{IsToldBy, Knows, Roster, SessionView, group_below}
+use Rattle.session.proofs.Below.{below_paired}
 use Rattle.session.proofs.EditedEntries.{paired_of}
 use Rattle.session.proofs.Knowing.{paired_among}
 use Rattle.session.proofs.Outcomes as outcomes
@@ -36,19 +38,20 @@ use Rattle.session.proofs.Outcomes.{still, unread}
 abbrev causes_of : Option SessionEntry → List Cause
 causes_of o = elim o [ None ↦ When true r.NoGroup ∷ [] | Some entry ↦ state_causes entry.state ]
 
--- The world has one group under the name, mounted, and the tables are those of it.
-pub record IsThere (w : World) (name : Bytes) (m : MountedGroup) : Type 0 where
+-- The world has one group under the name, mounted, the tables are those of it, and what is below its id is that of the mounted group.
+pub record IsThere (w : World) (below : ℕ → GroupBelow) (name : Bytes) (m : MountedGroup) : Type 0 where
   pub id : ℕ
   pub group : Group
   pub has : Has w name id group
   pub told : IsToldBy m group
+  pub lies : below id ≡ group_below m
   pub found : mounted_group w name ≡ Some group
   pub uncaused : session_causes w name ≡ []
 
 found_by : (w : World) (name : Bytes) (entry : SessionEntry) (group : Group) → entry_in w name ≡ Some entry → entry.state ≡ Mounted → groups_of w entry.id ≡ group ∷ [] → mounted_group w name ≡ Some group
 found_by w name entry group named on list = rw (named, on, list) refl
 
-pub is_there : (session : SessionView) (name : Bytes) (m : MountedGroup) → IsGroupOf session name m → (w : World) (below : ℕ → GroupBelow) → Knows session w below → HasOwnGroups w → IsThere w name m
+pub is_there : (session : SessionView) (name : Bytes) (m : MountedGroup) → IsGroupOf session name m → (w : World) (below : ℕ → GroupBelow) → Knows session w below → HasOwnGroups w → IsThere w below name m
 is_there session name m is w below knows own =
     let entry = is.on.entry in
     let named : entry_in w name ≡ Some entry = ap (λ (es : List SessionEntry). entry_among es name) knows.entries_are ∙ is.on.named in
@@ -65,6 +68,9 @@ is_there session name m is w below knows own =
       group = one.0;
       has = record { entry = entry; named = named; is = refl; mounted = is.on.state; only = one.1 };
       told = told;
+      lies = ap (λ (b : ℕ → GroupBelow). b entry.id) knows.below_is
+          ∙ below_paired session.entries session.groups entry m (subst (λ (es : List SessionEntry). AreIdsApart es) knows.entries_are own.alone.apart)
+          (paired_of session.entries session.groups name entry m is.on.named is.named) on;
       found = found_by w name entry one.0 named is.on.state list;
       uncaused = ap causes_of named ∙ ap state_causes is.on.state;
     }
@@ -82,6 +88,11 @@ pub record ShowsIn (below : Below) (w : World) (command : Command) (name : Bytes
 -- nothing is counted of its refusals
 abbrev pub IsUncounted : List Bytes → Bytes → Type 0
 IsUncounted paths text = (c : r.Refusal) (s t : Counts) → ReplyCause paths text (Refused [] c) s t
+
+-- so of a command whose family counts none
+pub uncounted : (paths : List Bytes) (text : Bytes) (command : Command) → meaning text ≡ command → ((c : r.Refusal) (s t : Counts) → IsRefused paths command c s t) → IsUncounted paths text
+uncounted paths text command says free r.NoMemory s t = tt
+uncounted paths text command says free other s t = subst (λ (k : Command). IsRefused paths k other s t) (sym says) (free other s t)
 
 module _ (paths : List Bytes) (text : Bytes) (command : Command) (says : meaning text ≡ command) (counts : IsUncounted paths text) (was : Roster) (s : BayState) {below : ℕ → GroupBelow} (w : World) where
   -- what the world may answer
@@ -117,7 +128,7 @@ module _ (paths : List Bytes) (text : Bytes) (command : Command) (says : meaning
         why
 
     -- the causes in the group that is there
-    pub causes_inside : (m : MountedGroup) (there : IsThere w name m) → causes (below_with below unread) w command ≡ inside there.group
+    pub causes_inside : (m : MountedGroup) (there : IsThere w below name m) → causes (below_with below unread) w command ≡ inside there.group
     causes_inside m there = shows.causes_are ∙ rw (there.uncaused, there.found) refl
 
 -- Of what is proved in a world whose groups are alone.

@@ -1,4 +1,3 @@
 pub mod Going
-pub mod Lines
-pub mod Shown
+pub mod GroupRows
 pub mod Told

@@ -1,59 +1,12 @@
-// What the reports on one mounted group tell, and the rows of lsdg.
+// The rows of lsdg, and its lines.
 ghost use Rattle.std.specs.Prelude.{◌≡◌, IfErr, IfOk};
-ghost use Rattle.session.specs.GroupRows.{AreRowsOf, IsRowOf, Tells, checked_told, disks_told, is_asked};
-ghost use Rattle.session.specs.Listing.{IsPathCause, usage_told};
-ghost use Rattle.session.specs.Naming.{IsOutCause};
-ghost use Rattle.report_commands.specs.Told.{told};
+ghost use Rattle.report_commands.specs.GroupRows.{AreGroupsTold, AreLinesOf, AreRowsOf, IsNoGroup, IsRowOf, is_asked, is_there};
 
-use asm_base::{Name, NoMemory, Path, Refusal};
-use asmcmd::{GroupRow, check_text, du_text, lsdsk_text};
-use group_engine::Mounted;
-use group_reports::{check, directory_at, disk_rows, dismounted_row, group_row, usage_below};
+use asm_base::{List, Name, NoMemory, Refusal, Text};
+use asmcmd::{GroupRow, group_lines};
+use group_reports::{dismounted_row, group_row};
 use session::{Entry, GroupName, Session};
 use std::alloc::Global;
-
-/// A report on one mounted group.
-#[derive(Clone, Copy)]
-pub enum Report<'a> {
-    /// lsdsk.
-    Disks,
-    /// CHECK.
-    Check,
-    /// du: what the files below a directory take.
-    Usage { dir: &'a [Name] },
-}
-
-fn disks_text(alloc: Global, m: &Mounted) -> Result<Vec<u8>, NoMemory>
-    ensures { IfOk result (λ text. text.items ≡ disks_told m.now) }
-{
-    let rows = disk_rows(alloc, m.catalog(), m.status())?;
-    lsdsk_text(alloc, &rows)
-}
-
-fn checked_text(alloc: Global, m: &Mounted) -> Result<Vec<u8>, NoMemory>
-    ensures { IfOk result (λ text. text.items ≡ checked_told m.now) }
-{
-    let checked = check(m.catalog(), m.status());
-    check_text(alloc, checked.extents, checked.not_full)
-}
-
-fn usage_text(alloc: Global, m: &Mounted, dir: &[Name]) -> Result<Vec<u8>, NoMemory>
-    ensures { IfOk result (λ text. text.items ≡ usage_told dir.now m.now) }
-{
-    let usage = usage_below(alloc, m.name(), m.catalog(), dir)?;
-    du_text(alloc, usage.used, usage.mirrored)
-}
-
-/// The text of a report on a group.
-fn text_of(alloc: Global, m: &Mounted, report: Report<'_>) -> Result<Vec<u8>, NoMemory>
-    ensures { IfOk result (λ text. text.items ≡ told report.entry m.now) }
-{
-    match report {
-        Report::Disks => disks_text(alloc, m),
-        Report::Check => checked_text(alloc, m),
-        Report::Usage { dir } => usage_text(alloc, m, dir),
-    }
-}
 
 /// The row of a group of the session, under the name by which it is kept.
 #[tactic(auto, using(crate::proofs::GroupLists::mounted_is, crate::proofs::GroupLists::dismounted_is))]
@@ -80,7 +33,7 @@ fn is_asked_for(group: &Option<Name>, key: &GroupName) -> bool
 
 /// The rows of the group of a name, or of all groups, in the order of mounting.
 #[tactic(auto, using(crate::proofs::GroupLists::asked_more, crate::proofs::GroupLists::asked_not, crate::proofs::GroupLists::asked_end))]
-pub fn group_rows(
+fn group_rows(
     session: &Session,
     alloc: Global,
     group: &Option<Name>,
@@ -96,39 +49,40 @@ pub fn group_rows(
     Ok(rows)
 }
 
-/// What a report tells of the mounted group of a name. Its refusals in order: NoGroup, Dismounted.
-#[tactic(auto, using(session::proofs::Telling::no_memory_out))]
-pub fn told(
-    session: &Session,
-    alloc: Global,
-    name: &Name,
-    report: Report<'_>,
-) -> Result<Vec<u8>, Refusal>
-    ensures told { IfOk result (λ text. Tells session.now name.now (told report.entry) text.items) }
-    ensures cause { IfErr result (IsOutCause session.now.entries name.now) }
+/// Their lines, below a head line.
+fn lines_of(session: &Session, alloc: Global, group: &Option<Name>) -> Result<List<Text>, NoMemory>
+    ensures { IfOk result (AreLinesOf session.now group.now) }
 {
-    let m = session.mounted(alloc, name)?;
-    match text_of(alloc, m, report) {
-        Ok(text) => Ok(text),
-        Err(NoMemory) => Err(Refusal::NoMemory),
+    // Its clauses show that each entry has its group, and its state.
+    let _groups = session.groups();
+    let rows = group_rows(session, alloc, group)?;
+    group_lines(alloc, &rows)
+}
+
+/// Whether a group of the name is in the session, where one is said.
+fn is_there(session: &Session, group: &Option<Name>) -> bool
+    ensures { result ≡ is_there session.now.entries group.now }
+{
+    match group {
+        Some(name) => session.has(name),
+        None => true,
     }
 }
 
-/// The same of the directory at a path. Its refusals in order: NoGroup, Dismounted, NoName, NotDirectory.
-#[tactic(auto, using(session::proofs::Telling::at_path, session::proofs::Telling::out_at, session::proofs::Telling::no_memory_at))]
-pub fn told_below(
+/// What lsdg tells of the group of a name, or of all groups in the order of mounting. NoGroup: no group has the name.
+pub fn groups_told(
     session: &Session,
     alloc: Global,
-    path: &Path,
-    report: Report<'_>,
-) -> Result<Vec<u8>, Refusal>
-    ensures told { IfOk result (λ text. Tells session.now path.now.group (told report.entry) text.items) }
-    ensures cause { IfErr result (IsPathCause session.now path.now.group path.now.parts) }
+    group: &Option<Name>,
+) -> Result<List<Text>, Refusal>
+    ensures told { IfOk result (AreGroupsTold session.now group.now) }
+    ensures cause { IfErr result (IsNoGroup session.now.entries group.now) }
 {
-    let m = session.mounted(alloc, &path.group)?;
-    directory_at(m.catalog(), path)?;
-    match text_of(alloc, m, report) {
-        Ok(text) => Ok(text),
+    if !is_there(session, group) {
+        return Err(Refusal::NoGroup);
+    }
+    match lines_of(session, alloc, group) {
+        Ok(lines) => Ok(lines),
         Err(NoMemory) => Err(Refusal::NoMemory),
     }
 }

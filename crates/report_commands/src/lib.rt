@@ -2,7 +2,6 @@
 #![tactic(auto)]
 
 mod group_rows;
-mod lines;
 mod listing;
 mod places;
 mod reports;

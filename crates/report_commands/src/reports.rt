@@ -6,57 +6,43 @@ ghost use Rattle.asm_world.specs.Statement.{Alter, Check};
 ghost use Rattle.session.specs.Desks.{IsAnswered};
 ghost use Rattle.session.specs.Families.{is_proved};
 ghost use Rattle.session.specs.Sessions.{AreReady};
+ghost use Rattle.report_commands.specs.Told.{AsksFor};
 
-use crate::group_rows::Report;
-use crate::lines::lines_of;
-use crate::shown::GroupReport;
-use asm_base::{Name, NoMemory, Refusal, Text};
-use asmcmd::{ls_text, lsdg_text};
+use crate::group_rows::groups_told;
+use crate::listing::rows_at;
+use crate::shown::{Report, found, told};
+use asm_base::{List, Name, Refusal, Text};
+use asmcmd::ls_lines;
 use bay::{Bay, Host};
-use session::{Answer, Desk, Reply, no_memory, or_refusal, refuse, refused};
+use session::{Answer, Desk, answer_lines, no_memory, or_refusal, refuse, refused};
 use verb_paths::{resolve_pattern, target};
 
-/// The lines of a report's text and `ok`, or the refusal of a report.
+/// A report on the mounted group of a name. Its refusals in order: NoGroup, Dismounted; of du then NoName, NotDirectory.
 fn tell<B: Bay, H: Host>(
-    desk: &mut Desk<B, H>,
-    text: &[u8],
-    told: Result<Vec<u8>, Refusal>,
-) -> Answer
-    requires unproved { is_proved (command_of text.now) ≡ false }
-    requires ready { AreReady desk.old.session.groups (B.state desk.old.bay) }
-    ensures answers { IsAnswered text.now result desk.old desk.new }
-{
-    match told {
-        Ok(lines) => report(desk, text, &lines),
-        Err(refusal) => refuse(desk, text, refusal),
-    }
-}
-
-/// The lines of a report's text, and `ok`.
-fn report<B: Bay, H: Host>(desk: &mut Desk<B, H>, text: &[u8], lines: &[u8]) -> Answer
-    requires unproved { is_proved (command_of text.now) ≡ false }
-    requires ready { AreReady desk.old.session.groups (B.state desk.old.bay) }
-    ensures answers { IsAnswered text.now result desk.old desk.new }
-{
-    match lines_of(desk.alloc, lines) {
-        Ok(lines) => Answer::plain(desk.alloc, Reply::Done(lines)),
-        Err(NoMemory) => no_memory(desk, text),
-    }
-}
-
-/// A report on the mounted group of a name. Its refusals in order: NoGroup, Dismounted.
-fn tell_of<B: Bay, H: Host>(
     desk: &mut Desk<B, H>,
     text: &[u8],
     group: &Name,
     report: Report<'_>,
 ) -> Answer
+    requires asked { AsksFor text.now group.now report.entry }
+    requires ready { AreReady desk.old.session.groups (B.state desk.old.bay) }
+    ensures answers { IsAnswered text.now result desk.old desk.new }
+{
+    let lines = told(&desk.session, desk.alloc, group, report);
+    answer_lines(desk.alloc, lines)
+}
+
+/// What a command tells of which it isn't proved what it does.
+fn tell_unproved<B: Bay, H: Host>(
+    desk: &mut Desk<B, H>,
+    text: &[u8],
+    lines: Result<List<Text>, Refusal>,
+) -> Answer
     requires unproved { is_proved (command_of text.now) ≡ false }
     requires ready { AreReady desk.old.session.groups (B.state desk.old.bay) }
     ensures answers { IsAnswered text.now result desk.old desk.new }
 {
-    let told = told(&desk.session, desk.alloc, group, report);
-    tell(desk, text, told)
+    answer_lines(desk.alloc, lines)
 }
 
 /// ls. Its refusals in order: NoGroup, Dismounted, NoName, and NotDirectory of what a pattern is looked for in.
@@ -83,8 +69,8 @@ pub fn ls<B: Bay, H: Host>(
     };
     match rows_at(&desk.session, desk.alloc, parts.as_slice()) {
         Ok(rows) => {
-            let lines = ls_text(desk.alloc, &rows, long);
-            tell(desk, text, or_refusal(lines))
+            let lines = ls_lines(desk.alloc, &rows, long);
+            tell_unproved(desk, text, or_refusal(lines))
         }
         Err(refusal) => refuse(desk, text, refusal),
     }
@@ -107,10 +93,8 @@ pub fn find<B: Bay, H: Host>(
     let Some(below) = led else {
         return refused(desk.alloc, Refusal::NoGroup);
     };
-    match found(&desk.session, desk.alloc, &below, pattern.as_slice()) {
-        Ok(lines) => Answer::plain(desk.alloc, Reply::Done(lines)),
-        Err(refusal) => refused(desk.alloc, refusal),
-    }
+    let lines = found(&desk.session, desk.alloc, &below, pattern.as_slice());
+    answer_lines(desk.alloc, lines)
 }
 
 /// du, where no path is said of the session's place. Its refusals in order: NoGroup, Dismounted, NoName, NotDirectory.
@@ -131,9 +115,7 @@ pub fn usage<B: Bay, H: Host>(desk: &mut Desk<B, H>, text: &[u8], path: Option<T
     let Some(path) = led else {
         return refuse(desk, text, Refusal::NoGroup);
     };
-    let dir = path.parts.as_slice();
-    let told = told_below(&desk.session, desk.alloc, &path, Report::Usage { dir });
-    tell(desk, text, told)
+    tell(desk, text, &path.group, Report::Usage { path: &path })
 }
 
 /// lsdg: the group of a name, or all of the session in the order of mounting. NoGroup: no group has the name.
@@ -146,18 +128,8 @@ pub fn list_groups<B: Bay, H: Host>(
     requires ready { AreReady desk.old.session.groups (B.state desk.old.bay) }
     ensures answers { IsAnswered text.now result desk.old desk.new }
 {
-    if let Some(name) = &group
-        && !desk.session.has(name)
-    {
-        return refuse(desk, text, Refusal::NoGroup);
-    }
-    match group_rows(&desk.session, desk.alloc, &group) {
-        Ok(rows) => {
-            let lines = lsdg_text(desk.alloc, &rows);
-            tell(desk, text, or_refusal(lines))
-        }
-        Err(NoMemory) => no_memory(desk, text),
-    }
+    let lines = groups_told(&desk.session, desk.alloc, &group);
+    answer_lines(desk.alloc, lines)
 }
 
 /// lsdsk. Its refusals in order: NoGroup, Dismounted.
@@ -166,7 +138,7 @@ pub fn list_disks<B: Bay, H: Host>(desk: &mut Desk<B, H>, text: &[u8], group: Na
     requires ready { AreReady desk.old.session.groups (B.state desk.old.bay) }
     ensures answers { IsAnswered text.now result desk.old desk.new }
 {
-    tell_of(desk, text, &group, Report::Disks)
+    tell(desk, text, &group, Report::Disks)
 }
 
 /// lstmpl. Its refusals in order: NoGroup, Dismounted.
@@ -175,10 +147,7 @@ pub fn list_templates<B: Bay, H: Host>(desk: &mut Desk<B, H>, text: &[u8], group
     requires ready { AreReady desk.old.session.groups (B.state desk.old.bay) }
     ensures answers { IsAnswered text.now result desk.old desk.new }
 {
-    match shown(&desk.session, desk.alloc, &group, GroupReport::Templates) {
-        Ok(lines) => Answer::plain(desk.alloc, Reply::Done(lines)),
-        Err(refusal) => refused(desk.alloc, refusal),
-    }
+    tell(desk, text, &group, Report::Templates)
 }
 
 /// lsattr. Its refusals in order: NoGroup, Dismounted.
@@ -187,10 +156,7 @@ pub fn list_attributes<B: Bay, H: Host>(desk: &mut Desk<B, H>, text: &[u8], grou
     requires ready { AreReady desk.old.session.groups (B.state desk.old.bay) }
     ensures answers { IsAnswered text.now result desk.old desk.new }
 {
-    match shown(&desk.session, desk.alloc, &group, GroupReport::Attributes) {
-        Ok(lines) => Answer::plain(desk.alloc, Reply::Done(lines)),
-        Err(refusal) => refused(desk.alloc, refusal),
-    }
+    tell(desk, text, &group, Report::Attributes)
 }
 
 /// CHECK. Its refusals in order: NoGroup, Dismounted.
@@ -199,5 +165,5 @@ pub fn check<B: Bay, H: Host>(desk: &mut Desk<B, H>, text: &[u8], group: Name) -
     requires ready { AreReady desk.old.session.groups (B.state desk.old.bay) }
     ensures answers { IsAnswered text.now result desk.old desk.new }
 {
-    tell_of(desk, text, &group, Report::Check)
+    tell(desk, text, &group, Report::Check)
 }

@@ -1,105 +1,129 @@
-// What the reports on one mounted group show that are proved of the world: their lines.
-ghost use Rattle.std.specs.Prelude.{◌≡◌, ◌⊎◌, ◌++◌, ◌∷◌, map, Err, IfErr, IfOk};
+// The lines of the reports on one mounted group, and of find.
+ghost use Rattle.std.specs.Prelude.{◌≡◌, ◌⊎◌, Err, IfErr, IfOk};
 ghost use Rattle.asm_base.specs.declared.refusal.Refusal.TheVariants.{NoMemory as WantOfMemory};
-ghost use Rattle.asmcmd.specs.Texts.{attribute_line, attribute_lines, path_line, template_line, template_lines};
 ghost use Rattle.group_reports.specs.Places.{directory_at};
 ghost use Rattle.session.specs.Listing.{IsInGroup, IsPathCause};
-ghost use Rattle.session.specs.Naming.{IsOutCause};
-ghost use Rattle.report_commands.specs.Shown.{IsFoundIn, attributes_shown, found_shown, shown, templates_shown};
+ghost use Rattle.report_commands.specs.Told.{IsFoundIn, IsUntold, IsUntoldIn, attributes_told, checked_told, disks_told, found_told, templates_told, told, usage_told};
 
 use asm_base::{List, Name, NoMemory, Path, Refusal, Text};
-use asmcmd::{AttrRow, TemplateRow, path_text};
+use asmcmd::{attribute_lines, check_lines, disk_lines, path_lines, template_lines, usage_lines};
 use group_engine::Mounted;
-use group_reports::{attribute_rows, directory_at, paths_found, template_rows};
+use group_reports::{
+    attribute_rows, check, directory_at, disk_rows, paths_found, template_rows, usage_below,
+};
 use session::Session;
 use std::alloc::Global;
 
-/// Such a report.
+/// A report on one mounted group.
 #[derive(Clone, Copy)]
-pub enum GroupReport {
+pub enum Report<'a> {
+    /// lsdsk.
+    Disks,
+    /// CHECK.
+    Check,
+    /// du: what the files below the directory at a path take.
+    Usage { path: &'a Path },
     /// lstmpl.
     Templates,
     /// lsattr.
     Attributes,
 }
 
-fn with_bytes(mut text: Vec<u8>, bytes: &[u8]) -> Result<Vec<u8>, NoMemory>
-    ensures { IfOk result (λ longer. longer.items ≡ text.items ++ bytes.now) }
+fn disks_of(alloc: Global, m: &Mounted) -> Result<List<Text>, NoMemory>
+    ensures { IfOk result (λ lines. lines ≡ disks_told m.now) }
 {
-    text.extend_from_slice(bytes).map_err(|_| NoMemory)?;
-    Ok(text)
+    let rows = disk_rows(alloc, m.catalog(), m.status())?;
+    disk_lines(alloc, &rows)
 }
 
-/// The text with a word more, behind a space.
-fn with_word(mut text: Vec<u8>, word: &[u8]) -> Result<Vec<u8>, NoMemory>
-    ensures { IfOk result (λ longer. longer.items ≡ text.items ++ 32 ∷ word.now) }
+fn checked_of(alloc: Global, m: &Mounted) -> Result<List<Text>, NoMemory>
+    ensures { IfOk result (λ lines. lines ≡ checked_told m.now) }
 {
-    text.push(b' ').map_err(|_| NoMemory)?;
-    with_bytes(text, word)
+    let checked = check(m.catalog(), m.status());
+    check_lines(alloc, checked.extents, checked.not_full)
 }
 
-fn template_line(alloc: Global, row: &TemplateRow) -> Result<Text, NoMemory>
-    ensures { IfOk result (λ line. line ≡ template_line row.now) }
+fn usage_of(alloc: Global, m: &Mounted, dir: &[Name]) -> Result<List<Text>, NoMemory>
+    ensures { IfOk result (λ lines. lines ≡ usage_told dir.now m.now) }
 {
-    let name = with_bytes(Vec::new(alloc), row.name.as_slice())?;
-    let redund = with_word(name, row.redund.as_slice())?;
-    let striped = with_word(redund, row.striped.as_slice())?;
-    let system = with_word(striped, row.sys.as_slice())?;
-    Ok(List::from_vec(system))
-}
-
-fn attribute_line(alloc: Global, row: &AttrRow) -> Result<Text, NoMemory>
-    ensures { IfOk result (λ line. line ≡ attribute_line row.now) }
-{
-    let name = with_bytes(Vec::new(alloc), row.name.as_slice())?;
-    let value = with_word(name, row.value.as_slice())?;
-    Ok(List::from_vec(value))
-}
-
-fn template_lines(alloc: Global, rows: &[TemplateRow]) -> Result<List<Text>, NoMemory>
-    ensures { IfOk result (λ lines. lines ≡ template_lines rows.now) }
-{
-    let mut lines = List::new(alloc);
-    lines.push(Text::from_slice(alloc, b"Name Redund Striped Sys")?)?;
-    for row in rows {
-        lines.push(template_line(alloc, row)?)?;
-    }
-    Ok(lines)
-}
-
-fn attribute_lines(alloc: Global, rows: &[AttrRow]) -> Result<List<Text>, NoMemory>
-    ensures { IfOk result (λ lines. lines ≡ attribute_lines rows.now) }
-{
-    let mut lines = List::new(alloc);
-    lines.push(Text::from_slice(alloc, b"Name Value")?)?;
-    for row in rows {
-        lines.push(attribute_line(alloc, row)?)?;
-    }
-    Ok(lines)
+    let usage = usage_below(alloc, m.name(), m.catalog(), dir)?;
+    usage_lines(alloc, usage.used, usage.mirrored)
 }
 
 fn templates_of(alloc: Global, m: &Mounted) -> Result<List<Text>, NoMemory>
-    ensures { IfOk result (λ lines. lines ≡ templates_shown m.now) }
+    ensures { IfOk result (λ lines. lines ≡ templates_told m.now) }
 {
     let rows = template_rows(alloc, m.catalog())?;
     template_lines(alloc, &rows)
 }
 
 fn attributes_of(alloc: Global, m: &Mounted) -> Result<List<Text>, NoMemory>
-    ensures { IfOk result (λ lines. lines ≡ attributes_shown m.now) }
+    ensures { IfOk result (λ lines. lines ≡ attributes_told m.now) }
 {
     let rows = attribute_rows(alloc, m.catalog())?;
     attribute_lines(alloc, &rows)
 }
 
-fn path_lines(alloc: Global, paths: &[Path]) -> Result<List<Text>, NoMemory>
-    ensures { IfOk result (λ lines. lines ≡ map path_line paths.now) }
+/// The lines of a report on a group.
+fn lines_of(alloc: Global, m: &Mounted, report: Report<'_>) -> Result<List<Text>, NoMemory>
+    ensures { IfOk result (λ lines. lines ≡ told report.entry m.now) }
 {
-    let mut lines = List::new(alloc);
-    for path in paths {
-        lines.push(path_text(alloc, &path.group, path.parts.as_slice())?)?;
+    match report {
+        Report::Disks => disks_of(alloc, m),
+        Report::Check => checked_of(alloc, m),
+        Report::Usage { path } => usage_of(alloc, m, path.parts.as_slice()),
+        Report::Templates => templates_of(alloc, m),
+        Report::Attributes => attributes_of(alloc, m),
     }
-    Ok(lines)
+}
+
+/// Whether a report can be made of a group: du is of a directory. Its refusals in order: NoName, NotDirectory.
+fn can_tell(m: &Mounted, report: Report<'_>) -> Result<(), Refusal>
+    ensures { IfErr result (IsUntold report.entry m.now) }
+{
+    match report {
+        Report::Usage { path } => is_directory(m, path),
+        _ => Ok(()),
+    }
+}
+
+fn is_directory(m: &Mounted, path: &Path) -> Result<(), Refusal>
+    ensures { IfErr result (λ refusal. directory_at m.now.catalog.tables path.now.parts ≡ Err refusal) }
+{
+    match directory_at(m.catalog(), path) {
+        Ok(_) => Ok(()),
+        Err(refusal) => Err(refusal),
+    }
+}
+
+/// What a report tells of a group.
+fn told_of(alloc: Global, m: &Mounted, report: Report<'_>) -> Result<List<Text>, Refusal>
+    ensures told { IfOk result (λ lines. lines ≡ told report.entry m.now) }
+    ensures cause { IfErr result (λ refusal. IsUntold report.entry m.now refusal ⊎ (refusal ≡ WantOfMemory)) }
+{
+    match can_tell(m, report) {
+        Ok(()) => match lines_of(alloc, m, report) {
+            Ok(lines) => Ok(lines),
+            Err(NoMemory) => Err(Refusal::NoMemory),
+        },
+        Err(refusal) => Err(refusal),
+    }
+}
+
+/// What a report tells of the mounted group of a name. Its refusals in order: NoGroup, Dismounted; of du then NoName, NotDirectory.
+pub fn told(
+    session: &Session,
+    alloc: Global,
+    name: &Name,
+    report: Report<'_>,
+) -> Result<List<Text>, Refusal>
+    ensures told { IfOk result (λ lines. IsInGroup session.now name.now (λ m. lines ≡ told report.entry m)) }
+    ensures cause { IfErr result (IsUntoldIn session.now name.now report.entry) }
+{
+    match session.mounted(alloc, name) {
+        Ok(m) => told_of(alloc, m, report),
+        Err(refusal) => Err(refusal),
+    }
 }
 
 /// The paths below a directory whose last part matches a pattern.
@@ -109,7 +133,7 @@ fn found_of(
     dir: &[Name],
     pattern: &[u8],
 ) -> Result<List<Text>, NoMemory>
-    ensures { IfOk result (λ lines. lines ≡ found_shown m.now dir.now pattern.now) }
+    ensures { IfOk result (λ lines. lines ≡ found_told m.now dir.now pattern.now) }
 {
     let paths = paths_found(alloc, m.name(), m.catalog(), dir, pattern)?;
     path_lines(alloc, &paths)
@@ -129,33 +153,6 @@ fn found_at(alloc: Global, m: &Mounted, path: &Path, pattern: &[u8]) -> Result<L
     }
 }
 
-/// The lines of a report on a group.
-fn lines_of(alloc: Global, m: &Mounted, report: GroupReport) -> Result<List<Text>, NoMemory>
-    ensures { IfOk result (λ lines. lines ≡ shown report m.now) }
-{
-    match report {
-        GroupReport::Templates => templates_of(alloc, m),
-        GroupReport::Attributes => attributes_of(alloc, m),
-    }
-}
-
-/// The lines of a report on the mounted group of a name. Its refusals in order: NoGroup, Dismounted.
-#[tactic(auto, using(session::proofs::Telling::no_memory_out))]
-pub fn shown(
-    session: &Session,
-    alloc: Global,
-    name: &Name,
-    report: GroupReport,
-) -> Result<List<Text>, Refusal>
-    ensures shown { IfOk result (λ lines. IsInGroup session.now name.now (λ m. lines ≡ shown report m)) }
-    ensures cause { IfErr result (IsOutCause session.now.entries name.now) }
-{
-    let m = session.mounted(alloc, name)?;
-    match lines_of(alloc, m, report) {
-        Ok(lines) => Ok(lines),
-        Err(NoMemory) => Err(Refusal::NoMemory),
-    }
-}
 /// What find tells of the directory at a path. Its refusals in order: NoGroup, Dismounted, NoName, NotDirectory.
 pub fn found(
     session: &Session,

@@ -1,5 +1,5 @@
 -- Commands on the desk.
-use Rattle.std.proofs.Common.{◌≡◌, ◌≤◌, false, true, refl, sym, ◌∙◌, ap, subst, arith}
+use Rattle.std.proofs.Common.{◌≡◌, ◌≤◌, false, true, refl, sym, ◌∙◌, subst, arith}
 use Rattle.std.specs.FinMap as maps
 use Rattle.std.proofs.lemmas.Bool.{false≢true}
 use Rattle.bay.specs.declared.disk.Bay as Bay

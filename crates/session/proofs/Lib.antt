@@ -1,3 +1,4 @@
+pub mod AnsweredLines
 pub mod Attaching
 pub mod Below
 pub mod Calls

@@ -12,15 +12,11 @@ use Rattle.group_engine.specs.Mounts.{MountedGroup}
 use Rattle.group_reports.specs.Listing as rows
 use Rattle.group_reports.specs.Places.{directory_at}
 use Rattle.std.specs.Prelude.{Err}
-use Rattle.session.specs.GroupRows.{Tells}
 use Rattle.session.specs.Listing.{AreRowsInGroup, IsCauseIn, IsPathCause}
 use Rattle.session.specs.Naming.{IsGroupOf, IsOutCause}
 use Rattle.session.specs.Sessions.{SessionView}
 
 -- ---- one group
-
-pub tells : (session : SessionView) (name : Bytes) (told : MountedGroup → Bytes) (m : MountedGroup) (text : Bytes) → IsGroupOf session name m → text ≡ told m → Tells session name told text
-tells session name told m text is_group is = record { group = m; is_group = is_group; is = is }
 
 pub no_memory_out : (entries : List SessionEntry) (name : Bytes) → IsOutCause entries name cause.NoMemory
 unfolding said

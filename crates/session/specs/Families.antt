@@ -151,11 +151,12 @@ abbrev pub is_edit : Command → Bool
 is_edit c = edits_in (family_of c)
 
 abbrev shown_in : Family → Command → Bool
+shown_in Groups c = groups.shows_group c
 shown_in Places c = places.shows_group c
 shown_in Reports c = reports.shows_group c
 shown_in other c = false
 
--- whether it shows names or settings of a mounted group, or goes into one
+-- whether it tells of groups as they are mounted, or goes into one
 abbrev pub shows_group : Command → Bool
 shows_group c = shown_in (family_of c) c
 

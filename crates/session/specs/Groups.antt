@@ -1,5 +1,5 @@
--- How groups come and go. Of DISMOUNT it is proved what it does, and of the creation of an EXTERNAL group on one disk, of which its path
--- alone is said.
+-- How groups come and go. Of DISMOUNT and CHECK it is proved what they do, and of the creation of an EXTERNAL group on one disk, of which
+-- its path alone is said.
 use Rattle.std.specs.Prelude.{◌≡◌, ⊤, ℕ, Bool, true, false, ◌||◌, is_some, List, [], ◌∷◌, Option, Some, None, if◌then◌else◌}
 use Rattle.std.specs.Option.{option_map}
 use Rattle.std.specs.FinMap as maps
@@ -72,8 +72,12 @@ abbrev pub is_proved : Command → Bool
 is_proved (Said (CreateGroup name kind groups attributes)) = is_some (external_path kind groups attributes)
 is_proved (Said (DropGroup name contents)) = false
 is_proved (Said (Alter name (Mount force))) = false
-is_proved (Said (Alter name Check)) = false
 is_proved c = is_served c
+
+-- which tell of a group as it is mounted
+abbrev pub shows_group : Command → Bool
+shows_group (Said (Alter name Check)) = true
+shows_group other = false
 
 -- ---- what is counted of them
 

@@ -8,7 +8,6 @@ pub mod Entries
 pub mod Families
 pub mod FileLines
 pub mod Files
-pub mod GroupRows
 pub mod Groups
 pub mod Joining
 pub mod Leading

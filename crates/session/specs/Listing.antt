@@ -1,25 +1,14 @@
--- What ls and du tell of the names in a group, and why these and find are refused.
+-- What ls tells of the names in a group, and why it, find and du are refused.
 use Rattle.std.specs.Prelude.{◌≡◌, ◌⊎◌, false, List, [], ◌∷◌, Err}
 use Rattle.asm_group.specs.Names.{Bytes, Path, is_part}
 use Rattle.asm_base.specs.declared.refusal.Refusal.{Refusal}
 use Rattle.asm_base.specs.declared.refusal.Refusal.TheVariants as cause
-use Rattle.asm_world.specs.Reports.{du_lines}
-use Rattle.asm_world.specs.Text.{ended}
 use Rattle.asmcmd.specs.declared.rows.LsRow.{LsRow}
 use Rattle.group_engine.specs.Mounts.{MountedGroup}
-use Rattle.group_reports.specs.Files.{usage_of}
 use Rattle.group_reports.specs.Listing as rows
 use Rattle.group_reports.specs.Places.{directory_at}
 use Rattle.session.specs.Naming.{IsGroupOf, IsOutCause}
 use Rattle.session.specs.Sessions.{SessionView}
-
--- ---- what is told
-
--- what the files of a directory in a group take
-abbrev pub usage_told : Path → MountedGroup → Bytes
-usage_told dir m = let taken = usage_of m.catalog m.name dir m.catalog.tables.files in ended (du_lines taken.used taken.mirrored)
-
--- ---- why they are refused
 
 -- By the tables of the mounted group of a name.
 pub record IsInGroup (session : SessionView) (name : Bytes) (why : MountedGroup → Type 0) : Type 0 where

@@ -1,5 +1,5 @@
--- Reports: lists of names, groups, disks, templates and attributes, and what files take. All are served. Of lstmpl, lsattr
--- and find it is proved what they tell; what the others tell isn't proved of the world yet.
+-- Reports: lists of names, groups, disks, templates and attributes, and what files take. All are served, and of each but ls and du it is
+-- proved what it tells.
 use Rattle.std.specs.Prelude.{⊤, ℕ, Bool, true, false, List}
 use Rattle.asm_group.specs.Names.{Bytes}
 use Rattle.asm_group.specs.Refusal as r
@@ -20,12 +20,11 @@ is_served other = false
 
 -- of which it is proved what they tell
 abbrev pub is_proved : Command → Bool
-is_proved (Asked (Find path pattern)) = true
-is_proved (Asked (ListTemplates group)) = true
-is_proved (Asked (ListAttributes group)) = true
-is_proved other = false
+is_proved (Asked (Ls long path)) = false
+is_proved (Asked (Usage path)) = false
+is_proved c = is_served c
 
--- of which a group's tables tell it
+-- which tell of groups as they are mounted
 abbrev pub shows_group : Command → Bool
 shows_group c = is_proved c
 

@@ -1,4 +1,4 @@
-use Rattle.std.proofs.Common.{refl, ◌∙◌, sym, inr, ap, map}
+use Rattle.std.proofs.Common.{◌∙◌, sym, inr, ap, map}
 use Rattle.std.proofs.lemmas.List.{length-map}
 use Rattle.std.specs.String.{string_bytes}
 use Rattle.asm_world.specs.Generator.{generated_script}

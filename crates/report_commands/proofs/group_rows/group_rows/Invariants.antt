@@ -1,4 +1,4 @@
-use Rattle.session.specs.GroupRows.{groups_asked}
+use Rattle.report_commands.specs.GroupRows.{groups_asked}
 use Rattle.report_commands.proofs.GroupLists.{AreSoFar}
 use Rattle.report_commands.proofs.group_rows.group_rows.Given as goal
 

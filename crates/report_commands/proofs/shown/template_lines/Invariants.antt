@@ -1,7 +1,0 @@
-use Rattle.std.proofs.Common.{◌≡◌, ◌∷◌, map, take}
-use Rattle.std.specs.Prelude.{codes}
-use Rattle.asmcmd.specs.Texts.{template_line}
-use Rattle.report_commands.proofs.shown.template_lines.Given as goal
-
-abbrev pub invariant-loop-row : goal.invariant-loop-row
-invariant-loop-row l = l.lines ≡ codes "Name Redund Striped Sys" ∷ map template_line (take l.row-index l.rows)
