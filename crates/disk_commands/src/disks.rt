@@ -10,6 +10,7 @@ ghost use Rattle.session.specs.Families.{is_proved};
 ghost use Rattle.session.specs.Sessions.{AreReady};
 
 use crate::disk_works::{Chosen, DiskChange, said_of};
+use crate::waiting::{add_and_wait, bring_back_and_wait, change_and_wait};
 use asm_base::{List, Name, Text};
 use bay::{Bay, Host};
 use group_disks::create_disk as make_disk;

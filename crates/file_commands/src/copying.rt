@@ -9,6 +9,7 @@ ghost use Rattle.session.specs.FileLines.{IsNewLine};
 ghost use Rattle.session.specs.Naming.{CarriesOn};
 ghost use Rattle.session.specs.Sessions.{AreReady};
 
+use crate::files::{read_from, system_line};
 use crate::works::{Begin, Finish, GiveUp, Put};
 use asm_base::{List, Name, NoMemory, Path, Refusal, Text};
 use bay::{Bay, Host, HostError};

@@ -212,7 +212,7 @@ fn system_lines(alloc: Global, m: &Mounted, file: u32) -> Result<List<Text>, NoM
 }
 
 /// The line of the system path of a file of the mounted group of a name.
-fn system_line(
+pub fn system_line(
     session: &Session,
     alloc: Global,
     name: &Name,
@@ -300,7 +300,7 @@ fn open_span(
 
 /// Fills the buffer with bytes of a file of the mounted group of a name.
 #[tactic(auto, using(session::proofs::Carrying::carries_none))]
-fn read_from<B: Bay>(
+pub fn read_from<B: Bay>(
     session: &Session,
     alloc: Global,
     bay: &mut B,
