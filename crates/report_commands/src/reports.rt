@@ -24,7 +24,7 @@ fn tell<B: Bay, H: Host>(
     group: &Name,
     report: Report<'_>,
 ) -> Answer
-    requires asked { AsksFor text.now group.now report.entry }
+    requires asked { AsksFor text.now group.now report }
     requires ready { AreReady desk.old.session.groups (B.state desk.old.bay) }
     ensures answers { IsAnswered text.now result desk.old desk.new }
 {
