@@ -16,10 +16,10 @@ use Rattle.asm_placement.specs.Tables.{home_of}
 use Rattle.asm_placement.specs.Work.{is_regular}
 use Rattle.extent_map.specs.Extents.{Chunked, absent, chunk_at, chunk_or_blank, count_in, cut_to, with_chunk, with_extent, with_more}
 use Rattle.asm_base.specs.Chunks.{Chunk, chunk_cmp}
-use Rattle.catalog.specs.ExtentPlans.{homes_at, homes_moved, with_appended, with_cut, with_fewer, with_move, with_released}
+use Rattle.catalog.specs.ExtentPlans.{homes_moved, with_appended, with_cut, with_fewer, with_move, with_released}
 use Rattle.catalog_tables.specs.Items.{AreItemsOf, chunk_copies}
 use Rattle.catalog_laws.specs.RegularHomes.{AppendingKeepsRegular, CopiesAreRegular, CuttingKeepsRegular, HomesAreRegular, MovingKeepsRegular, RegularStays}
-use Rattle.catalog_tables.specs.Rules.{AreOnRegular, are_on_regular, first_wrong, is_on_regular, is_regular_chunk}
+use Rattle.catalog_tables.specs.Rules.{AreOnRegular, are_on_regular, first_wrong, is_on_regular, is_regular_chunk, homes_at}
 use Rattle.catalog_tables.specs.Tables.{AreTables, Tables}
 use Rattle.catalog.proofs.AppendPlans.{all_first, all_joined, all_later, all_same}
 use Rattle.catalog_tables.proofs.EntryLaws.{both}

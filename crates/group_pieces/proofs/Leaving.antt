@@ -8,8 +8,8 @@ use Rattle.asm_base.specs.declared.kinds.ExtentId.{ExtentId}
 use Rattle.asm_formats.specs.Items.{Home, Homes, chunk_len}
 use Rattle.asm_formats.specs.Sets.{has_bit}
 use Rattle.extent_map.specs.Extents.{absent, chunk_at, extent_at, has_home}
-use Rattle.catalog.specs.ExtentPlans.{MayMark, homes_at}
-use Rattle.catalog_tables.specs.Rules.{is_mark_of}
+use Rattle.catalog.specs.ExtentPlans.{MayMark}
+use Rattle.catalog_tables.specs.Rules.{is_mark_of, homes_at}
 use Rattle.catalog_tables.specs.Tables.{Tables}
 use Rattle.group_engine.specs.Mounts.{MountedGroup}
 use Rattle.group_pieces.specs.Marking.{is_left, left_of, three_bits}

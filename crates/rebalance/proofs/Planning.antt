@@ -34,11 +34,11 @@ use Rattle.extent_map.specs.Extents.{Chunked, chunk_at, has_home, item_of}
 use Rattle.asm_base.specs.Chunks.{chunk_cmp}
 use Rattle.extent_map.proofs.Laws.{chunk_total}
 use Rattle.file_directory.specs.Files.{head_at}
-use Rattle.catalog.specs.ExtentPlans.{MayMove, home_at, homes_at, is_copy_of}
+use Rattle.catalog.specs.ExtentPlans.{MayMove, home_at, is_copy_of}
 use Rattle.catalog_tables.specs.Faults.{IsCatalog}
 use Rattle.catalog_tables.specs.Items.{AreItemsOf, chunk_copies}
 use Rattle.catalog_tables.specs.Placing.{home_taken}
-use Rattle.catalog_tables.specs.Rules.{AreOnRegular, are_on_disks, are_on_two, is_on_regular}
+use Rattle.catalog_tables.specs.Rules.{AreOnRegular, are_on_disks, are_on_two, is_on_regular, homes_at}
 use Rattle.catalog_tables.specs.Tables.{Catalogued, Tables}
 use Rattle.catalog.proofs.EditLaws.{chunk_right}
 use Rattle.catalog.proofs.ExtentCounts.{few_copies}

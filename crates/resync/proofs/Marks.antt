@@ -8,8 +8,8 @@ use Rattle.asm_formats.specs.Items.{Homes}
 use Rattle.asm_formats.specs.Sets.{has_bit}
 use Rattle.asm_formats.specs.Status.{Entry, Status}
 use Rattle.asm_images.specs.RecordLaws.{bare}
-use Rattle.catalog.specs.ExtentPlans.{MayMark, homes_at}
-use Rattle.catalog_tables.specs.Rules.{are_marks_of}
+use Rattle.catalog.specs.ExtentPlans.{MayMark}
+use Rattle.catalog_tables.specs.Rules.{are_marks_of, homes_at}
 use Rattle.catalog_tables.specs.Tables.{Tables}
 use Rattle.extent_map.specs.Extents.{chunk_at, extent_at, has_home}
 use Rattle.group_engine.specs.NextRecords.{KeepsDisks}

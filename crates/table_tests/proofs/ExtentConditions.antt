@@ -13,10 +13,10 @@ use Rattle.asm_placement.specs.Placed.{placed_copies}
 use Rattle.allocator.specs.UnitMaps.{IsLowestRun, UnitMap, is_free, with_run}
 use Rattle.extent_map.specs.Extents.{absent, chunk_at, chunk_or_blank, count_in, extent_at, has_extent, has_home}
 use Rattle.file_directory.specs.Files.{head_at, is_file}
-use Rattle.catalog.specs.ExtentPlans.{MayAppend, MayCut, MayMark, IsUndue, first_new, homes_at, is_copy_of}
+use Rattle.catalog.specs.ExtentPlans.{MayAppend, MayCut, MayMark, IsUndue, first_new, is_copy_of}
 use Rattle.catalog_tables.specs.Placing.{after_homes, home_taken}
 use Rattle.asm_placement.specs.Naming.{is_pending}
-use Rattle.catalog_tables.specs.Rules.{are_marks_of, are_within_head}
+use Rattle.catalog_tables.specs.Rules.{are_marks_of, are_within_head, homes_at}
 use Rattle.catalog_tables.specs.Tables.{Catalogued, Tables}
 use Rattle.catalog_tables.proofs.HomeUnits.{Takes, set_other, takes}
 use Rattle.catalog_tables.proofs.PlacingLaws.{from_all}
