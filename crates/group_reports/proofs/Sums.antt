@@ -2,6 +2,7 @@
 use Rattle.std.proofs.Common.{◌≡◌, ◌≤◌, ◌<◌, ℕ, ◌+◌, ◌*◌, ◌^◌, List, [], ◌∷◌, refl, sym, ap, ◌∙◌, arith}
 use Rattle.std.specs.Prelude.{sum_by}
 use Rattle.std.proofs.lemmas.List.Sums.{sum_by-cons}
+use Rattle.asm_formats.specs.Items.{FileHead}
 use Rattle.asm_group.specs.Names.{Bytes, Path}
 use Rattle.file_directory.specs.Files.{File}
 use Rattle.catalog_tables.specs.Tables.{Catalogued, Tables}
@@ -16,11 +17,14 @@ pub record AreTaken (c : Catalogued) (group : Bytes) (dir : Path) (least : ℕ) 
   pub small : u.used ≤ least * 2 ^ 64
   pub few : u.mirrored ≤ least * 2 ^ 78
 
+from_none : (left all : ℕ) → left ≡ all → 0 + left ≡ all
+from_none left all e = omega (arith, e)
+
 pub taken_start : (c : Catalogued) (group : Bytes) (dir : Path) (u : Taken) → u ≡ record { used = 0; mirrored = 0 } → AreTaken c group dir 0 u
 taken_start c group dir u is =
     rw is (record {
-      used = ap (λ (fs : List File). bytes_below c.tables group dir size_of fs) (all_from c.tables.files);
-      mirrored = ap (λ (fs : List File). bytes_below c.tables group dir (mirrored_of c) fs) (all_from c.tables.files);
+      used = from_none (bytes_below c.tables group dir size_of (files_from c.tables.files 0)) _ (ap (λ (fs : List File). bytes_below c.tables group dir size_of fs) (all_from c.tables.files));
+      mirrored = from_none (bytes_below c.tables group dir (mirrored_of c) (files_from c.tables.files 0)) _ (ap (λ (fs : List File). bytes_below c.tables group dir (mirrored_of c) fs) (all_from c.tables.files));
       small = omega arith;
       few = omega arith;
     })
@@ -34,20 +38,20 @@ less_used a b least number so_far one le = omega (arith, so_far, one, le)
 less_mirrored : (a b least number : ℕ) → a ≤ least * 2 ^ 78 → b ≤ 2 ^ 78 → least ≤ number → a + b ≤ (number + 1) * 2 ^ 78
 less_mirrored a b least number so_far one le = omega (arith, so_far, one, le)
 
-pub taken_more : (c : Catalogued) (group : Bytes) (dir : Path) (least : ℕ) (f : File) (u one next : Taken) → files_from c.tables.files least ≡ f ∷ files_from c.tables.files (f.0 + 1) → least ≤ f.0
-    → one.used ≡ if_file_below c.tables group dir size_of f → one.mirrored ≡ if_file_below c.tables group dir (mirrored_of c) f → one.used ≤ 2 ^ 64 → one.mirrored ≤ 2 ^ 78
-    → next ≡ record { used = u.used + one.used; mirrored = u.mirrored + one.mirrored } → AreTaken c group dir least u → AreTaken c group dir (f.0 + 1) next
-taken_more c group dir least f u one next split le used mirrored small few sum so_far =
-    let rest : List File = files_from c.tables.files (f.0 + 1) in
+pub taken_more : (c : Catalogued) (group : Bytes) (dir : Path) (least n : ℕ) (head : FileHead) (u one next : Taken) → files_from c.tables.files least ≡ (n, head) ∷ files_from c.tables.files (n + 1) → least ≤ n
+    → one.used ≡ if_file_below c.tables group dir size_of (n, head) → one.mirrored ≡ if_file_below c.tables group dir (mirrored_of c) (n, head) → one.used ≤ 2 ^ 64 → one.mirrored ≤ 2 ^ 78
+    → next ≡ record { used = u.used + one.used; mirrored = u.mirrored + one.mirrored } → AreTaken c group dir least u → AreTaken c group dir (n + 1) next
+taken_more c group dir least n head u one next split le used mirrored small few sum so_far =
+    let rest : List File = files_from c.tables.files (n + 1) in
     let first : bytes_below c.tables group dir size_of (files_from c.tables.files least) ≡ one.used + bytes_below c.tables group dir size_of rest =
-    ap (λ (fs : List File). bytes_below c.tables group dir size_of fs) split ∙ (sum_by-cons (if_file_below c.tables group dir size_of) f rest ∙ ap (λ (n : ℕ). n + bytes_below c.tables group dir size_of rest) (sym used)) in
+    ap (λ (fs : List File). bytes_below c.tables group dir size_of fs) split ∙ (sum_by-cons (if_file_below c.tables group dir size_of) (n, head) rest ∙ ap (λ (m : ℕ). m + bytes_below c.tables group dir size_of rest) (sym used)) in
     let second : bytes_below c.tables group dir (mirrored_of c) (files_from c.tables.files least) ≡ one.mirrored + bytes_below c.tables group dir (mirrored_of c) rest =
-    ap (λ (fs : List File). bytes_below c.tables group dir (mirrored_of c) fs) split ∙ (sum_by-cons (if_file_below c.tables group dir (mirrored_of c)) f rest ∙ ap (λ (n : ℕ). n + bytes_below c.tables group dir (mirrored_of c) rest) (sym mirrored)) in
+    ap (λ (fs : List File). bytes_below c.tables group dir (mirrored_of c) fs) split ∙ (sum_by-cons (if_file_below c.tables group dir (mirrored_of c)) (n, head) rest ∙ ap (λ (m : ℕ). m + bytes_below c.tables group dir (mirrored_of c) rest) (sym mirrored)) in
     rw sum (record {
       used = more u.used one.used (bytes_below c.tables group dir size_of rest) _ (bytes_below c.tables group dir size_of c.tables.files) so_far.used first;
       mirrored = more u.mirrored one.mirrored (bytes_below c.tables group dir (mirrored_of c) rest) _ (bytes_below c.tables group dir (mirrored_of c) c.tables.files) so_far.mirrored second;
-      small = less_used u.used one.used least f.0 so_far.small small le;
-      few = less_mirrored u.mirrored one.mirrored least f.0 so_far.few few le;
+      small = less_used u.used one.used least n so_far.small small le;
+      few = less_mirrored u.mirrored one.mirrored least n so_far.few few le;
     })
 
 pub taken_end : (c : Catalogued) (group : Bytes) (dir : Path) (least : ℕ) (u : Taken) → files_from c.tables.files least ≡ [] → AreTaken c group dir least u → u ≡ usage_of c group dir c.tables.files
