@@ -215,7 +215,7 @@ module _ (name : Bytes) (s : Shape) (t : Tables) (cells : ℕ → List Cell) (di
     leads : number_by nodes 0 (folded_path (names n)) ≡ Some n
     leads = to_folded nodes table (names n) n (leads_there nodes n node (names n) table at refl)
 
-    way_names : way nodes n ≡ folded_path (names n)
+    pub way_names : way nodes n ≡ folded_path (names n)
     way_names = way_is nodes (folded_path (names n)) n table leads
 
     pub world_text : texts.path_text (edits.spelt g (way nodes n)) ≡ text_of n

@@ -12,3 +12,5 @@ pub mod InOrder
 pub mod Named
 pub mod Lists
 pub mod ListCauses
+pub mod SameSums
+pub mod Usage

@@ -3,3 +3,4 @@ pub mod Places
 pub mod Rows
 pub mod Finds
 pub mod Lists
+pub mod Usage

@@ -6,6 +6,7 @@ ghost use Rattle.report_laws.specs.Lists.{AllMatchStar, GroupsAreWorlds, ListsAr
 ghost use Rattle.report_laws.specs.Paths.{PathsLead};
 ghost use Rattle.report_laws.specs.Places.{DirectoriesAreWorlds, NoDirectoriesAreWorlds};
 ghost use Rattle.report_laws.specs.Rows.{AttributesAreWorlds, TemplatesAreWorlds};
+ghost use Rattle.report_laws.specs.Usage.{UsageIsWorlds};
 
 /// The path of `cd`, `find` or `ls` leads somewhere, from whatever place.
 pub fn paths_lead()
@@ -47,4 +48,9 @@ pub fn names_are_in_order()
     ensures matching { MatchesAreInOrder }
     ensures groups { GroupsAreWorlds }
     ensures star { AllMatchStar }
+{}
+
+/// What du tells by the tables is what the world's group tells, whose files have their cells.
+pub fn usage_is_the_worlds()
+    ensures { UsageIsWorlds }
 {}
