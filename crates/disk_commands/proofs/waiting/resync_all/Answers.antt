@@ -10,11 +10,11 @@ resync_one-requires g c = record { ready = c.loop-disk.invariant.carries.ready }
 
 pub loop-disk-preserved : goal.loop-disk-preserved
 loop-disk-preserved g c = record {
-  carries = carries_more c.args.session.now c.loop-disk.self c.resync_one.new.self _ _ _ c.loop-disk.invariant.carries c.resync_one.ensures.carries;
+  carries = carries_more c.args.session.now c.loop-disk.session c.resync_one.new.session _ _ _ c.loop-disk.invariant.carries c.resync_one.ensures.carries;
 }
 
 pub returns-in_err-resync_one : goal.returns-in_err-resync_one
-returns-in_err-resync_one g c = record { carries = carries_more c.args.session.now c.loop-disk.self c.resync_one.new.self _ _ _ c.loop-disk.invariant.carries c.resync_one.ensures.carries }
+returns-in_err-resync_one g c = record { carries = carries_more c.args.session.now c.loop-disk.session c.resync_one.new.session _ _ _ c.loop-disk.invariant.carries c.resync_one.ensures.carries }
 
 pub returns : goal.returns
 returns g c = record { carries = c.loop-disk.invariant.carries }

@@ -17,7 +17,7 @@ returns-in-Ok g c = record {
 
 pub returns-in-Err : goal.returns-in-Err
 returns-in-Err g c = record {
-  carries = carries_more c.args.session.now c.args.session.now c.give_up.new.self _ _ _ c.read_source.ensures.carries c.give_up.ensures.carries;
+  carries = carries_more c.args.session.now c.args.session.now c.give_up.new.session _ _ _ c.read_source.ensures.carries c.give_up.ensures.carries;
   files = c.read_source.ensures.files;
   end = tt;
 }
