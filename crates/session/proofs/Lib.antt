@@ -1,5 +1,5 @@
 pub mod AnsweredLines
-pub mod Attaching
+pub mod Attached
 pub mod Below
 pub mod Calls
 pub mod Carrying
@@ -18,6 +18,6 @@ pub mod Outcomes
 pub mod Outs
 pub mod Ready
 pub mod Slots
-pub mod Spelt
+pub mod Spellings
 pub mod Telling
 pub mod Turning

@@ -1,4 +1,4 @@
-use Rattle.session.proofs.Attaching.{takes_none}
+use Rattle.session.proofs.Attached.{takes_none}
 use Rattle.disk_commands.proofs.disk_works.online.Goals as goal
 
 pub returns-in-Err : goal.returns-in-Err

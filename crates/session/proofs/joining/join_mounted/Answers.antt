@@ -1,5 +1,5 @@
 use Rattle.session.specs.Joining.{others_of}
-use Rattle.session.proofs.Attaching.{apart_from, apart_so, takes_none}
+use Rattle.session.proofs.Attached.{apart_from, apart_so, takes_none}
 use Rattle.session.proofs.joining.join_mounted.Goals as goal
 
 pub run-joined-requires-clause-apart : goal.run-joined-requires-clause-apart

@@ -3,7 +3,7 @@ use Rattle.asm_base.specs.Refusals.{said}
 use Rattle.asm_group.specs.Names.{Bytes}
 use Rattle.asm_group.specs.Refusal as r
 use Rattle.session.specs.Entries.{disk_name}
-use Rattle.session.proofs.Spelt.{says_as_is}
+use Rattle.session.proofs.Spellings.{says_as_is}
 use Rattle.session.proofs.spelling.spelt_refusal.Goals as goal
 use Rattle.session.proofs.spelling.spelt_refusal.Goals.{in-NoDisk+in_ok-spelt_disk-in-NoDisk, in-TooSmall+in_ok-spelt_disk-in-TooSmall, in-MissingDisks+in_ok-spelt_disk-in-MissingDisks, in-ReadFault+in_ok-spelt_disk-in-ReadFault, in-WriteFault+in_ok-spelt_disk-in-WriteFault, in-Dismounted+in_ok-spelt_disk-in-Dismounted, in-DiskState+in_ok-spelt_disk-in-DiskState, in-HoldsStatus+in_ok-spelt_disk-in-HoldsStatus, in-HoldsDirectories+in_ok-spelt_disk-in-HoldsDirectories, in_default}
 

@@ -4,7 +4,7 @@ use Rattle.asm_base.specs.Refusals.{said}
 use Rattle.asm_base.specs.declared.refusal.Refusal.TheVariants.{NoGroup}
 use Rattle.session.specs.declared.entry.Entry.{Entry}
 use Rattle.session.specs.Entries.{entry_view}
-use Rattle.session.proofs.Attaching.{joins}
+use Rattle.session.proofs.Attached.{joins}
 use Rattle.session.proofs.Carrying.{carries_none}
 use Rattle.session.proofs.Entries.{sought}
 use Rattle.session.proofs.Grouped.{given_keys, group_found, keys_set}
