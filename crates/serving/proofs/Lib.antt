@@ -3,7 +3,7 @@ pub mod Ending
 pub mod Moves
 pub mod OnDisks
 pub mod Pieces
-pub mod Printing
+pub mod Printed
 pub mod Reading
 pub mod Serving
 pub mod Stories

@@ -1,5 +1,5 @@
 use Rattle.std.proofs.Common.{[], ◌∷◌}
-use Rattle.serving.proofs.Printing.{all-behind, cut-more}
+use Rattle.serving.proofs.Printed.{all-behind, cut-more}
 use Rattle.serving.proofs.manner.print_last.Goals as goal
 
 pub returns-in-Ok-clause-bytes : goal.returns-in-Ok-clause-bytes

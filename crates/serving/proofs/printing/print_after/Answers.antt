@@ -1,6 +1,6 @@
 use Rattle.std.proofs.Common.{refl, inr, []}
 use Rattle.asm_base.specs.Refusals.{said}
-use Rattle.serving.proofs.Printing.{bytes-as, refused-as}
+use Rattle.serving.proofs.Printed.{bytes-as, refused-as}
 use Rattle.serving.proofs.printing.print_after.Goals as goal
 
 pub returns-in-Err-clause-reply : goal.returns-in-Err-clause-reply

@@ -1,5 +1,5 @@
 use Rattle.std.proofs.lemmas.Result.{err_from_is_err_and}
-use Rattle.serving.proofs.Printing.{cut-more}
+use Rattle.serving.proofs.Printed.{cut-more}
 use Rattle.serving.proofs.printing.print_line.Goals as goal
 
 pub returns-in_err-write_all-clause-bytes : goal.returns-in_err-write_all-clause-bytes

@@ -1,7 +1,7 @@
 use Rattle.std.proofs.Common.{◌∙◌, ◌++◌, ◌∷◌, [], arith}
 use Rattle.std.proofs.lemmas.Result.{err_from_is_err_and}
 use Rattle.bay.proofs.Known.{Appends-more}
-use Rattle.serving.proofs.Printing.{next-line, cut-line, last-line}
+use Rattle.serving.proofs.Printed.{next-line, cut-line, last-line}
 use Rattle.serving.proofs.printing.print_lines.Goals as goal
 
 pub returns-in_err-print_line-clause-bytes : goal.returns-in_err-print_line-clause-bytes

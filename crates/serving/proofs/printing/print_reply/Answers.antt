@@ -1,4 +1,4 @@
-use Rattle.serving.proofs.Printing.{bytes-as, done-as}
+use Rattle.serving.proofs.Printed.{bytes-as, done-as}
 use Rattle.serving.proofs.printing.print_reply.Goals as goal
 
 pub returns-in-Done-clause-bytes : goal.returns-in-Done-clause-bytes
