@@ -30,6 +30,6 @@ returns g c =
     let to = rw (c.place.ensures, c.as_slice.ensures, c.in-Some.is) at c.in-Ok.ensures in
     let shown = rw c.as_slice-2.ensures at c.found-lines.ensures.found in
     let all = answered-lines c.args.text.now c.answer_lines.result c.args.desk.now c.found-lines.result c.requires.ready c.answer_lines.ensures.done c.answer_lines.ensures.refused c.answer_lines.ensures.found
-          (λ w below knows. found_served _ c.args.text.now c.args.path c.args.pattern says c.requires.asked c.args.desk.now.session _ c.requires.ready w below knows c.in-Some.below.group c.in-Some.below.parts (sym to)
-          c.found-lines.result shown c.found-lines.ensures.cause) in
+    (λ w below knows. found_served _ c.args.text.now c.args.path c.args.pattern says c.requires.asked c.args.desk.now.session _ c.requires.ready w below knows c.in-Some.below.group c.in-Some.below.parts (sym to)
+    c.found-lines.result shown c.found-lines.ensures.cause) in
     record { answers = record { paths = refl; host_stays = λ is. refl; ready = c.requires.ready; served = all.served } }
