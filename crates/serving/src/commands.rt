@@ -1,4 +1,4 @@
-// A text is read, and what it asks for is run by the module of its family.
+// A text is read, and what it asks for is run by the crate of its family.
 ghost use Rattle.std.specs.Prelude.{◌≡◌};
 ghost use Rattle.asm_world.specs.Command.{Said, Asked};
 ghost use Rattle.asm_world.specs.Language.{command_of};
