@@ -19,6 +19,7 @@ module _ {old new : SlotMap} {before after slot : ℕ} {step : Image → Image �
         (cases_eq s slot);
     other_faults = λ s apart. others.faults s apart;
     other_written = λ s apart. others.written s apart;
+    tells = λ told. told;
     held = λ image is. cc;
     ended = λ m image past. (λ left. left, λ left. left);
     moments = λ m image from to left. absurd left;

@@ -46,6 +46,7 @@ module _ (s t : BayState) (before : IsSound s) (after : IsSound t) (c : EditCall
     faults = keeps.runs.faults;
     other_faults = keeps.runs.other_faults;
     other_written = keeps.runs.other_written;
+    tells = keeps.runs.tells;
     held = λ image is.
         let x = keeps.runs.held image is in
         (x.0, x.1, (x.2, own_before x.0 (before.held x.0 x.1), own_over t.calls image keeps.runs.later (omega arith) (after.held image is)));
@@ -72,6 +73,7 @@ module _ (s t : BayState) (before : IsSound s) (after : IsSound t) (c : EditCall
     faults = runs.faults;
     other_faults = runs.other_faults;
     other_written = runs.other_written;
+    tells = runs.tells;
     held = λ image is. let x = runs.held image is in (x.0, x.1, λ id other. spares id other x.0 image x.2);
     ended = runs.ended;
     moments = λ m image from to left. let x = runs.moments m image from to left in (x.0, x.1, λ id other. spares id other x.0 image x.2);

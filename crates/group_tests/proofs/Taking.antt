@@ -40,6 +40,7 @@ quiet_runs s t quiet = record {
   faults = λ slot. omega (arith, quiet.faults slot);
   other_faults = λ slot out. quiet.faults slot;
   other_written = λ slot out. quiet.written slot;
+  tells = quiet.tells;
   held = quiet.held;
   ended = λ m image lt. quiet.moments m image;
   moments = λ m image le ge left.
