@@ -3,6 +3,7 @@ use Rattle.std.proofs.Common.{◌≡◌, inl, inr, ⊎_elim, ℕ, ◌+◌, ◌*�
 use Rattle.std.proofs.lemmas.Bool.{cases_Bool, cond-true, cond-false}
 use Rattle.std.proofs.lemmas.Option.{none-some}
 use Rattle.bay.specs.Image.{Image, Same, ChangesOnly, Range}
+use Rattle.bay.specs.State.{BayState}
 use Rattle.bay.proofs.Images.{changes-within}
 use Rattle.gate_slot.specs.declared.place.Place.{Place}
 use Rattle.gate_slot.specs.Slot.{GateOf, MayClose, WaitsFor, shown, body_in}
@@ -114,13 +115,13 @@ same_loses copy x y same whole = inl (same_content copy x y same)
 
 module _ (copy : DirCopy) (least : 128 ≤ copy.dir_blocks) (short : copy.sector ≤ 4096) (some : 0 < copy.sector) where
   -- the spare slot is being closed
-  pub loses_from_held : (held : Image) (log : LogSlot) (place : Place) → log ≡ spare_in copy held → place ≡ log_place copy log 65
-      → (x w y : Image) → Same x w → WaitsFor copy.slot held (MayClose place copy.slot) w y → Loses copy x y
-  loses_from_held held log place is here_ x w y same (inl still) whole = inl (same_content copy w y still ∙ same_content copy x w same)
-  loses_from_held held log place is here_ x w y same (inr from) whole =
+  pub loses_from_held : {state : BayState} (held : Image) → state.holds ≡ Some held → (log : LogSlot) (place : Place) → log ≡ spare_in copy held → place ≡ log_place copy log 65
+      → (x w y : Image) → Same x w → WaitsFor state copy.slot (MayClose place copy.slot) w y → Loses copy x y
+  loses_from_held held holds log place is here_ x w y same (inl still) whole = inl (same_content copy w y still ∙ same_content copy x w same)
+  loses_from_held held holds log place is here_ x w y same (inr from) whole =
       let close : MayClose (log_place copy log 65) copy.slot w y = subst (λ (p : Place). MayClose p copy.slot w y) here_ from.steps in
       let before = whole_same copy x w same whole in
-      inl (spare_keeps copy least short log w y before.sized close (is ∙ sym (spare_same copy w held from.disk)) before.home before.decodes ∙ same_content copy x w same)
+      inl (spare_keeps copy least short log w y before.sized close (is ∙ sym (spare_same copy w held (from.disk held holds))) before.home before.decodes ∙ same_content copy x w same)
 
   -- the other slot is being closed
   pub other_loses : (log : LogSlot) (place : Place) → place ≡ log_place copy (other_of log) 65

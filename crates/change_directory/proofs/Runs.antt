@@ -41,6 +41,7 @@ widened_from {slots} {step} {whole} {a} {b} P sound all within run = record {
   faults = run.faults;
   other_faults = run.other_faults;
   other_written = run.other_written;
+  tells = run.tells;
   held = λ image holds. let from = run.held image holds in (from.0, from.1, within from.0 image (all from.0 (sound.held from.0 from.1)) from.2);
   ended = run.ended;
   moments = λ m image low high left. let from = run.moments m image low high left in (from.0, from.1, within from.0 image (all from.0 from.1) from.2);
@@ -53,18 +54,16 @@ done_from {done} {less} {a} {b} P sound all within ends = record {
   now = λ image left. let from = ends.now image left in (from.0, from.1, within from.0 image (all from.0 from.1) from.2);
 }
 
--- a run that ended well goes on, by a step from what the disks hold
-pub goes_on_told : {slots : ℕ → Type 0} {first any whole : Image → Image → Type 0} {step : Image → Image → Image → Type 0} {a b c : BayState} → IsSound b
-    → Runs slots whole a b → Ends first a b → Runs slots any b c → ((held : Image) → b.holds ≡ Some held → Joins first (step held) whole × Runs slots (step held) b c) → Runs slots whole a c
-goes_on_told {slots} {first} {any} {whole} {step} {a} {b} {c} sound run ends next each = record {
+-- a run that ended well goes on, by a step that follows where the bay tells what its disks hold
+pub goes_on_told : {slots : ℕ → Type 0} {first step whole : Image → Image → Type 0} {a b c : BayState} → IsSound b
+    → Runs slots whole a b → Ends first a b → Runs slots step b c → ((held : Image) → b.holds ≡ Some held → Joins first step whole) → Runs slots whole a c
+goes_on_told {slots} {first} {step} {whole} {a} {b} {c} sound run ends next each = record {
   later = omega (arith, run.later, next.later);
   faults = λ s. omega (arith, run.faults s, next.faults s);
   other_faults = λ s other. next.other_faults s other ∙ run.other_faults s other;
   other_written = λ s other. next.other_written s other ∙ run.other_written s other;
-  held = λ image holds.
-      let from = next.held image holds in
-      let told = each from.0 from.1 in
-      (goes_on told.0 run ends told.1).held image holds;
+  tells = λ told. next.tells (run.tells told);
+  held = λ image holds. let from = next.held image holds in (goes_on (each from.0 from.1) run ends next).held image holds;
   ended = λ m image below.
       let far : m < b.calls = omega (arith, run.later) in
       let second = next.ended m image far in
@@ -75,23 +74,18 @@ goes_on_told {slots} {first} {any} {whole} {step} {a} {b} {c} sound run ends nex
       (λ (above : b.calls ≤ m).
       let from = next.moments m image above high left in
       let held = sound.told from.0 from.1 in
-      let told = each held.0 held.1 in
-      (goes_on told.0 run ends told.1).moments m image low high left)
+      (goes_on (each held.0 held.1) run ends next).moments m image low high left)
       (cases_lt m b.calls);
 }
 
-pub done_told : {first any whole : Image → Image → Type 0} {step : Image → Image → Image → Type 0} {a b c : BayState} → IsSound b
-    → Ends first a b → Ends any b c → ((held : Image) → b.holds ≡ Some held → Joins first (step held) whole × Ends (step held) b c) → Ends whole a c
-done_told {first} {any} {whole} {step} {a} {b} {c} sound ends next each = record {
-  held = λ image holds.
-      let from = next.held image holds in
-      let told = each from.0 from.1 in
-      (both_done told.0 ends told.1).held image holds;
+pub done_told : {first step whole : Image → Image → Type 0} {a b c : BayState} → IsSound b
+    → Ends first a b → Ends step b c → ((held : Image) → b.holds ≡ Some held → Joins first step whole) → Ends whole a c
+done_told {first} {step} {whole} {a} {b} {c} sound ends next each = record {
+  held = λ image holds. let from = next.held image holds in (both_done (each from.0 from.1) ends next).held image holds;
   now = λ image left.
       let from = next.now image left in
       let held = sound.told from.0 from.1 in
-      let told = each held.0 held.1 in
-      (both_done told.0 ends told.1).now image left;
+      (both_done (each held.0 held.1) ends next).now image left;
 }
 
 -- what two clauses under Ok say together

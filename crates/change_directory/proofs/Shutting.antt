@@ -1,6 +1,7 @@
 -- Both log slots are closed, the spare one first.
-use Rattle.std.proofs.Common.{◌≡◌, ◌⊎◌, inl, inr, ⊎_elim, ℕ, ◌*◌, ◌<◌, ◌≤◌, false, refl, sym, ap, subst, ◌∙◌, None, arith, ◌==◌}
+use Rattle.std.proofs.Common.{◌≡◌, ◌⊎◌, inl, inr, ⊎_elim, ℕ, ◌*◌, ◌<◌, ◌≤◌, false, refl, sym, ap, subst, ◌∙◌, Some, None, arith, ◌==◌}
 use Rattle.bay.specs.Image.{Image, Same, ChangesOnly, Range}
+use Rattle.bay.specs.State.{BayState}
 use Rattle.bay.proofs.Images.{changes-within, changes-same, changes-trans, same-trans}
 use Rattle.gate_slot.specs.declared.place.Place.{Place}
 use Rattle.gate_slot.specs.Slot.{GateOf, PlaceOf, MayClose, Closes, FromHeld, WaitsFor, shown}
@@ -47,26 +48,26 @@ module _ (copy : DirCopy) (short : copy.sector ≤ 4096) (some : 0 < copy.sector
   in_gates : (l : LogSlot) (x y : Image) → ChangesOnly (GateOf (place_of l) copy.slot) x y → ChangesOnly (LogGatesOf copy) x y
   in_gates l x y step = changes-within (LogGatesOf copy) (GateOf (place_of l) copy.slot) x y (λ s k inside. (l, inside)) step
 
-  module _ (held : Image) (log : LogSlot) (place : Place) (is : log ≡ spare_in copy held) (at : place ≡ place_of log) where
-    here : (x w : Image) → Same x w → ((k : ℕ) → w.byte copy.slot k ≡ held.byte copy.slot k) → log ≡ spare_in copy x
-    here x w same disk_ = is ∙ sym (spare_same copy x held (λ k. sym (same.byte copy.slot k) ∙ disk_ k))
+  here : (held : Image) (log : LogSlot) → log ≡ spare_in copy held → (x w : Image) → Same x w → ((k : ℕ) → w.byte copy.slot k ≡ held.byte copy.slot k) → log ≡ spare_in copy x
+  here held log is x w same disk_ = is ∙ sym (spare_same copy x held (λ k. sym (same.byte copy.slot k) ∙ disk_ k))
 
-    pub shuts_from_held : (x w y : Image) → Same x w → WaitsFor copy.slot held (MayClose place copy.slot) w y → MayShut copy x y
+  module _ {state : BayState} (held : Image) (holds : state.holds ≡ Some held) (log : LogSlot) (place : Place) (is : log ≡ spare_in copy held) (at : place ≡ place_of log) where
+    pub shuts_from_held : (x w y : Image) → Same x w → WaitsFor state copy.slot (MayClose place copy.slot) w y → MayShut copy x y
     shuts_from_held x w y same (inl still) = same_shut x y (same-trans x w y same still)
     shuts_from_held x w y same (inr from) =
         let close : MayClose (place_of log) copy.slot w y = subst (λ (p : Place). MayClose p copy.slot w y) at from.steps in
         let shown_same : shown (place_of log) copy.slot w ≡ shown (place_of log) copy.slot x =
         shown-elsewhere (place_of log) copy.slot some (λ s k. ⊥) x w (λ k mine none. none) (changes-same (λ s k. ⊥) x w same) in
-        spare_closing (subst (λ (l : LogSlot). MayClose (place_of l) copy.slot x y) (here x w same from.disk) (record {
+        spare_closing (subst (λ (l : LogSlot). MayClose (place_of l) copy.slot x y) (here held log is x w same (from.disk held holds)) (record {
           shows = ⊎_elim (λ before. inl (before ∙ shown_same)) inr close.shows;
           elsewhere = changes-trans (GateOf (place_of log) copy.slot) x w y (changes-same (GateOf (place_of log) copy.slot) x w same) close.elsewhere;
         }))
 
-    pub shut_from_held : (x w y : Image) → Same x w → FromHeld copy.slot held (Closes place copy.slot) w y → HasShutSpare copy log x y
+    pub shut_from_held : (x w y : Image) → Same x w → FromHeld state copy.slot (Closes place copy.slot) w y → HasShutSpare copy log x y
     shut_from_held x w y same from =
         let close : Closes (place_of log) copy.slot w y = subst (λ (p : Place). Closes p copy.slot w y) at from.steps in
         record {
-          is = here x w same from.disk;
+          is = here held log is x w same (from.disk held holds);
           shut = shown-shut (place_of log) copy.slot y close.shows;
           elsewhere = changes-trans (GateOf (place_of log) copy.slot) x w y (changes-same (GateOf (place_of log) copy.slot) x w same) close.elsewhere;
         }

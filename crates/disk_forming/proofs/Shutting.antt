@@ -6,6 +6,7 @@ use Rattle.bay.specs.Image.{Image, ChangesOnly}
 use Rattle.std.specs.Prelude.{zero, suc, Option, IsSome, unwrap_or}
 use Rattle.bay.specs.State.{BayState, KeepsAttached, size_of}
 use Rattle.bay.proofs.Images.{changes-within, changes-trans}
+use Rattle.bay.proofs.OneCall.{Follows}
 use Rattle.gate_slot.specs.declared.place.Place.{Place}
 use Rattle.gate_slot.specs.Slot.{IsUsable, GateOf, is_open_in, Closes, MayClose}
 use Rattle.gate_slot.proofs.Steps.{shown-shut}
@@ -58,10 +59,10 @@ module _ (slot sector : ℕ) (short : sector ≤ 4096) (gates : List ℕ) where
     in_gates : (x y : Image) → ChangesOnly (GateOf (slot_at gate 1 sector) slot) x y → ChangesOnly (GatesOf slot sector gates) x y
     in_gates x y step = changes-within (GatesOf slot sector gates) (GateOf (slot_at gate 1 sector) slot) x y (λ s k inside. (n, below, inside)) step
 
-    pub may_shut_more : (x y z : Image) → ShutsGates slot sector n gates x y → MayClose (slot_at gate 1 sector) slot y z → ChangesOnly (GatesOf slot sector gates) x z
+    may_shut_more : (x y z : Image) → ShutsGates slot sector n gates x y → MayClose (slot_at gate 1 sector) slot y z → ChangesOnly (GatesOf slot sector gates) x z
     may_shut_more x y z so_far step = changes-trans (GatesOf slot sector gates) x y z so_far.elsewhere (in_gates y z step.elsewhere)
 
-    pub shuts_more : (x y z : Image) → ShutsGates slot sector n gates x y → Closes (slot_at gate 1 sector) slot y z → ShutsGates slot sector (n + 1) gates x z
+    shuts_more : (x y z : Image) → ShutsGates slot sector n gates x y → Closes (slot_at gate 1 sector) slot y z → ShutsGates slot sector (n + 1) gates x z
     shuts_more x y z so_far step = record {
       are_shut = λ i under. ⊎_elim
           (λ (here : get_or gates i 0 ≡ gate). ap (λ (g : ℕ). is_open_in (slot_at g 1 sector) slot z) here ∙ shown-shut (slot_at gate 1 sector) slot z step.shows)
@@ -78,6 +79,11 @@ module _ (slot sector : ℕ) (short : sector ≤ 4096) (gates : List ℕ) where
             let high : other * 4096 < gate * 4096 + sector = inside.2 in
             apart (omega arith) in
             ap (λ (b : ℕ). b == 165) (step.elsewhere.byte slot (other * 4096) outside) ∙ shut
+
+    -- one gate after those before it
+    pub one_more : Follows (ChangesOnly (GatesOf slot sector gates)) (ShutsGates slot sector n gates) (MayClose (slot_at gate 1 sector) slot) (Closes (slot_at gate 1 sector) slot)
+        (ChangesOnly (GatesOf slot sector gates)) (ShutsGates slot sector (n + 1) gates)
+    one_more = record { starts = λ x y step. step; goes = may_shut_more; ends = shuts_more }
 
 -- the gates behind the header's lie in the region
 pub other_gates_inside : (dir_blocks n : ℕ) → 128 ≤ dir_blocks → n < 6 → get_or (other_gates dir_blocks) n 0 + 2 ≤ region_end dir_blocks
@@ -131,7 +137,7 @@ module _ (slot sector dir_blocks : ℕ) (short : sector ≤ 4096) where
   others_in : (x y : Image) → ChangesOnly (GatesOf slot sector (other_gates dir_blocks)) x y → ChangesOnly (GatesOf slot sector (all_gates dir_blocks)) x y
   others_in x y step = changes-within (GatesOf slot sector (all_gates dir_blocks)) (GatesOf slot sector (other_gates dir_blocks)) x y (λ s k inside. (suc inside.0, omega (arith, inside.1), inside.2)) step
 
-  pub may_close_header : (x y : Image) → MayClose header slot x y → MayCloseAll slot sector dir_blocks x y
+  may_close_header : (x y : Image) → MayClose header slot x y → MayCloseAll slot sector dir_blocks x y
   may_close_header x y step = record { order = inl step; elsewhere = header_in x y step.elsewhere }
 
   -- the header's gate stays shut while the others change
@@ -139,13 +145,13 @@ module _ (slot sector dir_blocks : ℕ) (short : sector ≤ 4096) where
   stays_shut some x y z closed step =
       ap (λ (b : ℕ). b == 165) (step.byte slot 0 (λ inside. header_apart 0 inside some)) ∙ shown-shut header slot y closed.shows
 
-  pub may_close_others : 0 < sector → (x y z : Image) → Closes header slot x y → ChangesOnly (GatesOf slot sector (other_gates dir_blocks)) y z → MayCloseAll slot sector dir_blocks x z
+  may_close_others : 0 < sector → (x y z : Image) → Closes header slot x y → ChangesOnly (GatesOf slot sector (other_gates dir_blocks)) y z → MayCloseAll slot sector dir_blocks x z
   may_close_others some x y z closed step = record {
     order = inr (stays_shut some x y z closed step);
     elsewhere = changes-trans (GatesOf slot sector (all_gates dir_blocks)) x y z (header_in x y closed.elsewhere) (others_in y z step);
   }
 
-  pub closes_all : 0 < sector → (x y z : Image) → Closes header slot x y → ShutsGates slot sector 6 (other_gates dir_blocks) y z → ShutsGates slot sector 7 (all_gates dir_blocks) x z
+  closes_all : 0 < sector → (x y z : Image) → Closes header slot x y → ShutsGates slot sector 6 (other_gates dir_blocks) y z → ShutsGates slot sector 7 (all_gates dir_blocks) x z
   closes_all some x y z closed step = record {
     are_shut = shut;
     elsewhere = changes-trans (GatesOf slot sector (all_gates dir_blocks)) x y z (header_in x y closed.elsewhere) (others_in y z step.elsewhere);
@@ -154,3 +160,8 @@ module _ (slot sector dir_blocks : ℕ) (short : sector ≤ 4096) where
       shut : (i : ℕ) → i < 7 → is_open_in (slot_at (get_or (all_gates dir_blocks) i 0) 1 sector) slot z ≡ false
       shut zero below = stays_shut some x y z closed step.elsewhere
       shut (suc i) below = step.are_shut i (omega arith)
+
+  -- the header's gate, and then the others
+  pub header_then_others : 0 < sector → Follows (MayClose header slot) (Closes header slot) (ChangesOnly (GatesOf slot sector (other_gates dir_blocks))) (ShutsGates slot sector 6 (other_gates dir_blocks))
+      (MayCloseAll slot sector dir_blocks) (ShutsGates slot sector 7 (all_gates dir_blocks))
+  header_then_others some = record { starts = may_close_header; goes = may_close_others some; ends = closes_all some }

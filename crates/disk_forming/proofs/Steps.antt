@@ -3,12 +3,13 @@ use Rattle.std.proofs.Common.{◌≡◌, ◌⊎◌, inl, inr, ⊎_elim, ℕ, zer
 use Rattle.std.specs.Prelude.{◌==◌}
 use Rattle.bay.specs.Image.{Image, ChangesOnly}
 use Rattle.bay.proofs.Images.{changes-within, changes-trans}
+use Rattle.bay.proofs.OneCall.{Follows}
 use Rattle.gate_slot.specs.Slot.{PlaceOf, shown, is_open_in, MayPut, HasPut}
 use Rattle.gate_slot.proofs.Steps.{shown-elsewhere, shown-closed}
 use Rattle.disk_forming.proofs.Shutting.{other_gates_inside}
 use Rattle.disk_forming.specs.Places.{slot_at, all_gates}
 use Rattle.asm_formats.specs.Regions.{region_end}
-use Rattle.disk_forming.specs.Gates.{GatesOf, ClosesAll}
+use Rattle.disk_forming.specs.Gates.{GatesOf, MayCloseAll, ClosesAll}
 use Rattle.disk_forming.specs.Forming.{Shows, LogsAreShut, MetaOf, MayGiveHeader, HasHeader, RecordsOf, headed, claimed, recorded, MayGiveRecord, HasRecord}
 
 module _ (slot sector : ℕ) (some : 0 < sector) (short : sector ≤ 4096) where
@@ -66,7 +67,7 @@ module _ (slot sector : ℕ) (some : 0 < sector) (short : sector ≤ 4096) where
       second_log = shut_stays 0 (76 + dir_blocks) (omega arith) y z step (closed.are_shut 6 (omega arith));
     }
 
-    pub may_put_header : (x y z : Image) → ClosesAll slot sector dir_blocks x y → MayPut (slot_at 0 1 sector) slot header y z → MayGiveHeader slot sector dir_blocks header x z
+    may_put_header : (x y z : Image) → ClosesAll slot sector dir_blocks x y → MayPut (slot_at 0 1 sector) slot header y z → MayGiveHeader slot sector dir_blocks header x z
     may_put_header x y z closed step = inr (record {
       shows = ⊎_elim (λ same. inl (header_put None x y z closed (same ∙ shown-closed (slot_at 0 1 sector) slot y (closed.are_shut 0 (omega arith))) step.elsewhere))
           (⊎_elim (λ none. inl (header_put None x y z closed none step.elsewhere)) (λ there. inr (header_put (Some header) x y z closed there step.elsewhere))) step.shows;
@@ -80,6 +81,11 @@ module _ (slot sector : ℕ) (some : 0 < sector) (short : sector ≤ 4096) where
       logs = logs_stay x y z closed step.elsewhere;
       elsewhere = header_change x y z closed step.elsewhere;
     }
+
+    -- the gates, and then the header
+    pub gates_then_header : Follows (MayCloseAll slot sector dir_blocks) (ClosesAll slot sector dir_blocks) (MayPut (slot_at 0 1 sector) slot header) (HasPut (slot_at 0 1 sector) slot header)
+        (MayGiveHeader slot sector dir_blocks header) (HasHeader slot sector dir_blocks header)
+    gates_then_header = record { starts = λ x y step. inl step; goes = may_put_header; ends = has_put_header }
 
   -- ---- the claim, and last the status record
 
@@ -108,7 +114,7 @@ module _ (slot sector : ℕ) (some : 0 < sector) (short : sector ≤ 4096) where
       second_status = other_stays 6 8 (inr (omega arith)) y z step ∙ before.second_status;
     }
 
-    pub may_put_claim : (y z : Image) → MayPut (slot_at 2 1 sector) slot claim y z → MayGiveRecord slot sector claim status y z
+    may_put_claim : (y z : Image) → MayPut (slot_at 2 1 sector) slot claim y z → MayGiveRecord slot sector claim status y z
     may_put_claim y z step = record {
       becomes = λ header before. ⊎_elim (λ same. headed (claim_put header None y z before (same ∙ before.claim_slot) step.elsewhere))
           (⊎_elim (λ none. headed (claim_put header None y z before none step.elsewhere)) (λ there. claimed (claim_put header (Some claim) y z before there step.elsewhere))) step.shows;
@@ -118,7 +124,7 @@ module _ (slot sector : ℕ) (some : 0 < sector) (short : sector ≤ 4096) where
     record_in : (x y z : Image) → ChangesOnly (PlaceOf (slot_at 2 1 sector) slot) x y → ChangesOnly (PlaceOf (slot_at 6 1 sector) slot) y z → ChangesOnly (RecordsOf slot) x z
     record_in x y z first next = changes-trans (RecordsOf slot) x y z (in_records 2 (omega arith) (omega arith) x y first) (in_records 6 (omega arith) (omega arith) y z next)
 
-    pub may_put_status : (x y z : Image) → HasPut (slot_at 2 1 sector) slot claim x y → MayPut (slot_at 6 1 sector) slot status y z → MayGiveRecord slot sector claim status x z
+    may_put_status : (x y z : Image) → HasPut (slot_at 2 1 sector) slot claim x y → MayPut (slot_at 6 1 sector) slot status y z → MayGiveRecord slot sector claim status x z
     may_put_status x y z first step = record {
       becomes = λ header before. let claiming = claim_put header (Some claim) x y before first.shows first.elsewhere in
           ⊎_elim (λ same. claimed (status_put header None y z claiming (same ∙ claiming.status_slot) step.elsewhere))
@@ -126,8 +132,13 @@ module _ (slot sector : ℕ) (some : 0 < sector) (short : sector ≤ 4096) where
       elsewhere = record_in x y z first.elsewhere step.elsewhere;
     }
 
-    pub has_put_status : (x y z : Image) → HasPut (slot_at 2 1 sector) slot claim x y → HasPut (slot_at 6 1 sector) slot status y z → HasRecord slot sector claim status x z
+    has_put_status : (x y z : Image) → HasPut (slot_at 2 1 sector) slot claim x y → HasPut (slot_at 6 1 sector) slot status y z → HasRecord slot sector claim status x z
     has_put_status x y z first step = record {
       becomes = λ header before. status_put header (Some status) y z (claim_put header (Some claim) x y before first.shows first.elsewhere) step.shows step.elsewhere;
       elsewhere = record_in x y z first.elsewhere step.elsewhere;
     }
+
+    -- the claim, and then the record
+    pub claim_then_status : Follows (MayPut (slot_at 2 1 sector) slot claim) (HasPut (slot_at 2 1 sector) slot claim) (MayPut (slot_at 6 1 sector) slot status) (HasPut (slot_at 6 1 sector) slot status)
+        (MayGiveRecord slot sector claim status) (HasRecord slot sector claim status)
+    claim_then_status = record { starts = may_put_claim; goes = may_put_status; ends = has_put_status }

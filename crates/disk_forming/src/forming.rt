@@ -1,8 +1,6 @@
 // A disk becomes a member of a new group. Between its header and its record it is given the directory copy.
-ghost use Rattle.std.specs.Prelude.{◌≡◌, ◌≤◌, ◌+◌, ◌*◌, OnOk, OnErr, length};
-ghost use Rattle.bay.specs.State.{KeepsAttached, IsSlot};
-ghost use Rattle.bay.specs.Counts.{Rose};
-ghost use Rattle.bay.specs.Moments.{Runs, Ends};
+ghost use Rattle.std.specs.Prelude.{◌≡◌, ◌+◌, ◌*◌, length};
+ghost use Rattle.bay.specs.Calls.{Call, Done, cost};
 ghost use Rattle.disk_forming.specs.Gates.{HasRegion};
 ghost use Rattle.asm_formats.specs.Bytes.{block_size};
 ghost use Rattle.disk_forming.specs.Forming.{MayGiveHeader, HasHeader, MayGiveRecord, HasRecord};
@@ -22,11 +20,9 @@ pub fn give_header<B: Bay>(
 ) -> Result<(), Fault>
     requires region { HasRegion (B.state bay.old) slot 512 dir_blocks }
     requires header { length header.now ≡ block_size }
-    ensures attached { KeepsAttached (B.state bay.old) (B.state bay.new) }
-    ensures calls { (B.state bay.new).calls ≤ (B.state bay.old).calls + 36 }
-    ensures runs { Runs (IsSlot slot) (MayGiveHeader slot 512 dir_blocks header.now) (B.state bay.old) (B.state bay.new) }
-    ensures done { OnOk result (Ends (HasHeader slot 512 dir_blocks header.now) (B.state bay.old) (B.state bay.new)) }
-    ensures cause { OnErr result (Rose ((B.state bay.old).faults slot) ((B.state bay.new).faults slot)) }
+    ensures { Call result slot (MayGiveHeader slot 512 dir_blocks header.now)
+        (Done (HasHeader slot 512 dir_blocks header.now)) (cost 36 (9 * 512 + block_size))
+        (B.state bay.old) (B.state bay.new) }
 {
     close_all_gates(bay, slot, 512, dir_blocks)?;
     put(bay, slot, header_slot(512), header)
@@ -43,11 +39,9 @@ pub fn give_record<B: Bay>(
     requires region { HasRegion (B.state bay.old) slot 512 dir_blocks }
     requires claim { length claim.now ≡ block_size }
     requires status { length status.now ≡ block_size }
-    ensures attached { KeepsAttached (B.state bay.old) (B.state bay.new) }
-    ensures calls { (B.state bay.new).calls ≤ (B.state bay.old).calls + 16 }
-    ensures runs { Runs (IsSlot slot) (MayGiveRecord slot 512 claim.now status.now) (B.state bay.old) (B.state bay.new) }
-    ensures done { OnOk result (Ends (HasRecord slot 512 claim.now status.now) (B.state bay.old) (B.state bay.new)) }
-    ensures cause { OnErr result (Rose ((B.state bay.old).faults slot) ((B.state bay.new).faults slot)) }
+    ensures { Call result slot (MayGiveRecord slot 512 claim.now status.now)
+        (Done (HasRecord slot 512 claim.now status.now)) (cost 16 (4 * 512 + 2 * block_size))
+        (B.state bay.old) (B.state bay.new) }
 {
     put(bay, slot, block_slot(2, 1, 512), claim)?;
     put(bay, slot, block_slot(6, 1, 512), status)

@@ -1,8 +1,6 @@
 // Closing the gates of a disk.
-ghost use Rattle.std.specs.Prelude.{◌≡◌, ◌≤◌, ◌+◌, ◌*◌, ◌∷◌, [], OnOk, OnErr};
-ghost use Rattle.bay.specs.State.{KeepsAttached, IsSlot};
-ghost use Rattle.bay.specs.Counts.{Rose};
-ghost use Rattle.bay.specs.Moments.{Runs, Ends};
+ghost use Rattle.std.specs.Prelude.{◌+◌, ◌*◌, ◌∷◌, []};
+ghost use Rattle.bay.specs.Calls.{Call, Done, cost};
 ghost use Rattle.bay.specs.Image.{ChangesOnly};
 ghost use Rattle.disk_forming.specs.Places.{other_gates};
 ghost use Rattle.disk_forming.specs.Gates.{HasRegion, GatesOf, ShutsGates, MayCloseAll, ClosesAll};
@@ -19,12 +17,9 @@ pub fn close_all_gates<B: Bay>(
     dir_blocks: u16,
 ) -> Result<(), Fault>
     requires { HasRegion (B.state bay.old) slot sector dir_blocks }
-    ensures attached { KeepsAttached (B.state bay.old) (B.state bay.new) }
-    ensures calls { (B.state bay.new).calls ≤ (B.state bay.old).calls + 28 }
-    ensures written { (B.state bay.new).written slot ≤ (B.state bay.old).written slot + 7 * sector }
-    ensures runs { Runs (IsSlot slot) (MayCloseAll slot sector dir_blocks) (B.state bay.old) (B.state bay.new) }
-    ensures done { OnOk result (Ends (ClosesAll slot sector dir_blocks) (B.state bay.old) (B.state bay.new)) }
-    ensures cause { OnErr result (Rose ((B.state bay.old).faults slot) ((B.state bay.new).faults slot)) }
+    ensures { Call result slot (MayCloseAll slot sector dir_blocks)
+        (Done (ClosesAll slot sector dir_blocks)) (cost 28 (7 * sector))
+        (B.state bay.old) (B.state bay.new) }
 {
     close_gate(bay, slot, header_slot(sector))?;
     close_other_gates(bay, slot, sector, dir_blocks)
@@ -38,12 +33,9 @@ fn close_other_gates<B: Bay>(
     dir_blocks: u16,
 ) -> Result<(), Fault>
     requires { HasRegion (B.state bay.old) slot sector dir_blocks }
-    ensures attached { KeepsAttached (B.state bay.old) (B.state bay.new) }
-    ensures calls { (B.state bay.new).calls ≤ (B.state bay.old).calls + 24 }
-    ensures written { (B.state bay.new).written slot ≤ (B.state bay.old).written slot + 6 * sector }
-    ensures runs { Runs (IsSlot slot) (ChangesOnly (GatesOf slot sector (other_gates dir_blocks))) (B.state bay.old) (B.state bay.new) }
-    ensures done { OnOk result (Ends (ShutsGates slot sector 6 (other_gates dir_blocks)) (B.state bay.old) (B.state bay.new)) }
-    ensures cause { OnErr result (Rose ((B.state bay.old).faults slot) ((B.state bay.new).faults slot)) }
+    ensures { Call result slot (ChangesOnly (GatesOf slot sector (other_gates dir_blocks)))
+        (Done (ShutsGates slot sector 6 (other_gates dir_blocks))) (cost 24 (6 * sector))
+        (B.state bay.old) (B.state bay.new) }
 {
     let dir_blocks = dir_blocks as u32;
     let gates: [u32; 6] = [2, 4, 6, 8, 10 + dir_blocks, 76 + dir_blocks];

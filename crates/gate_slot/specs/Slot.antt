@@ -88,11 +88,11 @@ pub record MayFillShut (place : Place) (slot : ℕ) (body : List ℕ) (old new :
   pub shows : shown place slot old ≡ None → (shown place slot new ≡ None) ⊎ (shown place slot new ≡ Some body)
   pub elsewhere : ChangesOnly (PlaceOf place slot) old new
 
--- the step comes from an image that has on the slot's disk what the held one has
-pub record FromHeld (slot : ℕ) (held : Image) (step : Image → Image → Type 0) (old new : Image) : Type 0 where
-  pub disk : (k : ℕ) → old.byte slot k ≡ held.byte slot k
+-- the step comes from an image that has on the slot's disk what the disks held at a state, where the bay tells it
+pub record FromHeld (state : BayState) (slot : ℕ) (step : Image → Image → Type 0) (old new : Image) : Type 0 where
+  pub disk : (held : Image) → state.holds ≡ Some held → (k : ℕ) → old.byte slot k ≡ held.byte slot k
   pub steps : step old new
 
--- Nothing changes until the slot's disk is settled: the disks are the same, or the step comes from what is held.
-abbrev pub WaitsFor : ℕ → Image → (Image → Image → Type 0) → Image → Image → Type 0
-WaitsFor slot held step old new = Same old new ⊎ FromHeld slot held step old new
+-- Nothing changes until the slot's disk is settled: the disks are the same, or the step comes from what was held.
+abbrev pub WaitsFor : BayState → ℕ → (Image → Image → Type 0) → Image → Image → Type 0
+WaitsFor state slot step old new = Same old new ⊎ FromHeld state slot step old new

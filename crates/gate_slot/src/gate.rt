@@ -1,9 +1,9 @@
 // Gates and the bodies behind them: read, closed, filled, opened.
-ghost use Rattle.std.specs.Prelude.{◌≡◌, ◌+◌, ◌*◌, ◌%◌, None, false, ◌≤◌, ◌<◌, length, IfOk, OnOk, OnErr, IsSome, slice_index};
+ghost use Rattle.std.specs.Prelude.{◌≡◌, ◌+◌, ◌*◌, ◌%◌, None, false, ◌≤◌, ◌<◌, length, IsSome, slice_index};
 ghost use Rattle.std.specs.Option.{ForSome};
-ghost use Rattle.bay.specs.Image.{window, Same, ChangesOnly, Range, Puts};
-ghost use Rattle.bay.specs.State.{IsSlot, KeepsAttached, IsOnSectors, size_of};
-ghost use Rattle.bay.specs.Counts.{Rose};
+ghost use Rattle.bay.specs.Image.{Same, ChangesOnly, Range, Puts};
+ghost use Rattle.bay.specs.State.{IsSlot, IsOnSectors, size_of};
+ghost use Rattle.bay.specs.Calls.{Call, Done, Tells, cost};
 ghost use Rattle.bay.specs.Moments.{Runs, Ends};
 ghost use Rattle.gate_slot.specs.Slot.{IsUsable, IsGateSettled, is_open_in, GateOf, SetsGate, FoundGate, MayClose, Closes, MayOpen, Opens, MayFillShut, MayPut, HasPut, shown, FromHeld, WaitsFor};
 
@@ -25,12 +25,9 @@ fn first_byte<B: Bay>(bay: &mut B, slot: u32, at: u64, buf: &mut [u8]) -> Result
     requires inside { at + length buf.old ≤ size_of (B.state bay.old) slot }
     requires sectors { IsOnSectors at (length buf.old) }
     requires some { 0 < length buf.old }
-    ensures byte { IfOk result (λ first. ForSome (B.state bay.old).holds (λ image. first ≡ image.byte slot at)) }
-    ensures attached { KeepsAttached (B.state bay.old) (B.state bay.new) }
-    ensures calls { (B.state bay.new).calls ≤ (B.state bay.old).calls + 1 }
+    ensures call { Call result slot Same (λ first. Tells (λ image. first ≡ image.byte slot at))
+        (cost 1 0) (B.state bay.old) (B.state bay.new) }
     ensures written { (B.state bay.new).written slot ≡ (B.state bay.old).written slot }
-    ensures runs { Runs (IsSlot slot) Same (B.state bay.old) (B.state bay.new) }
-    ensures cause { OnErr result (Rose ((B.state bay.old).faults slot) ((B.state bay.new).faults slot)) }
 {
     bay.read(slot, at, buf)?;
     Ok(buf[0])
@@ -41,12 +38,9 @@ fn write_synced<B: Bay>(bay: &mut B, slot: u32, at: u64, bytes: &[u8]) -> Result
     requires attached { IsSome ((B.state bay.old).attached slot) }
     requires inside { at + length bytes.now ≤ size_of (B.state bay.old) slot }
     requires sectors { IsOnSectors at (length bytes.now) }
-    ensures attached { KeepsAttached (B.state bay.old) (B.state bay.new) }
-    ensures calls { (B.state bay.new).calls ≤ (B.state bay.old).calls + 2 }
-    ensures written { (B.state bay.new).written slot ≤ (B.state bay.old).written slot + length bytes.now }
-    ensures runs { Runs (IsSlot slot) (ChangesOnly (Range slot at (length bytes.now))) (B.state bay.old) (B.state bay.new) }
-    ensures done { OnOk result (Ends (Puts slot at bytes.now) (B.state bay.old) (B.state bay.new)) }
-    ensures cause { OnErr result (Rose ((B.state bay.old).faults slot) ((B.state bay.new).faults slot)) }
+    ensures { Call result slot (ChangesOnly (Range slot at (length bytes.now)))
+        (Done (Puts slot at bytes.now)) (cost 2 (length bytes.now))
+        (B.state bay.old) (B.state bay.new) }
 {
     bay.write(slot, at, bytes)?;
     bay.sync(slot)
@@ -64,12 +58,8 @@ fn gate_sector(first: u8) -> [u8; SECTOR_MAX]
 // Writes the gate's sector.
 fn write_gate<B: Bay>(bay: &mut B, slot: u32, place: Place, first: u8) -> Result<(), Fault>
     requires { IsUsable (B.state bay.old) slot place }
-    ensures attached { KeepsAttached (B.state bay.old) (B.state bay.new) }
-    ensures calls { (B.state bay.new).calls ≤ (B.state bay.old).calls + 2 }
-    ensures written { (B.state bay.new).written slot ≤ (B.state bay.old).written slot + place.sector }
-    ensures runs { Runs (IsSlot slot) (ChangesOnly (GateOf place slot)) (B.state bay.old) (B.state bay.new) }
-    ensures done { OnOk result (Ends (SetsGate place slot first) (B.state bay.old) (B.state bay.new)) }
-    ensures cause { OnErr result (Rose ((B.state bay.old).faults slot) ((B.state bay.new).faults slot)) }
+    ensures { Call result slot (ChangesOnly (GateOf place slot)) (Done (SetsGate place slot first))
+        (cost 2 place.sector) (B.state bay.old) (B.state bay.new) }
 {
     let sector = gate_sector(first);
     write_synced(bay, slot, place.gate, &sector[..place.sector as usize])
@@ -78,12 +68,9 @@ fn write_gate<B: Bay>(bay: &mut B, slot: u32, place: Place, first: u8) -> Result
 /// Whether the gate is open.
 pub fn is_open<B: Bay>(bay: &mut B, slot: u32, place: Place) -> Result<bool, Fault>
     requires { IsUsable (B.state bay.old) slot place }
-    ensures open { IfOk result (λ answer. ForSome (B.state bay.old).holds (λ image. answer ≡ is_open_in place slot image)) }
-    ensures attached { KeepsAttached (B.state bay.old) (B.state bay.new) }
-    ensures calls { (B.state bay.new).calls ≤ (B.state bay.old).calls + 1 }
+    ensures call { Call result slot Same (λ found. Tells (λ image. found ≡ is_open_in place slot image))
+        (cost 1 0) (B.state bay.old) (B.state bay.new) }
     ensures written { (B.state bay.new).written slot ≡ (B.state bay.old).written slot }
-    ensures runs { Runs (IsSlot slot) Same (B.state bay.old) (B.state bay.new) }
-    ensures cause { OnErr result (Rose ((B.state bay.old).faults slot) ((B.state bay.new).faults slot)) }
 {
     let mut sector = [0; SECTOR_MAX];
     let first = first_byte(bay, slot, place.gate, &mut sector[..place.sector as usize])?;
@@ -93,13 +80,9 @@ pub fn is_open<B: Bay>(bay: &mut B, slot: u32, place: Place) -> Result<bool, Fau
 // Whether the gate is open, in each image that a stop may leave.
 fn is_open_synced<B: Bay>(bay: &mut B, slot: u32, place: Place) -> Result<bool, Fault>
     requires { IsUsable (B.state bay.old) slot place }
-    ensures attached { KeepsAttached (B.state bay.old) (B.state bay.new) }
-    ensures calls { (B.state bay.new).calls ≤ (B.state bay.old).calls + 2 }
-    ensures written { (B.state bay.new).written slot ≡ (B.state bay.old).written slot }
-    ensures runs { Runs (IsSlot slot) Same (B.state bay.old) (B.state bay.new) }
-    ensures done { IfOk result (λ answer. Ends (FoundGate place slot answer) (B.state bay.old) (B.state bay.new)) }
-    ensures settled { IfOk result (λ answer. ForSome (B.state bay.old).holds (λ held. Ends (FromHeld slot held (FoundGate place slot answer)) (B.state bay.old) (B.state bay.new))) }
-    ensures cause { OnErr result (Rose ((B.state bay.old).faults slot) ((B.state bay.new).faults slot)) }
+    ensures { Call result slot Same
+        (λ found. Ends (FromHeld (B.state bay.old) slot (FoundGate place slot found)))
+        (cost 2 0) (B.state bay.old) (B.state bay.new) }
 {
     bay.sync(slot)?;
     is_open(bay, slot, place)
@@ -108,16 +91,12 @@ fn is_open_synced<B: Bay>(bay: &mut B, slot: u32, place: Place) -> Result<bool, 
 /// Closes the gate. One that is closed isn't written, since a write that a stop cuts short may open it.
 pub fn close_gate<B: Bay>(bay: &mut B, slot: u32, place: Place) -> Result<(), Fault>
     requires { IsUsable (B.state bay.old) slot place }
-    ensures attached { KeepsAttached (B.state bay.old) (B.state bay.new) }
-    ensures calls { (B.state bay.new).calls ≤ (B.state bay.old).calls + 4 }
-    ensures written { (B.state bay.new).written slot ≤ (B.state bay.old).written slot + place.sector }
-    ensures runs { Runs (IsSlot slot) (MayClose place slot) (B.state bay.old) (B.state bay.new) }
-    ensures shut { ForSome (B.state bay.old).holds (λ image. is_open_in place slot image ≡ false) → Runs (IsSlot slot) Same (B.state bay.old) (B.state bay.new) }
-    ensures done { OnOk result (Ends (Closes place slot) (B.state bay.old) (B.state bay.new)) }
     // The gate is written only once each image has on this disk what it holds.
-    ensures waits { ForSome (B.state bay.old).holds (λ held. Runs (IsSlot slot) (WaitsFor slot held (MayClose place slot)) (B.state bay.old) (B.state bay.new)) }
-    ensures settled { OnOk result (ForSome (B.state bay.old).holds (λ held. Ends (FromHeld slot held (Closes place slot)) (B.state bay.old) (B.state bay.new))) }
-    ensures cause { OnErr result (Rose ((B.state bay.old).faults slot) ((B.state bay.new).faults slot)) }
+    ensures call { Call result slot (WaitsFor (B.state bay.old) slot (MayClose place slot))
+        (Done (FromHeld (B.state bay.old) slot (Closes place slot))) (cost 4 place.sector)
+        (B.state bay.old) (B.state bay.new) }
+    ensures shut { ForSome (B.state bay.old).holds (λ image. is_open_in place slot image ≡ false)
+        → Runs (IsSlot slot) Same (B.state bay.old) (B.state bay.new) }
 {
     if !is_open_synced(bay, slot, place)? {
         return Ok(());
@@ -129,12 +108,8 @@ pub fn close_gate<B: Bay>(bay: &mut B, slot: u32, place: Place) -> Result<(), Fa
 fn close_settled<B: Bay>(bay: &mut B, slot: u32, place: Place) -> Result<(), Fault>
     requires usable { IsUsable (B.state bay.old) slot place }
     requires settled { IsGateSettled place slot (B.state bay.old) }
-    ensures attached { KeepsAttached (B.state bay.old) (B.state bay.new) }
-    ensures calls { (B.state bay.new).calls ≤ (B.state bay.old).calls + 3 }
-    ensures written { (B.state bay.new).written slot ≤ (B.state bay.old).written slot + place.sector }
-    ensures runs { Runs (IsSlot slot) (MayClose place slot) (B.state bay.old) (B.state bay.new) }
-    ensures done { OnOk result (Ends (Closes place slot) (B.state bay.old) (B.state bay.new)) }
-    ensures cause { OnErr result (Rose ((B.state bay.old).faults slot) ((B.state bay.new).faults slot)) }
+    ensures { Call result slot (MayClose place slot) (Done (Closes place slot))
+        (cost 3 place.sector) (B.state bay.old) (B.state bay.new) }
 {
     if is_open(bay, slot, place)? {
         write_gate(bay, slot, place, CLOSED)
@@ -155,12 +130,9 @@ pub fn fill_body<B: Bay>(
     requires closed { ForSome (B.state bay.old).holds (λ image. shown place slot image ≡ None) }
     requires inside { from + length bytes.now ≤ place.len }
     requires sectors { (from % place.sector ≡ 0) × (length bytes.now % place.sector ≡ 0) }
-    ensures attached { KeepsAttached (B.state bay.old) (B.state bay.new) }
-    ensures calls { (B.state bay.new).calls ≤ (B.state bay.old).calls + 2 }
-    ensures written { (B.state bay.new).written slot ≤ (B.state bay.old).written slot + length bytes.now }
-    ensures runs { Runs (IsSlot slot) (ChangesOnly (Range slot (place.body + from) (length bytes.now))) (B.state bay.old) (B.state bay.new) }
-    ensures done { OnOk result (Ends (Puts slot (place.body + from) bytes.now) (B.state bay.old) (B.state bay.new)) }
-    ensures cause { OnErr result (Rose ((B.state bay.old).faults slot) ((B.state bay.new).faults slot)) }
+    ensures { Call result slot (ChangesOnly (Range slot (place.body + from) (length bytes.now)))
+        (Done (Puts slot (place.body + from) bytes.now)) (cost 2 (length bytes.now))
+        (B.state bay.old) (B.state bay.new) }
 {
     write_synced(bay, slot, place.body + from, bytes)
 }
@@ -168,12 +140,8 @@ pub fn fill_body<B: Bay>(
 /// Opens the gate.
 pub fn open_gate<B: Bay>(bay: &mut B, slot: u32, place: Place) -> Result<(), Fault>
     requires { IsUsable (B.state bay.old) slot place }
-    ensures attached { KeepsAttached (B.state bay.old) (B.state bay.new) }
-    ensures calls { (B.state bay.new).calls ≤ (B.state bay.old).calls + 2 }
-    ensures written { (B.state bay.new).written slot ≤ (B.state bay.old).written slot + place.sector }
-    ensures runs { Runs (IsSlot slot) (MayOpen place slot) (B.state bay.old) (B.state bay.new) }
-    ensures done { OnOk result (Ends (Opens place slot) (B.state bay.old) (B.state bay.new)) }
-    ensures cause { OnErr result (Rose ((B.state bay.old).faults slot) ((B.state bay.new).faults slot)) }
+    ensures { Call result slot (MayOpen place slot) (Done (Opens place slot))
+        (cost 2 place.sector) (B.state bay.old) (B.state bay.new) }
 {
     write_gate(bay, slot, place, OPEN)
 }
@@ -183,12 +151,8 @@ fn fill_and_open<B: Bay>(bay: &mut B, slot: u32, place: Place, body: &[u8]) -> R
     requires usable { IsUsable (B.state bay.old) slot place }
     requires closed { ForSome (B.state bay.old).holds (λ image. shown place slot image ≡ None) }
     requires whole { length body.now ≡ place.len }
-    ensures attached { KeepsAttached (B.state bay.old) (B.state bay.new) }
-    ensures calls { (B.state bay.new).calls ≤ (B.state bay.old).calls + 4 }
-    ensures written { (B.state bay.new).written slot ≤ (B.state bay.old).written slot + place.sector + place.len }
-    ensures runs { Runs (IsSlot slot) (MayFillShut place slot body.now) (B.state bay.old) (B.state bay.new) }
-    ensures done { OnOk result (Ends (HasPut place slot body.now) (B.state bay.old) (B.state bay.new)) }
-    ensures cause { OnErr result (Rose ((B.state bay.old).faults slot) ((B.state bay.new).faults slot)) }
+    ensures { Call result slot (MayFillShut place slot body.now) (Done (HasPut place slot body.now))
+        (cost 4 (place.sector + place.len)) (B.state bay.old) (B.state bay.new) }
 {
     fill_body(bay, slot, place, 0, body)?;
     open_gate(bay, slot, place)
@@ -198,15 +162,10 @@ fn fill_and_open<B: Bay>(bay: &mut B, slot: u32, place: Place, body: &[u8]) -> R
 pub fn put<B: Bay>(bay: &mut B, slot: u32, place: Place, body: &[u8]) -> Result<(), Fault>
     requires usable { IsUsable (B.state bay.old) slot place }
     requires whole { length body.now ≡ place.len }
-    ensures attached { KeepsAttached (B.state bay.old) (B.state bay.new) }
-    ensures calls { (B.state bay.new).calls ≤ (B.state bay.old).calls + 8 }
-    ensures written { (B.state bay.new).written slot ≤ (B.state bay.old).written slot + 2 * place.sector + place.len }
-    ensures runs { Runs (IsSlot slot) (MayPut place slot body.now) (B.state bay.old) (B.state bay.new) }
-    ensures done { OnOk result (Ends (HasPut place slot body.now) (B.state bay.old) (B.state bay.new)) }
     // Nothing is written before each image has on this disk what it holds.
-    ensures waits { ForSome (B.state bay.old).holds (λ held. Runs (IsSlot slot) (WaitsFor slot held (MayPut place slot body.now)) (B.state bay.old) (B.state bay.new)) }
-    ensures settled { OnOk result (ForSome (B.state bay.old).holds (λ held. Ends (FromHeld slot held (HasPut place slot body.now)) (B.state bay.old) (B.state bay.new))) }
-    ensures cause { OnErr result (Rose ((B.state bay.old).faults slot) ((B.state bay.new).faults slot)) }
+    ensures { Call result slot (WaitsFor (B.state bay.old) slot (MayPut place slot body.now))
+        (Done (FromHeld (B.state bay.old) slot (HasPut place slot body.now)))
+        (cost 8 (2 * place.sector + place.len)) (B.state bay.old) (B.state bay.new) }
 {
     close_gate(bay, slot, place)?;
     fill_and_open(bay, slot, place, body)
@@ -217,12 +176,8 @@ pub fn put_settled<B: Bay>(bay: &mut B, slot: u32, place: Place, body: &[u8]) ->
     requires usable { IsUsable (B.state bay.old) slot place }
     requires settled { IsGateSettled place slot (B.state bay.old) }
     requires whole { length body.now ≡ place.len }
-    ensures attached { KeepsAttached (B.state bay.old) (B.state bay.new) }
-    ensures calls { (B.state bay.new).calls ≤ (B.state bay.old).calls + 7 }
-    ensures written { (B.state bay.new).written slot ≤ (B.state bay.old).written slot + 2 * place.sector + place.len }
-    ensures runs { Runs (IsSlot slot) (MayPut place slot body.now) (B.state bay.old) (B.state bay.new) }
-    ensures done { OnOk result (Ends (HasPut place slot body.now) (B.state bay.old) (B.state bay.new)) }
-    ensures cause { OnErr result (Rose ((B.state bay.old).faults slot) ((B.state bay.new).faults slot)) }
+    ensures { Call result slot (MayPut place slot body.now) (Done (HasPut place slot body.now))
+        (cost 7 (2 * place.sector + place.len)) (B.state bay.old) (B.state bay.new) }
 {
     close_settled(bay, slot, place)?;
     fill_and_open(bay, slot, place, body)

@@ -20,7 +20,7 @@ returns-clause-runs g c =
     let some = some_sector _ c.requires.copy.sector_size in
     let has : take ((length c.args.pages.now + 1) * 4096) c.fill_body.new.to ≡ log_body (log_of c.args.number c.args.pages.now) = c.fill_body.ensures in
     let found = found_spare c.args.copy _ _ _ (g.met.B.Bay.sound c.spare_slot.new.bay) c.requires.logs c.spare_slot.ensures.runs c.in_ok-log.ensures.spare in
-    goes_on (logs_found c.args.copy c.args.number c.args.pages.now some _ _ _ c.log_place-place.ensures has) (widened (λ x y same. inl same) c.spare_slot.ensures.runs) found c.put_settled.ensures.runs
+    goes_on (logs_found c.args.copy c.args.number c.args.pages.now some _ _ _ c.log_place-place.ensures has) (widened (λ x y same. inl same) c.spare_slot.ensures.runs) found c.put_settled.ensures.calls.runs
 
 pub returns-clause-done : goal.returns-clause-done
 returns-clause-done g c =

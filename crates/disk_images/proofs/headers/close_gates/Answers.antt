@@ -1,15 +1,14 @@
-use Rattle.std.proofs.Common.{◌≡◌, ◌*◌, ap, arith}
+use Rattle.std.proofs.Common.{◌≡◌, ap}
 use Rattle.asm_group.specs.Shape.{Shape}
-use Rattle.disk_images.proofs.OneStep.{call_of, leads_to}
+use Rattle.disk_images.proofs.OneStep.{leads_to}
 use Rattle.disk_images.proofs.HeaderPuts.{closed_is_blank, long_in}
 use Rattle.disk_images.proofs.headers.close_gates.Goals as goal
 
 pub returns-clause-call : goal.returns-clause-call
 returns-clause-call g c =
-    let e = c.close_all_gates.ensures in
     let sector : c.shape.inside.sector ≡ c.args.shape.sector = ap (λ (s : Shape). s.sector) c.shape.view_is in
     let pages : c.shape.inside.dir_blocks ≡ c.args.shape.dir_blocks = ap (λ (s : Shape). s.dir_blocks) c.shape.view_is in
-    call_of 28 (7 * c.args.shape.sector) e.attached e.calls (omega (arith, e.written, sector)) (rw (sector, pages) at e.runs) (rw (sector, pages) at e.done) e.cause
+    rw (sector, pages) at c.close_all_gates.ensures
 
 pub returns-clause-blank : goal.returns-clause-blank
 returns-clause-blank g c =

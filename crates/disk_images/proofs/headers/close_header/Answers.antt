@@ -1,6 +1,7 @@
 use Rattle.std.proofs.Common.{◌≡◌, ap, arith}
 use Rattle.asm_group.specs.Shape.{Shape}
-use Rattle.disk_images.proofs.OneStep.{call_of, leads_to}
+use Rattle.gate_slot.proofs.Steps.{plain, may_close-same}
+use Rattle.disk_images.proofs.OneStep.{leads_to}
 use Rattle.disk_images.proofs.HeaderBytes.{nothing_shown}
 use Rattle.disk_images.proofs.HeaderPuts.{long_in, usable_header}
 use Rattle.disk_images.proofs.headers.close_header.Goals as goal
@@ -12,9 +13,8 @@ close_gate-requires g c =
 
 pub returns-clause-call : goal.returns-clause-call
 returns-clause-call g c =
-    let e = c.close_gate.ensures in
     let sector : c.shape.inside.sector ≡ c.args.shape.sector = ap (λ (s : Shape). s.sector) c.shape.view_is in
-    call_of 4 c.args.shape.sector e.attached e.calls (rw (c.header_slot.ensures, sector) at e.written) (rw (c.header_slot.ensures, sector) at e.runs) (rw (c.header_slot.ensures, sector) at e.done) e.cause
+    plain (may_close-same _ c.args.slot) (rw (c.header_slot.ensures, sector) at c.close_gate.ensures.call)
 
 pub returns-clause-gone : goal.returns-clause-gone
 returns-clause-gone g c =
@@ -23,4 +23,4 @@ returns-clause-gone g c =
     leads_to c.close_gate.result (g.B.Bay.state c.args.bay.now) (g.B.Bay.state c.close_gate.new.bay)
     (λ x y left closes.
     nothing_shown c.args.slot y (omega (arith, long_in c.args.slot 40960 (g.met.B.Bay.sound c.args.bay.now) has.attached has.long x left, closes.elsewhere.size c.args.slot)) c.args.shape.sector closes.shows)
-    (rw (c.header_slot.ensures, sector) at c.close_gate.ensures.done)
+    (plain (may_close-same _ c.args.slot) (rw (c.header_slot.ensures, sector) at c.close_gate.ensures.call)).done

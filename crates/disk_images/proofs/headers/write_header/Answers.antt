@@ -1,6 +1,7 @@
-use Rattle.std.proofs.Common.{◌≡◌, ◌+◌, ◌*◌, ap, arith}
+use Rattle.std.proofs.Common.{◌≡◌, ap, arith}
+use Rattle.gate_slot.proofs.Steps.{plain, may_put-same}
 use Rattle.asm_formats.specs.Header.{Header}
-use Rattle.disk_images.proofs.OneStep.{call_of, leads_to}
+use Rattle.disk_images.proofs.OneStep.{leads_to}
 use Rattle.disk_images.proofs.HeaderBytes.{header_shown}
 use Rattle.disk_images.proofs.HeaderPuts.{long_in, usable_header}
 use Rattle.disk_images.proofs.headers.write_header.Goals as goal
@@ -12,11 +13,8 @@ put-requires-clause-usable g c =
 
 pub returns-clause-call : goal.returns-clause-call
 returns-clause-call g c =
-    let e = c.put.ensures in
     let sector : c.header.inside.sector ≡ c.args.header.now.shape.sector = ap (λ (h : Header). h.shape.sector) c.header.view_is in
-    let written = rw c.header_slot.ensures at e.written in
-    call_of 8 (2 * c.args.header.now.shape.sector + 4096) e.attached e.calls (omega (arith, written, sector))
-    (rw (c.header_slot.ensures, c.encode.ensures, sector) at e.runs) (rw (c.header_slot.ensures, c.encode.ensures, sector) at e.done) e.cause
+    plain (may_put-same _ c.args.slot _) (rw (c.header_slot.ensures, c.encode.ensures, sector) at c.put.ensures)
 
 pub returns-clause-there : goal.returns-clause-there
 returns-clause-there g c =
@@ -26,4 +24,4 @@ returns-clause-there g c =
     leads_to c.put.result (g.B.Bay.state c.args.bay.now) (g.B.Bay.state c.put.new.bay)
     (λ x y left puts.
     header_shown c.args.slot y (omega (arith, long_in c.args.slot 40960 (g.met.B.Bay.sound c.args.bay.now) has.attached has.long x left, puts.elsewhere.size c.args.slot)) h.shape.sector h c.requires.header puts.shows)
-    (rw (c.header_slot.ensures, c.encode.ensures, sector) at c.put.ensures.done)
+    (plain (may_put-same _ c.args.slot _) (rw (c.header_slot.ensures, c.encode.ensures, sector) at c.put.ensures)).done

@@ -1,28 +1,21 @@
+use Rattle.std.proofs.Common.{rules, arith}
 use Rattle.std.proofs.lemmas.Result.{on_ok_weaker}
-use Rattle.bay.proofs.Calls.{widened, goes_on, stops, both_done}
-use Rattle.bay.proofs.Images.{same-trans}
-use Rattle.gate_slot.proofs.Steps.{may_close-same, may_close, closes, closes-still, found_as_held}
+use Rattle.bay.proofs.Calls.{stops}
+use Rattle.bay.proofs.OneCall.{wider, afforded, then, call_of_parts}
+use Rattle.gate_slot.proofs.Steps.{closing, staying, finds}
 use Rattle.gate_slot.proofs.gate.close_settled.Goals as goal
 
-pub returns-in_err-is_open-clause-runs : goal.returns-in_err-is_open-clause-runs
-returns-in_err-is_open-clause-runs g c =
-    widened (may_close-same c.requires.usable) c.is_open.ensures.runs
+pub returns-in_err-is_open : goal.returns-in_err-is_open
+returns-in_err-is_open g c =
+    let calls = wider (closing c.requires.usable).starts c.is_open.ensures.call.calls in search rules
 
-pub returns-then-branch-clause-runs : goal.returns-then-branch-clause-runs
-returns-then-branch-clause-runs g c =
-    let found = found_as_held c.args.place c.args.slot _ _ _ (g.met.B.Bay.sound c.args.bay.now) c.requires.settled c.is_open.ensures.runs c.in_ok-is_open.ensures.open in
-    goes_on (may_close c.requires.usable) (widened (may_close-same c.requires.usable) c.is_open.ensures.runs) (rw c.if-branch.true at found) c.write_gate.ensures.runs
+pub returns-then-branch : goal.returns-then-branch
+returns-then-branch g c =
+    let found = finds c.args.place c.args.slot (g.met.B.Bay.sound c.args.bay.now) c.requires.settled c.in_ok-is_open.ensures.call in
+    afforded (search rules) (then (closing c.requires.usable) (rw c.if-branch.true at found) c.write_gate.ensures)
 
-pub returns-then-branch-clause-done : goal.returns-then-branch-clause-done
-returns-then-branch-clause-done g c =
-    let found = found_as_held c.args.place c.args.slot _ _ _ (g.met.B.Bay.sound c.args.bay.now) c.requires.settled c.is_open.ensures.runs c.in_ok-is_open.ensures.open in
-    on_ok_weaker c.write_gate.result (both_done (closes c.requires.usable) (rw c.if-branch.true at found)) c.write_gate.ensures.done
-
-pub returns-else-branch-clause-runs : goal.returns-else-branch-clause-runs
-returns-else-branch-clause-runs g c =
-    widened (may_close-same c.requires.usable) (goes_on same-trans c.is_open.ensures.runs (stops c.is_open.ensures.runs) c.sync.ensures.runs)
-
-pub returns-else-branch-clause-done : goal.returns-else-branch-clause-done
-returns-else-branch-clause-done g c =
-    let found = found_as_held c.args.place c.args.slot _ _ _ (g.met.B.Bay.sound c.args.bay.now) c.requires.settled c.is_open.ensures.runs c.in_ok-is_open.ensures.open in
-    on_ok_weaker c.sync.result (λ durable. both_done (closes-still c.requires.usable) (rw c.if-branch.false at found) (stops c.sync.ensures.runs)) c.sync.ensures.durable
+pub returns-else-branch : goal.returns-else-branch
+returns-else-branch g c =
+    let found = finds c.args.place c.args.slot (g.met.B.Bay.sound c.args.bay.now) c.requires.settled c.in_ok-is_open.ensures.call in
+    let sync = call_of_parts 1 0 c.sync.ensures.attached (omega arith) (omega arith) c.sync.ensures.runs (on_ok_weaker c.sync.result (λ durable. stops c.sync.ensures.runs) c.sync.ensures.durable) c.sync.ensures.cause in
+    afforded (search rules) (then (staying c.requires.usable) (rw c.if-branch.false at found) sync)

@@ -11,8 +11,8 @@ returns-clause-body g c =
     let m = g.B.Bay.state c.is_open.new.bay in
     let t = g.B.Bay.state c.read.new.self in
     open_body c.args.slot c.args.gate c.args.sector s m t c.read.new.buf _ (ap length c.zeros-block.ensures ∙ length-replicate {A = ℕ} 4096 0)
-    (λ image was. sym c.if-not-branch.false ∙ (rw c.place_at.ensures at c.in_ok-is_open.ensures.«open») image was)
-    c.is_open.ensures.runs c.read.ensures.runs c.in_ok-read.ensures.bytes
+    (λ image was. sym c.if-not-branch.false ∙ (rw c.place_at.ensures at c.in_ok-is_open.ensures.call.done) image was)
+    c.is_open.ensures.call.calls.runs c.read.ensures.runs c.in_ok-read.ensures.bytes
 
 pub returns-clause-runs : goal.returns-clause-runs
-returns-clause-runs g c = goes_on same-trans c.is_open.ensures.runs (stops c.is_open.ensures.runs) c.read.ensures.runs
+returns-clause-runs g c = goes_on same-trans c.is_open.ensures.call.calls.runs (stops c.is_open.ensures.call.calls.runs) c.read.ensures.runs
