@@ -1,6 +1,6 @@
 -- What a commit makes of what a store keeps.
 use Rattle.std.proofs.Common.{◌≡◌, inl, inr, ⊎_elim, ℕ, ◌+◌, ◌-◌, ◌^◌, ◌<◌, ◌≤◌, Bool, true, false, cond, List, [], ◌∷◌, length, map, refl, sym, ap, subst, ◌∙◌, arith}
-use Rattle.std.specs.Prelude.{not, ◌==◌, filter, nat_lt}
+use Rattle.std.specs.Prelude.{not, ◌==◌, filter, nat_lt, IfErr, IsErrAnd, Result, Ok, Err}
 use Rattle.std.specs.List.{list_all}
 use Rattle.std.proofs.lemmas.Bool.{true≢false}
 use Rattle.bay.specs.Image.{Image}
@@ -25,11 +25,13 @@ use Rattle.change_directory.proofs.Spares.{region_logs}
 use Rattle.change_directory.proofs.Usable.{still_copy, short_sector}
 use Rattle.page_map.specs.Tables.{PageTable, IsTable, SameTable, Shows, block_of}
 use Rattle.page_map.specs.Contents.{AreItems}
-use Rattle.page_map.specs.Applying.{Applies}
-use Rattle.directory_store.specs.Answers.{NoCalls}
+use Rattle.page_map.specs.Applying.{Applies, IsCause}
+use Rattle.page_map.specs.declared.change.PageError.{PageError}
+use Rattle.page_map.specs.declared.change.PageError.TheVariants.{Full as PageFull, NoMemory as PageNoMemory}
+use Rattle.directory_store.specs.Answers.{IsFirstRefusal, NoCalls, refusal_of}
 use Rattle.directory_store.specs.Contents.{ArePutItems}
 use Rattle.directory_store.specs.Copies.{AreApart, AreKept, AreNamed, Earlier, FailedAlone, HaveEither, LogsSettledBut, MayPutOn, WritesFew, calls_for, due_of}
-use Rattle.directory_store.specs.Stores.{Stored, Keeps, HaveRecords, HaveEitherRecords, off, others, without}
+use Rattle.directory_store.specs.Stores.{Stored, IsEmpty, Keeps, HaveRecords, HaveEitherRecords, off, others, without}
 use Rattle.directory_store.specs.declared.due.Due.{Due}
 use Rattle.directory_store.proofs.Records.{items_after, pages_decode, is_head, has_records}
 use Rattle.directory_store.proofs.CopyLaws.{region_is_same}
@@ -91,6 +93,16 @@ all_failed copies dues failed s t apart named alone none c among = go (has_bit f
 
 pub no_calls : (s : BayState) → NoCalls s s
 no_calls s = record { runs = started same-refl; calls = refl }
+
+-- a creation is refused by the table before its first copy
+pub creation_refused : (copies : List DirCopy) (pages : ℕ) (put : List Entry) (s : BayState) (start : PageTable) (cause : PageError) → IsEmpty start pages → IsCause start put cause
+    → IsFirstRefusal copies pages put s s (refusal_of cause)
+creation_refused copies pages put s start (PageFull need free) empty is = ((start, empty, is.0, is.1, is.2), no_calls s)
+creation_refused copies pages put s start PageNoMemory empty is = no_calls s
+
+pub err_is : {T E : Type 0} (result : Result T E) (P : E → Type 0) (e : E) → IsErrAnd result (λ x. x ≡ e) → P e → IfErr result P
+err_is (Ok value) P e is p = tt
+err_is (Err x) P e is p = subst P (sym is) p
 
 pub same_shows : (old new : PageTable) (page : ℕ → Bytes) → SameTable old new → Shows old page → Shows new page
 same_shows old new page same shows = record {

@@ -26,3 +26,4 @@ pub mod Catalogs
 pub mod Fronts
 pub mod Owns
 pub mod Recovered
+pub mod LeftGroups

@@ -72,15 +72,16 @@ use Rattle.group_mount.proofs.Taking.{at_slot, found_alone}
 -- ---- members of an image
 
 -- the disk of a register's member, as a member of the image
-record IsThere (slots id : ℕ) (image : Image) (m : Member) : Type 0 where
+pub record IsThere (slots id : ℕ) (image : Image) (m : Member) : Type 0 where
   pub member : images.Member
   pub among : IsAmong (all_members id (disks_in slots image)) member
   pub slot : member.slot ≡ m.slot
   pub disk : member.disk ≡ disk_in image m.slot
+  pub header_is : header_in image m.slot ≡ Some member.header
   pub number : member.header.number ≡ m.number
   pub birth : member.header.birth ≡ m.birth
 
-is_there : (slots id : ℕ) (image : Image) (m : Member) → IsMemberOn slots id image m → IsThere slots id image m
+pub is_there : (slots id : ℕ) (image : Image) (m : Member) → IsMemberOn slots id image m → IsThere slots id image m
 unfolding members metadata
 is_there slots id image m on =
     let disks = metadata_of (disks_in slots image) in
@@ -92,11 +93,12 @@ is_there slots id image m on =
           (ap (λ (d : Metadata). d.header) disk ∙ on.header_is) on.group;
       slot = refl;
       disk = disk;
+      header_is = on.header_is;
       number = on.number;
       birth = on.birth;
     }
 
-in_slots : (ms : List Member) (m : Member) → IsAmong ms m → slots_of ms m.slot ≡ true
+pub in_slots : (ms : List Member) (m : Member) → IsAmong ms m → slots_of ms m.slot ≡ true
 in_slots ms m h = any_among (λ (k : Member). k.slot == m.slot) ms m h (eq-eqb m.slot m.slot refl)
 
 -- the slots of some members are those of more of them
@@ -122,7 +124,7 @@ renewed_named r s h n named =
     }
 
 -- the record names the copy on a disk with this header
-is_named : (r : Status) (m : Member) (h : Header) → Names r m → h.number ≡ m.number → h.birth ≡ m.birth → IsNamed r h
+pub is_named : (r : Status) (m : Member) (h : Header) → Names r m → h.number ≡ m.number → h.birth ≡ m.birth → IsNamed r h
 is_named r m h named number birth = go (entry_of r.entries m.number) refl (entry_birth r.entries m named.1)
   where
     go : (o : Option Entry) → entry_of r.entries m.number ≡ o → option_map (λ (e : Entry). e.birth) (entry_of r.entries m.number) ≡ Some m.birth → IsNamed r h

@@ -106,7 +106,7 @@ disk_among id entries (x ∷ hs) k (inr h) own =
 -- ---- what is written
 
 -- a record as it is written renews what the record does
-numbered_renews : (r next : Status) (epoch turn : ℕ) → Renews r next → Renews r (record next { epoch = epoch; turn = turn })
+pub numbered_renews : (r next : Status) (epoch turn : ℕ) → Renews r next → Renews r (record next { epoch = epoch; turn = turn })
 unfolding is_kept
 numbered_renews r next epoch turn n = record {
   holders = n.holders;
@@ -135,7 +135,7 @@ module _ (q : Quorate) (s : BayState) (quorum : IsQuorum q s) where
       let k = own_from q.id r.entries hs m h in
       subst (λ (x : Member). IsAmong ms x) (sym k.2) (own_among q.id hs k.0 k.1 (owned q.id r.entries k.0 k.3).id_is)
 
-  numbers : (r : Status) → AreNumbered (own r)
+  pub numbers : (r : Status) → AreNumbered (own r)
   numbers r m h =
       let k = own_of q.id hs m (own_in r m h) in
       omega (arith, ap (λ (x : Member). x.number) k.2, header_number k.0.header (quorum.there.allowed k.0 k.1).header)
@@ -264,7 +264,7 @@ module _ (q : Quorate) (s : BayState) (quorum : IsQuorum q s) where
 
     -- ---- the store and the catalog
 
-    keeps : (t : BayState) → KeepsAttached s t → Runs (IsSlotOf q.survey.members) (ChangesOnly (FrontOf q.survey.members)) s t → Keeps q.store t
+    pub keeps : (t : BayState) → KeepsAttached s t → Runs (IsSlotOf q.survey.members) (ChangesOnly (FrontOf q.survey.members)) s t → Keeps q.store t
     keeps t attached run = keeps_elsewhere q.store (λ x y c among step. front_region q.survey.members c x y step) attached run quorum.kept
 
     catalog_is : IsCatalogIn q.store v q.shape q.catalog

@@ -1,5 +1,5 @@
 -- An epoch is claimed and a record written anew: each moment is one of a mount.
-use Rattle.std.proofs.Common.{◌≡◌, inl, ⊎_elim, ℕ, get_or, arith, false, List, sym, ap, subst, ◌∙◌, Some, None, Result, Ok, Err, IfErr, IfOk, OnOk}
+use Rattle.std.proofs.Common.{◌≡◌, inl, ⊎_elim, ℕ, get_or, arith, false, List, [], sym, ap, subst, ◌∙◌, Some, None, Result, Ok, Err, IfErr, IfOk, OnOk}
 use Rattle.bay.specs.Image.{ChangesOnly, Image}
 use Rattle.bay.specs.State.{BayState}
 use Rattle.bay.specs.Moments.{Runs, Ends}
@@ -13,6 +13,10 @@ use Rattle.status_register.specs.Answers.{Surveyed}
 use Rattle.status_register.specs.Holders.{attached_to, next_turn, numbered}
 use Rattle.status_register.proofs.Placing.{placed_is}
 use Rattle.status_register.specs.Registered.{Registered, AreNumbered, IsClaimAnswer, claim_of, registered}
+use Rattle.status_register.specs.History.{FitsIn}
+use Rattle.status_register.specs.Keeping.{EpochStands, KeepsStanding}
+use Rattle.status_register.specs.SurveyLaws.{IsMemberOn}
+use Rattle.status_register.specs.Writes.{first_register}
 use Rattle.status_register.specs.Rows.{HasBody, HaveBody, PutsRow, no_put, one_put}
 use Rattle.status_register.specs.Slots.{claim_gate, status_gate}
 use Rattle.status_register.specs.Surveys.{missing}
@@ -22,7 +26,7 @@ use Rattle.status_register.proofs.Taking.{kept_among}
 use Rattle.status_register.proofs.Tallying.{RoseAt}
 use Rattle.group_mount.specs.Mounting.{HasClaimed, HasRecorded, MayMount, claiming, recording, Mount, IsRead, IsSource, Allows}
 use Rattle.group_mount.specs.Renewing.{Renews}
-use Rattle.group_mount.specs.Writing.{FrontOf, RenewCause, WritesAnew, mount_of, KeepsGroups, HoldsOne, KeepsRegister}
+use Rattle.group_mount.specs.Writing.{FrontOf, RenewCause, WritesAnew, mount_of, renewed_register, KeepsAnyRegister, KeepsGroups, HoldsOne, KeepsRegister}
 use Rattle.group_mount.proofs.Mounting.{mounting_keeps, mounted_is_held, recorded_is_mounted, recorded_has_history}
 use Rattle.asm_formats.specs.Following.{rank}
 use Rattle.group_mount.specs.declared.writing.RenewError.{RenewError}
@@ -188,3 +192,22 @@ module _ (s m t : BayState) (survey : Surveyed) (next : Status) (renews : Renews
           register_kept (mount_of survey next content) s t (done content) renewed.register
           (ap (λ (r : Registered). r.id) is) (ap (λ (r : Registered). r.value) is) (ap (λ (r : Registered). r.epoch) is) (ap (λ (r : Registered). r.turn) is)
           (λ i k there. (placed_is survey.value.entries survey.members i k small (sym (ap (λ (r : Registered). get_or r.members i None) is) ∙ there)).0)
+
+-- ---- with other attached disks
+
+-- The register that stands for the record with other members keeps the history too, where each is a member on each image.
+pub any_register : (s t : BayState) (survey : Surveyed) (next : Status) (ms : List Member) → ((content : Content) → KeepsRegister (mount_of survey next content) (renewed_register survey next) s t)
+    → KeepsStanding (first_register (numbered (registered survey) next) ms) t
+    → (content : Content) → KeepsAnyRegister (mount_of survey next content) (first_register (numbered (registered survey) next) ms) s t
+any_register s t survey next ms kept standing content n slots source groups is now many on =
+    let v : Status = numbered (registered survey) next in
+    let before = kept content n slots source groups is now many in
+    standing slots (record {
+      now = λ image left.
+          let h = before.now.now image left in
+          record {
+            fits = subst (λ (id : ℕ). FitsIn slots id (Some v) [] image) (sym is.group) h.fits;
+            members = λ i m at. subst (λ (id : ℕ). IsMemberOn slots id image m) (sym is.group) (on.now image left i m at);
+            claimed = subst (λ (id : ℕ). EpochStands slots id v.epoch v image) (sym is.group) h.claimed;
+          };
+    })

@@ -19,3 +19,4 @@ pub mod Loads
 pub mod Quorum
 pub mod NextRecord
 pub mod Recovering
+pub mod Recovered

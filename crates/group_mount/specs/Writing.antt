@@ -1,5 +1,6 @@
 -- The record of a mount that was surveyed, as it is written.
-use Rattle.std.specs.Prelude.{◌≡◌, ℕ, ◌*◌, ◌<◌, ◌≤◌, false, List, [], ◌∷◌, Some, None, Result, MatchResult}
+use Rattle.std.specs.Prelude.{◌≡◌, ℕ, ◌*◌, ◌<◌, ◌≤◌, false, List, [], ◌∷◌, get_or, Some, None, Result, MatchResult}
+use Rattle.bay.specs.Image.{Image}
 use Rattle.bay.specs.Moments.{Ends, LeavesOnly, NowOnly, Runs}
 use Rattle.asm_group.specs.Group.{Group}
 use Rattle.asm_formats.specs.Among.{IsAmong}
@@ -14,6 +15,7 @@ use Rattle.status_register.specs.Holders.{attached_to, next_turn, numbered}
 use Rattle.status_register.specs.Registered.{Registered, registered}
 use Rattle.status_register.specs.Rows.{HaveBody, PutsRow}
 use Rattle.status_register.specs.Slots.{status_gate}
+use Rattle.status_register.specs.SurveyLaws.{IsMemberOn}
 use Rattle.status_register.specs.Surveys.{AreRead, missing}
 use Rattle.status_register.specs.Tallies.{IsSlotOf}
 use Rattle.status_register.specs.declared.member.Member.{Member}
@@ -97,3 +99,13 @@ HoldsOne mount s t =
 abbrev pub KeepsRegister : Mount → Registered → BayState → BayState → Type 0
 KeepsRegister mount register s t =
     (n slots : ℕ) (source : Member) (groups : List Group) → IsMount mount → IsReadNow n mount source groups s → n ≤ slots → Keeps slots register (Some mount.next) [] t
+
+-- each disk that is attached to the register is a member
+abbrev pub AreMembersOn : ℕ → ℕ → Registered → Image → Type 0
+AreMembersOn slots id register image = (i : ℕ) (m : Member) → get_or register.members i None ≡ Some m → IsMemberOn slots id image m
+
+-- So does a register of other attached disks, also of those that weren't surveyed, where each is a member on each image.
+abbrev pub KeepsAnyRegister : Mount → Registered → BayState → BayState → Type 0
+KeepsAnyRegister mount register s t =
+    (n slots : ℕ) (source : Member) (groups : List Group) → IsMount mount → IsReadNow n mount source groups s → n ≤ slots → NowOnly t (AreMembersOn slots mount.id register)
+    → Keeps slots register (Some mount.next) [] t

@@ -1,10 +1,11 @@
 //! The group that is mounted: its record is written anew, and its parts are given.
 
-ghost use Rattle.std.specs.Prelude.{◌≡◌, ◌++◌, ℕ, None, Some, IfErr, IfOk, OnOk};
+ghost use Rattle.std.specs.Prelude.{◌≡◌, ◌++◌, ℕ, List, None, Some, IfErr, IfOk, OnOk};
 ghost use Rattle.bay.specs.Image.{ChangesOnly};
 ghost use Rattle.bay.specs.State.{KeepsAttached};
 ghost use Rattle.bay.specs.Moments.{Runs};
 ghost use Rattle.asm_formats.specs.Status.{Status};
+ghost use Rattle.asm_group.specs.Group.{Group};
 ghost use Rattle.status_register.specs.Holders.{numbered};
 ghost use Rattle.status_register.specs.Registered.{registered};
 ghost use Rattle.status_register.specs.Surveys.{missing};
@@ -12,10 +13,11 @@ ghost use Rattle.status_register.specs.Tallies.{IsSlotOf};
 ghost use Rattle.status_register.specs.Writes.{first_register};
 ghost use Rattle.group_mount.specs.NextRecord.{IsNextRecord, MakesRecord};
 ghost use Rattle.group_mount.specs.Quorum.{IsQuorum};
+ghost use Rattle.group_mount.specs.Recovered.{ChangesMembers, LeavesGroups, StoodFor};
 ghost use Rattle.group_mount.specs.Recovering.{AnewCause, ArePartsOf, DeadCause, IsAnew, IsShortRefusal, MayRenew, RecoverCause, RefusesAnew, StandsAnew, disks_with, is_own, name_in, own_members};
 ghost use Rattle.group_mount.specs.Renewing.{Renews};
 ghost use Rattle.group_mount.specs.Verdicts.{IsSlotIn, members_with};
-ghost use Rattle.group_mount.specs.Writing.{FrontOf, RenewCause};
+ghost use Rattle.group_mount.specs.Writing.{EachMount, FrontOf, HoldsOne, KeepsAnyRegister, KeepsGroups, RenewCause};
 
 use crate::choosing::member_of;
 use crate::error::MountError;
@@ -213,6 +215,10 @@ fn write_register<B: Bay>(
     ensures cause { IfErr result (λ error. RenewCause survey next.now error (B.state bay.old) (B.state bay.new)) }
     ensures attached { KeepsAttached (B.state bay.old) (B.state bay.new) }
     ensures front { Runs (IsSlotOf survey.members) (ChangesOnly (FrontOf survey.members)) (B.state bay.old) (B.state bay.new) }
+    // What `renew` says of the groups, and that the register keeps the history with all these members.
+    ensures groups { EachMount survey next.now (λ mount. KeepsGroups mount (B.state bay.old) (B.state bay.new)) }
+    ensures held { OnOk result (EachMount survey next.now (λ mount. HoldsOne mount (B.state bay.old) (B.state bay.new))) }
+    ensures history { IfOk result (λ register. EachMount survey next.now (λ mount. KeepsAnyRegister mount register (B.state bay.old) (B.state bay.new))) }
 {
     match renew(bay, survey, next) {
         Ok(renewed) => Ok(Register::standing(bay, renewed.register.value(), members)),
@@ -228,6 +234,8 @@ fn write_parts<B: Bay>(bay: &mut B, quorate: Quorate, anew: Anew) -> Result<Part
     ensures cause { IfErr result (λ error. RecoverCause quorate error (B.state bay.old) (B.state bay.new)) }
     ensures attached { KeepsAttached (B.state bay.old) (B.state bay.new) }
     ensures runs { Runs (IsSlotIn quorate.headed.items) (ChangesOnly (FrontOf (members_with quorate.id quorate.headed.items))) (B.state bay.old) (B.state bay.new) }
+    ensures members { Runs (IsSlotIn quorate.headed.items) (ChangesMembers quorate.id) (B.state bay.old) (B.state bay.new) }
+    ensures leaves { (groups : List Group) → StoodFor quorate groups (B.state bay.old) → LeavesGroups quorate groups result (B.state bay.old) (B.state bay.new) }
 {
     let Quorate {
         id,
@@ -274,6 +282,10 @@ impl Quorate {
         ensures attached { KeepsAttached (B.state bay.old) (B.state bay.new) }
         // Nothing changes but the claim and status slots of the group's disks.
         ensures runs { Runs (IsSlotIn self.headed.items) (ChangesOnly (FrontOf (members_with self.id self.headed.items))) (B.state bay.old) (B.state bay.new) }
+        // These are members of its id, and stay so.
+        ensures members { Runs (IsSlotIn self.headed.items) (ChangesMembers self.id) (B.state bay.old) (B.state bay.new) }
+        // Each image of each moment stands for groups that it might stand for before; in the end one group is left.
+        ensures leaves { (groups : List Group) → StoodFor self groups (B.state bay.old) → LeavesGroups self groups result (B.state bay.old) (B.state bay.new) }
     {
         match make_anew(alloc, &self, now) {
             Ok(anew) => write_parts(bay, self, anew),

@@ -8,6 +8,7 @@ use Rattle.status_register.specs.declared.member.Member.{Member}
 use Rattle.group_mount.specs.Recovering.{MayRenew, RefusesAnew}
 use Rattle.group_mount.specs.declared.finding.Headed.{Headed}
 use Rattle.group_mount.proofs.NextRecords.{next_renews}
+use Rattle.group_mount.proofs.LeftGroups.{leaves_one, left_moments, members_run}
 use Rattle.group_mount.proofs.Recovered.{may_renew, parts_are, refused, runs_on}
 use Rattle.group_mount.proofs.recovering.write_parts.Goals as goal
 
@@ -40,3 +41,34 @@ returns-clause-cause g c =
 pub returns-clause-runs : goal.returns-clause-runs
 returns-clause-runs g c =
     runs_on c.args.quorate (g.B.Bay.state c.args.bay.now) c.requires.quorum (g.B.Bay.state c.write_register.new.bay) c.write_register.ensures.front
+
+pub returns-in-Ok-clause-leaves : goal.returns-in-Ok-clause-leaves
+returns-in-Ok-clause-leaves g c = λ groups may.
+    let q = c.args.quorate in
+    let s = g.B.Bay.state c.args.bay.now in
+    let t = g.B.Bay.state c.write_register.new.bay in
+    let now = c.requires.anew.0 in
+    let is = c.requires.anew.1 in
+    record {
+      moments = left_moments q s c.requires.quorum now c.args.anew is groups may t c.write_register.ensures.groups;
+      one = leaves_one q s c.requires.quorum now c.args.anew is groups may c.in-Ok.register
+          (c.in-Ok.ensures.register ∙ ap (λ (l : List Member). first_register (numbered (registered q.survey) c.args.anew.next) l) (c.deref.ensures.value ∙ is.members))
+          t c.write_register.ensures.attached c.write_register.ensures.front c.in-Ok.ensures.held c.in-Ok.ensures.history;
+    }
+
+pub returns-clause-leaves : goal.returns-clause-leaves
+returns-clause-leaves g c = λ groups may. record {
+  moments = left_moments c.args.quorate (g.B.Bay.state c.args.bay.now) c.requires.quorum c.requires.anew.0 c.args.anew c.requires.anew.1 groups may
+      (g.B.Bay.state c.write_register.new.bay) c.write_register.ensures.groups;
+  one = tt;
+}
+
+pub returns-in-Ok-clause-members : goal.returns-in-Ok-clause-members
+returns-in-Ok-clause-members g c =
+    members_run c.args.quorate (g.B.Bay.state c.args.bay.now) (g.met.B.Bay.sound c.args.bay.now) c.requires.quorum (g.B.Bay.state c.write_register.new.bay)
+    (runs_on c.args.quorate (g.B.Bay.state c.args.bay.now) c.requires.quorum (g.B.Bay.state c.write_register.new.bay) c.write_register.ensures.front)
+
+pub returns-clause-members : goal.returns-clause-members
+returns-clause-members g c =
+    members_run c.args.quorate (g.B.Bay.state c.args.bay.now) (g.met.B.Bay.sound c.args.bay.now) c.requires.quorum (g.B.Bay.state c.write_register.new.bay)
+    (runs_on c.args.quorate (g.B.Bay.state c.args.bay.now) c.requires.quorum (g.B.Bay.state c.write_register.new.bay) c.write_register.ensures.front)

@@ -1,7 +1,8 @@
-use Rattle.bay.proofs.Calls.{started}
+use Rattle.bay.proofs.Calls.{leaves_begin, started}
 use Rattle.bay.proofs.Images.{changes-same, same-refl}
 use Rattle.group_mount.specs.Verdicts.{members_with}
 use Rattle.group_mount.specs.Writing.{FrontOf}
+use Rattle.group_mount.proofs.LeftGroups.{none_change}
 use Rattle.group_mount.proofs.NextRecords.{makes, next_renews}
 use Rattle.group_mount.proofs.Recovered.{anew_refused}
 use Rattle.group_mount.proofs.quorum.Quorate.recover.Goals as goal
@@ -18,3 +19,9 @@ returns-in-Err-clause-cause g c =
 
 pub returns-in-Err-clause-runs : goal.returns-in-Err-clause-runs
 returns-in-Err-clause-runs g c = started (λ x. changes-same (FrontOf (members_with c.args.self.id c.args.self.headed.items)) x x (same-refl x))
+
+pub returns-in-Err-clause-leaves : goal.returns-in-Err-clause-leaves
+returns-in-Err-clause-leaves g c = λ groups may. record { moments = leaves_begin may.allows; one = tt }
+
+pub returns-in-Err-clause-members : goal.returns-in-Err-clause-members
+returns-in-Err-clause-members g c = started (none_change c.args.self.id)
