@@ -65,6 +65,7 @@ run_less {slots} {more} {step} {whole} {a} {b} wider weaker run = record {
   faults = run.faults;
   other_faults = λ s other. run.other_faults s (λ inside. other (wider s inside));
   other_written = λ s other. run.other_written s (λ inside. other (wider s inside));
+  tells = run.tells;
   held = λ image is. let from = run.held image is in (from.0, from.1, weaker from.0 image from.2);
   ended = run.ended;
   moments = λ k image low high left. let from = run.moments k image low high left in (from.0, from.1, weaker from.0 image from.2);
@@ -77,6 +78,7 @@ run_on {slots} {step} {a} {b} {c} joins one two = record {
   faults = λ s. omega (arith, one.faults s, two.faults s);
   other_faults = λ s other. two.other_faults s other ∙ one.other_faults s other;
   other_written = λ s other. two.other_written s other ∙ one.other_written s other;
+  tells = λ told. two.tells (one.tells told);
   held = λ image is.
       let from = two.held image is in
       let first = one.held from.0 from.1 in

@@ -1,29 +1,34 @@
 -- The directories are stored on a disk more, and the record names it.
-use Rattle.std.proofs.Common.{◌≡◌, ◌≢◌, ◌⊎◌, inl, inr, ⊎_elim, ℕ, zero, suc, ◌+◌, ◌*◌, ◌<◌, ◌≤◌, Bool, true, false, List, [], ◌∷◌, ◌++◌, get_or, refl, sym, ap, subst, ◌∙◌, Option, Some, None, Result, Ok, Err, arith}
-use Rattle.std.specs.Prelude.{◌&&◌, ◌||◌, ◌==◌, IsSome, OnOk, unwrap_or}
-use Rattle.std.specs.List.{list_all, range_with_len, slice_get}
+use Rattle.std.proofs.Common.{◌≡◌, ◌≢◌, ◌⊎◌, inl, inr, ⊎_elim, ℕ, ◌+◌, ◌*◌, ◌<◌, ◌≤◌, true, false, List, [], ◌∷◌, ◌++◌, length, length-append, get_or, refl, sym, ap, subst, ◌∙◌, Option, Some, None, Result, Ok, Err, arith}
+use Rattle.std.specs.Prelude.{IsSome, OnOk, unwrap_or}
+use Rattle.std.specs.List.{slice_get}
 use Rattle.std.specs.Option.{is_some, option_map}
-use Rattle.std.proofs.lemmas.Bool.{and_parts, cases_eq, eq-eqb, eqb-true, false≢true}
+use Rattle.std.proofs.lemmas.Bool.{false≢true}
 use Rattle.std.proofs.lemmas.Option.{same_Some, none-some}
-use Rattle.bay.specs.State.{BayState, IsSlot, KeepsAttached}
+use Rattle.bay.specs.Image as bay
+use Rattle.bay.specs.State.{BayState, IsSlot, IsSound, KeepsAttached}
 use Rattle.bay.specs.Counts.{Rose}
 use Rattle.bay.specs.Moments.{Runs}
-use Rattle.bay.proofs.Calls.{attached-trans}
+use Rattle.bay.proofs.Calls.{attached-trans, leaves_begin, leaves_less, leaves_on}
+use Rattle.asm_group.specs.Group.{Group}
 use Rattle.asm_base.specs.declared.refusal.Refusal.{Refusal}
 use Rattle.asm_base.specs.declared.refusal.Refusal.TheVariants as cause
 use Rattle.asm_base.specs.Records.{record_at}
 use Rattle.asm_formats.specs.Bytes.{block_size}
 use Rattle.asm_formats.specs.Regions.{region_end}
-use Rattle.asm_formats.specs.Sets.{elements, has_bit, most_disks}
-use Rattle.asm_formats.specs.Status.{Entry, Status, entry_of, has_entry, have_entries}
+use Rattle.asm_formats.specs.Sets.{elements, has_bit}
+use Rattle.asm_formats.specs.Status.{Entry, Status, entry_of, has_entry}
 use Rattle.asm_formats.specs.Among.{IsAmong}
-use Rattle.asm_placement.proofs.Membership.{among_filtered, among_left, among_right, among_split}
+use Rattle.asm_images.specs.Kept.{Kept}
+use Rattle.asm_placement.proofs.Membership.{among_left, among_right, among_split}
 use Rattle.change_directory.specs.Places.{IsCopy}
 use Rattle.change_directory.specs.declared.copy.DirCopy.{DirCopy}
+use Rattle.directory_store.specs.Contents.{HasRecords}
 use Rattle.directory_store.specs.Copies.{IsApartFrom}
 use Rattle.directory_store.specs.Copying.{MayBringUp}
 use Rattle.directory_store.specs.Stores.{Stored}
 use Rattle.directory_store.specs.Stores as stores
+use Rattle.directory_store.proofs.Storing.{kept_have_records}
 use Rattle.page_map.specs.Tables.{PageTable}
 use Rattle.status_register.specs.Holders.{is_of, next_turn, numbered}
 use Rattle.status_register.specs.Reaching.{Reaches}
@@ -31,68 +36,23 @@ use Rattle.status_register.specs.Registered.{Registered, is_birth}
 use Rattle.status_register.specs.Writes.{after_write}
 use Rattle.status_register.specs.declared.error.Dead.{Dead}
 use Rattle.status_register.specs.declared.member.Member.{Member}
-use Rattle.group_engine.specs.Commits.{IsDismountedBy, IsLostIn}
-use Rattle.group_engine.specs.Copying.{CopiesTo, CopyCause, IsNotCopied, IsOneMore, IsWith, LeavesGroup, WritesMore}
+use Rattle.group_engine.specs.Commits.{IsDismountedBy, IsLostIn, turns_at_most}
+use Rattle.group_engine.specs.Copying.{CopiesTo, CopyCause, IsNotCopied, IsOneMore, LeavesGroup, MayRecord, MountsStill, StandThrough, WritesMore}
 use Rattle.group_engine.specs.Mounts.{AreCopiesOf, IsCopyOf, IsMounted, IsOwn, IsReady, IsWhole, MountedGroup, Takes}
 use Rattle.group_engine.specs.Making.{IsShut}
 use Rattle.group_engine.specs.Own.{IsSameGroup, OnOwnDisks}
+use Rattle.group_engine.specs.Recorded.{MayGet}
 use Rattle.group_engine.specs.declared.access.Access.{Access}
 use Rattle.group_engine.specs.declared.access.Access.TheVariants.{Mounted, Dismounted, Closed}
 use Rattle.group_engine.specs.declared.attached.Attached.{Attached}
+use Rattle.group_engine.proofs.BroughtUp.{copied_moments, copied_mounts, may_name}
 use Rattle.group_engine.proofs.Causes.{dead_lost, nothing_kept, run_less, written_own}
 use Rattle.group_engine.proofs.Commits.{keeps_over_row}
-use Rattle.group_engine.proofs.Ends.{id_same, keeps_dismounted, members_same}
+use Rattle.group_engine.proofs.Ends.{id_same, keeps_dismounted, members_same, out_of_calls}
+use Rattle.group_engine.proofs.Including.{element_of, own_bit, which, with_element}
 use Rattle.group_engine.proofs.Mounting.{shaped_copy, still_ready}
-use Rattle.group_engine.proofs.Sets.{element_bit, element_small}
-
--- ---- sets
-
-range_among : (n from d : ℕ) → from ≤ d → d < from + n → IsAmong (range_with_len from n) d
-range_among zero from d low high = absurd (omega (arith, low, high))
-range_among (suc n) from d low high = ⊎_elim (λ e. inl e) (λ other. inr (range_among n (from + 1) d (omega (arith, low, other)) (omega (arith, high)))) (cases_eq d from)
-
-element_of : (set d : ℕ) → d < 64 → has_bit set d ≡ true → IsAmong (elements set) d
-unfolding elements
-element_of set d lt bit = among_filtered (has_bit set) (range_with_len 0 most_disks) d (range_among 64 0 d (omega arith) lt) bit
-
-or_either : (b c : Bool) → (b || c) ≡ true → (b ≡ true) ⊎ (c ≡ true)
-or_either true c e = inl refl
-or_either false c e = inr e
-
-or_second : (b c : Bool) → c ≡ true → (b || c) ≡ true
-or_second true c e = refl
-or_second false c e = e
-
-or_first : (b c : Bool) → b ≡ true → (b || c) ≡ true
-or_first true c e = refl
-or_first false c e = absurd (false≢true e)
-
-module _ (more all d : ℕ) (with : IsWith more all d) where
-  with_bit : (k : ℕ) → k < 64 → has_bit all k ≡ true → has_bit more k ≡ true
-  with_bit k lt bit = with k lt ∙ or_second (k == d) (has_bit all k) bit
-
-  own_bit : d < 64 → has_bit more d ≡ true
-  own_bit lt = with d lt ∙ or_first (d == d) (has_bit all d) (eq-eqb d d refl)
-
-  with_element : (k : ℕ) → IsAmong (elements all) k → IsAmong (elements more) k
-  with_element k h = element_of more k (element_small all k h) (with_bit k (element_small all k h) (element_bit all k h))
-
-  which : (k : ℕ) → IsAmong (elements more) k → (k ≡ d) ⊎ IsAmong (elements all) k
-  which k h = ⊎_elim (λ same. inl (eqb-true k d same)) (λ bit. inr (element_of all k (element_small more k h) bit))
-      (or_either (k == d) (has_bit all k) (sym (with k (element_small more k h)) ∙ element_bit more k h))
-
-  -- each disk of the set with one more has an entry
-  pub with_have : (entries : List Entry) → has_entry entries d ≡ true → have_entries entries all ≡ true → have_entries entries more ≡ true
-  with_have entries has have = each (elements more) (λ k h. ⊎_elim (λ same. ap (has_entry entries) same ∙ has) (λ in_all. passes (elements all) k in_all have) (which k h))
-    where
-      passes : (xs : List ℕ) (k : ℕ) → IsAmong xs k → list_all (has_entry entries) xs ≡ true → has_entry entries k ≡ true
-      passes [] k h pass = absurd h
-      passes (x ∷ xs) k (inl e) pass = ap (has_entry entries) e ∙ (and_parts (has_entry entries x) (list_all (has_entry entries) xs) pass).0
-      passes (x ∷ xs) k (inr h) pass = passes xs k h (and_parts (has_entry entries x) (list_all (has_entry entries) xs) pass).1
-
-      each : (xs : List ℕ) → ((k : ℕ) → IsAmong xs k → has_entry entries k ≡ true) → list_all (has_entry entries) xs ≡ true
-      each [] pass = refl
-      each (x ∷ xs) pass = λ i. pass x (inl refl) i && each xs (λ k h. pass k (inr h)) i
+use Rattle.group_engine.proofs.Sets.{element_bit}
+use Rattle.group_engine.proofs.Statuses.{status_done, status_moments}
 
 -- ---- the copy
 
@@ -138,10 +98,18 @@ module _ (m : MountedGroup) (whole : IsWhole m) (s : BayState) (ready : IsReady 
     own_slot : (slot : ℕ) → slot ≡ c.slot → IsOwn m slot
     own_slot slot is = (d, one.member, one.attached, is ∙ one.slot)
 
-    module _ (t : BayState) (new : Stored) (run : Runs (IsSlot c.slot) (MayBringUp m.store.table m.store.number c) s t) (keeps : stores.Keeps new t) (attached : KeepsAttached s t) where
+    module _ (sound : IsSound s) (t : BayState) (new : Stored) (run : Runs (IsSlot c.slot) (MayBringUp m.store.table m.store.number c) s t) (keeps : stores.Keeps new t) (attached : KeepsAttached s t) where
       pub copy_runs : Runs (IsOwn m) (OnOwnDisks m) s t
       copy_runs = run_less own_slot
           (λ x y change. record { size = change.elsewhere.size; byte = λ slot k out. change.elsewhere.byte slot k (λ region. out (own_slot slot region.0)) }) run
+
+      -- each image stands for the group, which is mounted still
+      up_moments : StandThrough m s t
+      up_moments n g kept may = leaves_less (λ x is. record { by = kept; slots = refl; is = is })
+          (copied_moments n m s sound g kept may.mounts d c one copy_is copy_small copy_pages copy_apart t run attached)
+
+      up_mounts : MountsStill m m s t
+      up_mounts n g kept mounts = copied_mounts n m s sound g kept mounts d c one copy_is copy_small copy_pages copy_apart t run attached
 
       -- nothing came of it
       pub ends_uncopied : (refusal : Refusal) → new ≡ m.store → LeavesGroup m (record m { store = new }) refusal → CopyCause m d (record m { store = new }) s t refusal
@@ -160,6 +128,10 @@ module _ (m : MountedGroup) (whole : IsWhole m) (s : BayState) (ready : IsReady 
         named = tt;
         cause = why;
         refused = leaves;
+        moments = up_moments;
+        done = tt;
+        stays = λ takes. subst (λ (x : Stored). MountsStill m (record m { store = x }) s t) (sym same) up_mounts;
+        turns = subst (λ (x : Stored). turns_at_most (record m { store = x }) ≤ turns_at_most m + 2) (sym same) (omega arith);
       }
         where
           whole_again : IsWhole (record m { store = m.store })
@@ -184,7 +156,7 @@ module _ (m : MountedGroup) (whole : IsWhole m) (s : BayState) (ready : IsReady 
       why_uncopied rose = inr (c.slot, whole.disks d ∙ ap (option_map (λ (y : Member). y.slot)) one.attached ∙ ap (λ (k : ℕ). Some k) (sym one.slot), rose)
 
       -- a record with the copy was written
-      module _ (table : new.table ≡ m.store.table) (copies : new.copies ≡ m.store.copies ++ c ∷ []) (w : BayState) (answer : Result ℕ Dead) (reg : Registered) (writes : WritesMore m.register d answer reg t w) where
+      module _ (table : new.table ≡ m.store.table) (number : new.number ≡ m.store.number) (copies : new.copies ≡ m.store.copies ++ c ∷ []) (then : IsSound t) (w : BayState) (answer : Result ℕ Dead) (reg : Registered) (writes : WritesMore m.register d answer reg t w) where
         abbrev next : Status
         next = record m.register.value { directories = writes.more }
 
@@ -260,17 +232,39 @@ module _ (m : MountedGroup) (whole : IsWhole m) (s : BayState) (ready : IsReady 
         both : KeepsAttached s w
         both = attached-trans attached writes.written.attached
 
+        -- the record may be written
+        has_records : (y : bay.Image) → t.leaves t.calls y → HasRecords m.store.table m.store.number c y
+        has_records y left = subst (λ (k : ℕ). HasRecords m.store.table k c y) number
+            (subst (λ (x : PageTable). HasRecords x new.number c y) table
+            ((kept_have_records new t keeps).now y left c (subst (λ (l : List DirCopy). IsAmong l c) (sym copies) (among_right m.store.copies (c ∷ []) c (inl refl)))))
+
+        gets : (n : ℕ) (g : Group) (kept : Kept) → MayRecord n m s g kept → MayGet n m next t g kept
+        gets n g kept may = may_name n m s sound g kept may.mounts d c one copy_is copy_small copy_pages copy_apart t run attached has_records writes.more writes.with may.turns
+
+        both_moments : StandThrough m s w
+        both_moments n g kept may = leaves_on (up_moments n g kept may) (status_moments n m next t w then g kept (gets n g kept may) answer reg writes.written)
+
+        one_turn : (a : Result ℕ Dead) → (after_write m.register next a).turn ≤ m.register.turn + 1
+        one_turn (Ok taken) = omega arith
+        one_turn (Err dead) = omega arith
+
+        turn_taken : turns_at_most now ≤ turns_at_most m + 2
+        turn_taken =
+            let turn : reg.turn ≤ m.register.turn + 1 = subst (λ (x : Registered). x.turn ≤ m.register.turn + 1) (sym writes.written.register) (one_turn answer) in
+            let some : length new.copies ≡ length m.store.copies + 1 = ap length copies ∙ length-append m.store.copies (c ∷ []) in
+            omega (arith, turn, some)
+
         pub ends_copied : IsMounted m → (taken : ℕ) → answer ≡ Ok taken → CopiesTo m d (Ok tt) now s w
         ends_copied mounted taken ok =
             let is : reg ≡ later = writes.written.register ∙ ap (λ (a : Result ℕ Dead). after_write m.register next a) ok in
-            let kept : stores.Keeps new w = keeps_over_row m new next t w answer reg writes.written keeps in
+            let kept_now : stores.Keeps new w = keeps_over_row m new next t w answer reg writes.written keeps in
             record {
               keeps = record {
                 same = same_group;
                 attached = both;
                 runs = runs;
                 whole = λ takes. more_whole taken ok;
-                ready = λ takes. still_ready m now s w same_group.members refl kept both ready;
+                ready = λ takes. still_ready m now s w same_group.members refl kept_now both ready;
               };
               flight = refl;
               tables = refl;
@@ -278,6 +272,10 @@ module _ (m : MountedGroup) (whole : IsWhole m) (s : BayState) (ready : IsReady 
               named = ap (λ (x : Registered). has_bit x.value.directories d) is ∙ own_bit writes.more m.register.value.directories d writes.with one.small;
               cause = tt;
               refused = tt;
+              moments = both_moments;
+              done = λ n g kept may. status_done n m next t w then g kept (gets n g kept may) answer reg writes.written taken ok m.catalog refl refl new kept_now (more_whole taken ok);
+              stays = λ takes. tt;
+              turns = turn_taken;
             }
 
         -- a majority was lost at it
@@ -293,6 +291,10 @@ module _ (m : MountedGroup) (whole : IsWhole m) (s : BayState) (ready : IsReady 
               cause = subst (λ (x : Refusal). CopyCause m d after s w x) (sym by.refusal_is) (inr (ap (λ (v : MountedGroup). v.access) by.new_is, lost));
               refused = subst (λ (x : Refusal). LeavesGroup m after x) (sym by.refusal_is)
                   (ap (λ (v : MountedGroup). v.register.value) by.new_is ∙ ap (λ (x : Registered). x.value) (writes.written.register ∙ ap (λ (a : Result ℕ Dead). after_write m.register next a) is));
+              moments = both_moments;
+              done = tt;
+              stays = λ takes. absurd (out_of_calls now after dead.slot refusal by takes);
+              turns = subst (λ (v : MountedGroup). turns_at_most v ≤ turns_at_most m + 2) (sym by.new_is) turn_taken;
             }
 
 -- ---- the entry of an attached disk
@@ -306,6 +308,9 @@ entry_there entries y d number is = ap (has_entry entries) (sym number) ∙ go (
 
 -- ---- no copy was tried
 
+stands_still : (m : MountedGroup) (s : BayState) → StandThrough m s s
+stands_still m s n g kept may = leaves_begin (record { now = λ image left. record { by = kept; slots = refl; is = may.mounts.now.now image left } })
+
 pub copied_before : (m : MountedGroup) (s : BayState) (d : ℕ) → IsMounted m → Takes m s → has_bit m.register.value.directories d ≡ true → CopiesTo m d (Ok tt) m s s
 copied_before m s d mounted takes named = record {
   keeps = nothing_kept m s (λ t. (takes t).0) (λ t. (takes t).1);
@@ -315,6 +320,10 @@ copied_before m s d mounted takes named = record {
   named = named;
   cause = tt;
   refused = tt;
+  moments = stands_still m s;
+  done = λ n g kept may. (kept, refl, may.mounts);
+  stays = λ takes. tt;
+  turns = omega arith;
 }
 
 pub leaves_itself : (m : MountedGroup) (refusal : Refusal) → LeavesGroup m m refusal
@@ -330,6 +339,10 @@ copied_not m s d refusal takes why = record {
   named = tt;
   cause = why;
   refused = leaves_itself m refusal;
+  moments = stands_still m s;
+  done = tt;
+  stays = λ takes n g kept mounts. mounts;
+  turns = omega arith;
 }
 
 pub shut_copy : (m : MountedGroup) (s : BayState) (d : ℕ) (refusal : Refusal) (x : Access) → m.access ≡ x → IsShut x refusal → CopyCause m d m s s refusal

@@ -164,6 +164,7 @@ module _ (m : MountedGroup) (whole : IsWhole m) {s t : BayState} (stays : KeepsO
         faults = run.faults;
         other_faults = run.other_faults;
         other_written = run.other_written;
+        tells = run.tells;
         held = run.held;
         ended = run.ended;
         moments = run.moments;
@@ -217,6 +218,7 @@ module _ (n : ℕ) (m : MountedGroup) (s t : BayState) (g : Group) (kept : Kept)
     faults = run.faults;
     other_faults = run.other_faults;
     other_written = run.other_written;
+    tells = run.tells;
     held = λ image is. let from = run.held image is in (from.0, from.1, (from.2, sound.held from.0 from.1));
     ended = run.ended;
     moments = λ k image low high left. let from = run.moments k image low high left in (from.0, from.1, (from.2, from.1));

@@ -22,7 +22,7 @@ use Rattle.asm_images.specs.Kept.{Kept, header_in, IsHeld}
 use Rattle.asm_images.specs.Members.{Member, all_members, within, disk_of}
 use Rattle.asm_images.specs.PutLaws.{bytes_of}
 use Rattle.asm_images.specs.Sound.{SoundBy}
-use Rattle.asm_images.specs.Stands.{Describes}
+use Rattle.asm_images.specs.Stands.{Describes, IsDiskOf}
 use Rattle.asm_images.proofs.Bridges.{bytes_are_listed, disks_are_listed, listed, same_disk}
 use Rattle.asm_images.proofs.History.{status_counts}
 use Rattle.change_directory.specs.declared.copy.DirCopy.{DirCopy}
@@ -79,17 +79,21 @@ module _ (n : ℕ) (m : MountedGroup) (whole : IsWhole m) (g : Group) (shape : g
   sound : (slots : ℕ) → SoundBy id (disks_in slots x) (g ∷ []) (Some r) []
   sound slots = of.is_held.sound slots
 
-  -- the shape in the header of a disk among the first slots
-  shape_is : (slot : ℕ) (h : Header) → slot < n → header_in x slot ≡ Some h → h.id ≡ id → h.shape ≡ m.catalog.shape
-  shape_is slot h lt is group =
+  -- a member among the first slots is a disk of the group
+  pub disk_is : (slot : ℕ) (h : Header) → slot < n → header_in x slot ≡ Some h → h.id ≡ id → IsDiskOf g r (record { slot = slot; header = h; disk = disk_in x slot })
+  disk_is slot h lt is group =
       let ms = all_members id (disks_in n x) in
       let s = of.is_held.standing in
       let same : s.record_ ≡ r = ⊎_elim (λ e. e) (λ none. absurd none) (status_counts id ms (Some r) [] kept.slots s.record_ (sound n).fits s.status_is) in
       let found : directories r (within kept.slots ms) ≡ Some s.content = ap (λ (t : Status). directories t (within kept.slots ms)) (sym same) ∙ s.directories_is in
       let d = ((sound n).covered r (inl refl) whole.alive).described kept.slots s.content found in
       let is_g : d.0 ≡ g = ⊎_elim (λ e. e) (λ none. absurd none) d.1 in
-      let one = (d.2.disks (record { slot = slot; header = h; disk = disk_in x slot }) (member_there id n slot x h lt is group)).shape in
-      one ∙ ap (λ (k : Group). k.shape) is_g ∙ shape
+      let seen : Member = record { slot = slot; header = h; disk = disk_in x slot } in
+      subst (λ (k : Group). IsDiskOf k r seen) is_g (d.2.disks seen (member_there id n slot x h lt is group))
+
+  -- the shape in the header
+  pub shape_is : (slot : ℕ) (h : Header) → slot < n → header_in x slot ≡ Some h → h.id ≡ id → h.shape ≡ m.catalog.shape
+  shape_is slot h lt is group = (disk_is slot h lt is group).shape ∙ shape
 
   -- the slot and the pages of a copy, by the header that its record names
   pub record Placed (slot : ℕ) (h : Header) : Type 0 where
@@ -98,7 +102,7 @@ module _ (n : ℕ) (m : MountedGroup) (whole : IsWhole m) (g : Group) (shape : g
     pub slot_is : slot ≡ copy.slot
     pub pages : h.shape.dir_blocks ≡ copy.dir_blocks
 
-  named_slot : (slot : ℕ) (h : Header) → header_in x slot ≡ Some h → h.id ≡ id → IsNamed r h → Placed slot h
+  pub named_slot : (slot : ℕ) (h : Header) → header_in x slot ≡ Some h → h.id ≡ id → IsNamed r h → Placed slot h
   named_slot slot h is group named =
       let c = whole.copies.all h.number named.named in
       let copy = c.0 in
@@ -129,7 +133,7 @@ module _ (n : ℕ) (m : MountedGroup) (whole : IsWhole m) (g : Group) (shape : g
       (on.header, is, on.group, ap (λ (s : Shape). s.dir_blocks) (shape_is c.slot on.header (omega (arith, k.slot, on.inside)) is on.group) ∙ sym k.pages)
 
   -- the content of a copy that is on the disk in a slot
-  slot_content : (y : bay.Image) (slot : ℕ) (h : Header) (c : DirCopy) → header_in y slot ≡ Some h → slot ≡ c.slot → h.shape.dir_blocks ≡ c.dir_blocks → (disk_in y slot).content ≡ content_in c y
+  pub slot_content : (y : bay.Image) (slot : ℕ) (h : Header) (c : DirCopy) → header_in y slot ≡ Some h → slot ≡ c.slot → h.shape.dir_blocks ≡ c.dir_blocks → (disk_in y slot).content ≡ content_in c y
   slot_content y slot h c is at pages = content_here y slot h is ∙ (λ i. copy_content (pages i) (disk_bytes y (at i)))
 
   -- ---- over a change of the directory regions

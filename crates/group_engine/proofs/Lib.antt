@@ -16,6 +16,7 @@ pub mod Unchanged
 pub mod Elsewhere
 pub mod Statuses
 pub mod Bytes
+pub mod Surplus
 pub mod Causes
 pub mod KeptRecords
 pub mod Searches
@@ -25,10 +26,13 @@ pub mod StatusEnds
 pub mod NextRecords
 pub mod Forgotten
 pub mod Chunks
+pub mod Cuts
 pub mod Endings
 pub mod Gones
 pub mod Members
 pub mod MayGet
+pub mod Including
+pub mod BroughtUp
 pub mod Copied
 pub mod TakingOut
 pub mod Turns

@@ -1,7 +1,9 @@
 -- The directories are stored on a disk more.
-use Rattle.std.specs.Prelude.{◌≡◌, ◌⊎◌, ⊤, ℕ, ◌*◌, ◌<◌, ◌≤◌, ◌^◌, ◌==◌, ◌||◌, true, get_or, Some, None, IfErr, OnOk, Result}
+use Rattle.std.specs.Prelude.{◌≡◌, ◌⊎◌, ⊤, ℕ, ◌+◌, ◌*◌, ◌<◌, ◌≤◌, ◌^◌, ◌==◌, ◌||◌, true, [], ◌∷◌, get_or, Some, None, IfErr, OnErr, OnOk, Result}
 use Rattle.bay.specs.State.{BayState}
 use Rattle.bay.specs.Counts.{Rose}
+use Rattle.bay.specs.Moments.{LeavesOnly}
+use Rattle.asm_group.specs.Group.{Group}
 use Rattle.asm_formats.specs.Bytes.{block_size}
 use Rattle.asm_formats.specs.Regions.{region_end}
 use Rattle.asm_formats.specs.Sets.{has_bit}
@@ -10,13 +12,14 @@ use Rattle.asm_base.specs.declared.refusal.Refusal.{Refusal}
 use Rattle.asm_base.specs.declared.refusal.Refusal.TheVariants as cause
 use Rattle.change_directory.specs.declared.copy.DirCopy.{DirCopy}
 use Rattle.asm_formats.specs.Among.{IsAmong}
+use Rattle.asm_images.specs.Kept.{Kept}
 use Rattle.status_register.specs.Holders.{is_of}
 use Rattle.status_register.specs.Registered.{Registered}
 use Rattle.status_register.specs.declared.error.Dead.{Dead}
 use Rattle.status_register.specs.declared.member.Member.{Member}
-use Rattle.group_engine.specs.Commits.{DismountCause}
+use Rattle.group_engine.specs.Commits.{DismountCause, StandsIn, turns_at_most}
 use Rattle.group_engine.specs.Dropping.{HasWritten}
-use Rattle.group_engine.specs.Mounts.{IsMounted, MountedGroup, slot_at}
+use Rattle.group_engine.specs.Mounts.{IsMounted, MountedGroup, Mounts, slot_at}
 use Rattle.group_engine.specs.Own.{KeepsGroup}
 use Rattle.group_engine.specs.declared.attached.Attached.{Attached}
 
@@ -64,6 +67,23 @@ abbrev pub LeavesGroup : MountedGroup → MountedGroup → Refusal → Type 0
 LeavesGroup old new (cause.Dismounted by) = new.register.value ≡ old.register.value
 LeavesGroup old new _ = new ≡ old
 
+-- The group is mounted, and a record may follow: turns don't run out.
+pub record MayRecord (n : ℕ) (m : MountedGroup) (s : BayState) (g : Group) (kept : Kept) : Type 0 where
+  pub mounts : Mounts n m s g kept
+  pub turns : m.register.turn + 1 < 2 ^ 64
+
+-- at each moment each image is held for the group
+abbrev pub StandThrough : MountedGroup → BayState → BayState → Type 0
+StandThrough old s t = (n : ℕ) (g : Group) (kept : Kept) → MayRecord n old s g kept → LeavesOnly s t (StandsIn n old.register.id (g ∷ []) kept)
+
+-- the group is mounted afterwards, with the same disks
+abbrev pub MountsLater : MountedGroup → MountedGroup → BayState → BayState → Type 0
+MountsLater old new s t = (n : ℕ) (g : Group) (kept : Kept) → MayRecord n old s g kept → (later : Kept) × (later.slots ≡ kept.slots) × Mounts n new t g later
+
+-- the group is mounted as before
+abbrev pub MountsStill : MountedGroup → MountedGroup → BayState → BayState → Type 0
+MountsStill old new s t = (n : ℕ) (g : Group) (kept : Kept) → Mounts n old s g kept → Mounts n new t g kept
+
 -- The storing of the directories on a disk, of a group that takes calls.
 pub record CopiesTo (old : MountedGroup) (d : ℕ) (answer : Result (Unit {0}) Refusal) (new : MountedGroup) (s t : BayState) : Type 0 where
   pub keeps : KeepsGroup old new s t
@@ -73,3 +93,7 @@ pub record CopiesTo (old : MountedGroup) (d : ℕ) (answer : Result (Unit {0}) R
   pub named : OnOk answer (has_bit new.register.value.directories d ≡ true)
   pub cause : IfErr answer (CopyCause old d new s t)
   pub refused : IfErr answer (LeavesGroup old new)
+  pub moments : StandThrough old s t
+  pub done : OnOk answer (MountsLater old new s t)
+  pub stays : IsMounted new → OnErr answer (MountsStill old new s t)
+  pub turns : turns_at_most new ≤ turns_at_most old + 2

@@ -12,6 +12,7 @@ pub mod Statuses
 pub mod Making
 pub mod NextRecords
 pub mod Forgetting
+pub mod Surplus
 pub mod Pending
 pub mod Gone
 pub mod Members

@@ -1,10 +1,11 @@
 //! The directories are stored on a disk more, and then the status record names it.
-ghost use Rattle.std.specs.Prelude.{◌≡◌, ◌<◌, false, true, IfErr, IfSome, IsTrue, OnOk};
+ghost use Rattle.std.specs.Prelude.{◌≡◌, ◌+◌, ◌<◌, ◌≤◌, false, true, IfErr, IfSome, IsTrue, OnErr, OnOk};
 ghost use Rattle.asm_formats.specs.Sets.{has_bit};
 ghost use Rattle.asm_formats.specs.Status.{has_entry, is_status};
 ghost use Rattle.asm_base.specs.declared.refusal.DiskRef.TheVariants as refused;
 ghost use Rattle.asm_base.specs.declared.refusal.Refusal.TheVariants as cause;
-ghost use Rattle.group_engine.specs.Copying.{CopiesTo, CopyCause, IsOneMore, LeavesGroup, WritesMore};
+ghost use Rattle.group_engine.specs.Commits.{turns_at_most};
+ghost use Rattle.group_engine.specs.Copying.{CopiesTo, CopyCause, IsOneMore, LeavesGroup, MountsLater, MountsStill, StandThrough, WritesMore};
 ghost use Rattle.group_engine.specs.Mounts.{IsMounted, IsReady, IsWhole, Takes};
 ghost use Rattle.group_engine.specs.Own.{KeepsGroup};
 ghost use Rattle.status_register.specs.Keeping.{IsReady as IsWritable};
@@ -58,6 +59,13 @@ impl Mounted {
         ensures cause { IfErr result (CopyCause self.old to self.new (B.state bay.old) (B.state bay.new)) }
         // Refused, it leaves the record that holds, and unless the group is dismounted all as before.
         ensures refused { IfErr result (LeavesGroup self.old self.new) }
+        // At each moment each image stands for the group. Once it is done the group is mounted with the record that names the disk, and
+        // after a refusal that doesn't dismount it as before.
+        ensures moments { StandThrough self.old (B.state bay.old) (B.state bay.new) }
+        ensures done { OnOk result (MountsLater self.old self.new (B.state bay.old) (B.state bay.new)) }
+        ensures stays { IsMounted self.new → OnErr result (MountsStill self.old self.new (B.state bay.old) (B.state bay.new)) }
+        // Its record takes a turn, and the copy may cost another once it fails.
+        ensures turns { turns_at_most self.new ≤ turns_at_most self.old + 2 }
     {
         match self.takes_calls() {
             Ok(()) => self.copy_mounted(alloc, bay, to),

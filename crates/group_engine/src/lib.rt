@@ -28,7 +28,9 @@ mod status;
 
 pub use access::Access;
 pub use attached::Attached;
-pub use byte_laws::{mounted_bytes_stand, same_bytes_hold};
+pub use byte_laws::{
+    mounted_bytes_stand, same_bytes_hold, surplus_is_held, surplus_is_planned, surplus_leads_on,
+};
 pub use commit_laws::{committed_is_sound, committing_is_sound, committing_is_standing};
 pub use flight::Flight;
 pub use frames::{

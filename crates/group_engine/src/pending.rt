@@ -1,5 +1,5 @@
 //! The pending operation is ended: one that a stop left, or one that a command gives up or has done but for its tail.
-ghost use Rattle.std.specs.Prelude.{◌≡◌, IfErr, IfSome, IsTrue, None, OnErr, OnOk, is_some};
+ghost use Rattle.std.specs.Prelude.{◌≡◌, ◌≤◌, IfErr, IfSome, IsTrue, None, OnErr, OnOk, is_some};
 ghost use Rattle.std.specs.Bool.{OnTrue};
 ghost use Rattle.asm_group.specs.Shape.{is_shape};
 ghost use Rattle.catalog.specs.ExtentPlans.{MayCut};
@@ -8,10 +8,11 @@ ghost use Rattle.catalog.specs.Plans.{AreOwned};
 ghost use Rattle.catalog_tables.specs.Tables.{AreTables};
 ghost use Rattle.extent_map.specs.Extents.{chunk_at, chunks_from};
 ghost use Rattle.file_directory.specs.Files.{head_at};
-ghost use Rattle.group_engine.specs.Commits.{KeepsRecord, StatusCause};
+ghost use Rattle.group_of.specs.Describing.{KeepsNames};
+ghost use Rattle.group_engine.specs.Commits.{KeepsRecord, StatusCause, turns_at_most};
 ghost use Rattle.group_engine.specs.Mounts.{IsMounted, IsReady, IsWhole};
 ghost use Rattle.group_engine.specs.Own.{KeepsGroup};
-ghost use Rattle.group_engine.specs.Pending.{EndsOn, HasAtMost, first_key, without_pending};
+ghost use Rattle.group_engine.specs.Pending.{EndsOn, HasAtMost, StandsThrough, StaysMounted, first_key, without_pending};
 
 use crate::access::Access;
 use crate::mounted::Mounted;
@@ -145,6 +146,13 @@ impl Mounted {
         ensures mounted { OnOk result (IsMounted self.new) }
         ensures ended { OnOk result (self.new.catalog.tables.operations.pending ≡ None) }
         ensures files { OnOk result (self.new.catalog.tables.files ≡ self.old.catalog.tables.files) }
+        ensures names { OnOk result (KeepsNames self.old.catalog.tables self.new.catalog.tables) }
+        // The group stays the one that it is: each image of each moment is held for it alone, whatever comes, and once it is done
+        // it is mounted.
+        ensures moments { StandsThrough self.old (B.state bay.old) (B.state bay.new) }
+        ensures done { OnOk result (StaysMounted self.old self.new (B.state bay.old) (B.state bay.new)) }
+        // Each turn that it takes costs a copy.
+        ensures turns { turns_at_most self.new ≤ turns_at_most self.old }
         ensures closed { OnErr result (IsMounted self.new → ⊥) }
     {
         match self.access {

@@ -8,7 +8,7 @@ use Rattle.status_register.specs.Surveys.{missing, shortfall}
 use Rattle.status_register.specs.declared.member.Member.{Member}
 use Rattle.group_engine.specs.Copying.{IsWith}
 use Rattle.group_engine.specs.Dropping.{HasWritten}
-use Rattle.group_engine.proofs.Copied.{with_have}
+use Rattle.group_engine.proofs.Including.{with_have}
 use Rattle.group_engine.proofs.Records.{record_parts, same_below}
 use Rattle.group_engine.proofs.copying.name_copy.Goals as goal
 

@@ -2,4 +2,4 @@ use Rattle.group_engine.proofs.Endings.{ends_on}
 use Rattle.group_engine.proofs.mounted.Mounted.end_operation.Goals as goal
 
 pub returns-in-Ok-clause-ends : goal.returns-in-Ok-clause-ends
-returns-in-Ok-clause-ends g c = ends_on c.end_record.result c.cut_chunks.ensures.goes.keeps c.in-Ok.ensures.goes.mounted c.cut_chunks.ensures.status c.in-Ok.ensures.files c.end_record.ensures.ends
+returns-in-Ok-clause-ends g c = ends_on c.end_record.result c.in-Ok.ensures c.end_record.ensures.ends
