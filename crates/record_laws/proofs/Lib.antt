@@ -1,0 +1,11 @@
+pub mod Bare
+pub mod Described
+pub mod Covered
+pub mod Images
+pub mod Getting
+pub mod Modes
+pub mod Changing
+pub mod Partners
+pub mod Fewer
+pub mod Entries
+pub mod Gone

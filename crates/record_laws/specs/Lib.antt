@@ -1,0 +1,4 @@
+pub mod Describing
+pub mod Getting
+pub mod Changing
+pub mod Gone
