@@ -3,16 +3,11 @@ use Rattle.std.proofs.Common.{◌≡◌, ⊎_elim, ℕ, ◌≤◌, List, sym, ap
 use Rattle.std.proofs.lemmas.Option.{same_Some}
 use Rattle.bay.specs.Counts.{Rose}
 use Rattle.bay.specs.State.{BayState}
-use Rattle.asm_base.specs.Records.{Entry}
-use Rattle.asm_formats.specs.Items.{DiskInfo, Key}
 use Rattle.asm_base.specs.declared.refusal.DiskRef.{DiskRef}
 use Rattle.asm_base.specs.declared.refusal.DiskRef.TheVariants as disk
 use Rattle.asm_base.specs.declared.refusal.Refusal.{Refusal}
 use Rattle.asm_base.specs.declared.refusal.Refusal.TheVariants as refusal
-use Rattle.catalog.specs.Applying.{Leaves}
-use Rattle.catalog.specs.Plans.{IsDiskRefusal, IsPlan}
-use Rattle.catalog_tables.specs.Tables.{Catalogued, Tables}
-use Rattle.group_engine.specs.Commits.{CommitCause, DismountCause, StatusCause}
+use Rattle.group_engine.specs.Commits.{DismountCause, StatusCause}
 use Rattle.group_engine.specs.Mounts.{IsMounted, MountedGroup, slot_at}
 use Rattle.group_engine.specs.Own.{KeepsGroup}
 use Rattle.group_engine.specs.declared.access.Access.{Access}
@@ -36,20 +31,6 @@ pub status_clear : (old new : MountedGroup) (s t : BayState) (given : Refusal) �
 status_clear old new s t (refusal.Dismounted by) mounted cause = dismount_clear old new s t by mounted cause
 status_clear old new s t refusal.NoMemory mounted cause = tt
 status_clear old new s t other mounted cause = absurd cause
-
-pub commit_clear : (old : MountedGroup) (put : List Entry) (new : MountedGroup) (s t : BayState) (given : Refusal) → IsMounted old → CommitCause old put new s t given → IsClearCause old s t given
-commit_clear old put new s t (refusal.DirectoryFull need free) mounted cause = tt
-commit_clear old put new s t (refusal.Dismounted by) mounted cause = dismount_clear old new s t by mounted cause
-commit_clear old put new s t refusal.NoMemory mounted cause = tt
-commit_clear old put new s t other mounted cause = absurd cause
-
--- a plan is refused for want of memory or of a block
-pub plan_clear : (m : MountedGroup) (s t : BayState) (c : Catalogued) (d : ℕ) (info : Option DiskInfo) (given : Refusal) → IsDiskRefusal c d info given → IsClearCause m s t given
-plan_clear m s t c d info given why = ⊎_elim (λ e. subst (IsClearCause m s t) (sym e) tt) (λ full. subst (IsClearCause m s t) (sym full.0) tt) why
-
--- a plan of the catalog may be committed
-pub plan_leaves : (m : MountedGroup) (c : Catalogued) (put : List Entry) (gone : List Key) (u : Tables) → c ≡ m.catalog → IsPlan c put gone u → Leaves m.catalog put gone u
-plan_leaves m c put gone u same plan = subst (λ (k : Catalogued). Leaves k put gone u) same (record { after = plan.after; rules = plan.rules; units = plan.units })
 
 -- a later fault of the same group, and an earlier start
 failed_on : (a b : MountedGroup) (d : ℕ) (s m t : BayState) → KeepsGroup a b s m → HasFailed b d m t → HasFailed a d s t

@@ -27,8 +27,12 @@ pub mod Held
 pub mod MountedParts
 pub mod Spared
 pub mod Clears
+pub mod LeftOver
 pub mod Brought
+pub mod BroughtMounts
 pub mod Drops
 pub mod Makes
 pub mod Births
 pub mod Takeovers
+pub mod LeftDisks
+pub mod LeftMounted

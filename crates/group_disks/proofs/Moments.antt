@@ -31,6 +31,7 @@ widened_from {slots} {step} {whole} {a} {b} P sound all within run = record {
   faults = run.faults;
   other_faults = run.other_faults;
   other_written = run.other_written;
+  tells = run.tells;
   held = λ image holds. let from = run.held image holds in (from.0, from.1, within from.0 image (all from.0 (sound.held from.0 from.1)) from.2);
   ended = run.ended;
   moments = λ m image low high left. let from = run.moments m image low high left in (from.0, from.1, within from.0 image (all from.0 from.1) from.2);

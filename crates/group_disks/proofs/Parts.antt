@@ -33,6 +33,7 @@ module _ {step : Image → Image → Type 0} {P : Image → Type 0} {a b : BaySt
     faults = run.faults;
     other_faults = run.other_faults;
     other_written = run.other_written;
+    tells = run.tells;
     held = λ image holds. let from = run.held image holds in (from.0, from.1, (from.2, only.each b.calls image only.later (omega arith) (sound.held image holds)));
     ended = run.ended;
     moments = λ m image low high left. let from = run.moments m image low high left in (from.0, from.1, (from.2, only.each m image low high left));
@@ -174,6 +175,7 @@ module _ (slot : ℕ) (plan : Plan) where
       faults = first.faults;
       other_faults = first.other_faults;
       other_written = first.other_written;
+      tells = first.tells;
       held = λ image holds. let from = first.held image holds in (from.0, from.1, header_forms from.0 image (room.now from.0 (sound.held from.0 from.1)) from.2);
       ended = first.ended;
       moments = λ m image low high left. let from = first.moments m image low high left in (from.0, from.1, header_forms from.0 image (room.now from.0 from.1) from.2);

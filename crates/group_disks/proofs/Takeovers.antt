@@ -47,7 +47,7 @@ module _ (name : Bytes) (n : ℕ) (held : List ℕ) (option : MountOption) (foun
     left : AreThere f.slots f.headed state
     left = there_left held n found f state is slots there
 
-    is_inside : (slot : ℕ) → IsSlotIn f.headed slot → slot < n
+    pub is_inside : (slot : ℕ) → IsSlotIn f.headed slot → slot < n
     is_inside slot in_f = subst (λ (k : ℕ). slot < k) (ap (λ (d : FoundDisks). d.slots) is ∙ slots) (slots_inside f.slots f.headed state left slot in_f)
 
     is_free : (slot : ℕ) → IsSlotIn f.headed slot → IsHeldSlot held slot → ⊥
@@ -58,7 +58,7 @@ module _ (name : Bytes) (n : ℕ) (held : List ℕ) (option : MountOption) (foun
     reads_spare {s} {t} before run = spares_on held n before (spares_some held n is_inside (same_held held) run)
 
     module _ (q : Quorate) (heads : q.headed.items ≡ f.headed) where
-      in_left : (slot : ℕ) → IsSlotIn q.headed.items slot → IsSlotIn f.headed slot
+      pub in_left : (slot : ℕ) → IsSlotIn q.headed.items slot → IsSlotIn f.headed slot
       in_left slot in_q = subst (λ (l : List Headed). IsSlotIn l slot) heads in_q
 
       front_held : (x y : Image) → ChangesOnly (FrontOf (members_with q.id q.headed.items)) x y → SameHeld held x y

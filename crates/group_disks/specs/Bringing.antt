@@ -1,11 +1,15 @@
 -- The directory copies that a mount brings up.
-use Rattle.std.specs.Prelude.{◌≡◌, ◌⊎◌, ℕ, ◌<◌, ◌==◌, ◌&&◌, ◌||◌, Bool, true, false, List, [], ◌∷◌, get_or, if◌then◌else◌, Some, None}
+use Rattle.std.specs.Prelude.{◌≡◌, ◌⊎◌, ℕ, ◌+◌, ◌*◌, ◌^◌, ◌<◌, ◌==◌, ◌&&◌, ◌||◌, Bool, true, false, List, [], ◌∷◌, get_or, if◌then◌else◌, Some, None}
 use Rattle.bay.specs.Counts.{Rose}
+use Rattle.bay.specs.Moments.{LeavesOnly}
 use Rattle.bay.specs.State.{BayState}
+use Rattle.asm_group.specs.Group.{Group}
 use Rattle.asm_formats.specs.Regions.{has_region}
 use Rattle.asm_formats.specs.Sets.{has_bit}
 use Rattle.asm_formats.specs.Status.{Status}
-use Rattle.group_engine.specs.Mounts.{IsReady, IsWhole, MountedGroup}
+use Rattle.asm_images.specs.Kept.{Kept}
+use Rattle.group_engine.specs.Commits.{StandsIn, turns_at_most}
+use Rattle.group_engine.specs.Mounts.{IsReady, IsWhole, MountedGroup, Mounts}
 use Rattle.group_engine.specs.Own.{KeepsGroup}
 use Rattle.group_engine.specs.declared.attached.Attached.{Attached}
 use Rattle.status_register.specs.Holders.{is_of}
@@ -43,3 +47,15 @@ IsBrought {B} state old d new s t =
 -- so are those of the first disks that are in the set
 abbrev pub AreBrought : {B : Type 0} → (B → BayState) → MountedGroup → ℕ → ℕ → MountedGroup → BayState → BayState → Type 0
 AreBrought {B} state old set front new s t = (d : ℕ) → d < front → has_bit set d ≡ true → IsBrought state old d new s t
+
+-- turns don't run out while directories are stored on so many disks, one after the other
+abbrev pub TurnsLast : ℕ → MountedGroup → Type 0
+TurnsLast calls m = turns_at_most m + 2 * calls < 2 ^ 64
+
+-- at each moment of that each image is held for the group that was mounted
+abbrev pub StandWhile : ℕ → MountedGroup → BayState → BayState → Type 0
+StandWhile calls old s t = TurnsLast calls old → (n : ℕ) (g : Group) (kept : Kept) → Mounts n old s g kept → LeavesOnly s t (StandsIn n old.register.id (g ∷ []) kept)
+
+-- it is mounted afterwards, with the same disks
+abbrev pub MountsBehind : ℕ → MountedGroup → MountedGroup → BayState → BayState → Type 0
+MountsBehind calls old new s t = TurnsLast calls old → (n : ℕ) (g : Group) (kept : Kept) → Mounts n old s g kept → (later : Kept) × (later.slots ≡ kept.slots) × Mounts n new t g later

@@ -1,13 +1,38 @@
--- Why a mounted group is lost while a mount ends what a stop left undone.
-use Rattle.std.specs.Prelude.{◌≡◌, ⊤, ℕ, Some}
+-- What a mount ends of what a stop left undone, and why the group is lost at that.
+use Rattle.std.specs.Prelude.{◌≡◌, ◌<◌, ⊤, ℕ, Bool, false, not, if◌then◌else◌, List, Option, Some, None}
+use Rattle.std.specs.Option.{option_map}
 use Rattle.bay.specs.Counts.{Rose}
 use Rattle.bay.specs.State.{BayState}
 use Rattle.asm_base.specs.declared.refusal.DiskRef.TheVariants as disk
 use Rattle.asm_base.specs.declared.refusal.Refusal.{Refusal}
 use Rattle.asm_base.specs.declared.refusal.Refusal.TheVariants as refusal
+use Rattle.asm_formats.specs.Items.{DiskInfo}
+use Rattle.asm_formats.specs.Status.{Entry, entry_of}
+use Rattle.catalog_tables.specs.Disks.{Disk, info_at, without_disk}
+use Rattle.catalog_tables.specs.Tables.{Tables}
+use Rattle.status_register.specs.Registered.{is_birth}
 use Rattle.group_engine.specs.Mounts.{MountedGroup, slot_at}
 use Rattle.group_mount.specs.declared.error.MountError.{MountError}
 use Rattle.group_mount.specs.declared.error.MountError.TheVariants as error
+
+-- the entries have none of this number and of the birth that the record says
+abbrev pub lacks_entry : List Entry → ℕ → Option DiskInfo → Bool
+lacks_entry entries d None = false
+lacks_entry entries d (Some info) = not (is_birth (option_map (λ (e : Entry). e.birth) (entry_of entries d)) info.birth)
+
+-- the disk of this number has a record, and no entry of its birth
+abbrev pub is_left_over : List Entry → List Disk → ℕ → Bool
+is_left_over entries disks d = lacks_entry entries d (info_at disks d)
+
+-- the tables without the record of a disk, where that is left over
+abbrev pub without_left_over : List Entry → Tables → ℕ → Tables
+without_left_over entries t d = if is_left_over entries t.disks d then record t { disks = without_disk t.disks d } else t
+
+-- Of the disks below a number no record is left over; each record that wasn't is as it was, and so is all else.
+pub record HaveDropped (entries : List Entry) (t : Tables) (n : ℕ) (u : Tables) : Type 0 where
+  pub rest : u ≡ record t { disks = u.disks }
+  pub dropped : (d : ℕ) → d < n → is_left_over entries u.disks d ≡ false
+  pub kept : (d : ℕ) → is_left_over entries t.disks d ≡ false → info_at u.disks d ≡ info_at t.disks d
 
 -- the disk of this number is attached, and failed
 abbrev pub HasFailed : MountedGroup → ℕ → BayState → BayState → Type 0

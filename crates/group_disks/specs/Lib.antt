@@ -12,3 +12,4 @@ pub mod Stages
 pub mod CreateLaws
 pub mod Probes
 pub mod Ready
+pub mod Leaving

@@ -1,9 +1,11 @@
 // The directory copies that lag behind are brought up by the mount: those that the record named, on disks that were read.
-ghost use Rattle.std.specs.Prelude.{◌≡◌, ◌<◌, None, Some, get_or, OnOk, IfErr};
+ghost use Rattle.std.specs.Prelude.{◌≡◌, ◌+◌, ◌*◌, ◌<◌, ◌≤◌, None, Some, get_or, OnOk, IfErr};
 ghost use Rattle.asm_base.specs.declared.refusal.Refusal.TheVariants.{NoMemory as WithoutMemory};
 ghost use Rattle.asm_formats.specs.Regions.{has_region};
-ghost use Rattle.group_disks.specs.Bringing.{AreBrought, AreNamed, IsBrought, is_named};
+ghost use Rattle.group_disks.specs.Bringing.{AreBrought, AreNamed, IsBrought, MountsBehind, StandWhile, is_named};
 ghost use Rattle.group_disks.specs.Clearing.{IsClearCause};
+ghost use Rattle.group_engine.specs.Commits.{turns_at_most};
+ghost use Rattle.group_engine.specs.Copying.{MountsLater, StandThrough};
 ghost use Rattle.group_engine.specs.Mounts.{IsMounted, Takes};
 ghost use Rattle.group_engine.specs.Own.{KeepsGroup};
 ghost use Rattle.group_engine.specs.declared.attached.Attached.{Attached as AttachedDisk};
@@ -80,6 +82,9 @@ fn bring_up<B: Bay>(alloc: Global, bay: &mut B, m: &mut Mounted, disk: u8) -> Re
     ensures mounted { OnOk result (IsMounted m.new) }
     ensures brought { OnOk result (IsBrought B.state m.old disk m.new (B.state bay.old) (B.state bay.new)) }
     ensures cause { IfErr result (IsClearCause m.old (B.state bay.old) (B.state bay.new)) }
+    ensures moments { StandThrough m.old (B.state bay.old) (B.state bay.new) }
+    ensures mounts { IsMounted m.new → MountsLater m.old m.new (B.state bay.old) (B.state bay.new) }
+    ensures turns { turns_at_most m.new ≤ turns_at_most m.old + 2 }
 {
     if !has_room(m, disk) {
         return Ok(());
@@ -104,6 +109,11 @@ pub fn bring_all<B: Bay>(
     ensures mounted { OnOk result (IsMounted m.new) }
     ensures brought { OnOk result (AreBrought B.state m.old disks 64 m.new (B.state bay.old) (B.state bay.new)) }
     ensures cause { IfErr result (IsClearCause m.old (B.state bay.old) (B.state bay.new)) }
+    // At each moment each image stands for the group. While it isn't dismounted the group is mounted, with the same disks.
+    ensures moments { StandWhile 64 m.old (B.state bay.old) (B.state bay.new) }
+    ensures mounts { IsMounted m.new → MountsBehind 64 m.old m.new (B.state bay.old) (B.state bay.new) }
+    // Each disk takes a turn at most, and its copy may cost another once it fails.
+    ensures turns { turns_at_most m.new ≤ turns_at_most m.old + 2 * 64 }
 {
     for disk in 0..64u8 {
         if disks.has(disk) {

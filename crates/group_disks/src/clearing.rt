@@ -1,8 +1,11 @@
 // What a stop left undone of a group is ended by the mount: records of disks without an entry, and the pending operation.
-ghost use Rattle.std.specs.Prelude.{◌≡◌, None, IfErr, OnOk};
-ghost use Rattle.group_disks.specs.Clearing.{IsClearCause, IsDead, IsRefusalOf};
+ghost use Rattle.std.specs.Prelude.{◌≡◌, ◌≤◌, None, IfErr, OnOk};
+ghost use Rattle.group_disks.specs.Clearing.{HaveDropped, IsClearCause, IsDead, IsRefusalOf, is_left_over, without_left_over};
+ghost use Rattle.group_of.specs.Describing.{KeepsNames};
+ghost use Rattle.group_engine.specs.Commits.{KeepsRecord, turns_at_most};
 ghost use Rattle.group_engine.specs.Mounts.{IsMounted, Takes};
 ghost use Rattle.group_engine.specs.Own.{KeepsGroup};
+ghost use Rattle.group_engine.specs.Pending.{EndsOn, StandsThrough, StaysMounted};
 
 use asm_base::{DiskRef, Refusal};
 use bay::Bay;
@@ -14,7 +17,9 @@ use status_table::PstRecord;
 use std::alloc::Global;
 
 /// Whether a disk has a record without an entry of its birth.
-fn is_left_over(catalog: &Catalog, status: &PstRecord, number: u8) -> bool {
+fn is_left_over(catalog: &Catalog, status: &PstRecord, number: u8) -> bool
+    ensures { result ≡ is_left_over status.now.entries catalog.now.tables.disks number }
+{
     match catalog.disk(number) {
         Some(info) => {
             let disk = Member {
@@ -38,24 +43,23 @@ fn drop_record<B: Bay>(
 ) -> Result<(), Refusal>
     requires mounted { IsMounted m.old }
     requires takes { Takes m.old (B.state bay.old) }
-    ensures keeps { KeepsGroup m.old m.new (B.state bay.old) (B.state bay.new) }
-    ensures mounted { OnOk result (IsMounted m.new) }
-    ensures cause { IfErr result (IsClearCause m.old (B.state bay.old) (B.state bay.new)) }
+    ensures ends { EndsOn m.old result m.new (B.state bay.old) (B.state bay.new) }
+    ensures dropped { OnOk result (m.new.catalog.tables ≡ without_left_over m.old.register.value.entries m.old.catalog.tables number) }
 {
     if !is_left_over(m.catalog(), m.status(), number) {
         return Ok(());
     }
     let change = m.catalog().plan_disk(alloc, number, None)?;
-    m.commit(alloc, bay, &change)
+    m.commit_plan(alloc, bay, &change)
 }
 
 /// Takes away the disk records that have no entry.
 fn drop_records<B: Bay>(alloc: Global, bay: &mut B, m: &mut Mounted) -> Result<(), Refusal>
     requires mounted { IsMounted m.old }
     requires takes { Takes m.old (B.state bay.old) }
-    ensures keeps { KeepsGroup m.old m.new (B.state bay.old) (B.state bay.new) }
-    ensures mounted { OnOk result (IsMounted m.new) }
-    ensures cause { IfErr result (IsClearCause m.old (B.state bay.old) (B.state bay.new)) }
+    ensures ends { EndsOn m.old result m.new (B.state bay.old) (B.state bay.new) }
+    // Once it is done, just the records that were left over are gone.
+    ensures dropped { OnOk result (HaveDropped m.old.register.value.entries m.old.catalog.tables 64 m.new.catalog.tables) }
 {
     for number in 0..64u8 {
         drop_record(alloc, bay, m, number)?;
@@ -71,6 +75,16 @@ pub fn clean_up<B: Bay>(alloc: Global, bay: &mut B, m: &mut Mounted) -> Result<(
     ensures mounted { OnOk result (IsMounted m.new) }
     ensures ended { OnOk result (m.new.catalog.tables.operations.pending ≡ None) }
     ensures cause { IfErr result (IsClearCause m.old (B.state bay.old) (B.state bay.new)) }
+    // Whatever it answers, the record that holds has the entries and the sets of the one before, and no directory copy more.
+    ensures status { KeepsRecord m.old.register.value m.new.register.value }
+    // Once it is done, heads, names, templates and settings are as before.
+    ensures names { OnOk result (KeepsNames m.old.catalog.tables m.new.catalog.tables) }
+    // The group stays the one that it is: each image of each moment is held for it alone, whatever comes, and while it takes
+    // calls it is mounted.
+    ensures moments { StandsThrough m.old (B.state bay.old) (B.state bay.new) }
+    ensures stays { IsMounted m.new → StaysMounted m.old m.new (B.state bay.old) (B.state bay.new) }
+    // Each turn that it takes costs a copy.
+    ensures turns { turns_at_most m.new ≤ turns_at_most m.old }
 {
     drop_records(alloc, bay, m)?;
     m.end_pending(alloc, bay)

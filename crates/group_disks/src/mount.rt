@@ -1,11 +1,13 @@
 //! A group is found by its name and mounted: its record is claimed and written anew, and what a stop left undone is ended.
-ghost use Rattle.std.specs.Prelude.{◌≡◌, ◌<◌, ◌≤◌, ℕ, None, length, IfErr, IfOk, OnOk};
+ghost use Rattle.std.specs.Prelude.{◌≡◌, ◌+◌, ◌*◌, ◌<◌, ◌≤◌, ℕ, None, length, IfErr, IfOk, OnOk};
+ghost use Rattle.group_engine.specs.Commits.{turns_at_most};
 ghost use Rattle.group_engine.specs.Frames.{StaysAttached};
 ghost use Rattle.group_engine.specs.Mounts.{IsMounted, IsOwn, IsWhole, Takes};
 ghost use Rattle.group_engine.specs.Own.{KeepsGroup};
-ghost use Rattle.group_disks.specs.Bringing.{AreBrought};
+ghost use Rattle.group_disks.specs.Bringing.{AreBrought, MountsBehind, StandWhile};
 ghost use Rattle.group_disks.specs.Clearing.{IsClearCause};
 ghost use Rattle.group_disks.specs.Holding.{SparesHeld};
+ghost use Rattle.group_disks.specs.Leaving.{LeavesClaimed, LeavesRefused, MountsOne, WasMounted};
 ghost use Rattle.group_disks.specs.Mounting.{AreSmall, IsMountedBy, IsMountCause, IsRecovered, IsTakenOver, WasQuorate, by_number, mounted_of};
 
 use crate::bringing::{bring_all, named_disks};
@@ -76,6 +78,11 @@ fn take_over<B: Bay>(
     ensures was { IfOk result (λ _. WasQuorate B.state name.now (length paths.now) held.now option (B.state bay.old)) }
     ensures attached { StaysAttached (B.state bay.old) (B.state bay.new) }
     ensures spares { SparesHeld held.now (length paths.now) (B.state bay.old) (B.state bay.new) }
+    // Refused, each image of each moment stands for groups that it might stand for before.
+    ensures leaves { IfErr result (λ _. LeavesClaimed B.state name.now (length paths.now) held.now option (B.state bay.old) (B.state bay.new)) }
+    ensures refused { IfErr result (LeavesRefused B.state name.now (length paths.now) held.now option (B.state bay.old) (B.state bay.new)) }
+    // Once it is done, one of these groups is mounted on the disks as they are.
+    ensures mounts { IfOk result (λ taken. MountsOne B.state name.now (length paths.now) held.now option taken.group (B.state bay.old) (B.state bay.new)) }
 {
     let searched = Found::find(alloc, bay, paths, name)?;
     let found = searched.without(held);
@@ -105,6 +112,11 @@ fn finish<B: Bay>(
     ensures brought { OnOk result (AreBrought B.state m.old named 64 m.new (B.state bay.old) (B.state bay.new)) }
     ensures ended { OnOk result (m.new.catalog.tables.operations.pending ≡ None) }
     ensures cause { IfErr result (IsClearCause m.old (B.state bay.old) (B.state bay.new)) }
+    // At each moment each image is held for the group that was mounted, whatever comes. While it takes calls it is mounted, with
+    // the same disks. Turns must be left for 64 copies, and for what a stop left undone.
+    ensures moments { StandWhile 65 m.old (B.state bay.old) (B.state bay.new) }
+    ensures mounts { IsMounted m.new → MountsBehind 65 m.old m.new (B.state bay.old) (B.state bay.new) }
+    ensures turns { turns_at_most m.new ≤ turns_at_most m.old + 2 * 64 }
 {
     bring_all(alloc, bay, m, named)?;
     clean_up(alloc, bay, m)
@@ -134,6 +146,11 @@ pub fn mount_group<B: Bay>(
     // Of other groups nothing changes: what was attached stays so, and the disks in these slots do.
     ensures attached { StaysAttached (B.state bay.old) (B.state bay.new) }
     ensures spares { SparesHeld held.now (length paths.now) (B.state bay.old) (B.state bay.new) }
+    // A refusal for what was found or read leaves all as it was, and at each moment of a claim the images stand for groups of before.
+    ensures refused { IfErr result (LeavesRefused B.state name.now (length paths.now) held.now option (B.state bay.old) (B.state bay.new)) }
+    // With its record anew one of these groups was mounted on the disks as they were. It went on from there: since then each image
+    // is held for it alone, and it is mounted on the disks as they are.
+    ensures mounts { IfOk result (λ m. WasMounted B.state name.now (length paths.now) held.now option m (B.state bay.old) (B.state bay.new)) }
 {
     let taken = take_over(alloc, bay, paths, name, option, now, held)?;
     let named = taken.named;

@@ -1,17 +1,56 @@
-use Rattle.std.proofs.lemmas.Result.{IfErr-weaker}
-use Rattle.group_engine.proofs.Causes.{calls_keep}
-use Rattle.group_disks.proofs.Clears.{clear_on, status_clear}
+use Rattle.std.proofs.lemmas.Result.{IfErr-weaker, err_from_is_err_and}
+use Rattle.group_engine.specs.Pending.{EndsOn}
+use Rattle.group_engine.proofs.Endings.{ends_on}
+use Rattle.group_disks.proofs.Clears.{status_clear}
+use Rattle.group_disks.proofs.LeftOver.{stays_of}
 use Rattle.group_disks.proofs.clearing.clean_up.Goals as goal
 
-pub returns-clause-keeps : goal.returns-clause-keeps
-returns-clause-keeps g c = calls_keep c.drop_records.ensures.keeps c.end_pending.ensures.keeps
+pub end_pending-requires-clause-whole : goal.end_pending-requires-clause-whole
+end_pending-requires-clause-whole g c = c.in_ok-drop_records.ensures.ends.goes.keeps.whole
 
-pub returns-clause-cause : goal.returns-clause-cause
-returns-clause-cause g c =
+pub end_pending-requires-clause-ready : goal.end_pending-requires-clause-ready
+end_pending-requires-clause-ready g c = c.in_ok-drop_records.ensures.ends.goes.keeps.ready
+
+pub returns-in_err-drop_records : goal.returns-in_err-drop_records
+returns-in_err-drop_records g c =
+    let p = err_from_is_err_and c.from_residual.result c.from_residual.ensures.1 in
+    let ends = c.in_err-drop_records.ensures.ends in
+    rw (p.1, p.2) (record {
+      keeps = ends.goes.keeps;
+      mounted = tt;
+      ended = tt;
+      cause = status_clear c.args.m.now c.drop_records.new.m (g.B.Bay.state c.args.bay.now) (g.B.Bay.state c.drop_records.new.bay) c.in_err-drop_records.field-0.0 c.requires.mounted ends.goes.cause;
+      status = ends.status;
+      names = tt;
+      moments = ends.moments;
+      stays = ends.stays;
+      turns = ends.turns;
+    })
+
+pub returns : goal.returns
+returns g c =
+    let a = c.args.m.now in
+    let b = c.end_pending.new.self in
     let s = g.B.Bay.state c.args.bay.now in
-    let u = g.B.Bay.state c.drop_records.new.bay in
     let t = g.B.Bay.state c.end_pending.new.bay in
-    IfErr-weaker c.end_pending.result _ _
-    (λ given cause. clear_on c.args.m.now c.drop_records.new.m s u t given c.drop_records.ensures.keeps
-    (status_clear c.drop_records.new.m c.end_pending.new.self u t given c.in_ok-drop_records.ensures.mounted cause))
-    c.end_pending.ensures.cause
+    let is = c.end_pending.ensures in
+    let last : EndsOn c.drop_records.new.m c.end_pending.result b (g.B.Bay.state c.drop_records.new.bay) t = record {
+      goes = record { keeps = is.keeps; mounted = is.mounted; cause = is.cause };
+      status = is.status;
+      names = is.names;
+      turns = is.turns;
+      moments = is.moments;
+      stays = stays_of c.end_pending.result is.done is.closed;
+    } in
+    let ends : EndsOn a c.end_pending.result b s t = ends_on c.end_pending.result c.in_ok-drop_records.ensures.ends last in
+    record {
+      keeps = ends.goes.keeps;
+      mounted = ends.goes.mounted;
+      ended = is.ended;
+      cause = IfErr-weaker c.end_pending.result _ _ (λ given why. status_clear a b s t given c.requires.mounted why) ends.goes.cause;
+      status = ends.status;
+      names = ends.names;
+      moments = ends.moments;
+      stays = ends.stays;
+      turns = ends.turns;
+    }

@@ -1,9 +1,10 @@
-use Rattle.group_engine.specs.Mounts.{IsMounted}
-use Rattle.group_engine.specs.Own.{KeepsGroup}
+use Rattle.std.specs.Prelude.{Ok}
+use Rattle.group_engine.specs.Pending.{EndsOn}
+use Rattle.group_disks.specs.Clearing.{HaveDropped}
 use Rattle.group_disks.proofs.clearing.drop_records.Given as goal
 
 abbrev pub invariant-loop-number : goal.invariant-loop-number
 invariant-loop-number g l = record {
-  keeps : KeepsGroup l.fn.m l.m (g.B.Bay.state l.fn.bay) (g.B.Bay.state l.bay);
-  mounted : IsMounted l.m;
+  ends : EndsOn l.fn.m (Ok tt) l.m (g.B.Bay.state l.fn.bay) (g.B.Bay.state l.bay);
+  dropped : HaveDropped l.fn.m.register.value.entries l.fn.m.catalog.tables l.number l.m.catalog.tables;
 }

@@ -24,24 +24,24 @@ returns-in_err-store-clause-moments g c =
 pub returns-in-Ok-clause-runs : goal.returns-in-Ok-clause-runs
 returns-in-Ok-clause-runs g c =
     both_run (directory_run c.args.slot c.args.group.now c.give_directory.ensures.runs)
-    (record_run c.args.slot c.args.group.now (rw c.requires.bodies.claim at (rw c.requires.bodies.status at c.give_record.ensures.runs)))
+    (record_run c.args.slot c.args.group.now (rw c.requires.bodies.claim at (rw c.requires.bodies.status at c.give_record.ensures.calls.runs)))
 
 pub returns-in-Err-clause-runs : goal.returns-in-Err-clause-runs
 returns-in-Err-clause-runs g c =
     both_run (directory_run c.args.slot c.args.group.now c.give_directory.ensures.runs)
-    (record_run c.args.slot c.args.group.now (rw c.requires.bodies.claim at (rw c.requires.bodies.status at c.give_record.ensures.runs)))
+    (record_run c.args.slot c.args.group.now (rw c.requires.bodies.claim at (rw c.requires.bodies.status at c.give_record.ensures.calls.runs)))
 
 pub returns-in-Ok-clause-moments : goal.returns-in-Ok-clause-moments
 returns-in-Ok-clause-moments g c =
     let filled = filled_now c.args.slot c.args.group.now c.requires.headed c.give_directory.ensures.runs c.in_ok-store.ensures.done in
     leaves_on (directory_moments c.args.slot c.args.group.now c.requires.headed c.give_directory.ensures.runs c.give_directory.ensures.moments)
-    (record_moments c.args.slot c.args.group.now filled (rw c.requires.bodies.claim at (rw c.requires.bodies.status at c.give_record.ensures.runs)))
+    (record_moments c.args.slot c.args.group.now filled (rw c.requires.bodies.claim at (rw c.requires.bodies.status at c.give_record.ensures.calls.runs)))
 
 pub returns-in-Err-clause-moments : goal.returns-in-Err-clause-moments
 returns-in-Err-clause-moments g c =
     let filled = filled_now c.args.slot c.args.group.now c.requires.headed c.give_directory.ensures.runs c.in_ok-store.ensures.done in
     leaves_on (directory_moments c.args.slot c.args.group.now c.requires.headed c.give_directory.ensures.runs c.give_directory.ensures.moments)
-    (record_moments c.args.slot c.args.group.now filled (rw c.requires.bodies.claim at (rw c.requires.bodies.status at c.give_record.ensures.runs)))
+    (record_moments c.args.slot c.args.group.now filled (rw c.requires.bodies.claim at (rw c.requires.bodies.status at c.give_record.ensures.calls.runs)))
 
 pub returns-in-Ok-clause-done : goal.returns-in-Ok-clause-done
 returns-in-Ok-clause-done g c =
@@ -50,5 +50,5 @@ returns-in-Ok-clause-done g c =
 
 pub returns-in-Ok-clause-store : goal.returns-in-Ok-clause-store
 returns-in-Ok-clause-store g c =
-    store_stays c.args.slot c.args.group.now c.requires.plan c.in_ok-store.store (λ x y step. step.elsewhere) c.give_record.ensures.attached
-    (rw c.requires.bodies.claim at (rw c.requires.bodies.status at c.give_record.ensures.runs)) c.in_ok-store.ensures.store
+    store_stays c.args.slot c.args.group.now c.requires.plan c.in_ok-store.store (λ x y step. step.elsewhere) c.give_record.ensures.calls.attached
+    (rw c.requires.bodies.claim at (rw c.requires.bodies.status at c.give_record.ensures.calls.runs)) c.in_ok-store.ensures.store

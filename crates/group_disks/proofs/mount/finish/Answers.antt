@@ -1,6 +1,8 @@
+use Rattle.std.proofs.Common.{arith}
 use Rattle.std.proofs.lemmas.Result.{IfErr-weaker, err_from_is_err_and}
 use Rattle.group_engine.proofs.Causes.{calls_keep}
 use Rattle.group_disks.proofs.Brought.{brought_on, ok_of}
+use Rattle.group_disks.proofs.BroughtMounts.{mounts_for_more, mounts_to_end, stands_for_more, stands_to_end}
 use Rattle.group_disks.proofs.Clears.{clear_on}
 use Rattle.group_disks.proofs.mount.finish.Goals as goal
 
@@ -25,3 +27,26 @@ returns-clause-cause g c =
     IfErr-weaker c.clean_up.result _ _
     (λ given cause. clear_on c.args.m.now c.bring_all.new.m (g.B.Bay.state c.args.bay.now) (g.B.Bay.state c.bring_all.new.bay) (g.B.Bay.state c.clean_up.new.bay) given c.bring_all.ensures.keeps cause)
     c.clean_up.ensures.cause
+
+-- ---- the group that was mounted
+
+pub returns-in_err-bring_all-clause-moments : goal.returns-in_err-bring_all-clause-moments
+returns-in_err-bring_all-clause-moments g c =
+    stands_for_more 64 65 c.args.m.now (g.B.Bay.state c.args.bay.now) (g.B.Bay.state c.bring_all.new.bay) (omega arith) c.bring_all.ensures.moments
+
+pub returns-in_err-bring_all-clause-mounts : goal.returns-in_err-bring_all-clause-mounts
+returns-in_err-bring_all-clause-mounts g c = λ mounted.
+    mounts_for_more 64 65 c.args.m.now c.bring_all.new.m (g.B.Bay.state c.args.bay.now) (g.B.Bay.state c.bring_all.new.bay) (omega arith) (c.bring_all.ensures.mounts mounted)
+
+pub returns-clause-moments : goal.returns-clause-moments
+returns-clause-moments g c =
+    stands_to_end 64 c.args.m.now c.bring_all.new.m (g.B.Bay.state c.args.bay.now) (g.B.Bay.state c.bring_all.new.bay) (g.B.Bay.state c.clean_up.new.bay)
+    c.bring_all.ensures.turns (c.bring_all.ensures.mounts c.in_ok-bring_all.ensures.mounted) c.bring_all.ensures.keeps.same.id c.bring_all.ensures.moments c.clean_up.ensures.moments
+
+pub returns-clause-mounts : goal.returns-clause-mounts
+returns-clause-mounts g c = λ mounted.
+    mounts_to_end 64 c.args.m.now c.bring_all.new.m (g.B.Bay.state c.args.bay.now) (g.B.Bay.state c.bring_all.new.bay) (g.B.Bay.state c.clean_up.new.bay)
+    c.bring_all.ensures.turns (c.bring_all.ensures.mounts c.in_ok-bring_all.ensures.mounted) c.clean_up.new.m (c.clean_up.ensures.stays mounted)
+
+pub returns-clause-turns : goal.returns-clause-turns
+returns-clause-turns g c = omega (arith, c.bring_all.ensures.turns, c.clean_up.ensures.turns)

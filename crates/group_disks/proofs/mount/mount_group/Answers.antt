@@ -1,6 +1,8 @@
 use Rattle.std.proofs.Common.{length}
 use Rattle.group_disks.specs.Mounting.{not_cleared}
+use Rattle.group_disks.proofs.BroughtMounts.{on_later, on_through}
 use Rattle.group_disks.proofs.Clears.{lost_by}
+use Rattle.group_disks.proofs.LeftMounted.{lost_refused}
 use Rattle.group_disks.proofs.Staying.{stays_keeps, stays_trans}
 use Rattle.group_disks.proofs.Takeovers.{cleared_spares, recovered, still_mounted}
 use Rattle.group_disks.proofs.mount.mount_group.Goals as goal
@@ -42,3 +44,25 @@ pub returns-in-Err-clause-spares : goal.returns-in-Err-clause-spares
 returns-in-Err-clause-spares g c =
     cleared_spares c.args.name.now (length c.args.paths.now) c.args.held.now c.in_ok-taken.taken.group c.finish.new.m (g.B.Bay.state c.args.bay.now) (g.B.Bay.state c.take_over.new.bay) (g.B.Bay.state c.finish.new.bay)
     c.finish.ensures.keeps c.in_ok-taken.ensures.mounted c.in_ok-taken.ensures.inside c.take_over.ensures.spares
+
+-- ---- what is left on the disks
+
+pub returns-in-Ok-clause-mounts : goal.returns-in-Ok-clause-mounts
+returns-in-Ok-clause-mounts g c =
+    let group = c.in_ok-taken.taken.group in
+    let n = length c.args.paths.now in
+    let u = g.B.Bay.state c.take_over.new.bay in
+    let t = g.B.Bay.state c.finish.new.bay in
+    record {
+      group = group;
+      at = c.take_over.new.bay;
+      one = c.in_ok-taken.ensures.mounts;
+      since = c.finish.ensures.keeps;
+      moments = λ k is. on_through group c.finish.new.m n k u t is c.finish.ensures.moments;
+      now = λ k is. on_later group c.finish.new.m n k u t is (c.finish.ensures.mounts c.in-Ok.ensures.mounted) c.finish.ensures.turns;
+    }
+
+pub returns-in-Err-clause-refused : goal.returns-in-Err-clause-refused
+returns-in-Err-clause-refused g c =
+    lost_refused c.args.name.now (length c.args.paths.now) c.args.held.now c.args.option g.B.Bay.state (g.B.Bay.state c.args.bay.now) (g.B.Bay.state c.finish.new.bay) c.finish.new.m c.in-Err.refusal
+    c.refusal_of_commit.result c.refusal_of_commit.ensures

@@ -6,6 +6,7 @@ use Rattle.status_register.specs.declared.member.Member.{Member}
 use Rattle.group_disks.specs.Bringing.{is_named_in}
 use Rattle.group_disks.specs.Mounting.{IsMountedBy, not_found}
 use Rattle.group_disks.proofs.Held.{there_left}
+use Rattle.group_disks.proofs.LeftMounted.{claim_refused, looks_refused, looks_two, mounts_one, not_read, not_renewed_leaves}
 use Rattle.group_disks.proofs.MountedParts.{parts_mounted, parts_small, parts_whole}
 use Rattle.group_disks.proofs.Spared.{looks_held}
 use Rattle.group_disks.proofs.Staying.{stays_keeps, stays_trans}
@@ -150,3 +151,51 @@ pub returns-clause-was : goal.returns-clause-was
 returns-clause-was g c =
     was_quorate c.args.name.now (length c.args.paths.now) c.args.held.now c.args.option c.in_ok-searched.searched c.without-found.result c.without-found.ensures c.in_ok-searched.ensures.slots
     g.B.Bay.state (g.B.Bay.state c.args.bay.now) c.find.new.bay c.quorate.new.bay c.in_ok-quorate.quorate c.in_ok-searched.ensures.answer c.in_ok-quorate.ensures.answer
+
+-- ---- what is left on the disks
+
+pub returns-in_err-quorate-clause-leaves : goal.returns-in_err-quorate-clause-leaves
+returns-in_err-quorate-clause-leaves g c =
+    let p = err_from_is_err_and c.from_residual-in_err-quorate.result c.from_residual-in_err-quorate.ensures.1 in
+    rw p.1 (not_read c.args.name.now (length c.args.paths.now) c.args.held.now c.args.option c.in_ok-searched.searched c.without-found.result c.without-found.ensures c.in_ok-searched.ensures.slots
+    g.B.Bay.state (g.B.Bay.state c.args.bay.now) c.find.new.bay c.quorate.new.bay (g.B.Bay.state c.quorate.new.bay) c.in_ok-searched.ensures.there c.find.ensures.runs c.quorate.ensures.runs)
+
+pub returns-in_err-parts-clause-leaves : goal.returns-in_err-parts-clause-leaves
+returns-in_err-parts-clause-leaves g c =
+    let p = err_from_is_err_and c.from_residual-in_err-parts.result c.from_residual-in_err-parts.ensures.1 in
+    rw p.1 (not_renewed_leaves c.args.name.now (length c.args.paths.now) c.args.held.now c.args.option c.in_ok-searched.searched c.without-found.result c.without-found.ensures c.in_ok-searched.ensures.slots
+    g.B.Bay.state (g.B.Bay.state c.args.bay.now) c.find.new.bay c.quorate.new.bay (g.B.Bay.state c.recover.new.bay) c.in_ok-searched.ensures.there c.find.ensures.runs c.quorate.ensures.runs
+    c.in_ok-quorate.quorate c.in_ok-searched.ensures.answer c.in_ok-quorate.ensures.answer c.recover.ensures.members c.recover.result c.recover.ensures.leaves)
+
+pub returns-clause-mounts : goal.returns-clause-mounts
+returns-clause-mounts g c =
+    mounts_one c.args.name.now (length c.args.paths.now) c.args.held.now c.args.option c.in_ok-searched.searched c.without-found.result c.without-found.ensures c.in_ok-searched.ensures.slots
+    g.B.Bay.state (g.B.Bay.state c.args.bay.now) c.find.new.bay c.quorate.new.bay (g.B.Bay.state c.recover.new.bay) c.in_ok-searched.ensures.there c.find.ensures.runs c.quorate.ensures.runs
+    c.in_ok-quorate.quorate c.in_ok-searched.ensures.answer c.in_ok-quorate.ensures.answer c.args.now c.in_ok-parts.parts c.in_ok-parts.ensures.parts
+    c.recover.ensures.members c.in_ok-parts.ensures.leaves (g.met.B.Bay.sound c.quorate.new.bay) (g.met.B.Bay.sound c.recover.new.bay) c.mounted_of.result c.mounted_of.ensures
+
+-- ---- the same by the refusal
+
+pub returns-in_err-searched-clause-refused : goal.returns-in_err-searched-clause-refused
+returns-in_err-searched-clause-refused g c =
+    let p = err_from_is_err_and c.from_residual.result c.from_residual.ensures.1 in
+    rw p.1 (looks_refused c.args.name.now (length c.args.paths.now) c.args.held.now c.args.option g.B.Bay.state (g.B.Bay.state c.args.bay.now) (g.B.Bay.state c.find.new.bay) p.0 c.find.ensures.runs)
+
+pub returns-then-not-is_named-clause-refused : goal.returns-then-not-is_named-clause-refused
+returns-then-not-is_named-clause-refused g c = c.find.ensures.runs
+
+pub returns-in_err-quorate-clause-refused : goal.returns-in_err-quorate-clause-refused
+returns-in_err-quorate-clause-refused g c =
+    let p = err_from_is_err_and c.from_residual-in_err-quorate.result c.from_residual-in_err-quorate.ensures.1 in
+    rw p.1 (looks_refused c.args.name.now (length c.args.paths.now) c.args.held.now c.args.option g.B.Bay.state (g.B.Bay.state c.args.bay.now) (g.B.Bay.state c.quorate.new.bay) p.0
+    (looks_two c.args.name.now (length c.args.paths.now) c.args.held.now c.args.option c.in_ok-searched.searched c.without-found.result c.without-found.ensures c.in_ok-searched.ensures.slots
+    g.B.Bay.state (g.B.Bay.state c.args.bay.now) c.find.new.bay c.quorate.new.bay (g.B.Bay.state c.quorate.new.bay) c.in_ok-searched.ensures.there c.find.ensures.runs c.quorate.ensures.runs))
+
+pub returns-in_err-parts-clause-refused : goal.returns-in_err-parts-clause-refused
+returns-in_err-parts-clause-refused g c =
+    let p = err_from_is_err_and c.from_residual-in_err-parts.result c.from_residual-in_err-parts.ensures.1 in
+    rw (p.1, p.2) (claim_refused c.args.name.now (length c.args.paths.now) c.args.held.now c.args.option g.B.Bay.state (g.B.Bay.state c.args.bay.now) (g.B.Bay.state c.recover.new.bay)
+    c.in_ok-quorate.quorate (g.B.Bay.state c.quorate.new.bay) c.in_err-parts.field-0.0 c.in_err-parts.ensures.cause
+    (not_renewed_leaves c.args.name.now (length c.args.paths.now) c.args.held.now c.args.option c.in_ok-searched.searched c.without-found.result c.without-found.ensures c.in_ok-searched.ensures.slots
+    g.B.Bay.state (g.B.Bay.state c.args.bay.now) c.find.new.bay c.quorate.new.bay (g.B.Bay.state c.recover.new.bay) c.in_ok-searched.ensures.there c.find.ensures.runs c.quorate.ensures.runs
+    c.in_ok-quorate.quorate c.in_ok-searched.ensures.answer c.in_ok-quorate.ensures.answer c.recover.ensures.members c.recover.result c.recover.ensures.leaves))
