@@ -1,7 +1,8 @@
 // Where the bytes of a file lie, in pieces.
-ghost use Rattle.std.specs.Prelude.{◌≡◌, ◌<◌, ◌≤◌, IfSome};
+ghost use Rattle.std.specs.Prelude.{◌≡◌, ◌+◌, ◌<◌, ◌≤◌, ◌^◌, IfSome};
 ghost use Rattle.striping.specs.Pieces.{IsLayout};
 ghost use Rattle.group_pieces.specs.Usable.{FitsExtent};
+ghost use Rattle.file_extents.specs.Pieces.{IsFirst, IsOfShape};
 
 use asm_base::{ExtentId, Shape, Span, Stripe};
 use striping::{Layout, next_piece, units_of};
@@ -43,6 +44,9 @@ pub fn first_piece(shape: Shape, layout: Layout, file: u32, at: u64, len: u64) -
     ensures file { IfSome result (λ p. p.x.file ≡ file) }
     ensures some { IfSome result (λ p. 0 < p.len) }
     ensures within { IfSome result (λ p. p.len ≤ len) }
+    ensures end { IfSome result (λ p. at + len < 2 ^ 64) }
+    // The file's bytes from that one on lie there, where the layout is one of the group's.
+    ensures first { IsOfShape layout shape → IfSome result (IsFirst shape layout.stripe file at len) }
 {
     if len > u64::MAX - at {
         return None;
@@ -57,6 +61,7 @@ fn piece_in(shape: Shape, file: u32, extent: u64, inner: u64, len: u64) -> Optio
     ensures fits { IfSome result (λ p. FitsExtent shape p.x.index p.inner p.len) }
     ensures file { IfSome result (λ p. p.x.file ≡ file) }
     ensures len { IfSome result (λ p. (0 < p.len) × (p.len ≤ len)) }
+    ensures place { IfSome result (λ p. (p.x.index ≡ extent) × (p.inner ≡ inner)) }
 {
     if extent > u32::MAX as u64 || len == 0 {
         return None;

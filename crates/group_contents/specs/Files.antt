@@ -1,5 +1,5 @@
 -- Files of a mounted group by their paths, and why calls on them are refused.
-use Rattle.std.specs.Prelude.{◌≡◌, ◌⊎◌, ⊤, ℕ, ◌+◌, ◌%◌, ◌<◌, Bool, false, ◌&&◌, ◌==◌, not, Option, Some, None, if◌then◌else◌}
+use Rattle.std.specs.Prelude.{◌≡◌, ◌⊎◌, ⊤, ℕ, ◌+◌, ◌%◌, ◌<◌, ◌≤◌, Bool, true, false, ◌&&◌, ◌==◌, not, Option, Some, None, if◌then◌else◌}
 use Rattle.std.specs.Option.{option_and_then}
 use Rattle.bay.specs.State.{BayState}
 use Rattle.asm_group.specs.Names.{Path}
@@ -61,11 +61,17 @@ abbrev pub LostCause : MountedGroup → OpenFile → Refusal → Type 0
 LostCause m file (cause.Lost x) = LostIn m file x
 LostCause m file _ = ⊥
 
--- Why a span of a file can't be read or written: it isn't whole sectors, ends behind the file, or has an extent without a usable copy.
+-- The span is whole sectors, and ends in the file.
+pub record IsSpan (m : MountedGroup) (at len : ℕ) (file : OpenFile) : Type 0 where
+  pub sectors : (are_sectors m.catalog.shape at && are_sectors m.catalog.shape len) ≡ true
+  pub within : at + len ≤ file.size
+
+-- Why a span of a file can't be read or written: it isn't whole sectors, or it is and ends behind the file, or it is one of the file and has
+-- an extent without a usable copy.
 abbrev pub SpanCause : MountedGroup → ℕ → ℕ → OpenFile → Refusal → Type 0
 SpanCause m at len file cause.NotSectors = (are_sectors m.catalog.shape at && are_sectors m.catalog.shape len) ≡ false
-SpanCause m at len file cause.OutOfFile = file.size < at + len
-SpanCause m at len file (cause.Lost x) = LostIn m file x
+SpanCause m at len file cause.OutOfFile = ((are_sectors m.catalog.shape at && are_sectors m.catalog.shape len) ≡ true) × (file.size < at + len)
+SpanCause m at len file (cause.Lost x) = IsSpan m at len file × LostIn m file x
 SpanCause m at len file _ = ⊥
 
 -- there is no file at the path, or it is refused for this cause

@@ -1,5 +1,6 @@
 pub mod Creating
 pub mod Files
+pub mod Reading
 pub mod Removing
 pub mod Sizes
 pub mod Works

@@ -1,9 +1,9 @@
 // A file of a mounted group by its path, and which spans of it may be read and written.
-ghost use Rattle.std.specs.Prelude.{◌≡◌, ◌+◌, ◌≤◌, IfErr, IfOk, IfSome, IsTrue, OnOk};
+ghost use Rattle.std.specs.Prelude.{◌≡◌, IfErr, IfOk, IfSome, IsTrue, OnOk};
 ghost use Rattle.striping.specs.Pieces.{IsLayout};
 ghost use Rattle.group_pieces.specs.Usable.{IsLost};
 ghost use Rattle.asm_group.specs.Shape.{is_shape};
-ghost use Rattle.group_contents.specs.Files.{AtFile, IsOpened, LostCause, LostIn, OpenCause, SpanCause, are_sectors, named_file};
+ghost use Rattle.group_contents.specs.Files.{AtFile, IsOpened, IsSpan, LostCause, LostIn, OpenCause, SpanCause, are_sectors, named_file};
 
 use asm_base::{ExtentId, NodeKind, Path, Refusal, Stripe};
 use catalog::Catalog;
@@ -110,7 +110,7 @@ fn lost_in(m: &Mounted, layout: Layout, file: u32, at: u64, len: u64) -> Option<
 /// Lost: the first of its extents that has no usable copy.
 pub fn check_span(m: &Mounted, file: &OpenFile, at: u64, len: u64) -> Result<(), Refusal>
     ensures cause { IfErr result (SpanCause m.now at len file.now) }
-    ensures within { OnOk result (at + len ≤ file.now.size) }
+    ensures span { OnOk result (IsSpan m.now at len file.now) }
 {
     if !is_sectors(m, at) || !is_sectors(m, len) {
         return Err(Refusal::NotSectors);

@@ -1,10 +1,16 @@
 // The bytes of a file are read.
-ghost use Rattle.std.specs.Prelude.{◌≡◌, ◌⊎◌, IfErr, length};
+ghost use Rattle.std.specs.Prelude.{◌≡◌, ◌⊎◌, IfErr, OnOk, length};
+ghost use Rattle.bay.specs.Image.{Same};
+ghost use Rattle.bay.specs.Moments.{Runs};
 ghost use Rattle.striping.specs.Pieces.{IsLayout};
-ghost use Rattle.group_engine.specs.Mounts.{IsMounted, Takes};
+ghost use Rattle.piece_laws.specs.Targets.{AgreesIn};
+ghost use Rattle.group_engine.specs.Mounts.{IsMounted, IsOwn, Takes};
 ghost use Rattle.group_engine.specs.Own.{KeepsGroup};
-ghost use Rattle.group_pieces.specs.Usable.{FitsExtent};
+ghost use Rattle.group_pieces.specs.Reads.{ReadsGroup};
+ghost use Rattle.group_pieces.specs.Usable.{FitsExtent, piece_of};
+ghost use Rattle.file_extents.specs.Pieces.{IsOfShape};
 ghost use Rattle.group_contents.specs.Files.{AtFile, ReadCause, SpanCause};
+ghost use Rattle.group_contents.specs.Reading.{ShowsFile, StaysMounted, WhereMounted};
 
 use crate::opening::{OpenFile, open_span};
 use asm_base::{DiskRef, Path, Refusal, Span};
@@ -28,6 +34,9 @@ fn read_one<B: Bay>(
     requires piece { FitsExtent m.now.catalog.shape piece.x.index piece.inner (length buf.old) }
     ensures keeps { KeepsGroup m.now m.now (B.state bay.old) (B.state bay.new) }
     ensures cause { IfErr result (ReadCause m.now (B.state bay.old) (B.state bay.new) file.now) }
+    ensures reads { ReadsGroup m.now (B.state bay.old) (B.state bay.new) }
+    ensures mounted { StaysMounted m.now (B.state bay.old) (B.state bay.new) }
+    ensures agrees { OnOk result (WhereMounted m.now (B.state bay.old) (B.state bay.new) (λ g. AgreesIn g (piece_of piece.x piece.inner (length buf.old)) buf.new)) }
 {
     match read_piece(m, bay, piece.x, piece.inner, buf) {
         Ok(()) => Ok(()),
@@ -50,8 +59,13 @@ fn read_pieces<B: Bay>(
     requires mounted { IsMounted m.now }
     requires takes { Takes m.now (B.state bay.old) }
     requires layout { IsLayout layout }
+    requires shape { IsOfShape layout m.now.catalog.shape }
+    requires stripe { layout.stripe ≡ file.now.stripe }
     ensures keeps { KeepsGroup m.now m.now (B.state bay.old) (B.state bay.new) }
     ensures cause { IfErr result (ReadCause m.now (B.state bay.old) (B.state bay.new) file.now) }
+    ensures reads { ReadsGroup m.now (B.state bay.old) (B.state bay.new) }
+    ensures mounted { StaysMounted m.now (B.state bay.old) (B.state bay.new) }
+    ensures agrees { OnOk result (WhereMounted m.now (B.state bay.old) (B.state bay.new) (λ g. ShowsFile g file.now at buf.new)) }
 {
     let shape = m.catalog().shape();
     let mut from = at;
@@ -83,6 +97,9 @@ pub fn read_next<B: Bay>(
     requires takes { Takes m.now (B.state bay.old) }
     ensures keeps { KeepsGroup m.now m.now (B.state bay.old) (B.state bay.new) }
     ensures cause { IfErr result (ReadCause m.now (B.state bay.old) (B.state bay.new) file.now) }
+    ensures reads { Runs (IsOwn m.now) Same (B.state bay.old) (B.state bay.new) }
+    ensures mounted { StaysMounted m.now (B.state bay.old) (B.state bay.new) }
+    ensures agrees { OnOk result (WhereMounted m.now (B.state bay.old) (B.state bay.new) (λ g. ShowsFile g file.now at buf.new)) }
 {
     match m.takes_calls() {
         Ok(()) => {}
@@ -106,6 +123,8 @@ pub fn read<B: Bay>(
     requires takes { Takes m.now (B.state bay.old) }
     ensures keeps { KeepsGroup m.now m.now (B.state bay.old) (B.state bay.new) }
     ensures cause { IfErr result (λ refusal. AtFile m.now path.now.parts (SpanCause m.now span.at span.len) refusal ⊎ AtFile m.now path.now.parts (ReadCause m.now (B.state bay.old) (B.state bay.new)) refusal) }
+    ensures reads { Runs (IsOwn m.now) Same (B.state bay.old) (B.state bay.new) }
+    ensures mounted { StaysMounted m.now (B.state bay.old) (B.state bay.new) }
 {
     match open_span(m, path, span.at, span.len) {
         Ok(file) => read_next(m, bay, &file, span.at, buf),

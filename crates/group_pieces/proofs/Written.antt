@@ -1,5 +1,5 @@
 -- What a write of a piece leaves on the copies of its extent, and on the new copy of a move.
-use Rattle.std.proofs.Common.{◌≡◌, ℕ, Some, refl, sym, subst, ◌∙◌, ap, arith, length}
+use Rattle.std.proofs.Common.{◌≡◌, ◌≤◌, zero, suc, ℕ, List, [], ◌∷◌, Some, refl, sym, subst, ◌∙◌, ap, arith, length, take}
 use Rattle.bay.specs.Image.{Range}
 use Rattle.bay.specs.State.{BayState}
 use Rattle.bay.specs.Moments.{NowOnly}
@@ -59,6 +59,17 @@ home_writes m s t h inner n p run at writes = writes_more m s t (Range p.slot p.
       omega (arith, at.1, inside.2),
     ))
     (home_user m h inner n) writes
+
+shorter : (n : ℕ) (xs : List ℕ) → length (take n xs) ≤ length xs
+shorter zero xs = omega arith
+shorter (suc n) [] = omega arith
+shorter (suc n) (x ∷ xs) = let rest = shorter n xs in omega (arith, rest)
+
+-- a write of the first of some bytes at the home that a move goes to
+pub copied_writes : (m : MountedGroup) (s t : BayState) (f : Flight) (x : ExtentId) (inner count : ℕ) (bytes : List ℕ) → f.x ≡ x → WritesBytes m (HomeBytes m f.to inner (length (take count bytes))) s t
+    → WritesBytes m (FlightBytes m f x inner (length bytes)) s t
+copied_writes m s t f x inner count bytes is writes = writes_more m s t (HomeBytes m f.to inner (length (take count bytes))) (FlightBytes m f x inner (length bytes))
+    (λ slot k inside. (is, (inside.0, inside.1, inside.2, omega (arith, inside.3, shorter count bytes)))) (λ slot k inside. inside.1.0) writes
 
 -- a write for the move that is on its way
 pub moved_writes : (m : MountedGroup) (s t : BayState) (f : Flight) (x : ExtentId) (inner n : ℕ) → m.flight ≡ Some f → WritesBytes m (FlightBytes m f x inner n) s t → WritesBytes m (MovedBytes m x inner n) s t
