@@ -42,6 +42,7 @@ allows-more paths leaves id groups more image allowed slots =
 -- what is known of the disks before a run
 pub starts-stands : (n : ℕ) (known : ℕ → Bool) (bay : BayState) (w : World) → w.session ≡ [] → StartsAs known bay w → StandsFor n known 0 bay w []
 starts-stands n known bay w none s = record {
+  tells = s.tells;
   entries = ap (λ (l : List SessionEntry). length l) (sym none);
   ids = subst (λ (l : List SessionEntry). AreIdsApart l) (sym none) tt;
   mounted = λ e m pair is. absurd (subst (λ (l : List SessionEntry). IsPaired l [] e m) none pair);

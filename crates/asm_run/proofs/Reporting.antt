@@ -174,6 +174,7 @@ transcript-of gives paths Told served status marks left left' taken taken' clock
       told = tells p.history p.told;
       printed = either-cut (is_whole served) p.history p.printed;
       run = p.run;
+      on_disks = λ known starts. (p.holds known (starts-stands (length paths) known old w none starts)).held;
       ends = p.ends;
       times = p.readings;
       calls_are = refl;
@@ -208,6 +209,7 @@ transcript-none gives paths Told status marks left taken clock bay w first is no
       told = told;
       printed = tt;
       run = tt;
+      on_disks = λ known starts. tt;
       ends = refl;
       times = refl;
       calls_are = refl;

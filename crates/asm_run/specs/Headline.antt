@@ -16,7 +16,7 @@ use Rattle.group_disks.specs.Found.{Counts, counts_of}
 use Rattle.script.specs.Script.{commands_of, ended_commands}
 use Rattle.serving.specs.declared.stop.Stop.{Stop}
 use Rattle.serving.specs.declared.stop.Stop.TheVariants.{ReadFault, WriteFault, NoMemory, TooLong}
-use Rattle.session.specs.Claims.{outside, IsProvedApartIn}
+use Rattle.session.specs.Claims.{outside, held_outside, IsProvedApartIn}
 use Rattle.session.specs.Effects.{Past}
 use Rattle.session.specs.Proved.{IsProvedIn}
 use Rattle.session.specs.Quiet.{quiet}
@@ -83,6 +83,9 @@ pub record Transcript {C : Type 0} (gives : C → ℕ → C → Type 0) (paths :
   -- Up to the first that isn't proved, each move is one that the world may make, and each reply has its cause. An edit, and a command that
   -- shows a group or goes into one, counts as proved in a state in which each mounted group is alone under its id.
   pub run : IsRunFrom (outside paths new.leaves) IsProvedIn (first_state w old) history
+  -- The same where the images at the start stand for the world, also of what asks the disks, up to the first move that isn't proved so. In the
+  -- moments that end in these moves each image stands for groups between.
+  pub on_disks : (known : ℕ → Bool) → StartsAs known old w → IsRunFrom (held_outside paths new.leaves) (IsProvedApartIn known) (first_state w old) history
   pub ends : end_of (first_state w old) history ≡ end
   pub times : Readings gives clock (times_of history) clock'
   pub calls_are : end.calls ≡ new.calls

@@ -6,7 +6,7 @@ ghost use Rattle.asm_world.specs.Statement.{Alter, CreateDisk, AddDisks, DropDis
 ghost use Rattle.asm_world.specs.Statement as s;
 ghost use Rattle.group_sql.specs.Said.{disks_said, maybe_kind_said};
 ghost use Rattle.session.specs.Desks.{IsAnswered};
-ghost use Rattle.session.specs.Families.{is_proved};
+ghost use Rattle.session.specs.Families.{is_proved_on_disks};
 ghost use Rattle.session.specs.Sessions.{AreReady};
 
 use crate::disk_works::{Chosen, DiskChange, said_of};
@@ -52,7 +52,7 @@ fn change<B: Bay, H: Host>(
     change: DiskChange<'_>,
     rebalance: Option<Rebalance>,
 ) -> Answer
-    requires unproved { is_proved (command_of text.now) ≡ false }
+    requires unproved { is_proved_on_disks (command_of text.now) ≡ false }
     requires ready { AreReady desk.old.session.groups (B.state desk.old.bay) }
     ensures answers { IsAnswered text.now result desk.old desk.new }
 {
@@ -77,7 +77,7 @@ fn bring_back<B: Bay, H: Host>(
     chosen: Chosen<'_>,
     wait: bool,
 ) -> Answer
-    requires unproved { is_proved (command_of text.now) ≡ false }
+    requires unproved { is_proved_on_disks (command_of text.now) ≡ false }
     requires ready { AreReady desk.old.session.groups (B.state desk.old.bay) }
     ensures answers { IsAnswered text.now result desk.old desk.new }
 {

@@ -37,7 +37,7 @@ use Rattle.world_steps.specs.Steps.{asks_edit, at_led, by_alias, by_clause, by_t
 use Rattle.world_steps.proofs.Said.{attributes_have_parts, paths_have_parts}
 use Rattle.name_commands.specs.Asking.{AsksAlias, AsksAsRead, AsksAt, AsksChange, AsksFor, AsksInVain, wants_record}
 use Rattle.session.specs.Families as families
-use Rattle.session.specs.Families.{IsRefused, is_served}
+use Rattle.session.specs.Families.{IsRefused}
 use Rattle.session.specs.Leading.{IsLedTo}
 use Rattle.session.specs.Meaning.{meaning}
 use Rattle.name_commands.specs.NameEdits.{edit_at}
@@ -45,41 +45,40 @@ use Rattle.session.specs.OnDisks.{NoWork, work_of}
 use Rattle.name_commands.specs.declared.names.AtPath.{AtPath}
 use Rattle.name_commands.specs.declared.names.AtPath.TheVariants as at
 use Rattle.session.proofs.Entries.{flip}
-use Rattle.session.proofs.Languages.{served_meaning}
+use Rattle.session.proofs.Languages.{meaning_is}
 
 -- ---- by the kind of command
 
--- What holds of each such command: it is served as an edit, it has no work on disks beside the world, and of its refusals no cause is
+-- What holds of each such command: it is an edit, it has no work on disks beside the world, and of its refusals no cause is
 -- counted.
 pub record IsEditAlone (c : Command) : Type 0 where
   pub edits : families.is_edit c ≡ true
-  pub serves : is_served c ≡ true
   pub works : (w : World) (below : ℕ → GroupBelow) → work_of c w below ≡ NoWork
   pub counts : (paths : List Bytes) (cause : r.Refusal) (s t : Counts) → IsRefused paths c cause s t
 
 clause_alone : (name : Bytes) (clause : s.Clause) → is_edit_clause clause ≡ true → IsEditAlone (Said (s.Alter name clause))
-clause_alone name (s.AddTemplate template words) is = record { edits = refl; serves = refl; works = λ w below. refl; counts = λ paths cause s t. tt }
-clause_alone name (s.ModifyTemplate template words) is = record { edits = refl; serves = refl; works = λ w below. refl; counts = λ paths cause s t. tt }
-clause_alone name (s.DropTemplate template) is = record { edits = refl; serves = refl; works = λ w below. refl; counts = λ paths cause s t. tt }
-clause_alone name (s.SetAttribute attribute) is = record { edits = refl; serves = refl; works = λ w below. refl; counts = λ paths cause s t. tt }
-clause_alone name (s.AddDirectory path) is = record { edits = refl; serves = refl; works = λ w below. refl; counts = λ paths cause s t. tt }
-clause_alone name (s.DropDirectory path) is = record { edits = refl; serves = refl; works = λ w below. refl; counts = λ paths cause s t. tt }
-clause_alone name (s.RenameDirectory old new) is = record { edits = refl; serves = refl; works = λ w below. refl; counts = λ paths cause s t. tt }
-clause_alone name (s.AddAlias alias path) is = record { edits = refl; serves = refl; works = λ w below. refl; counts = λ paths cause s t. tt }
-clause_alone name (s.RenameAlias old new) is = record { edits = refl; serves = refl; works = λ w below. refl; counts = λ paths cause s t. tt }
-clause_alone name (s.DropAlias path) is = record { edits = refl; serves = refl; works = λ w below. refl; counts = λ paths cause s t. tt }
+clause_alone name (s.AddTemplate template words) is = record { edits = refl; works = λ w below. refl; counts = λ paths cause s t. tt }
+clause_alone name (s.ModifyTemplate template words) is = record { edits = refl; works = λ w below. refl; counts = λ paths cause s t. tt }
+clause_alone name (s.DropTemplate template) is = record { edits = refl; works = λ w below. refl; counts = λ paths cause s t. tt }
+clause_alone name (s.SetAttribute attribute) is = record { edits = refl; works = λ w below. refl; counts = λ paths cause s t. tt }
+clause_alone name (s.AddDirectory path) is = record { edits = refl; works = λ w below. refl; counts = λ paths cause s t. tt }
+clause_alone name (s.DropDirectory path) is = record { edits = refl; works = λ w below. refl; counts = λ paths cause s t. tt }
+clause_alone name (s.RenameDirectory old new) is = record { edits = refl; works = λ w below. refl; counts = λ paths cause s t. tt }
+clause_alone name (s.AddAlias alias path) is = record { edits = refl; works = λ w below. refl; counts = λ paths cause s t. tt }
+clause_alone name (s.RenameAlias old new) is = record { edits = refl; works = λ w below. refl; counts = λ paths cause s t. tt }
+clause_alone name (s.DropAlias path) is = record { edits = refl; works = λ w below. refl; counts = λ paths cause s t. tt }
 clause_alone name other is = absurd (false≢true is)
 
 pub edit_alone : (c : Command) → asks_edit c ≡ true → IsEditAlone c
 edit_alone (Said (s.Alter name clause)) is = clause_alone name clause is
-edit_alone (Asked (c.MakeDir path)) is = record { edits = refl; serves = refl; works = λ w below. refl; counts = λ paths cause s t. tt }
-edit_alone (Asked (c.MakeAlias path alias)) is = record { edits = refl; serves = refl; works = λ w below. refl; counts = λ paths cause s t. tt }
-edit_alone (Asked (c.RemoveAlias path)) is = record { edits = refl; serves = refl; works = λ w below. refl; counts = λ paths cause s t. tt }
+edit_alone (Asked (c.MakeDir path)) is = record { edits = refl; works = λ w below. refl; counts = λ paths cause s t. tt }
+edit_alone (Asked (c.MakeAlias path alias)) is = record { edits = refl; works = λ w below. refl; counts = λ paths cause s t. tt }
+edit_alone (Asked (c.RemoveAlias path)) is = record { edits = refl; works = λ w below. refl; counts = λ paths cause s t. tt }
 edit_alone other is = absurd (false≢true is)
 
 -- the text of one is taken for it
 means : (text : Bytes) (command : Command) → command_of text ≡ command → asks_edit command ≡ true → meaning text ≡ command
-means text command asked is = served_meaning text command asked (edit_alone command is).serves
+means text command asked is = meaning_is text command asked
 
 -- ---- clauses of names
 

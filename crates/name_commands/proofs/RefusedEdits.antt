@@ -51,7 +51,7 @@ module _ (paths : List Bytes) (text : Bytes) (asks : asks_edit (meaning text) �
   module _ (was now : Roster) (s t : BayState) (calls : s.calls ≤ t.calls) (past : Past s t) (below : ℕ → GroupBelow) (w : World) where
     -- memory was short
     pub short : (w' : World) → IsServed paths unread text (Refused [] r.NoMemory) was now s t below w w'
-    short w' = record { calls = calls; past = past; effect = λ proved met. absurd (true≢false (sym edits ∙ (short_is_no_edit (meaning text) proved).0)) }
+    short w' = record { calls = calls; past = past; effect = λ proved met. absurd (true≢false (sym edits ∙ short_is_no_edit paths was s w (meaning text) proved)) }
 
     -- the mounted groups aren't alone under their ids
     pub unmet : (reply : Reply) (w' : World) → (HasOwnGroups w → ⊥) → IsServed paths unread text reply was now s t below w w'

@@ -16,7 +16,7 @@ use Rattle.session.specs.Claims.{outside, held_outside, IsProvedApartIn}
 use Rattle.serving.specs.declared.manner.Manner.{Manner}
 use Rattle.session.specs.Effects.{Past}
 use Rattle.serving.specs.Manners.{AreTold, after_move, after_moves, style_of}
-use Rattle.session.specs.Proved.{IsProved, IsProvedIn, is_proved_move}
+use Rattle.session.specs.Proved.{IsProved, IsProvedIn, IsProvedOnDisks, is_proved_move, is_proved_move_on_disks}
 use Rattle.serving.specs.Acts.{Scene, state_of, Acts}
 use Rattle.session_claims.specs.Claims.{StandsFor}
 use Rattle.world_steps.specs.Runs.{AllFrom}
@@ -180,9 +180,10 @@ acts-one gives paths whole move text old new one = record {
 
 -- ---- moves of which nothing is proved
 
--- the move is no answer, gives no time and no mark, leaves the manner, and nothing is proved of it
+-- the move is no answer, gives no time and no mark, leaves the manner, and nothing is proved of it, whatever the disks stand for
 pub record IsSilent (move : Move) : Type 0 where
   pub unproved : is_proved_move move ≡ false
+  pub unproved_on_disks : is_proved_move_on_disks move ≡ false
   pub commands : commands_at move ≡ []
   pub times : times_at move ≡ []
   pub marks : (whole : Bool) (calls : ℕ) → marks_at move whole calls ≡ []
@@ -194,6 +195,7 @@ pub acts-silent : {C : Type 0} (gives : C → ℕ → C → Type 0) (paths : Lis
     → new.clock ≡ old.clock → new.marks ≡ old.marks → new.refused ≡ old.refused → new.manner ≡ old.manner → Acts gives paths whole [] old new
 acts-silent gives paths whole move text old new is calls past texts written clock marks refused manner =
     let never : IsProved move → ⊥ = λ proved. false≢true (sym is.unproved ∙ proved) in
+    let never_on_disks : IsProvedOnDisks move → ⊥ = λ proved. false≢true (sym is.unproved_on_disks ∙ proved) in
     record {
       history = entry old.manner move text (state_of new) ∷ [];
       run = λ met. absurd (never met.0);
@@ -201,7 +203,7 @@ acts-silent gives paths whole move text old new is calls past texts written cloc
       ends = refl;
       commands_are = append-nil (commands_at move) ∙ is.commands;
       past = past;
-      holds = λ known stands. record { held = λ meets. absurd (never meets.0.0); now = λ all. absurd (never all.0.0.0) };
+      holds = λ known stands. record { held = λ meets. absurd (never_on_disks meets.0.0); now = λ all. absurd (never_on_disks all.0.0.0) };
       told = (refl, tt);
       manner_is = manner ∙ sym (is.stays old.manner);
       printed = one-printed whole old.manner move text (state_of new) texts;

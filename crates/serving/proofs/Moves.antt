@@ -22,9 +22,8 @@ use Rattle.serving.specs.Acts.{scene, state_of, Acts}
 use Rattle.asm_world.specs.Waits.{HasLines}
 use Rattle.group_disks.specs.Found.{Counts, counts_of}
 use Rattle.session.specs.Meaning.{meaning}
-use Rattle.session.specs.Effects.{HasEffect, IsServed, below_with}
+use Rattle.session.specs.Effects.{HasEffect, IsProvedOn, IsServed, anywhere, below_with, on_disks}
 use Rattle.session.specs.Families.{is_edit}
-use Rattle.session.specs.Proved.{is_proved_as}
 use Rattle.serving.specs.Manners.{after_reply, reply_style}
 use Rattle.session.specs.Desks.{paths_on}
 use Rattle.serving.specs.Programs.{scene_of, AnswersOne, RunsOne, TellsEvents}
@@ -36,7 +35,7 @@ use Rattle.serving.specs.declared.program.Program.{Program}
 use Rattle.serving.specs.declared.stop.Stop.{Stop}
 use Rattle.serving.proofs.Chains.{acts-none, acts-one, acts-then, acts-cut, or-false}
 use Rattle.session.proofs.Below.{IsStill, still_below}
-use Rattle.session.proofs.Languages.{other_is_proved, short_is_no_edit}
+use Rattle.session.proofs.Languages.{short_is_no_edit, short_is_proved}
 use Rattle.serving.proofs.Pieces.{at-paths, at-phase}
 use Rattle.asm_world.proofs.Memory.{no_lines}
 
@@ -129,11 +128,11 @@ acts-answers gives paths whole found text reply sent w w' below below' time was 
     let move = Answers found text reply in
     let answers : HasEffect paths found text reply was now old new below w w' → AnswersAt meaning found text reply (state_of (scene w below (Expiring (mounted_groups w.session)) time was old taken clock marks refused manner)) (state_of (scene w' below' (phase_after reply w') time now new taken' clock marks' refused' manner')) = λ effect. record { groups = mounted_groups w.session; before = refl; none_expires = none; step = effect.step; cause = effect.cause; lines = effect.lines; after = refl; time = refl } in
     acts-one gives paths whole move sent (scene w below (Expiring (mounted_groups w.session)) time was old taken clock marks refused manner) (scene w' below' (phase_after reply w') time now new taken' clock marks' refused' manner') (record {
-      does = λ met. let effect = served.effect met.0 met.1 in
+      does = λ met. let effect = served.effect (anywhere met.0) met.1 in
           record { does = answers effect; caused = (effect.ids_read, effect.made, effect.counted, effect.worked); calls = served.calls; images = λ m image from before left id. tt; there = λ m image from before left id was is. tt };
       calls = served.calls;
       past = served.past;
-      holds = λ known stands meets. let effect = served.effect meets.0.0 meets.1 in let keeps = effect.keeps known stands meets.0.1 in
+      holds = λ known stands meets. let effect = served.effect (on_disks known meets.0.0 stands) meets.1 in let keeps = effect.keeps known stands meets.0.1 in
           (record { does = answers effect; caused = (effect.ids_read, effect.made, effect.counted, effect.worked); calls = served.calls; images = λ m image from before left id. keeps.held m image id from before left; there = λ m image from before left id was is. keeps.there m image id from before left was is }, keeps.now);
       texts = texts;
       written = written;
@@ -168,8 +167,8 @@ effect-printed paths found text reply printed was now old new w w' (inr (refuses
   calls = served.calls;
   past = served.past;
   effect = λ proved met.
-      let none = short_is_no_edit (meaning text) (subst (λ (p : Reply). is_proved_as (meaning text) p ≡ true) e proved) in
-      rw e (short-effect paths found text reply was now old new w w' refuses none.0 (served.effect (other_is_proved (meaning text) reply none.0 none.1) met));
+      let short = subst (λ (p : Reply). IsProvedOn paths was old w (meaning text) p) e proved in
+      rw e (short-effect paths found text reply was now old new w w' refuses (short_is_no_edit paths was old w (meaning text) short) (served.effect (short_is_proved paths was old w (meaning text) reply short) met));
 }
 
 -- ---- a whole command

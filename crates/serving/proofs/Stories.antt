@@ -34,11 +34,11 @@ use Rattle.serving.proofs.Chains.{IsSilent, acts-none, acts-silent, acts-then, n
 -- ---- the moves
 
 event_silent : (when : When) (event : Event) → IsSilent (move_at when event)
-event_silent BeforeText event = record { unproved = refl; commands = refl; times = refl; marks = λ whole calls. refl; refuses_none = refl; stays = λ manner. refl }
-event_silent AfterReply event = record { unproved = refl; commands = refl; times = refl; marks = λ whole calls. refl; refuses_none = refl; stays = λ manner. refl }
+event_silent BeforeText event = record { unproved = refl; unproved_on_disks = refl; commands = refl; times = refl; marks = λ whole calls. refl; refuses_none = refl; stays = λ manner. refl }
+event_silent AfterReply event = record { unproved = refl; unproved_on_disks = refl; commands = refl; times = refl; marks = λ whole calls. refl; refuses_none = refl; stays = λ manner. refl }
 
 stop_silent : IsSilent Stops
-stop_silent = record { unproved = refl; commands = refl; times = refl; marks = λ whole calls. refl; refuses_none = refl; stays = λ manner. refl }
+stop_silent = record { unproved = refl; unproved_on_disks = refl; commands = refl; times = refl; marks = λ whole calls. refl; refuses_none = refl; stays = λ manner. refl }
 
 event_move : (when : When) (event : Event) → IsTurnMove when (move_at when event)
 event_move BeforeText event = tt

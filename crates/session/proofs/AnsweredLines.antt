@@ -1,15 +1,12 @@
 -- A command that is answered by lines or by a refusal, and leaves the desk as it is.
-use Rattle.std.proofs.Common.{◌≡◌, ℕ, true, false, List, [], Result, Ok, Err, refl, sym, ◌∙◌, ap, subst, arith}
+use Rattle.std.proofs.Common.{◌≡◌, ℕ, List, [], Result, Ok, Err, refl, sym, ap, subst}
 use Rattle.std.specs.Prelude.{IfErr, IfOk}
-use Rattle.std.proofs.lemmas.Bool.{false≢true}
-use Rattle.bay.specs.State.{BayState}
 use Rattle.bay.specs.declared.disk.Bay as Bay
 use Rattle.bay.specs.declared.host.Host as Host
 use Rattle.asm_base.specs.Refusals.{said}
 use Rattle.asm_base.specs.declared.refusal.Refusal.{Refusal}
 use Rattle.asm_group.specs.Names.{Bytes}
 use Rattle.asm_world.specs.Below.{Found, GroupBelow}
-use Rattle.asm_world.specs.Language.{command_of}
 use Rattle.asm_world.specs.Reply.{Reply, Done, Refused}
 use Rattle.asm_world.specs.World.{World}
 use Rattle.session.specs.declared.answer.Answer.{Answer}
@@ -18,11 +15,8 @@ use Rattle.session.specs.declared.reply.Reply as code
 use Rattle.session.specs.declared.reply.Reply.TheVariants as replies
 use Rattle.session.specs.Desks.{IsAnswered, paths_on}
 use Rattle.session.specs.Effects.{IsServed}
-use Rattle.session.specs.Families.{is_proved}
-use Rattle.session.specs.Meaning.{meaning}
-use Rattle.session.specs.Sessions.{AreReady, Knows, Roster, roster_of}
+use Rattle.session.specs.Sessions.{AreReady, Knows, roster_of}
 use Rattle.session.specs.Views.{found_view, nothing_found, reply_view}
-use Rattle.session.proofs.Languages.{proved_so, unproved_meaning}
 use Rattle.session.proofs.Outcomes.{unread}
 
 abbrev pub reply_of : Result (List Bytes) Refusal → Reply
@@ -45,12 +39,4 @@ answered-lines {bay = bay} text answer desk told ready ok err found serves = rec
   served = λ w below knows.
       let at : Found → Reply → Type 0 = λ f r. IsServed (paths_on desk) f text r (roster_of desk.session) (roster_of desk.session) (bay.state desk.bay) (bay.state desk.bay) below w w in
       (w, below, knows, subst (λ (r : Reply). at (found_view answer.found) r) (sym (reply_is told answer.reply ok err)) (subst (λ (f : Found). at f (reply_of told)) (sym found) (serves w below knows)));
-}
-
--- the effect of a command of which it isn't proved what it does
-pub unproved_served : (paths : List Bytes) (text : Bytes) (reply : Reply) (was : Roster) (s : BayState) {below : ℕ → GroupBelow} (w : World) → is_proved (command_of text) ≡ false → IsServed paths unread text reply was was s s below w w
-unproved_served paths text reply was s w none = record {
-  calls = omega arith;
-  past = λ m image before left. left;
-  effect = λ proved met. absurd (false≢true (sym (unproved_meaning text none) ∙ proved_so (meaning text) reply proved));
 }

@@ -6,7 +6,7 @@ use Rattle.asm_world.specs.Below.{GroupBelow}
 use Rattle.asm_world.specs.World.{SessionEntry, World, is_mounted}
 use Rattle.group_engine.specs.Mounts.{MountedGroup}
 use Rattle.group_reports.specs.Disks.{disk_rows, group_row}
-use Rattle.group_reports.specs.Extents.{all_extents, checked_of}
+use Rattle.group_reports.specs.Extents.{all_extents, checked_of, file_units}
 use Rattle.session_claims.specs.Claims.{IsPaired}
 use Rattle.world_steps.specs.Told.{AreIdsApart}
 use Rattle.session.specs.Quiet.{quiet}
@@ -54,6 +54,10 @@ disks_below m = refl
 pub row_below : (m : MountedGroup) → (group_below m).row ≡ group_row m.catalog m.register.value.entries
 unfolding group_below
 row_below m = refl
+
+pub units_below : (m : MountedGroup) → (group_below m).units ≡ file_units m.catalog
+unfolding group_below
+units_below m = refl
 
 pub extents_below : (m : MountedGroup) → (group_below m).extents ≡ length (all_extents m.catalog)
 unfolding group_below

@@ -1,7 +1,6 @@
 -- Commands on the desk.
 use Rattle.std.proofs.Common.{◌≡◌, ◌≤◌, false, true, refl, sym, ◌∙◌, subst, arith}
 use Rattle.std.specs.FinMap as maps
-use Rattle.std.proofs.lemmas.Bool.{false≢true}
 use Rattle.bay.specs.declared.disk.Bay as Bay
 use Rattle.bay.specs.declared.host.Host as Host
 use Rattle.asm_group.specs.Names.{Bytes}
@@ -10,13 +9,13 @@ use Rattle.session.specs.declared.answer.Answer.{Answer}
 use Rattle.session.specs.declared.desk.Desk.{Desk}
 use Rattle.session.specs.Desks.{paths_on, copies, IsAnswered}
 use Rattle.session.specs.Effects.{IsServed, Past}
-use Rattle.session.specs.Families.{is_proved}
+use Rattle.session.specs.Families.{is_proved_on_disks}
 use Rattle.session.specs.Meaning.{meaning}
 use Rattle.session.specs.Naming.{CarriesOn}
 use Rattle.session.specs.Sessions.{AreReady, SessionView, Knows, groups_below, roster_of}
 use Rattle.session.specs.Views.{found_view, reply_view}
 use Rattle.session.proofs.Knowing.{none_told}
-use Rattle.session.proofs.Languages.{proved_so, unproved_meaning}
+use Rattle.session.proofs.Languages.{never_proved, unproved_meaning}
 
 -- a command was answered from a desk that is the same to all that counts
 pub from-same : {B H : Type 0} {bay : Bay.Ghosts B} {host : Host.Ghosts H} (text : Bytes) (answer : Answer) (old mid new : Desk B H bay host) → paths_on mid ≡ paths_on old → mid.host ≡ old.host → mid.session ≡ old.session
@@ -33,7 +32,7 @@ from-same {bay = bay} text answer old mid new paths stays session disks a = reco
 
 -- A command that is served, and of which nothing is proved but that its calls say nothing new of moments that have ended. Nothing is
 -- known of any group behind it.
-pub answered-only : {B H : Type 0} {bay : Bay.Ghosts B} {host : Host.Ghosts H} (text : Bytes) (answer : Answer) (old new : Desk B H bay host) → is_proved (command_of text) ≡ false → paths_on new ≡ paths_on old
+pub answered-only : {B H : Type 0} {bay : Bay.Ghosts B} {host : Host.Ghosts H} (text : Bytes) (answer : Answer) (old new : Desk B H bay host) → is_proved_on_disks (command_of text) ≡ false → paths_on new ≡ paths_on old
     → (copies (command_of text) ≡ false → new.host ≡ old.host) → AreReady new.session.groups (bay.state new.bay)
     → (bay.state old.bay).calls ≤ (bay.state new.bay).calls → Past (bay.state old.bay) (bay.state new.bay) → IsAnswered text answer old new
 answered-only text answer old new none paths stays ready calls past = record {
@@ -44,17 +43,17 @@ answered-only text answer old new none paths stays ready calls past = record {
     record w { groups = maps.empty; session = new.session.entries; place = new.session.place },
     groups_below new.session.entries new.session.groups,
     record { entries_are = refl; place_is = refl; below_is = refl; told = λ lengths. none_told (record w { groups = maps.empty; session = new.session.entries; place = new.session.place }) refl new.session.groups },
-    record { calls = calls; past = past; effect = λ proved met. absurd (false≢true (sym (unproved_meaning text none) ∙ proved_so (meaning text) (reply_view answer.reply) proved)) },
+    record { calls = calls; past = past; effect = λ proved met. absurd (never_proved _ _ _ w (meaning text) (reply_view answer.reply) (unproved_meaning text none) proved) },
   );
 }
 
 -- the same where no call was made on the disks
-pub answered-still : {B H : Type 0} {bay : Bay.Ghosts B} {host : Host.Ghosts H} (text : Bytes) (answer : Answer) (old new : Desk B H bay host) → is_proved (command_of text) ≡ false → paths_on new ≡ paths_on old
+pub answered-still : {B H : Type 0} {bay : Bay.Ghosts B} {host : Host.Ghosts H} (text : Bytes) (answer : Answer) (old new : Desk B H bay host) → is_proved_on_disks (command_of text) ≡ false → paths_on new ≡ paths_on old
     → new.host ≡ old.host → new.bay ≡ old.bay → AreReady new.session.groups (bay.state old.bay) → IsAnswered text answer old new
 answered-still {bay = bay} text answer old new none paths stays same ready =
     answered-only text answer old new none paths (λ is. stays) (rw same ready) (rw same (omega arith)) (λ m image before left. rw (← same) left)
 
 -- a command after which all groups of the session stay and take the next call
-pub answered-carried : {B H : Type 0} {bay : Bay.Ghosts B} {host : Host.Ghosts H} (text : Bytes) (answer : Answer) (old new : Desk B H bay host) → is_proved (command_of text) ≡ false → paths_on new ≡ paths_on old
+pub answered-carried : {B H : Type 0} {bay : Bay.Ghosts B} {host : Host.Ghosts H} (text : Bytes) (answer : Answer) (old new : Desk B H bay host) → is_proved_on_disks (command_of text) ≡ false → paths_on new ≡ paths_on old
     → (copies (command_of text) ≡ false → new.host ≡ old.host) → CarriesOn old.session new.session (bay.state old.bay) (bay.state new.bay) → IsAnswered text answer old new
 answered-carried text answer old new none paths stays carries = answered-only text answer old new none paths stays carries.ready carries.calls carries.past

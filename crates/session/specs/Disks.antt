@@ -1,15 +1,10 @@
--- The disks of groups: which there are, how large they are, and whether they are online. All of these commands are served; what they
--- do isn't proved yet.
-use Rattle.std.specs.Prelude.{⊤, ℕ, Bool, true, false, List}
+-- The disks of groups: which there are, how large they are, and whether they are online. What these commands do isn't proved yet.
+use Rattle.std.specs.Prelude.{⊤, ℕ, Bool, false, List}
 use Rattle.asm_group.specs.Names.{Bytes}
 use Rattle.asm_group.specs.Refusal as r
 use Rattle.asm_world.specs.Command.{Command}
 use Rattle.asm_world.specs.World.{World}
 use Rattle.group_disks.specs.Found.{Counts}
-
--- which of them run
-abbrev pub is_served : Command → Bool
-is_served c = true
 
 -- of which it is proved what they do
 abbrev pub is_proved : Command → Bool

@@ -1,6 +1,6 @@
--- Commands by families. A family has a module of code and a file of definitions, which say of its commands which are served, which
--- are proved, and what is counted of them. A command joins by its cases there, and no other definition changes.
-use Rattle.std.specs.Prelude.{⊤, ℕ, Bool, true, false, List, Option, Some, None, if◌then◌else◌}
+-- Commands by families. A family has a module of code and a file of definitions, which say of its commands which are proved, and what is
+-- counted of them. A command joins by its cases there, and no other definition changes.
+use Rattle.std.specs.Prelude.{◌||◌, ⊤, ℕ, Bool, true, false, List, Option, Some, None}
 use Rattle.asm_group.specs.Names.{Bytes}
 use Rattle.asm_group.specs.Refusal as r
 use Rattle.asm_world.specs.Command as c
@@ -93,16 +93,6 @@ family_of (Said statement) = of_statement statement
 family_of (Asked verb) = of_verb verb
 family_of (Unreadable at) = NoCommand
 
-abbrev served_in : Family → Command → Bool
-served_in Groups c = groups.is_served c
-served_in Disks c = disks.is_served c
-served_in Files c = files.is_served c
-served_in Names c = names.is_served c
-served_in Settings c = settings.is_served c
-served_in Places c = places.is_served c
-served_in Reports c = reports.is_served c
-served_in NoCommand c = true
-
 abbrev proved_in : Family → Command → Bool
 proved_in Groups c = groups.is_proved c
 proved_in Disks c = disks.is_proved c
@@ -133,13 +123,18 @@ refused_in Places paths c cause s t = places.IsRefused paths c cause s t
 refused_in Reports paths c cause s t = reports.IsRefused paths c cause s t
 refused_in NoCommand paths c cause s t = ⊤
 
--- whether a command runs, and isn't refused at its first byte
-abbrev pub is_served : Command → Bool
-is_served c = served_in (family_of c) c
-
--- Whether it is proved what it does to the world and to the disks. Of what isn't served it is: it is refused.
+-- whether it is proved on each bay what it does to the world and to the disks
 abbrev pub is_proved : Command → Bool
-is_proved c = if is_served c then proved_in (family_of c) c else true
+is_proved c = proved_in (family_of c) c
+
+-- Whether it asks the disks for what they hold. What such a command does is proved where the disks stand for the world.
+abbrev pub asks_disks : Command → Bool
+asks_disks (Asked (c.DbRead path at size)) = true
+asks_disks other = false
+
+-- whether it is proved what it does where the disks stand for the world
+abbrev pub is_proved_on_disks : Command → Bool
+is_proved_on_disks c = asks_disks c || is_proved c
 
 abbrev pub edits_in : Family → Bool
 edits_in Names = true

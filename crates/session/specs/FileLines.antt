@@ -1,9 +1,7 @@
--- The lines of commands on files: the system path of a new file, and the runs of the bytes that are read.
-use Rattle.std.specs.Prelude.{◌≡◌, ℕ, List, [], ◌∷◌, ◌++◌, length, Option, Some, None}
+-- The lines of commands on files: the system path of a new file.
+use Rattle.std.specs.Prelude.{◌≡◌, ℕ, List, [], ◌∷◌, Option, Some, None}
 use Rattle.asm_formats.specs.Items.{FileHead}
 use Rattle.asm_group.specs.Names.{Bytes}
-use Rattle.asm_world.specs.Text.{read_lines}
-use Rattle.asmcmd.specs.Runs.{Holds, RunsView}
 use Rattle.catalog.specs.declared.new_file.NewFile.{NewFile}
 use Rattle.file_directory.specs.Files.{head_at}
 use Rattle.group_engine.specs.Mounts.{MountedGroup}
@@ -11,8 +9,6 @@ use Rattle.group_contents.specs.Creating.{NamesFile}
 use Rattle.group_reports.specs.Listing.{path_to}
 use Rattle.session.specs.Naming.{group_among}
 use Rattle.session.specs.Sessions.{SessionView}
-
--- ---- new files
 
 abbrev pub line_of_head : MountedGroup → Option FileHead → List Bytes
 line_of_head m None = []
@@ -30,17 +26,3 @@ pub record IsNewLine (new : NewFile) (session : SessionView) (lines : List Bytes
   pub named : NamesFile before new file after
   pub group : group_among session.entries session.groups new.path.group ≡ Some after
   pub is : lines ≡ system_lines after file
-
--- ---- dbread
-
--- bytes were put behind those that were put before, so many
-abbrev pub TakesMore : ℕ → RunsView → RunsView → Type 0
-TakesMore n old new = (bytes : Bytes) × (length bytes ≡ n) × ((at : ℕ) (before : Bytes) → Holds old at before → Holds new at (before ++ bytes))
-
--- so many bytes were put, from this offset on
-abbrev pub HaveRead : ℕ → ℕ → RunsView → Type 0
-HaveRead at n runs = (bytes : Bytes) × (length bytes ≡ n) × Holds runs at bytes
-
--- the lines of so many bytes from this offset on; which bytes these are isn't said
-abbrev pub AreReadLines : ℕ → ℕ → List Bytes → Type 0
-AreReadLines at n lines = (bytes : Bytes) × (length bytes ≡ n) × (lines ≡ read_lines at bytes)

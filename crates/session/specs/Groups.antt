@@ -58,21 +58,12 @@ creation_asked (Said s) = creation_in s
 creation_asked (Asked verb) = None
 creation_asked (Unreadable at) = None
 
--- which of them run
-abbrev pub is_served : Command → Bool
-is_served (Said (CreateGroup name kind groups attributes)) = true
-is_served (Said (DropGroup name contents)) = true
-is_served (Said (Alter name (Mount force))) = true
-is_served (Said (Alter name (Dismount force))) = true
-is_served (Said (Alter name Check)) = true
-is_served c = false
-
 -- of which it is proved what they do
 abbrev pub is_proved : Command → Bool
 is_proved (Said (CreateGroup name kind groups attributes)) = is_some (external_path kind groups attributes)
 is_proved (Said (DropGroup name contents)) = false
 is_proved (Said (Alter name (Mount force))) = false
-is_proved c = is_served c
+is_proved other = true
 
 -- which tell of a group as it is mounted
 abbrev pub shows_group : Command → Bool

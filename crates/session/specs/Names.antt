@@ -1,14 +1,10 @@
--- Directories and aliases. All of these commands are served; of each but rm, which takes files away too, it is proved what it does.
+-- Directories and aliases. Of each of these commands but rm, which takes files away too, it is proved what it does.
 use Rattle.std.specs.Prelude.{⊤, ℕ, Bool, true, false, List}
 use Rattle.asm_group.specs.Names.{Bytes}
 use Rattle.asm_group.specs.Refusal as r
 use Rattle.asm_world.specs.Command.{Command, Asked, Remove}
 use Rattle.asm_world.specs.World.{World}
 use Rattle.group_disks.specs.Found.{Counts}
-
--- which of them run
-abbrev pub is_served : Command → Bool
-is_served c = true
 
 -- of which it is proved what they do
 abbrev pub is_proved : Command → Bool

@@ -3,7 +3,7 @@ use Rattle.std.specs.Prelude.{⊤, ℕ, Bool, true, false, not, List, [], ◌∷
 use Rattle.std.specs.Str.{bytes_eq}
 use Rattle.asm_group.specs.Names.{Bytes}
 use Rattle.asm_group.specs.Refusal as r
-use Rattle.asm_world.specs.Command.{Command, Asked, Cd, Pwd}
+use Rattle.asm_world.specs.Command.{Command, Asked, Cd}
 use Rattle.asm_world.specs.World.{World}
 use Rattle.group_disks.specs.Found.{Counts}
 
@@ -11,15 +11,9 @@ use Rattle.group_disks.specs.Found.{Counts}
 abbrev pub is_top : Bytes → Bool
 is_top path = bytes_eq path (43 ∷ [])
 
--- which of them run
-abbrev pub is_served : Command → Bool
-is_served (Asked (Cd path)) = true
-is_served (Asked Pwd) = true
-is_served other = false
-
 -- of which it is proved what they do
 abbrev pub is_proved : Command → Bool
-is_proved c = is_served c
+is_proved c = true
 
 -- which go into a group: cd to any other path than `+`
 abbrev pub shows_group : Command → Bool

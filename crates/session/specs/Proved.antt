@@ -10,7 +10,7 @@ use Rattle.asm_world.specs.Reply.{Reply, Refused}
 use Rattle.asm_world.specs.Run.{State, Move, Starts, Expires, Answers, Slices, Rests, Stops}
 use Rattle.asm_world.specs.World.{SessionEntry, World, groups_of, is_mounted}
 use Rattle.group_disks.specs.Found.{Counts}
-use Rattle.session.specs.Families.{is_edit, is_proved, shows_group}
+use Rattle.session.specs.Families.{is_edit, is_proved, is_proved_on_disks, shows_group}
 use Rattle.session.specs.Meaning.{meaning}
 use Rattle.world_steps.specs.Told.{HasGroups}
 
@@ -24,16 +24,30 @@ is_short other = false
 abbrev pub is_proved_as : Command → Reply → Bool
 is_proved_as c reply = if is_edit c && is_short reply then false else is_proved c
 
+-- the same where the disks stand for the world
+abbrev pub is_proved_on_disks_as : Command → Reply → Bool
+is_proved_on_disks_as c reply = if is_edit c && is_short reply then false else is_proved_on_disks c
+
+abbrev moves_by : (Command → Reply → Bool) → Move → Bool
+moves_by proved (Answers found text reply) = proved (meaning text) reply
+moves_by proved (Starts time) = true
+moves_by proved (Expires event) = false
+moves_by proved (Slices event) = false
+moves_by proved Rests = true
+moves_by proved Stops = false
+
 abbrev pub is_proved_move : Move → Bool
-is_proved_move (Answers found text reply) = is_proved_as (meaning text) reply
-is_proved_move (Starts time) = true
-is_proved_move (Expires event) = false
-is_proved_move (Slices event) = false
-is_proved_move Rests = true
-is_proved_move Stops = false
+is_proved_move move = moves_by is_proved_as move
+
+-- the same where the disks stand for the world
+abbrev pub is_proved_move_on_disks : Move → Bool
+is_proved_move_on_disks move = moves_by is_proved_on_disks_as move
 
 abbrev pub IsProved : Move → Type 0
 IsProved move = is_proved_move move ≡ true
+
+abbrev pub IsProvedOnDisks : Move → Type 0
+IsProvedOnDisks move = is_proved_move_on_disks move ≡ true
 
 -- Each mounted group is alone under its id, and has the entry's name. This is so in each run, but where ids run out: then a creation may
 -- give an id that is taken, and the world has the new group under it alone.

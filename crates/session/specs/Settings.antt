@@ -1,14 +1,10 @@
--- Templates and attributes of groups. All of these commands are served, and it is proved what they do.
-use Rattle.std.specs.Prelude.{⊤, ℕ, Bool, true, false, List}
+-- Templates and attributes of groups. Of these commands it is proved what they do.
+use Rattle.std.specs.Prelude.{⊤, ℕ, Bool, true, List}
 use Rattle.asm_group.specs.Names.{Bytes}
 use Rattle.asm_group.specs.Refusal as r
 use Rattle.asm_world.specs.Command.{Command}
 use Rattle.asm_world.specs.World.{World}
 use Rattle.group_disks.specs.Found.{Counts}
-
--- which of them run
-abbrev pub is_served : Command → Bool
-is_served c = true
 
 -- of which it is proved what they do
 abbrev pub is_proved : Command → Bool

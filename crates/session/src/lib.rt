@@ -25,7 +25,7 @@ pub use group_name::GroupName;
 pub use joining::Attaching;
 pub use naming::GroupWork;
 pub use paths::{path_in, path_of_verb};
-pub use refusing::{no_memory, or_refusal, refuse, refused, too_many_groups, unreadable};
+pub use refusing::{no_memory, refuse, refused, too_many_groups, unreadable};
 pub use reply::Reply;
 pub use session::Session;
 pub use spelling::spelt;

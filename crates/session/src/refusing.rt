@@ -1,6 +1,5 @@
 // Commands that are refused before anything is done.
-ghost use Rattle.std.specs.Prelude.{◌≡◌, [], false, IfOk, OnErr};
-ghost use Rattle.asm_base.specs.declared.refusal.Refusal.TheVariants as cause;
+ghost use Rattle.std.specs.Prelude.{◌≡◌, [], false};
 ghost use Rattle.asm_base.specs.Refusals.{said};
 ghost use Rattle.asm_group.specs.Refusal as r;
 ghost use Rattle.session.specs.Views.{found_view, nothing_found};
@@ -9,13 +8,13 @@ ghost use Rattle.asm_world.specs.Command.{Unreadable};
 ghost use Rattle.asm_world.specs.Language.{command_of};
 ghost use Rattle.session.specs.Desks.{IsAnswered};
 ghost use Rattle.session.specs.Sessions.{AreReady};
-ghost use Rattle.session.specs.Families.{is_proved};
+ghost use Rattle.session.specs.Families.{is_proved_on_disks};
 
 use crate::answer::Answer;
 use crate::desk::Desk;
 use crate::reply::Reply;
 use crate::session::MAX_GROUPS;
-use asm_base::{Limited, NoMemory, Refusal};
+use asm_base::{Limited, Refusal};
 use bay::{Bay, Host};
 use std::alloc::Global;
 
@@ -38,7 +37,7 @@ pub fn no_memory<B: Bay, H: Host>(desk: &mut Desk<B, H>, text: &[u8]) -> Answer
 
 /// A refusal of a command of which it isn't proved what it does. Nothing was done.
 pub fn refuse<B: Bay, H: Host>(desk: &mut Desk<B, H>, text: &[u8], refusal: Refusal) -> Answer
-    requires unproved { is_proved (command_of text.now) ≡ false }
+    requires unproved { is_proved_on_disks (command_of text.now) ≡ false }
     requires ready { AreReady desk.old.session.groups (B.state desk.old.bay) }
     ensures answers { IsAnswered text.now result desk.old desk.new }
 {
@@ -60,16 +59,5 @@ pub fn too_many_groups() -> Refusal
     Refusal::TooMany {
         kind: Limited::Groups,
         limit: MAX_GROUPS as u64,
-    }
-}
-
-/// The same, with want of memory as a refusal.
-pub fn or_refusal<T: Drop>(answer: Result<T, NoMemory>) -> Result<T, Refusal>
-    ensures ok { IfOk answer (λ given. result ≡ Ok given) }
-    ensures err { OnErr answer (result ≡ Err cause.NoMemory) }
-{
-    match answer {
-        Ok(given) => Ok(given),
-        Err(NoMemory) => Err(Refusal::NoMemory),
     }
 }

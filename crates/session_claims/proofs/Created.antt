@@ -35,6 +35,7 @@ with_left sound run = record {
   faults = run.faults;
   other_faults = run.other_faults;
   other_written = run.other_written;
+  tells = run.tells;
   held = λ image holds. let from = run.held image holds in (from.0, from.1, (sound.held from.0 from.1, from.2));
   ended = run.ended;
   moments = λ m image low high left. let from = run.moments m image low high left in (from.0, from.1, (from.1, from.2));
@@ -191,6 +192,7 @@ module _ (old new : BayState) (sound : IsSound old) (n : ℕ) (known : ℕ → B
         let p = mounted_pair w.session groups id stands.entries was in
         subst (λ (i : ℕ). IsStanding n i image) p.4 (stands_still p.0 p.1 p.2 p.3 m image from (omega arith) left);
     now = record {
+      tells = creation.moments.tells stands.tells;
       entries = goes.entries;
       ids = goes.ids;
       allows = λ image id left. let x = before new.calls image creation.moments.later (omega arith) left in now_allows x.0 image x.1 x.2 id;

@@ -217,6 +217,7 @@ module _ (s t : BayState) (sound : IsSound s) (later : IsSound t) (n : ℕ) (kno
           (λ differ. other_stands id m image differ was from (omega arith) left)
           (cases_eq id own);
       now = record {
+        tells = spared.tells stands.tells;
         entries = goes.entries;
         ids = goes.ids;
         allows = λ image id left. ⊎_elim
@@ -294,6 +295,7 @@ module _ (s t : BayState) (sound : IsSound s) where
         held = λ m image id from until left. absurd (omega (arith, from, until, none));
         there = λ m image id from until left was still. absurd (omega (arith, from, until, none));
         now = record {
+          tells = runs.tells stands.tells;
           entries = goes.entries;
           ids = goes.ids;
           allows = λ image id left. subst (λ (l : List Group). Allows id l image) (sym (same id)) (allows_now s t sound n known given (λ (slot : ℕ). ⊥) w groups runs attached stands image id left);

@@ -92,6 +92,7 @@ module _ (old new : BayState) (sound : IsSound old) (n : ℕ) (known : ℕ → B
         subst (λ (i : ℕ). IsStanding n i image) p.4
         (all_stand n p.0.id p.1 (groups_of w p.0.id) old k image (same_is_held n p.1.register.id (k.group ∷ []) k.kept x.0 image x.2 (k.mounts.now.now x.0 x.1)));
     now = record {
+      tells = runs.tells stands.tells;
       entries = some.entries;
       ids = some.ids;
       allows = λ image id left. subst (λ (l : List Group). Allows id l image) (sym (some.lists id)) (allows_now image id left);

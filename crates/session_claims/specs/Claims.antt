@@ -1,5 +1,5 @@
 -- What a stop may leave between two commands, against the world and the groups that are mounted.
-use Rattle.std.specs.Prelude.{◌≡◌, ◌⊎◌, ℕ, ◌+◌, ◌<◌, ◌≤◌, ◌^◌, Bool, true, false, List, [], ◌∷◌, length, Option}
+use Rattle.std.specs.Prelude.{◌≡◌, ◌⊎◌, ℕ, ◌+◌, ◌<◌, ◌≤◌, ◌^◌, Bool, IsSome, true, false, List, [], ◌∷◌, length, Option}
 use Rattle.bay.specs.Image.{Image}
 use Rattle.bay.specs.Moments.{NowOnly}
 use Rattle.bay.specs.State.{BayState}
@@ -74,6 +74,8 @@ pub data IsSettledId (id : ℕ) (groups : List Group) (bay : BayState) : Type 0 
 -- gave, which are below a number, or that were known when it began. Each mounted group is mounted on the disks as they are; of each
 -- other id it is known what a mount would find.
 pub record StandsFor (n : ℕ) (known : ℕ → Bool) (given : ℕ) (bay : BayState) (w : World) (groups : List MountedGroup) : Type 0 where
+  -- the bay tells what its disks hold
+  pub tells : IsSome bay.holds
   pub entries : length groups ≡ length w.session
   pub ids : AreIdsApart w.session
   pub allows : (image : Image) (id : ℕ) → bay.leaves bay.calls image → Allows id (groups_of w id) image

@@ -6,7 +6,7 @@ use Rattle.asm_world.specs.World.{World, SessionEntry, entry_in, without_entry}
 use Rattle.group_engine.specs.Mounts.{MountedGroup}
 use Rattle.session.specs.Meaning.{meaning}
 use Rattle.session.specs.Sessions.{AreToldBy, Knows, groups_below, without_groups}
-use Rattle.session.proofs.Languages.{served_meaning}
+use Rattle.session.proofs.Languages.{meaning_is}
 use Rattle.session.proofs.Entries.{none-leaves}
 use Rattle.session.proofs.Knowing.{groups_without_none, left_told}
 use Rattle.group_commands.proofs.Leaving.{absent, left}
@@ -16,7 +16,7 @@ use Rattle.group_commands.proofs.groups.dismount.Goals as goal
 pub returns-then-not-leave : goal.returns-then-not-leave
 unfolding said
 returns-then-not-leave g c =
-    let says : meaning c.args.text.now ≡ Said (Alter c.args.name (Dismount c.args._force)) = served_meaning c.args.text.now _ c.requires.asked refl in
+    let says : meaning c.args.text.now ≡ Said (Alter c.args.name (Dismount c.args._force)) = meaning_is c.args.text.now _ c.requires.asked in
     record {
       answers = record {
         paths = refl;
@@ -41,7 +41,7 @@ returns-then-not-leave g c =
 
 pub returns : goal.returns
 returns g c =
-    let says : meaning c.args.text.now ≡ Said (Alter c.args.name (Dismount c.args._force)) = served_meaning c.args.text.now _ c.requires.asked refl in
+    let says : meaning c.args.text.now ≡ Said (Alter c.args.name (Dismount c.args._force)) = meaning_is c.args.text.now _ c.requires.asked in
     record {
       answers = record {
         paths = refl;

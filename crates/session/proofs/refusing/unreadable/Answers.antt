@@ -1,7 +1,7 @@
 use Rattle.std.proofs.Common.{refl}
 use Rattle.asm_base.specs.Refusals.{said}
 use Rattle.asm_world.specs.Command.{Unreadable}
-use Rattle.session.proofs.Languages.{served_meaning}
+use Rattle.session.proofs.Languages.{meaning_is}
 use Rattle.session.proofs.Outcomes.{unreadable}
 use Rattle.session.proofs.refusing.unreadable.Goals as goal
 
@@ -12,6 +12,6 @@ returns g c = record {
     paths = refl;
     host_stays = λ is. refl;
     ready = c.requires.ready;
-    served = λ w below knows. (w, below, knows, rw (c.plain.ensures.reply, c.plain.ensures.found) (unreadable _ c.args.text.now c.args.at _ _ w (served_meaning c.args.text.now (Unreadable c.args.at) c.requires.asked refl)));
+    served = λ w below knows. (w, below, knows, rw (c.plain.ensures.reply, c.plain.ensures.found) (unreadable _ c.args.text.now c.args.at _ _ w (meaning_is c.args.text.now (Unreadable c.args.at) c.requires.asked)));
   };
 }
