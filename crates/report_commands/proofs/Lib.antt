@@ -2,7 +2,11 @@ pub mod FindShown
 pub mod Going
 pub mod Gone
 pub mod GroupLists
+pub mod GroupNames
 pub mod GroupsTold
+pub mod ListShown
 pub mod ReportsTold
+pub mod Searches
 pub mod ShownGroups
 pub mod Texts
+pub mod UsageShown

@@ -1,5 +1,5 @@
 -- The reports on one mounted group, as the world's.
-use Rattle.std.proofs.Common.{◌≡◌, ◌⊎◌, ⊎_elim, ℕ, true, List, [], ◌∷◌, Result, Ok, Err, refl, sym, ◌∙◌, ap, subst}
+use Rattle.std.proofs.Common.{◌≡◌, ℕ, true, List, [], ◌∷◌, Result, Ok, Err, refl, sym, ◌∙◌, ap, subst}
 use Rattle.std.specs.Prelude.{IfErr, IfOk}
 use Rattle.bay.specs.State.{BayState}
 use Rattle.asm_base.specs.declared.refusal.Refusal.{Refusal}
@@ -29,12 +29,12 @@ use Rattle.session.specs.Naming.{IsGroupOf, IsOutCause}
 use Rattle.session.specs.OnDisks.{DiskWork, NoWork, ReplyWork, work_of}
 use Rattle.session.specs.Proved.{HasOwnGroups}
 use Rattle.session.specs.Sessions.{AreReady, Knows, Roster, SessionView, roster_of}
-use Rattle.session.proofs.AnsweredLines.{reply_of, unproved_served}
+use Rattle.session.proofs.AnsweredLines.{reply_of}
 use Rattle.session.proofs.Below.{disks_below, extents_below, not_full_below}
-use Rattle.session.proofs.Languages.{served_meaning}
+use Rattle.session.proofs.Languages.{meaning_is}
 use Rattle.session.proofs.Outcomes.{unread}
 use Rattle.session.proofs.Outcomes as outcomes
-use Rattle.report_commands.specs.Told.{AsksFor, IsUntoldIn, attributes_told, checked_told, disks_told, templates_told, told}
+use Rattle.report_commands.specs.Told.{AsksFor, attributes_told, checked_told, disks_told, templates_told, told}
 use Rattle.report_commands.specs.declared.shown.Report.{Report}
 use Rattle.report_commands.specs.declared.shown.Report.TheVariants as report
 use Rattle.report_commands.proofs.Gone.{are_tables}
@@ -72,16 +72,13 @@ module _ (paths : List Bytes) (text name : Bytes) (session : SessionView) (s : B
         (subst (λ (c : Command). HasLines (below_with below unread) w c (Done lines)) (sym says) (is.has_lines lines))
         (subst (λ (c : Command). ReplyWork paths (work_of c w below) (Done lines) (counts_of s) (counts_of s)) (sym says) work)
 
-    -- the lines of it are the world's, and it is refused for the group alone
+    -- the lines of it are the world's
     module _ (what : MountedGroup → List Bytes) (as_world : (m : MountedGroup) → IsGroupOf session name m → (there : IsThere w below name m) → what m ≡ lines_of there.id there.group) where
-      report_served : (result : Result (List Bytes) Refusal) → IfOk result (λ lines. IsInGroup session name (λ m. lines ≡ what m)) → IfErr result (λ refusal. IsOutCause session.entries name refusal ⊎ IsInGroup session name (λ m. ⊥))
+      report_served : (result : Result (List Bytes) Refusal) → IfOk result (λ lines. IsInGroup session name (λ m. lines ≡ what m)) → IfErr result (IsOutCause session.entries name)
           → IsServed paths unread text (reply_of result) was was s s below w w
-      report_served (Ok lines) shown untold = served_in paths text (Done lines) was s w w (ap shows_group says ∙ is.in_family)
+      report_served (Ok lines) shown out = served_in paths text (Done lines) was s w w (ap shows_group says ∙ is.in_family)
           (λ own. there_told shown.group shown.is_group lines (λ there. shown.caused ∙ as_world shown.group shown.is_group there) own)
-      report_served (Err refusal) shown untold = ⊎_elim
-          (λ out. out_refused paths text command says counts was s w name (λ g. []) is.shows refusal (rw knows.entries_are out))
-          (λ none. absurd none.caused)
-          untold
+      report_served (Err refusal) shown out = out_refused paths text command says counts was s w name (λ g. []) is.shows refusal (rw knows.entries_are out)
 
 -- ---- each report
 
@@ -144,14 +141,13 @@ module _ (paths : List Bytes) (text name : Bytes) (session : SessionView) (s : B
   attributes_as_world m group there = attributes_are_worlds m.name m.catalog.shape m.catalog.tables there.told.cells ∙ ap (λ (g : Group). world.attribute_lines g.shape g.attributes) (sym there.told.is)
 
   -- the report that is asked for
-  pub told_served : (what : Report) (result : Result (List Bytes) Refusal) → AsksFor text name what → IfOk result (λ lines. IsInGroup session name (λ m. lines ≡ told what m)) → IfErr result (IsUntoldIn session name what)
+  pub told_served : (what : Report) (result : Result (List Bytes) Refusal) → AsksFor text name what → IfOk result (λ lines. IsInGroup session name (λ m. lines ≡ told what m)) → IfErr result (IsOutCause session.entries name)
       → IsServed paths unread text (reply_of result) (roster_of session) (roster_of session) s s below w w
-  told_served report.Disks result asked shown untold =
-      report_served paths text name session s w below knows (Asked (ListDisks name)) (served_meaning text (Asked (ListDisks name)) asked refl) (λ id g. world.disk_lines (below id).disks) disks_is disks_told disks_as_world result shown untold
-  told_served report.Check result asked shown untold =
-      report_served paths text name session s w below knows (Said (Alter name Check)) (served_meaning text (Said (Alter name Check)) asked refl) (λ id g. world.check_line (below id).extents (below id).not_full ∷ []) check_is checked_told check_as_world result shown untold
-  told_served (report.Usage path) result asked shown untold = unproved_served paths text (reply_of result) (roster_of session) s w asked
-  told_served report.Templates result asked shown untold =
-      report_served paths text name session s w below knows (Asked (ListTemplates name)) (served_meaning text (Asked (ListTemplates name)) asked refl) (λ id g. world.template_lines (template_rows g)) templates_is templates_told templates_as_world result shown untold
-  told_served report.Attributes result asked shown untold =
-      report_served paths text name session s w below knows (Asked (ListAttributes name)) (served_meaning text (Asked (ListAttributes name)) asked refl) (λ id g. world.attribute_lines g.shape g.attributes) attributes_is attributes_told attributes_as_world result shown untold
+  told_served report.Disks result asked shown out =
+      report_served paths text name session s w below knows (Asked (ListDisks name)) (meaning_is text (Asked (ListDisks name)) asked) (λ id g. world.disk_lines (below id).disks) disks_is disks_told disks_as_world result shown out
+  told_served report.Check result asked shown out =
+      report_served paths text name session s w below knows (Said (Alter name Check)) (meaning_is text (Said (Alter name Check)) asked) (λ id g. world.check_line (below id).extents (below id).not_full ∷ []) check_is checked_told check_as_world result shown out
+  told_served report.Templates result asked shown out =
+      report_served paths text name session s w below knows (Asked (ListTemplates name)) (meaning_is text (Asked (ListTemplates name)) asked) (λ id g. world.template_lines (template_rows g)) templates_is templates_told templates_as_world result shown out
+  told_served report.Attributes result asked shown out =
+      report_served paths text name session s w below knows (Asked (ListAttributes name)) (meaning_is text (Asked (ListAttributes name)) asked) (λ id g. world.attribute_lines g.shape g.attributes) attributes_is attributes_told attributes_as_world result shown out

@@ -1,3 +1,4 @@
 pub mod Going
 pub mod GroupRows
+pub mod Listed
 pub mod Told

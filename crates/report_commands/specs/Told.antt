@@ -1,6 +1,5 @@
--- What the reports on one mounted group tell, and find.
-use Rattle.std.specs.Prelude.{◌≡◌, ◌⊎◌, ℕ, false, List, [], ◌∷◌, map, Ok, Err}
-use Rattle.asm_base.specs.declared.refusal.Refusal.{Refusal}
+-- What the reports on one mounted group tell, and those on a directory in it: du and find.
+use Rattle.std.specs.Prelude.{◌≡◌, ℕ, List, [], ◌∷◌, map, Ok}
 use Rattle.asm_group.specs.Names.{Bytes, Path}
 use Rattle.asm_world.specs.Command.{Asked, Said, ListAttributes, ListDisks, ListTemplates}
 use Rattle.asm_world.specs.Language.{command_of}
@@ -13,10 +12,6 @@ use Rattle.group_reports.specs.Disks.{disk_rows}
 use Rattle.group_reports.specs.Extents.{all_extents, checked_of}
 use Rattle.group_reports.specs.Files.{paths_found, usage_of}
 use Rattle.group_reports.specs.Places.{directory_at}
-use Rattle.session.specs.Families.{is_proved}
-use Rattle.session.specs.Listing.{IsInGroup}
-use Rattle.session.specs.Naming.{IsOutCause}
-use Rattle.session.specs.Sessions.{SessionView}
 use Rattle.report_commands.specs.declared.shown.Report.{Report}
 use Rattle.report_commands.specs.declared.shown.Report.TheVariants as report
 
@@ -28,10 +23,6 @@ disks_told m = texts.disk_lines (map texts.disk_row (disk_rows m.catalog m.regis
 abbrev pub checked_told : MountedGroup → List Bytes
 checked_told m = let checked = checked_of m.register.value.entries (all_extents m.catalog) in check_line checked.extents checked.not_full ∷ []
 
--- what the files of a directory take
-abbrev pub usage_told : Path → MountedGroup → List Bytes
-usage_told dir m = let taken = usage_of m.catalog m.name dir m.catalog.tables.files in du_lines taken.used taken.mirrored
-
 abbrev pub templates_told : MountedGroup → List Bytes
 templates_told m = texts.template_lines (map texts.template_row m.catalog.tables.templates.templates)
 
@@ -42,36 +33,35 @@ attributes_told m = texts.attribute_lines (texts.attribute_rows m.catalog.shape 
 abbrev pub told : Report → MountedGroup → List Bytes
 told report.Disks m = disks_told m
 told report.Check m = checked_told m
-told (report.Usage path) m = usage_told path.now.parts m
 told report.Templates m = templates_told m
 told report.Attributes m = attributes_told m
 
--- why there are none: du is of a directory
-abbrev pub IsUntold : Report → MountedGroup → Refusal → Type 0
-IsUntold (report.Usage path) m refusal = directory_at m.catalog.tables path.now.parts ≡ Err refusal
-IsUntold other m refusal = ⊥
-
--- the group of the name isn't there or isn't mounted, or there are none of it
-abbrev pub IsUntoldIn : SessionView → Bytes → Report → Refusal → Type 0
-IsUntoldIn session name report refusal = IsOutCause session.entries name refusal ⊎ IsInGroup session name (λ m. IsUntold report m refusal)
-
--- The text asks for the report on the group of a name. Of du it isn't proved what it does.
+-- The text asks for the report on the group of a name.
 abbrev pub AsksFor : Bytes → Bytes → Report → Type 0
 AsksFor text name report.Disks = command_of text ≡ Asked (ListDisks name)
 AsksFor text name report.Check = command_of text ≡ Said (Alter name Check)
-AsksFor text name (report.Usage path) = is_proved (command_of text) ≡ false
 AsksFor text name report.Templates = command_of text ≡ Asked (ListTemplates name)
 AsksFor text name report.Attributes = command_of text ≡ Asked (ListAttributes name)
 
--- ---- find
+-- ---- reports on a directory
 
--- below a directory
-abbrev pub found_told : MountedGroup → Path → Bytes → List Bytes
-found_told m dir pattern = map texts.path_line (paths_found m.catalog.tables m.name dir pattern)
-
--- The path leads to a directory, and these are the lines of find there, by tables that keep their rules.
-pub record IsFoundIn (m : MountedGroup) (path : Path) (pattern : Bytes) (lines : List Bytes) : Type 0 where
+-- The path leads to a directory, and this is what is told of it, by tables that keep their rules.
+pub record IsToldAt (m : MountedGroup) (path : Path) (told lines : List Bytes) : Type 0 where
   pub node : ℕ
   pub leads : directory_at m.catalog.tables path ≡ Ok node
   pub rules : KeepsRules m.catalog.shape m.catalog.tables
-  pub is : lines ≡ found_told m path pattern
+  pub is : lines ≡ told
+
+-- what the files below a directory take
+abbrev pub usage_told : MountedGroup → Path → List Bytes
+usage_told m dir = let taken = usage_of m.catalog m.name dir m.catalog.tables.files in du_lines taken.used taken.mirrored
+
+abbrev pub IsUsageIn : MountedGroup → Path → List Bytes → Type 0
+IsUsageIn m path lines = IsToldAt m path (usage_told m path) lines
+
+-- the paths below a directory
+abbrev pub found_told : MountedGroup → Path → Bytes → List Bytes
+found_told m dir pattern = map texts.path_line (paths_found m.catalog.tables m.name dir pattern)
+
+abbrev pub IsFoundIn : MountedGroup → Path → Bytes → List Bytes → Type 0
+IsFoundIn m path pattern lines = IsToldAt m path (found_told m path pattern) lines

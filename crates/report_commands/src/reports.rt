@@ -1,47 +1,27 @@
 // Reports: lists of names, groups, disks, templates and attributes, and what files take. None asks a device or changes anything.
-ghost use Rattle.std.specs.Prelude.{◌≡◌, false};
+ghost use Rattle.std.specs.Prelude.{◌≡◌};
 ghost use Rattle.asm_world.specs.Command.{Asked, Said, Ls, Find, Usage, ListGroups, ListDisks, ListTemplates, ListAttributes};
 ghost use Rattle.asm_world.specs.Language.{command_of};
 ghost use Rattle.asm_world.specs.Statement.{Alter, Check};
 ghost use Rattle.session.specs.Desks.{IsAnswered};
-ghost use Rattle.session.specs.Families.{is_proved};
 ghost use Rattle.session.specs.Sessions.{AreReady};
 ghost use Rattle.report_commands.specs.Told.{AsksFor};
 
 use crate::group_rows::groups_told;
-use crate::listing::rows_at;
-use crate::shown::{Report, found, told};
-use asm_base::{List, Name, Refusal, Text};
-use asmcmd::ls_lines;
+use crate::listing::{listed, parts_led};
+use crate::shown::{Report, directory_led, found, told, used};
+use asm_base::{Name, Refusal, Text};
 use bay::{Bay, Host};
-use session::{Answer, Desk, answer_lines, no_memory, or_refusal, refuse, refused};
-use verb_paths::{resolve_pattern, target};
+use session::{Answer, Desk, answer_lines, no_memory, refused};
+use verb_paths::target;
 
-/// A report on the mounted group of a name. Its refusals in order: NoGroup, Dismounted; of du then NoName, NotDirectory.
-fn tell<B: Bay, H: Host>(
-    desk: &mut Desk<B, H>,
-    text: &[u8],
-    group: &Name,
-    report: Report<'_>,
-) -> Answer
+/// A report on the mounted group of a name. Its refusals in order: NoGroup, Dismounted.
+fn tell<B: Bay, H: Host>(desk: &mut Desk<B, H>, text: &[u8], group: &Name, report: Report) -> Answer
     requires asked { AsksFor text.now group.now report }
     requires ready { AreReady desk.old.session.groups (B.state desk.old.bay) }
     ensures answers { IsAnswered text.now result desk.old desk.new }
 {
     let lines = told(&desk.session, desk.alloc, group, report);
-    answer_lines(desk.alloc, lines)
-}
-
-/// What a command tells of which it isn't proved what it does.
-fn tell_unproved<B: Bay, H: Host>(
-    desk: &mut Desk<B, H>,
-    text: &[u8],
-    lines: Result<List<Text>, Refusal>,
-) -> Answer
-    requires unproved { is_proved (command_of text.now) ≡ false }
-    requires ready { AreReady desk.old.session.groups (B.state desk.old.bay) }
-    ensures answers { IsAnswered text.now result desk.old desk.new }
-{
     answer_lines(desk.alloc, lines)
 }
 
@@ -56,24 +36,14 @@ pub fn ls<B: Bay, H: Host>(
     requires ready { AreReady desk.old.session.groups (B.state desk.old.bay) }
     ensures answers { IsAnswered text.now result desk.old desk.new }
 {
-    let place = desk.session.place();
-    let led = match &path {
-        Some(path) => resolve_pattern(desk.alloc, place, Some(path.as_slice())),
-        None => resolve_pattern(desk.alloc, place, None),
-    };
-    let Ok(led) = led else {
+    let Ok(led) = parts_led(desk.alloc, desk.session.place(), &path) else {
         return no_memory(desk, text);
     };
     let Some(parts) = led else {
-        return refuse(desk, text, Refusal::NoGroup);
+        return refused(desk.alloc, Refusal::NoGroup);
     };
-    match rows_at(&desk.session, desk.alloc, parts.as_slice()) {
-        Ok(rows) => {
-            let lines = ls_lines(desk.alloc, &rows, long);
-            tell_unproved(desk, text, or_refusal(lines))
-        }
-        Err(refusal) => refuse(desk, text, refusal),
-    }
+    let lines = listed(&desk.session, desk.alloc, parts.as_slice(), long);
+    answer_lines(desk.alloc, lines)
 }
 
 /// find. Its refusals in order: NoGroup, Dismounted, NoName, NotDirectory.
@@ -103,19 +73,14 @@ pub fn usage<B: Bay, H: Host>(desk: &mut Desk<B, H>, text: &[u8], path: Option<T
     requires ready { AreReady desk.old.session.groups (B.state desk.old.bay) }
     ensures answers { IsAnswered text.now result desk.old desk.new }
 {
-    let place = desk.session.place();
-    // A path without bytes leads to the place.
-    let led = match &path {
-        Some(path) => target(desk.alloc, place, path.as_slice()),
-        None => target(desk.alloc, place, b""),
-    };
-    let Ok(led) = led else {
+    let Ok(led) = directory_led(desk.alloc, desk.session.place(), &path) else {
         return no_memory(desk, text);
     };
-    let Some(path) = led else {
-        return refuse(desk, text, Refusal::NoGroup);
+    let Some(below) = led else {
+        return refused(desk.alloc, Refusal::NoGroup);
     };
-    tell(desk, text, &path.group, Report::Usage { path: &path })
+    let lines = used(&desk.session, desk.alloc, &below);
+    answer_lines(desk.alloc, lines)
 }
 
 /// lsdg: the group of a name, or all of the session in the order of mounting. NoGroup: no group has the name.

@@ -1,9 +1,12 @@
-// The lines of the reports on one mounted group, and of find.
+// The lines of the reports on one mounted group, and of those on a directory in it: du and find.
 ghost use Rattle.std.specs.Prelude.{◌≡◌, ◌⊎◌, Err, IfErr, IfOk};
+ghost use Rattle.std.specs.Option.{option_map};
 ghost use Rattle.asm_base.specs.declared.refusal.Refusal.TheVariants.{NoMemory as WantOfMemory};
+ghost use Rattle.asm_world.specs.Paths.{parts_of, resolved_or_here};
 ghost use Rattle.group_reports.specs.Places.{directory_at};
 ghost use Rattle.session.specs.Listing.{IsInGroup, IsPathCause};
-ghost use Rattle.report_commands.specs.Told.{IsFoundIn, IsUntold, IsUntoldIn, attributes_told, checked_told, disks_told, found_told, templates_told, told, usage_told};
+ghost use Rattle.session.specs.Naming.{IsOutCause};
+ghost use Rattle.report_commands.specs.Told.{IsFoundIn, IsUsageIn, attributes_told, checked_told, disks_told, found_told, templates_told, told, usage_told};
 
 use asm_base::{List, Name, NoMemory, Path, Refusal, Text};
 use asmcmd::{attribute_lines, check_lines, disk_lines, path_lines, template_lines, usage_lines};
@@ -13,16 +16,15 @@ use group_reports::{
 };
 use session::Session;
 use std::alloc::Global;
+use verb_paths::target;
 
 /// A report on one mounted group.
 #[derive(Clone, Copy)]
-pub enum Report<'a> {
+pub enum Report {
     /// lsdsk.
     Disks,
     /// CHECK.
     Check,
-    /// du: what the files below the directory at a path take.
-    Usage { path: &'a Path },
     /// lstmpl.
     Templates,
     /// lsattr.
@@ -43,13 +45,6 @@ fn checked_of(alloc: Global, m: &Mounted) -> Result<List<Text>, NoMemory>
     check_lines(alloc, checked.extents, checked.not_full)
 }
 
-fn usage_of(alloc: Global, m: &Mounted, dir: &[Name]) -> Result<List<Text>, NoMemory>
-    ensures { IfOk result (λ lines. lines ≡ usage_told dir.now m.now) }
-{
-    let usage = usage_below(alloc, m.name(), m.catalog(), dir)?;
-    usage_lines(alloc, usage.used, usage.mirrored)
-}
-
 fn templates_of(alloc: Global, m: &Mounted) -> Result<List<Text>, NoMemory>
     ensures { IfOk result (λ lines. lines ≡ templates_told m.now) }
 {
@@ -65,63 +60,88 @@ fn attributes_of(alloc: Global, m: &Mounted) -> Result<List<Text>, NoMemory>
 }
 
 /// The lines of a report on a group.
-fn lines_of(alloc: Global, m: &Mounted, report: Report<'_>) -> Result<List<Text>, NoMemory>
-    ensures { IfOk result (λ lines. lines ≡ told report.entry m.now) }
+fn lines_of(alloc: Global, m: &Mounted, report: Report) -> Result<List<Text>, NoMemory>
+    ensures { IfOk result (λ lines. lines ≡ told report m.now) }
 {
     match report {
         Report::Disks => disks_of(alloc, m),
         Report::Check => checked_of(alloc, m),
-        Report::Usage { path } => usage_of(alloc, m, path.parts.as_slice()),
         Report::Templates => templates_of(alloc, m),
         Report::Attributes => attributes_of(alloc, m),
     }
 }
 
-/// Whether a report can be made of a group: du is of a directory. Its refusals in order: NoName, NotDirectory.
-fn can_tell(m: &Mounted, report: Report<'_>) -> Result<(), Refusal>
-    ensures { IfErr result (IsUntold report.entry m.now) }
-{
-    match report {
-        Report::Usage { path } => is_directory(m, path),
-        _ => Ok(()),
-    }
-}
-
-fn is_directory(m: &Mounted, path: &Path) -> Result<(), Refusal>
-    ensures { IfErr result (λ refusal. directory_at m.now.catalog.tables path.now.parts ≡ Err refusal) }
-{
-    match directory_at(m.catalog(), path) {
-        Ok(_) => Ok(()),
-        Err(refusal) => Err(refusal),
-    }
-}
-
 /// What a report tells of a group.
-fn told_of(alloc: Global, m: &Mounted, report: Report<'_>) -> Result<List<Text>, Refusal>
-    ensures told { IfOk result (λ lines. lines ≡ told report.entry m.now) }
-    ensures cause { IfErr result (λ refusal. IsUntold report.entry m.now refusal ⊎ (refusal ≡ WantOfMemory)) }
+fn told_of(alloc: Global, m: &Mounted, report: Report) -> Result<List<Text>, Refusal>
+    ensures told { IfOk result (λ lines. lines ≡ told report m.now) }
+    ensures cause { IfErr result (λ refusal. refusal ≡ WantOfMemory) }
 {
-    match can_tell(m, report) {
-        Ok(()) => match lines_of(alloc, m, report) {
-            Ok(lines) => Ok(lines),
-            Err(NoMemory) => Err(Refusal::NoMemory),
-        },
-        Err(refusal) => Err(refusal),
+    match lines_of(alloc, m, report) {
+        Ok(lines) => Ok(lines),
+        Err(NoMemory) => Err(Refusal::NoMemory),
     }
 }
 
-/// What a report tells of the mounted group of a name. Its refusals in order: NoGroup, Dismounted; of du then NoName, NotDirectory.
+/// What a report tells of the mounted group of a name. Its refusals in order: NoGroup, Dismounted.
 pub fn told(
     session: &Session,
     alloc: Global,
     name: &Name,
-    report: Report<'_>,
+    report: Report,
 ) -> Result<List<Text>, Refusal>
-    ensures told { IfOk result (λ lines. IsInGroup session.now name.now (λ m. lines ≡ told report.entry m)) }
-    ensures cause { IfErr result (IsUntoldIn session.now name.now report.entry) }
+    ensures told { IfOk result (λ lines. IsInGroup session.now name.now (λ m. lines ≡ told report m)) }
+    ensures cause { IfErr result (IsOutCause session.now.entries name.now) }
 {
     match session.mounted(alloc, name) {
         Ok(m) => told_of(alloc, m, report),
+        Err(refusal) => Err(refusal),
+    }
+}
+
+/// The directory of du: that to which the path leads, where one is said, else the place. None where it comes to `+`.
+pub fn directory_led(
+    alloc: Global,
+    place: &[Name],
+    path: &Option<Text>,
+) -> Result<Option<Path>, NoMemory>
+    ensures { IfOk result (λ led. option_map (λ p. (p.group, p.parts)) led ≡ parts_of (resolved_or_here place.now path.now)) }
+{
+    match path {
+        Some(path) => target(alloc, place, path.as_slice()),
+        // A path without bytes leads to the place.
+        None => target(alloc, place, b""),
+    }
+}
+
+/// What the files below a directory take.
+fn usage_of(alloc: Global, m: &Mounted, dir: &[Name]) -> Result<List<Text>, NoMemory>
+    ensures { IfOk result (λ lines. lines ≡ usage_told m.now dir.now) }
+{
+    let usage = usage_below(alloc, m.name(), m.catalog(), dir)?;
+    usage_lines(alloc, usage.used, usage.mirrored)
+}
+
+/// The same of the directory at a path.
+fn usage_at(alloc: Global, m: &Mounted, path: &Path) -> Result<List<Text>, Refusal>
+    ensures used { IfOk result (IsUsageIn m.now path.now.parts) }
+    ensures cause { IfErr result (λ refusal. (directory_at m.now.catalog.tables path.now.parts ≡ Err refusal) ⊎ (refusal ≡ WantOfMemory)) }
+{
+    // Its clause shows that the rules hold.
+    let _group = m.catalog().shape();
+    directory_at(m.catalog(), path)?;
+    match usage_of(alloc, m, path.parts.as_slice()) {
+        Ok(lines) => Ok(lines),
+        Err(NoMemory) => Err(Refusal::NoMemory),
+    }
+}
+
+/// What du tells of the directory at a path. Its refusals in order: NoGroup, Dismounted, NoName, NotDirectory.
+pub fn used(session: &Session, alloc: Global, path: &Path) -> Result<List<Text>, Refusal>
+    ensures used { IfOk result (λ lines. IsInGroup session.now path.now.group (λ m. IsUsageIn m path.now.parts lines)) }
+    ensures cause { IfErr result (IsPathCause session.now path.now.group path.now.parts) }
+{
+    match session.mounted(alloc, &path.group) {
+        Ok(m) => usage_at(alloc, m, path),
         Err(refusal) => Err(refusal),
     }
 }

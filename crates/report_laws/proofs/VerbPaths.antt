@@ -1,4 +1,4 @@
--- The paths of cd, find and ls, as the grammar of verbs has them.
+-- The paths of cd, find, du and ls, as the grammar of verbs has them.
 use Rattle.std.proofs.Common.{◌≡◌, ℕ, Bool, true, false, List, Option, Some, None, refl, subst}
 use Rattle.std.specs.Prelude.{◌||◌, ◌==◌, is_some}
 use mathlib.Core.Logic.{inl, inr}
@@ -9,9 +9,9 @@ use Rattle.asm_grammar.specs.Syntax.{Value, Has}
 use Rattle.asm_grammar.specs.Word as word
 use Rattle.asm_grammar.proofs.Consumes.{taken}
 use Rattle.asm_group.specs.Names.{Bytes, is_part, is_part_byte}
-use Rattle.asm_world.specs.Command.{Asked, Verb, Cd, Find, Ls}
+use Rattle.asm_world.specs.Command.{Asked, Verb, Cd, Find, Ls, Usage}
 use Rattle.asm_world.specs.Language.{command_of}
-use Rattle.asm_world.specs.Paths.{is_pattern_byte, resolved, resolved_pattern}
+use Rattle.asm_world.specs.Paths.{is_pattern_byte, resolved, resolved_or_here, resolved_pattern}
 use Rattle.asm_world.specs.VerbMeaning.{of_cp, of_disks, of_files, of_ls, of_names, of_reports, verb_of}
 use Rattle.asm_world.specs.Verbs as g
 use Rattle.asm_world.proofs.Commands.{verbs_found}
@@ -41,6 +41,7 @@ fitted k text said rest fits =
 abbrev IsWord : Verb → Type 0
 IsWord (Cd path) = accepts (PathStart Plain) path ≡ true
 IsWord (Find path pattern) = accepts (PathStart Plain) path ≡ true
+IsWord (Usage (Some path)) = accepts (PathStart Plain) path ≡ true
 IsWord (Ls long (Some path)) = accepts NotLongStart path ≡ true
 IsWord other = Unit {0}
 
@@ -60,7 +61,8 @@ names_word (inr (inr (inl keyword))) text rest has = tt
 names_word (inr (inr (inr (inl (keyword, path))))) text rest has = tt
 names_word (inr (inr (inr (inr (inl (keyword, path)))))) text rest has = tt
 names_word (inr (inr (inr (inr (inr (inl v)))))) text rest has = cp_word v
-names_word (inr (inr (inr (inr (inr (inr (inl (keyword, path)))))))) text rest has = tt
+names_word (inr (inr (inr (inr (inr (inr (inl (keyword, None)))))))) text rest has = tt
+names_word (inr (inr (inr (inr (inr (inr (inl (keyword, Some path)))))))) text rest has = fitted Path has.0 path rest has.2
 names_word (inr (inr (inr (inr (inr (inr (inr (inl (keyword, (path, pattern)))))))))) text rest has = fitted Path has.0 path has.2.0 has.2.1
 names_word (inr (inr (inr (inr (inr (inr (inr (inr (inl (keyword, (path, alias))))))))))) text rest has = tt
 names_word (inr (inr (inr (inr (inr (inr (inr (inr (inr (keyword, path)))))))))) text rest has = tt
@@ -118,6 +120,10 @@ plain_leads : (place : List Bytes) (path : Bytes) → accepts (PathStart Plain) 
 unfolding is_part
 plain_leads place path is = path_leads Plain is_part_byte plain_byte refl refl place path is
 
+here_leads : (place : List Bytes) (path : Option Bytes) → IsWord (Usage path) → is_some (resolved_or_here place path) ≡ true
+here_leads place None is = refl
+here_leads place (Some path) is = plain_leads place path is
+
 starred_leads : (place : List Bytes) (path : Bytes) → accepts NotLongStart path ≡ true → is_some (resolved_pattern place (Some path)) ≡ true
 starred_leads place path is = long_leads Starred is_pattern_byte starred_byte refl refl refl place path is
 
@@ -125,5 +131,6 @@ pub paths_lead : PathsLead
 paths_lead = record {
   cd = λ text path place is. plain_leads place path (asked text (Cd path) is);
   find = λ text path pattern place is. plain_leads place path (asked text (Find path pattern) is);
+  usage = λ text path place is. here_leads place path (asked text (Usage path) is);
   ls = λ text path long place is. starred_leads place path (asked text (Ls long (Some path)) is);
 }

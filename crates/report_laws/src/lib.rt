@@ -8,7 +8,7 @@ ghost use Rattle.report_laws.specs.Places.{DirectoriesAreWorlds, NoDirectoriesAr
 ghost use Rattle.report_laws.specs.Rows.{AttributesAreWorlds, TemplatesAreWorlds};
 ghost use Rattle.report_laws.specs.Usage.{UsageIsWorlds};
 
-/// The path of `cd`, `find` or `ls` leads somewhere, from whatever place.
+/// The path of `cd`, `find`, `du` or `ls` leads somewhere, from whatever place.
 pub fn paths_lead()
     ensures { PathsLead }
 {}

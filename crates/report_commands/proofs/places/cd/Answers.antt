@@ -1,7 +1,7 @@
 use Rattle.std.proofs.Common.{refl}
 use Rattle.asm_world.specs.Command.{Asked, Cd}
 use Rattle.report_commands.proofs.Gone.{gone, not_gone}
-use Rattle.session.proofs.Languages.{served_meaning}
+use Rattle.session.proofs.Languages.{meaning_is}
 use Rattle.report_commands.proofs.places.cd.Goals as goal
 
 pub returns-in-Ok : goal.returns-in-Ok
@@ -17,7 +17,7 @@ returns-in-Ok g c =
           below,
           rw c.go.ensures (record { entries_are = knows.entries_are; place_is = refl; below_is = knows.below_is; told = knows.told }),
           rw (c.plain.ensures.reply, c.plain.ensures.found, c.new.ensures, c.go.ensures)
-              (gone _ c.args.text.now c.args.path (served_meaning c.args.text.now (Asked (Cd c.args.path)) c.requires.asked refl) c.requires.asked c.args.desk.now.session _ c.requires.ready w below knows c.in-Ok.place led),
+              (gone _ c.args.text.now c.args.path (meaning_is c.args.text.now (Asked (Cd c.args.path)) c.requires.asked) c.requires.asked c.args.desk.now.session _ c.requires.ready w below knows c.in-Ok.place led),
         );
       };
     }
@@ -35,7 +35,7 @@ returns g c =
           below,
           knows,
           rw (c.refused.ensures.reply, c.refused.ensures.found)
-              (not_gone _ c.args.text.now c.args.path (served_meaning c.args.text.now (Asked (Cd c.args.path)) c.requires.asked refl) c.requires.asked c.args.desk.now.session _ c.requires.ready w below knows c.in-Err.refusal why),
+              (not_gone _ c.args.text.now c.args.path (meaning_is c.args.text.now (Asked (Cd c.args.path)) c.requires.asked) c.requires.asked c.args.desk.now.session _ c.requires.ready w below knows c.in-Err.refusal why),
         );
       };
     }

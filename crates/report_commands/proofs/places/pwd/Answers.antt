@@ -1,13 +1,13 @@
 use Rattle.std.proofs.Common.{◌≡◌, refl}
 use Rattle.asm_world.specs.Command.{Asked, Pwd}
 use Rattle.session.specs.Meaning.{meaning}
-use Rattle.session.proofs.Languages.{served_meaning}
+use Rattle.session.proofs.Languages.{meaning_is}
 use Rattle.session.proofs.Outcomes.{told}
 use Rattle.report_commands.proofs.places.pwd.Goals as goal
 
 pub returns-in-Ok : goal.returns-in-Ok
 returns-in-Ok g c =
-    let says : meaning c.args.text.now ≡ Asked Pwd = served_meaning c.args.text.now (Asked Pwd) c.requires.asked refl in
+    let says : meaning c.args.text.now ≡ Asked Pwd = meaning_is c.args.text.now (Asked Pwd) c.requires.asked in
     record {
       answers = record {
         paths = refl;

@@ -1,13 +1,13 @@
 use Rattle.std.proofs.Common.{refl, sym}
 use Rattle.asm_world.specs.Command.{Asked, Find}
 use Rattle.session.proofs.AnsweredLines.{answered-lines}
-use Rattle.session.proofs.Languages.{served_meaning}
+use Rattle.session.proofs.Languages.{meaning_is}
 use Rattle.report_commands.proofs.FindShown.{found_nowhere, found_served}
 use Rattle.report_commands.proofs.reports.find.Goals as goal
 
 pub returns-in_default-led : goal.returns-in_default-led
 returns-in_default-led g c =
-    let says = served_meaning c.args.text.now (Asked (Find c.args.path c.args.pattern)) c.requires.asked refl in
+    let says = meaning_is c.args.text.now (Asked (Find c.args.path c.args.pattern)) c.requires.asked in
     let none = rw (c.place.ensures, c.as_slice.ensures, c.in_default-led.is) at c.in-Ok.ensures in
     record {
       answers = record {
@@ -26,7 +26,7 @@ returns-in_default-led g c =
 
 pub returns : goal.returns
 returns g c =
-    let says = served_meaning c.args.text.now (Asked (Find c.args.path c.args.pattern)) c.requires.asked refl in
+    let says = meaning_is c.args.text.now (Asked (Find c.args.path c.args.pattern)) c.requires.asked in
     let to = rw (c.place.ensures, c.as_slice.ensures, c.in-Some.is) at c.in-Ok.ensures in
     let shown = rw c.as_slice-2.ensures at c.found-lines.ensures.found in
     let all = answered-lines c.args.text.now c.answer_lines.result c.args.desk.now c.found-lines.result c.requires.ready c.answer_lines.ensures.done c.answer_lines.ensures.refused c.answer_lines.ensures.found
