@@ -4,11 +4,12 @@ ghost use Rattle.asm_world.specs.Command.{Said, Asked, DbCreate, DbWrite, DbFill
 ghost use Rattle.asm_world.specs.Language.{command_of};
 ghost use Rattle.asm_world.specs.Statement.{Alter, DropFile};
 ghost use Rattle.session.specs.Desks.{IsAnswered};
-ghost use Rattle.session.specs.Families.{is_proved};
-ghost use Rattle.session.specs.FileLines.{AreReadLines, HaveRead, IsNewLine, TakesMore, system_lines};
+ghost use Rattle.session.specs.Families.{is_proved_on_disks};
+ghost use Rattle.session.specs.FileLines.{IsNewLine, system_lines};
 ghost use Rattle.session.specs.Listing.{IsInGroup};
 ghost use Rattle.session.specs.Naming.{CarriesOn};
 ghost use Rattle.session.specs.Sessions.{AreReady};
+ghost use Rattle.file_commands.specs.Reading.{AsksRead, HasRead, IsLinesCause, IsNoSpan, IsReadCause, OpensSpan, PutsRead, ReadsLines, ReadsOnly, ShowsBytes};
 
 use crate::works::{Create, OnFile};
 use asm_base::{List, Name, NoMemory, Path, Refusal, Text};
@@ -19,7 +20,8 @@ use group_contents::{FileWork, OpenFile, buffer, check_span, open, read_next};
 use group_engine::Mounted;
 use group_reports::path_to;
 use session::{
-    Answer, Desk, Session, answer_lines, answer_of, no_memory, path_in, path_of_verb, refuse, spelt,
+    Answer, Desk, Session, answer_lines, answer_of, no_memory, path_in, path_of_verb, refuse,
+    refused, spelt,
 };
 use std::alloc::Global;
 
@@ -58,7 +60,7 @@ fn work_on_file<B: Bay, H: Host>(
     group: &Name,
     work: &FileWork,
 ) -> Answer
-    requires unproved { is_proved (command_of text.now) ≡ false }
+    requires unproved { is_proved_on_disks (command_of text.now) ≡ false }
     requires ready { AreReady desk.old.session.groups (B.state desk.old.bay) }
     ensures answers { IsAnswered text.now result desk.old desk.new }
 {
@@ -76,7 +78,7 @@ fn work_by_verb<B: Bay, H: Host>(
     path: &[u8],
     work: AtFile,
 ) -> Answer
-    requires unproved { is_proved (command_of text.now) ≡ false }
+    requires unproved { is_proved_on_disks (command_of text.now) ≡ false }
     requires ready { AreReady desk.old.session.groups (B.state desk.old.bay) }
     ensures answers { IsAnswered text.now result desk.old desk.new }
 {
@@ -92,7 +94,7 @@ fn work_at_path<B: Bay, H: Host>(
     path: Path,
     work: AtFile,
 ) -> Answer
-    requires unproved { is_proved (command_of text.now) ≡ false }
+    requires unproved { is_proved_on_disks (command_of text.now) ≡ false }
     requires ready { AreReady desk.old.session.groups (B.state desk.old.bay) }
     ensures answers { IsAnswered text.now result desk.old desk.new }
 {
@@ -159,7 +161,7 @@ fn refuse_in<B: Bay, H: Host>(
     group: &Name,
     refusal: Refusal,
 ) -> Answer
-    requires unproved { is_proved (command_of text.now) ≡ false }
+    requires unproved { is_proved_on_disks (command_of text.now) ≡ false }
     requires ready { AreReady desk.old.session.groups (B.state desk.old.bay) }
     ensures answers { IsAnswered text.now result desk.old desk.new }
 {
@@ -247,7 +249,7 @@ fn make_file<B: Bay>(
 
 /// Makes a file of zeros at a path in a group.
 fn create_at<B: Bay, H: Host>(desk: &mut Desk<B, H>, text: &[u8], new: &NewFile) -> Answer
-    requires unproved { is_proved (command_of text.now) ≡ false }
+    requires unproved { is_proved_on_disks (command_of text.now) ≡ false }
     requires ready { AreReady desk.old.session.groups (B.state desk.old.bay) }
     ensures answers { IsAnswered text.now result desk.old desk.new }
 {
@@ -289,13 +291,34 @@ fn open_span(
     len: u64,
 ) -> Result<OpenFile, Refusal>
     ensures within { OnOk result (at + len < 2 ^ 64) }
+    ensures opened { IfOk result (λ file. IsInGroup session.now path.now.group (λ m. OpensSpan m path.now.parts at len file)) }
+    ensures cause { IfErr result (IsLinesCause session.now path.now.group path.now.parts at len) }
 {
-    let m = session.mounted(alloc, &path.group)?;
-    let file = open(m, path)?;
-    check_span(m, &file, at, len)?;
+    let m = match session.mounted(alloc, &path.group) {
+        Ok(m) => m,
+        Err(refusal) => return Err(refusal),
+    };
+    span_of(m, path, at, len)
+}
+
+/// Opens a file of a group, of which a span may be read.
+fn span_of(m: &Mounted, path: &Path, at: u64, len: u64) -> Result<OpenFile, Refusal>
+    ensures within { OnOk result (at + len < 2 ^ 64) }
+    ensures opened { IfOk result (OpensSpan m.now path.now.parts at len) }
+    ensures cause { IfErr result (IsNoSpan m.now path.now.parts at len) }
+{
+    // Its clause shows that the rules hold.
+    let _group = m.catalog().shape();
+    let file = match open(m, path) {
+        Ok(file) => file,
+        Err(refusal) => return Err(refusal),
+    };
     // The proof takes from here that the file's size, behind which the span doesn't end, is a number of 64 bits.
     let _size = file.size();
-    Ok(file)
+    match check_span(m, &file, at, len) {
+        Ok(()) => Ok(file),
+        Err(refusal) => Err(refusal),
+    }
 }
 
 /// Fills the buffer with bytes of a file of the mounted group of a name.
@@ -311,8 +334,14 @@ pub fn read_from<B: Bay>(
 ) -> Result<(), Refusal>
     requires ready { AreReady session.now.groups (B.state bay.old) }
     ensures carries { CarriesOn session.now session.now (B.state bay.old) (B.state bay.new) }
+    ensures reads { ReadsOnly (B.state bay.old) (B.state bay.new) }
+    ensures shows { OnOk result (ShowsBytes session.now name.now file.now at (B.state bay.old) (B.state bay.new) buf.new) }
+    ensures cause { IfErr result (IsReadCause session.now name.now) }
 {
-    let m = session.mounted(alloc, name)?;
+    let m = match session.mounted(alloc, name) {
+        Ok(m) => m,
+        Err(refusal) => return Err(refusal),
+    };
     match read_next(m, bay, file, at, buf) {
         Ok(()) => Ok(()),
         Err(refusal) => Err(spelt(alloc, m, refusal)),
@@ -333,10 +362,15 @@ fn read_piece<B: Bay>(
     requires ready { AreReady session.now.groups (B.state bay.old) }
     requires room { runs.old.end + length buf.old < 2 ^ 64 }
     ensures carries { CarriesOn session.now session.now (B.state bay.old) (B.state bay.new) }
-    ensures runs { OnOk result (TakesMore (length buf.old) runs.old runs.new) }
+    ensures reads { ReadsOnly (B.state bay.old) (B.state bay.new) }
+    ensures runs { OnOk result (PutsRead session.now group.now file.now at (length buf.old) (B.state bay.old) (B.state bay.new) runs.old runs.new) }
     ensures end { OnOk result (runs.new.end ≡ runs.old.end + length buf.old) }
+    ensures cause { IfErr result (IsReadCause session.now group.now) }
 {
-    read_from(session, alloc, bay, group, file, at, buf)?;
+    match read_from(session, alloc, bay, group, file, at, buf) {
+        Ok(()) => {}
+        Err(refusal) => return Err(refusal),
+    }
     match runs.put(buf) {
         Ok(()) => Ok(()),
         Err(NoMemory) => Err(Refusal::NoMemory),
@@ -359,7 +393,9 @@ fn read_span<B: Bay>(
     requires within { at + len < 2 ^ 64 }
     requires end { runs.old.end ≡ at }
     ensures carries { CarriesOn session.now session.now (B.state bay.old) (B.state bay.new) }
-    ensures runs { OnOk result (TakesMore len runs.old runs.new) }
+    ensures reads { ReadsOnly (B.state bay.old) (B.state bay.new) }
+    ensures runs { OnOk result (PutsRead session.now group.now file.now at len (B.state bay.old) (B.state bay.new) runs.old runs.new) }
+    ensures cause { IfErr result (IsReadCause session.now group.now) }
 {
     let mut left = len;
     while left > 0 {
@@ -369,7 +405,10 @@ fn read_span<B: Bay>(
         }
         let from = at + (len - left);
         let piece = &mut buf[..n];
-        read_piece(alloc, session, bay, group, file, from, piece, runs)?;
+        match read_piece(alloc, session, bay, group, file, from, piece, runs) {
+            Ok(()) => {}
+            Err(refusal) => return Err(refusal),
+        }
         left -= n as u64;
     }
     Ok(())
@@ -388,7 +427,9 @@ fn read_runs<B: Bay>(
     requires ready { AreReady session.now.groups (B.state bay.old) }
     requires within { at + len < 2 ^ 64 }
     ensures carries { CarriesOn session.now session.now (B.state bay.old) (B.state bay.new) }
-    ensures runs { IfOk result (HaveRead at len) }
+    ensures reads { ReadsOnly (B.state bay.old) (B.state bay.new) }
+    ensures runs { IfOk result (HasRead session.now group.now file.now at len (B.state bay.old) (B.state bay.new)) }
+    ensures cause { IfErr result (IsReadCause session.now group.now) }
 {
     let Ok(mut buf) = buffer(alloc, len, 0) else {
         return Err(Refusal::NoMemory);
@@ -421,9 +462,14 @@ fn read_lines<B: Bay>(
 ) -> Result<List<Text>, Refusal>
     requires ready { AreReady session.now.groups (B.state bay.old) }
     ensures carries { CarriesOn session.now session.now (B.state bay.old) (B.state bay.new) }
-    ensures lines { IfOk result (AreReadLines at len) }
+    ensures reads { ReadsOnly (B.state bay.old) (B.state bay.new) }
+    ensures lines { IfOk result (ReadsLines session.now path.now.group path.now.parts at len (B.state bay.old) (B.state bay.new)) }
+    ensures cause { IfErr result (IsLinesCause session.now path.now.group path.now.parts at len) }
 {
-    let file = open_span(session, alloc, path, at, len)?;
+    let file = match open_span(session, alloc, path, at, len) {
+        Ok(file) => file,
+        Err(refusal) => return Err(refusal),
+    };
     match read_runs(alloc, session, bay, &path.group, &file, at, len) {
         Ok(runs) => match runs.into_lines() {
             Ok(lines) => Ok(lines),
@@ -447,7 +493,7 @@ pub fn read_file<B: Bay, H: Host>(
 {
     match path_of_verb(desk.alloc, desk.session.place(), path.as_slice()) {
         Ok(path) => read_at(desk, text, &path, at, size),
-        Err(refusal) => refuse(desk, text, refusal),
+        Err(refusal) => refused(desk.alloc, refusal),
     }
 }
 
@@ -458,7 +504,7 @@ fn read_at<B: Bay, H: Host>(
     at: u64,
     size: u64,
 ) -> Answer
-    requires unproved { is_proved (command_of text.now) ≡ false }
+    requires asked { AsksRead text.now desk.old.session.place path.now at size }
     requires ready { AreReady desk.old.session.groups (B.state desk.old.bay) }
     ensures answers { IsAnswered text.now result desk.old desk.new }
 {
