@@ -7,7 +7,8 @@ use Rattle.asm_formats.specs.Status.{Entry, entry_of}
 use Rattle.asm_placement.specs.Modes.{is_forced}
 use Rattle.asm_images.specs.RecordLaws.{bare}
 use Rattle.record_laws.specs.Changing.{ModesJoin, ModesOfEach}
-use Rattle.record_laws.proofs.Bare.{entry_found, has_bare}
+use Rattle.asm_placement.proofs.Chosen.{entry_among}
+use Rattle.group_mount.proofs.Bare.{has_bare}
 
 bare_map : (change : Entry → Entry) (es : List Entry) → ((e : Entry) → IsAmong es e → bare (change e) ≡ bare e) → map bare (map change es) ≡ map bare es
 bare_map change [] same = refl
@@ -29,7 +30,7 @@ modes_of_each r change each = record {
   disks = record { id = refl; gone = refl; holders = refl; next_holders = refl; directories = refl; entries = bare_map change r.entries (λ e h. (each e h).disk) };
   births = omega arith;
   forced = λ d e f was is forced.
-      let k = each e (entry_found r.entries d e was).0 in
+      let k = each e (entry_among r.entries d e was).0 in
       let same : Some f ≡ Some (change e) = sym is ∙ entry_map change r.entries d (λ x h. (each x h).disk) ∙ ap (option_map change) was in
       ap (λ (x : Entry). is_forced x.mode) (same_Some f (change e) same) ∙ k.forced forced;
 }

@@ -38,7 +38,7 @@ use Rattle.group_engine.specs.Statuses.{IsNextOf}
 use Rattle.group_engine.proofs.Calls.{image_of}
 use Rattle.group_engine.proofs.Slots.{IsSeen, member_seen, member_there}
 use Rattle.record_laws.specs.Getting.{ChangesDisks, EntriesMayBeGot, IsAttachedWith, JoinsDisk, KeepsEntry}
-use Rattle.record_laws.proofs.Bare.{entry_found}
+use Rattle.asm_placement.proofs.Chosen.{entry_among}
 use Rattle.record_laws.proofs.Covered.{home_has_entry}
 use Rattle.record_laws.proofs.Getting.{HasBirth, is_held, may_be_got}
 use Rattle.record_laws.proofs.Modes.{still_serves}
@@ -73,7 +73,7 @@ module _ (s : BayState) (sound : IsSound s) (n : ℕ) (m : MountedGroup) (next :
 
   module _ (e : Entry) (is : entry_of next.entries k.header.number ≡ Some e) (birth : e.birth ≡ k.header.birth) where
     number_is : e.number ≡ k.header.number
-    number_is = (entry_found next.entries k.header.number e is).1
+    number_is = (entry_among next.entries k.header.number e is).1
 
     attached_fits : IsAttachedWith m e → e.units ≤ units_in k.header.shape k.disk.size
     attached_fits a =
@@ -94,7 +94,7 @@ module _ (s : BayState) (sound : IsSound s) (n : ℕ) (m : MountedGroup) (next :
     shown_fits w = fits_in e.units w.size (size_of_slot w.slot w.size (in_slot w.slot w.header (w.shows.now x left) w.group (w.number ∙ number_is) (w.birth ∙ birth)) w.attached) w.units
 
   has_units : HasUnits m.register.value k → HasUnits next k
-  has_units had e is birth = ⊎_elim (λ w. kept_fits e is birth w had) (λ w. shown_fits e is birth w) (change.each e (entry_found next.entries k.header.number e is).0)
+  has_units had e is birth = ⊎_elim (λ w. kept_fits e is birth w had) (λ w. shown_fits e is birth w) (change.each e (entry_among next.entries k.header.number e is).0)
 
 -- ---- what does not depend on an image
 
@@ -103,14 +103,14 @@ module _ (s : BayState) (m : MountedGroup) (next : Status) (change : ChangesDisk
   r = m.register.value
 
   given : (e : Entry) → IsAmong next.entries e → (e.birth ≤ r.births) ⊎ HasBirth r e.birth
-  given e h = ⊎_elim (λ w. inr (record { entry = w.was; among = (entry_found r.entries e.number w.was w.there).0; same = w.birth })) (λ w. inl w.given) (change.each e h)
+  given e h = ⊎_elim (λ w. inr (record { entry = w.was; among = (entry_among r.entries e.number w.was w.there).0; same = w.birth })) (λ w. inl w.given) (change.each e h)
 
   -- a disk with an entry that it keeps
   still_kept : (d : ℕ) (h : Header) → (o : Option Entry) → entry_of next.entries d ≡ o → is_some (entry_of r.entries d) ≡ true → is_disk_in (λ mode. not (is_forced mode)) d h o ≡ true
       → is_disk_in (λ mode. not (is_forced mode)) d h (entry_of r.entries d) ≡ true
   still_kept d h None at some is = absurd (false≢true is)
   still_kept d h (Some e) at some is =
-      let f = entry_found next.entries d e at in
+      let f = entry_among next.entries d e at in
       ⊎_elim
       (λ w.
       let p = and_parts (not (is_forced e.mode)) (is_disk d e.birth h) is in
@@ -127,7 +127,7 @@ module _ (s : BayState) (m : MountedGroup) (next : Status) (change : ChangesDisk
     info : (e : Entry) → IsAmong next.entries e → has_info l e ≡ true
     info e h = ⊎_elim
         (λ w.
-        let f = entry_found r.entries e.number w.was w.there in
+        let f = entry_among r.entries e.number w.was w.there in
         (λ i. is_birth (sym w.birth i) (info_of l (sym f.1 i))) ∙ all_of_list (has_info l) r.entries w.was d.disks f.0)
         (λ w. ap (is_birth e.birth) (infos_are m.catalog.tables l are e.number) ∙ w.info)
         (change.each e h)
@@ -135,7 +135,7 @@ module _ (s : BayState) (m : MountedGroup) (next : Status) (change : ChangesDisk
     regular : (h : Home) → is_some (entry_of r.entries h.disk) ≡ true → (o : Option Entry) → entry_of next.entries h.disk ≡ o → is_regular (entry_of r.entries h.disk) ≡ true → is_regular o ≡ true
     regular h some None at was = refl
     regular h some (Some e) at was =
-        let f = entry_found next.entries h.disk e at in
+        let f = entry_among next.entries h.disk e at in
         ⊎_elim
         (λ w. ap not (sym w.quorum) ∙ sym (ap is_regular w.there) ∙ ap (λ (j : ℕ). is_regular (entry_of r.entries j)) f.1 ∙ was)
         (λ w. absurd (false≢true (sym (ap is_some (ap (λ (j : ℕ). entry_of r.entries j) (sym f.1) ∙ w.none)) ∙ some)))

@@ -1,4 +1,3 @@
-pub mod Bare
 pub mod Described
 pub mod Covered
 pub mod Images

@@ -14,7 +14,7 @@ use Rattle.asm_images.specs.RecordLaws.{ChangesModes, bare}
 use Rattle.group_engine.proofs.Calls.{items}
 use Rattle.group_engine.proofs.NextRecords.{same_disks_are_next}
 use Rattle.record_laws.specs.Getting.{ChangesModesAlone, ModesAloneAreModes, ModesMayBeGot, MountedHasPartners, SameDisksMayBeGot, SameEntriesMayBeGot}
-use Rattle.record_laws.proofs.Bare.{births_in, has_bare}
+use Rattle.group_mount.proofs.Bare.{births_in, has_bare}
 use Rattle.record_laws.proofs.Described.{modes_describe}
 use Rattle.record_laws.proofs.Getting.{may_be_got}
 
@@ -28,7 +28,7 @@ pub modes_may_be_got : (s : BayState) → ModesMayBeGot s
 modes_may_be_got s = λ n m next g kept c change.
     let r = m.register.value in
     may_be_got n m s g kept c.mounts next c.may c.turns change.births
-    (λ e h. let f = births_in next.entries r.entries change.entries e h in inr (record { entry = f.0; among = f.1; same = f.2 }))
+    (λ e h. let f = births_in next.entries r.entries change.entries e h in inr (record { entry = f.0; among = f.1; same = sym f.2 }))
     (λ x left slots k among shape had. same_units r next k change had)
     (λ d h some is. change.kept d h is)
     change.directories
