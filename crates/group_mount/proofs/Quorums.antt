@@ -1,5 +1,5 @@
 -- What was surveyed and loaded lasts over calls that leave the disks.
-use Rattle.std.proofs.Common.{◌≡◌, inl, inr, ⊎_elim, ℕ, ◌<◌, List, length, sym, ap, subst, ◌∙◌, Some, None, Result, Ok, Err, IfOk, IfErr, IsTrue}
+use Rattle.std.proofs.Common.{◌≡◌, inl, inr, ⊎_elim, ℕ, ◌+◌, ◌^◌, ◌<◌, List, length, sym, ap, subst, ◌∙◌, Some, None, Result, Ok, Err, IfOk, IfErr, IsTrue}
 use Rattle.std.specs.Prelude.{MatchResult}
 use Rattle.std.specs.List.{list_all}
 use Rattle.std.proofs.lemmas.Option.{same_Some}
@@ -138,14 +138,14 @@ module _ (s m t : BayState) {early later : ℕ → Type 0} (first : Runs early S
   load_refused option e refusal = inr (record {
     survey = survey;
     surveyed = surveyed_later n id survey m t next stays now;
-    cause = inr (inl (refusal_back s m t first next (copies_read id hs survey) e refusal));
+    cause = inr (inr (inl (refusal_back s m t first next (copies_read id hs survey) e refusal)));
   })
 
   pub read_is : (shape : Shape) (store : Stored) → AreThere n hs s → ((k : Member) → IsAmong survey.members k → IsAmong (members_with id hs) k)
       → first_stranger id hs ≡ None → shape_in id hs ≡ Some shape → ArePartOf store.copies (copies_read id hs survey) → 0 < length store.copies
-      → (AreSettled (copies_read id hs survey) m → Keeps store t)
+      → (AreSettled (copies_read id hs survey) m → Keeps store t) → survey.epoch + 1 < 2 ^ 64
       → IsReadOf (record { id = id; slots = n; headed = hs }) (record { survey = survey; shape = shape; store = store }) t
-  read_is shape store there among alike is copies some kept = record {
+  read_is shape store there among alike is copies some kept epoch = record {
     there = there_still n hs m t next stays (there_still n hs s m first keeps there);
     survey = surveyed_later n id survey m t next stays now;
     among = among;
@@ -154,6 +154,7 @@ module _ (s m t : BayState) {early later : ℕ → Type 0} (first : Runs early S
     copies = copies;
     some = some;
     kept = kept (copies_settled id survey.read survey.value hs survey.members m now.well.among now.durable);
+    epoch = epoch;
   }
 
 -- ---- with the catalog
@@ -197,16 +198,17 @@ module _ (option : MountOption) (found : FoundDisks) (read : GroupRead) (s t : B
           catalog = q.catalog;
         }) of;
         complete = λ unforced. ap (λ (x : Surveyed). first_missing found.id found.headed x.value.entries) made.survey_is ∙ made.complete unforced;
+        epoch = subst (λ (x : Surveyed). x.epoch + 1 < 2 ^ 64) (sym made.survey_is) is.epoch;
       }
 
   refused_later : (e : MountError) → CataloguedCause option found.id found.headed read e → QuorumCause option found e s t
   refused_later e cause = inr (record {
     survey = read.survey;
     surveyed = is.survey;
-    cause = inr (inr (⊎_elim
+    cause = inr (inr (inr (⊎_elim
         (λ fault. inl (record { store = read.store; shape = read.shape; loaded = loaded; cause = fault }))
         (λ missing. inr (record { store = read.store; shape = read.shape; catalog = missing.0; loaded = loaded; catalogued = missing.1; cause = missing.2 }))
-        cause));
+        cause)));
   })
 
   pub answered : (result : Result Quorate MountError) → IfOk result (IsCatalogued option found.id found.slots found.headed read)

@@ -1,5 +1,5 @@
 -- What a mount has read of a group: its disks, its record and its directories.
-use Rattle.std.specs.Prelude.{◌≡◌, ◌⊎◌, ⊤, ℕ, ◌<◌, List, length, Option, Some, None}
+use Rattle.std.specs.Prelude.{◌≡◌, ◌⊎◌, ⊤, ℕ, ◌+◌, ◌^◌, ◌<◌, List, length, Option, Some, None}
 use Rattle.std.specs.Option.{option_map}
 use Rattle.bay.specs.State.{BayState}
 use Rattle.asm_group.specs.Shape.{Shape}
@@ -16,6 +16,7 @@ use Rattle.directory_store.specs.Reading.{ArePartOf}
 use Rattle.directory_store.specs.Stores.{Keeps, Stored}
 use Rattle.status_register.specs.Answers.{Surveyed}
 use Rattle.status_register.specs.declared.member.Member.{Member}
+use Rattle.status_table.specs.Changes.{majority_of}
 use Rattle.group_mount.specs.Alike.{first_stranger, shape_in}
 use Rattle.group_mount.specs.Finding.{AreThere}
 use Rattle.group_mount.specs.Founds.{FoundDisks}
@@ -61,6 +62,8 @@ pub record IsReadOf (found : FoundDisks) (read : GroupRead) (state : BayState) :
   pub copies : ArePartOf read.store.copies (copies_read found.id found.headed read.survey)
   pub some : 0 < length read.store.copies
   pub kept : Keeps read.store state
+  -- an epoch is left for the claim
+  pub epoch : read.survey.epoch + 1 < 2 ^ 64
 
 -- so it is of the disks that were found
 pub record IsQuorate (option : MountOption) (found : FoundDisks) (q : Quorate) (t : BayState) : Type 0 where
@@ -70,8 +73,15 @@ pub record IsQuorate (option : MountOption) (found : FoundDisks) (q : Quorate) (
   pub quorum : IsQuorum q t
   -- unless the mount is forced, no disk is missing
   pub complete : option ≡ NoForce → first_missing found.id found.headed q.survey.value.entries ≡ None
+  -- an epoch is left for the claim
+  pub epoch : q.survey.epoch + 1 < 2 ^ 64
 
 -- ---- refusals
+
+-- The epoch that was read is the last one: no disk can take a claim above it, and a majority of the record's holders is needed.
+abbrev pub IsLastEpochRefusal : Surveyed → MountError → Type 0
+IsLastEpochRefusal survey (error.NoMajority seen need) = (survey.epoch + 1 ≡ 2 ^ 64) × (seen ≡ 0) × (need ≡ majority_of survey.value.holders)
+IsLastEpochRefusal survey other = ⊥
 
 -- A member's header isn't that of a disk of the group: its body is named. Or no image is a member.
 abbrev pub IsStrangerRefusal : ℕ → List Headed → MountError → Type 0
@@ -152,8 +162,8 @@ pub record IsForceRefusal (option : MountOption) (found : FoundDisks) (survey : 
 pub record IsRefusedAfter (option : MountOption) (found : FoundDisks) (e : MountError) (s t : BayState) : Type 0 where
   pub survey : Surveyed
   pub surveyed : IsSurveyedNow found.slots found.id survey t
-  pub cause : IsStrangerRefusal found.id found.headed e ⊎ (LoadRefusal (copies_read found.id found.headed survey) s t e
-      ⊎ (IsDamagedRefusal found survey e t ⊎ IsForceRefusal option found survey e t))
+  pub cause : IsLastEpochRefusal survey e ⊎ (IsStrangerRefusal found.id found.headed e ⊎ (LoadRefusal (copies_read found.id found.headed survey) s t e
+      ⊎ (IsDamagedRefusal found survey e t ⊎ IsForceRefusal option found survey e t)))
 
 -- Why a group isn't quorate: by its survey, or by what comes behind it.
 abbrev pub QuorumCause : MountOption → FoundDisks → MountError → BayState → BayState → Type 0

@@ -1,6 +1,6 @@
 //! What a mount has read: the group's record, its directories and its disks.
 
-ghost use Rattle.std.specs.Prelude.{◌≡◌, ◌≤◌, None, Some, length, IfErr, IfOk, IsTrue, MatchResult, OnOk};
+ghost use Rattle.std.specs.Prelude.{◌≡◌, ◌≤◌, ◌<◌, ◌+◌, ◌^◌, None, Some, length, IfErr, IfOk, IsTrue, MatchResult, OnOk};
 ghost use Rattle.std.specs.List.{list_all};
 ghost use Rattle.asm_formats.specs.Status.{is_entry};
 ghost use Rattle.asm_group.specs.Shape.{is_shape};
@@ -10,7 +10,7 @@ ghost use Rattle.bay.specs.Moments.{Runs};
 ghost use Rattle.group_mount.specs.Alike.{first_stranger, shape_in};
 ghost use Rattle.group_mount.specs.Finding.{AreThere};
 ghost use Rattle.group_mount.specs.Missing.{first_missing};
-ghost use Rattle.group_mount.specs.Quorum.{CatalogRefusal, CataloguedCause, IsCatalogIn, IsCatalogued, IsFaultAt, IsMissingRefusal, IsQuorate, IsReadOf, IsStrangerRefusal, MissingCause, QuorumCause, RefusesCatalog};
+ghost use Rattle.group_mount.specs.Quorum.{CatalogRefusal, CataloguedCause, IsCatalogIn, IsCatalogued, IsFaultAt, IsLastEpochRefusal, IsMissingRefusal, IsQuorate, IsReadOf, IsStrangerRefusal, MissingCause, QuorumCause, RefusesCatalog};
 ghost use Rattle.group_mount.specs.Verdicts.{IsSlotIn};
 ghost use Rattle.group_mount.specs.declared.quorum.MountOption.{MountOption as Forcing};
 ghost use Rattle.group_mount.specs.declared.quorum.MountOption.TheVariants.{NoForce};
@@ -28,7 +28,7 @@ use catalog::Catalog;
 use catalog_tables::CatalogError;
 use directory_store::Store;
 use status_register::Survey;
-use status_table::{PstEntry, PstRecord};
+use status_table::{PstEntry, PstRecord, majority};
 use std::alloc::Global;
 
 /// Whether a mount is refused where a disk is missing.
@@ -59,6 +59,21 @@ struct GroupRead {
     survey: Survey,
     shape: Shape,
     store: Store,
+}
+
+/// Refuses a group whose last epoch, 2^64 - 1, is used up: no disk can take a claim above it, and a majority of the record's
+/// holders is needed.
+fn check_epoch(survey: &Survey) -> Result<(), MountError>
+    ensures left { OnOk result (survey.now.epoch + 1 < 2 ^ 64) }
+    ensures cause { IfErr result (IsLastEpochRefusal survey.now) }
+{
+    if survey.epoch() == u64::MAX {
+        return Err(MountError::NoMajority {
+            seen: 0,
+            need: majority(survey.value()),
+        });
+    }
+    Ok(())
 }
 
 /// The shape of the group, where all members of the id are disks of one.
@@ -148,7 +163,7 @@ fn check_missing(
     }
 }
 
-/// Surveys the members of an id among these images, and loads their directories.
+/// Surveys the members of an id among these images, and loads their directories. An epoch must be left for the claim.
 fn read_group<B: Bay>(
     alloc: Global,
     bay: &mut B,
@@ -164,6 +179,7 @@ fn read_group<B: Bay>(
     ensures runs { Runs (IsSlotIn images.now) Same (B.state bay.old) (B.state bay.new) }
 {
     let survey = survey_named(alloc, bay, images, id, slots)?;
+    check_epoch(&survey)?;
     let shape = shape_of_group(images, id)?;
     let store = load_copies(alloc, bay, images, id, &survey, slots)?;
     Ok(GroupRead {
@@ -267,9 +283,10 @@ fn quorate_of<B: Bay>(
 
 impl Found {
     /// Syncs the group's disks, reads its record and loads its directories. The refusals are tried in this order: NoMajority,
-    /// Damaged in a claim or status body, Damaged in the header of a member that isn't a disk of the group, DirectoriesLost,
-    /// Damaged in the directories, MissingDisk where the mount isn't forced. NoGroup comes where the group is found gone.
-    /// Nothing is written.
+    /// Damaged in a claim or status body, NoMajority where the last epoch is used up (no disk can take a claim above it, and a
+    /// majority of the record's holders is needed), Damaged in the header of a member that isn't a disk of the group,
+    /// DirectoriesLost, Damaged in the directories, MissingDisk where the mount isn't forced. NoGroup comes where the group is
+    /// found gone. Nothing is written.
     pub fn quorate<B: Bay>(
         self,
         alloc: Global,

@@ -100,6 +100,13 @@ impl Survey {
     {
         &self.value
     }
+
+    /// The greatest epoch that was read, of a claim or of the record.
+    pub fn epoch(&self) -> u64
+        ensures { result ≡ self.now.epoch }
+    {
+        self.epoch
+    }
 }
 
 /// Judges what was read.

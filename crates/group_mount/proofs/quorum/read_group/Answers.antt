@@ -17,7 +17,7 @@ returns-clause-read g c =
     read_is (g.B.Bay.state c.args.bay.now) (g.B.Bay.state c.survey_named.new.bay) (g.B.Bay.state c.load_copies.new.bay) c.survey_named.ensures.runs c.survey_named.ensures.attached
     c.load_copies.ensures.runs c.load_copies.ensures.attached c.args.slots c.args.id c.args.images.now c.in_ok-survey.survey c.in_ok-survey.ensures.now
     c.in_ok-shape.shape c.in_ok-store.store c.requires.there c.in_ok-survey.ensures.among c.in_ok-shape.ensures.alike c.in_ok-shape.ensures.shape
-    c.in_ok-store.ensures.copies c.in_ok-store.ensures.some c.in_ok-store.ensures.kept
+    c.in_ok-store.ensures.copies c.in_ok-store.ensures.some c.in_ok-store.ensures.kept c.in_ok-check_epoch.ensures.left
 
 pub returns-clause-runs : goal.returns-clause-runs
 returns-clause-runs g c = goes_on same-trans c.survey_named.ensures.runs (stops c.survey_named.ensures.runs) c.load_copies.ensures.runs
