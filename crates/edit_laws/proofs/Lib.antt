@@ -1,5 +1,5 @@
 pub mod Leading
 pub mod Spared
 pub mod Beside
-pub mod Alone
+pub mod WithAll
 pub mod OfTables

@@ -3,7 +3,7 @@
 use Rattle.std.specs.Prelude.{◌≡◌, ◌≢◌, ℕ, ◌+◌, ◌<◌, ◌^◌, true, List, [], ◌∷◌, OnErr, OnOk, Option, Result, Ok}
 use Rattle.bay.specs.State.{BayState}
 use Rattle.bay.specs.Image.{Image}
-use Rattle.bay.specs.Moments.{LeavesOnly, NowOnly, Runs}
+use Rattle.bay.specs.Moments.{LeavesOnly, Runs}
 use Rattle.asm_group.specs.Group.{Cell, Group}
 use Rattle.asm_group.specs.Names.{Bytes}
 use Rattle.asm_group.specs.Refusal as r
@@ -22,8 +22,8 @@ use Rattle.template_directory.specs.Meant as templates
 use Rattle.catalog_tables.specs.Changing.{IsAfter}
 use Rattle.catalog_tables.specs.Tables.{Catalogued, Tables}
 use Rattle.group_engine.specs.Commits.{LeadsTo, StandsIn}
-use Rattle.group_engine.specs.Frames.{SparesGroup}
-use Rattle.group_engine.specs.Mounts.{HasOnly, IsMounted, IsOwn, MountedGroup, Mounts}
+use Rattle.group_engine.specs.Frames.{SparesGroup, SparesOtherIds}
+use Rattle.group_engine.specs.Mounts.{IsMounted, IsOwn, MountedGroup, Mounts}
 use Rattle.group_engine.specs.Own.{KeepsGroup}
 use Rattle.group_files.specs.Edits.{IsCommitted}
 use Rattle.group_files.specs.GroupEdits.{IsEditPlan, IsRefusedAs}
@@ -99,14 +99,10 @@ EditIsHeld s t =
 
 -- ---- beside other groups
 
--- the disks of the members of every other id stay
-abbrev pub SparesOthers : ℕ → Image → Image → Type 0
-SparesOthers own old new = (id : ℕ) → id ≢ own → SparesGroup id old new
-
--- Each image of each moment of the call comes from one before it in which they are the same.
+-- The disks of every other id's members stay.
 abbrev pub OthersAreSpared : BayState → BayState → Type 0
 OthersAreSpared s t =
-    (c : EditCall) (h : Group) → Mounts c.n c.old s c.g c.kept → KeepsGroup c.old c.new s t → IsHeldOver c h s t → Runs (IsOwn c.old) (SparesOthers c.old.register.id) s t
+    (c : EditCall) (h : Group) → Mounts c.n c.old s c.g c.kept → KeepsGroup c.old c.new s t → IsHeldOver c h s t → Runs (IsOwn c.old) (SparesOtherIds c.old.register.id) s t
 
 -- An image that is sound under an id by a history is so still where they are.
 abbrev pub SparedIsSound : Type 0
@@ -122,13 +118,6 @@ OthersStayMounted s t =
 
 -- ---- with all disks
 
--- Over a call that changes disks of the group alone, its attached disks are the only members of its id, where they were.
-abbrev pub StaysAlone : BayState → BayState → Type 0
-StaysAlone s t =
-    (c : EditCall) → Mounts c.n c.old s c.g c.kept → KeepsGroup c.old c.new s t → NowOnly s (HasOnly c.old.register.id c.kept) → LeavesOnly s t (HasOnly c.old.register.id c.kept)
-
--- Then Status and directories are there at each moment with all disks, and not with the attached ones alone.
+-- Status and directories are there at each moment with all disks, also where others than the attached ones are members.
 abbrev pub StandsWithAll : BayState → BayState → Type 0
-StandsWithAll s t =
-    (c : EditCall) (h : Group) → Mounts c.n c.old s c.g c.kept → KeepsGroup c.old c.new s t → NowOnly s (HasOnly c.old.register.id c.kept) → IsHeldOver c h s t
-    → LeavesOnly s t (λ image. Standing c.old.register.id (disks_in c.n image) (λ any. true))
+StandsWithAll s t = (c : EditCall) (h : Group) → IsHeldOver c h s t → LeavesOnly s t (λ image. Standing c.old.register.id (disks_in c.n image) (λ any. true))

@@ -1,7 +1,7 @@
 //! Edits of a mounted group as the world's. Each function does nothing; its contract is the law.
 #![tactic(auto)]
 
-ghost use Rattle.edit_laws.specs.Edits.{EditIsHeld, EditIsOfTables, EditIsRefused, EditLeadsTo, OthersAreSpared, OthersStayMounted, RefusalIsOfTables, SparedIsSound, StandsWithAll, StaysAlone};
+ghost use Rattle.edit_laws.specs.Edits.{EditIsHeld, EditIsOfTables, EditIsRefused, EditLeadsTo, OthersAreSpared, OthersStayMounted, RefusalIsOfTables, SparedIsSound, StandsWithAll};
 
 use bay::Bay;
 
@@ -33,9 +33,8 @@ pub fn edits_of_tables_are_the_worlds()
     ensures refused { RefusalIsOfTables }
 {}
 
-/// While an edit is committed the attached disks stay the only members, where they were, and with all disks Status and
-/// directories are there.
+/// While an edit is committed Status and directories are there with all disks, also where others than the attached ones are
+/// members.
 pub fn edits_stand_with_all_disks<B: Bay>(start: &B, end: &B)
-    ensures alone { StaysAlone (B.state start.now) (B.state end.now) }
     ensures stands { StandsWithAll (B.state start.now) (B.state end.now) }
 {}

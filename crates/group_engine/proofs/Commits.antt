@@ -49,6 +49,7 @@ use Rattle.group_engine.proofs.Calls.{IsTried, kept_is, both_now, one_now, store
 use Rattle.group_engine.proofs.Mounting.{left_among, register_stays, represents_after, some_left, still_ready, whole_all, whole_fewer}
 use Rattle.group_engine.proofs.Recording.{record_done, record_moments, history_wide}
 use Rattle.group_engine.proofs.Sets.{bits_less}
+use Rattle.group_engine.proofs.Standings.{stands_at_rest}
 
 -- ---- puts of a record change nothing in a directory region
 
@@ -123,7 +124,7 @@ module _ (m : MountedGroup) (put : List Entry) (gone : List Key) (n : ℕ) (s : 
 
   -- over the store's calls
   pub stored_moments : LeavesOnly s t (StandsIn n id (g ∷ h ∷ []) kept)
-  stored_moments = leaves_less (λ x is. record { by = kept; slots = refl; is = is }) on_its_way
+  stored_moments = leaves_less (λ x is. stands_at_rest n id (g ∷ h ∷ []) kept x mounts.begun is) on_its_way
 
   module _ (cat : Catalogued) (applies : AppliesChange m.catalog cat put gone) (same : cat.tables ≡ to.tables) where
     now_leads : Leads r cat.tables g h
@@ -188,13 +189,12 @@ module _ (m : MountedGroup) (put : List Entry) (gone : List Key) (n : ℕ) (s : 
     run : Runs (tallies.IsSlotOf ms) (PutsRow (status_gate id) ms (status_spelling (numbered m.register next))) t w
     run = row_runs (status_gate id) ms (status_spelling (numbered m.register next)) t w writes.written.runs
 
-    the_moments : LeavesOnly t w (IsHeld n id (g ∷ h ∷ []) (record { completed = r; begun = numbered m.register next ∷ []; slots = kept.slots }))
+    the_moments : LeavesOnly t w (StandsIn n id (g ∷ h ∷ []) (record { completed = r; begun = []; slots = kept.slots }))
     the_moments = record_moments n (g ∷ h ∷ []) kept.slots m.register reg next answer_2 t w sound to.turns allowed register_keeps both_are long run writes.written.history
         (both_now n m s g kept mounts t commits.runs new commits.moments to.tables tried h to.leads to.holds commits.done fewer less left_are one_left)
 
     pub dropped_moments : LeavesOnly s w (StandsIn n id (g ∷ h ∷ []) kept)
-    dropped_moments = leaves_on stored_moments
-        (leaves_less (λ x is. record { by = record { completed = r; begun = numbered m.register next ∷ []; slots = kept.slots }; slots = refl; is = is }) the_moments)
+    dropped_moments = leaves_on stored_moments (subst (λ (k : Kept). LeavesOnly t w (StandsIn n id (g ∷ h ∷ []) k)) (kept_is n m s g kept mounts) the_moments)
 
     pub dropped_done : (taken : ℕ) → answer_2 ≡ Ok taken → IsWhole (record m { catalog = cat; store = new; register = reg })
         → (k : Kept) × (k.slots ≡ kept.slots) × Mounts n (record m { catalog = cat; store = new; register = reg }) w h k

@@ -12,6 +12,7 @@ use Rattle.bay.specs.Moments.{Runs}
 use Rattle.bay.proofs.Calls.{attached-trans, leaves_begin, leaves_less, leaves_on}
 use Rattle.asm_group.specs.Group.{Group}
 use Rattle.asm_base.specs.declared.refusal.Refusal.{Refusal}
+use Rattle.asm_base.specs.declared.refusal.DiskRef.TheVariants.{Number}
 use Rattle.asm_base.specs.declared.refusal.Refusal.TheVariants as cause
 use Rattle.asm_base.specs.Records.{record_at}
 use Rattle.asm_formats.specs.Bytes.{block_size}
@@ -38,7 +39,7 @@ use Rattle.status_register.specs.declared.error.Dead.{Dead}
 use Rattle.status_register.specs.declared.member.Member.{Member}
 use Rattle.group_engine.specs.Commits.{IsDismountedBy, IsLostIn, turns_at_most}
 use Rattle.group_engine.specs.Copying.{CopiesTo, CopyCause, IsNotCopied, IsOneMore, LeavesGroup, MayRecord, MountsStill, StandThrough, WritesMore}
-use Rattle.group_engine.specs.Mounts.{AreCopiesOf, IsCopyOf, IsMounted, IsOwn, IsReady, IsWhole, MountedGroup, Takes}
+use Rattle.group_engine.specs.Mounts.{AreCopiesOf, IsCopyOf, IsMounted, IsOwn, IsReady, IsWhole, MountedGroup, Takes, slot_at}
 use Rattle.group_engine.specs.Making.{IsShut}
 use Rattle.group_engine.specs.Own.{IsSameGroup, OnOwnDisks}
 use Rattle.group_engine.specs.Recorded.{MayGet}
@@ -52,6 +53,7 @@ use Rattle.group_engine.proofs.Ends.{id_same, keeps_dismounted, members_same, ou
 use Rattle.group_engine.proofs.Including.{element_of, own_bit, which, with_element}
 use Rattle.group_engine.proofs.Mounting.{shaped_copy, still_ready}
 use Rattle.group_engine.proofs.Sets.{element_bit}
+use Rattle.group_engine.proofs.Standings.{stands_at_rest}
 use Rattle.group_engine.proofs.Statuses.{status_done, status_moments}
 
 -- ---- the copy
@@ -105,7 +107,7 @@ module _ (m : MountedGroup) (whole : IsWhole m) (s : BayState) (ready : IsReady 
 
       -- each image stands for the group, which is mounted still
       up_moments : StandThrough m s t
-      up_moments n g kept may = leaves_less (λ x is. record { by = kept; slots = refl; is = is })
+      up_moments n g kept may = leaves_less (λ x is. stands_at_rest n m.register.id (g ∷ []) kept x may.mounts.begun is)
           (copied_moments n m s sound g kept may.mounts d c one copy_is copy_small copy_pages copy_apart t run attached)
 
       up_mounts : MountsStill m m s t
@@ -309,7 +311,7 @@ entry_there entries y d number is = ap (has_entry entries) (sym number) ∙ go (
 -- ---- no copy was tried
 
 stands_still : (m : MountedGroup) (s : BayState) → StandThrough m s s
-stands_still m s n g kept may = leaves_begin (record { now = λ image left. record { by = kept; slots = refl; is = may.mounts.now.now image left } })
+stands_still m s n g kept may = leaves_begin (record { now = λ image left. stands_at_rest n m.register.id (g ∷ []) kept image may.mounts.begun (may.mounts.now.now image left) })
 
 pub copied_before : (m : MountedGroup) (s : BayState) (d : ℕ) → IsMounted m → Takes m s → has_bit m.register.value.directories d ≡ true → CopiesTo m d (Ok tt) m s s
 copied_before m s d mounted takes named = record {
@@ -344,6 +346,10 @@ copied_not m s d refusal takes why = record {
   stays = λ takes n g kept mounts. mounts;
   turns = omega arith;
 }
+
+-- no image is attached as the disk
+pub copied_nowhere : (m : MountedGroup) (s : BayState) (d : ℕ) (refusal : Refusal) → Takes m s → refusal ≡ cause.WriteFault (Number d) → slot_at m.disks d ≡ None → CopiesTo m d (Err refusal) m s s
+copied_nowhere m s d refusal takes is none = copied_not m s d refusal takes (subst (CopyCause m d m s s) (sym is) (refl, inl none))
 
 pub shut_copy : (m : MountedGroup) (s : BayState) (d : ℕ) (refusal : Refusal) (x : Access) → m.access ≡ x → IsShut x refusal → CopyCause m d m s s refusal
 shut_copy m s d refusal Mounted is shut = absurd shut

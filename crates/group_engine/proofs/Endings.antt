@@ -14,6 +14,7 @@ use Rattle.asm_formats.specs.Items.{Key}
 use Rattle.asm_base.specs.Records.{Entry}
 use Rattle.asm_images.specs.Bridge.{disks_in}
 use Rattle.asm_images.specs.Kept.{Kept, IsHeld}
+use Rattle.asm_images.specs.Stands.{Standing}
 use Rattle.asm_images.proofs.Spans.{widen_keeps}
 use Rattle.catalog_tables.specs.Changing.{IsAfter}
 use Rattle.catalog_tables.specs.Tables.{Tables}
@@ -29,6 +30,7 @@ use Rattle.group_engine.specs.declared.access.Access.{Access}
 use Rattle.group_engine.specs.declared.access.Access.TheVariants.{Mounted, Dismounted, Closed}
 use Rattle.group_engine.proofs.Causes.{calls_keep, cause_on, not_mounted, nothing_kept}
 use Rattle.group_engine.proofs.KeptRecords.{record_stays, records_on}
+use Rattle.group_engine.proofs.Standings.{stands_at_rest}
 use Rattle.group_engine.proofs.Surplus.{surplus_leads_on}
 
 -- nothing was done
@@ -52,8 +54,8 @@ same_names : (t : Tables) → KeepsNames t t
 same_names t = record { files = refl; nodes = refl; templates = refl }
 
 -- where nothing is done
-stands_here : (m : MountedGroup) (s : BayState) → StandsThrough m s s
-stands_here m s n g kept mounts turns = leaves_begin (record { now = λ x left. record { by = kept; slots = refl; is = mounts.now.now x left } })
+pub stands_here : (m : MountedGroup) (s : BayState) → StandsThrough m s s
+stands_here m s n g kept mounts turns = leaves_begin (record { now = λ x left. stands_at_rest n m.register.id (g ∷ []) kept x mounts.begun (mounts.now.now x left) })
 
 stays_here : (m : MountedGroup) (s : BayState) → StaysMounted m m s s
 stays_here m s n g kept mounts turns = (kept, refl, mounts)
@@ -79,8 +81,13 @@ ends_without m s whole ready = record {
 }
 
 -- what stands for a group as it was kept later, stands for it as it was kept before
-kept_before : (n id later_id : ℕ) (groups : List Group) (kept later : Kept) (x : Image) → later_id ≡ id → later.slots ≡ kept.slots → StandsIn n later_id groups later x → StandsIn n id groups kept x
-kept_before n id later_id groups kept later x same slots stands = record { by = stands.by; slots = stands.slots ∙ slots; is = subst (λ (k : ℕ). IsHeld n k groups stands.by x) same stands.is }
+pub kept_before : (n id later_id : ℕ) (groups : List Group) (kept later : Kept) (x : Image) → later_id ≡ id → later.slots ≡ kept.slots → StandsIn n later_id groups later x → StandsIn n id groups kept x
+kept_before n id later_id groups kept later x same slots stands = record {
+  by = stands.by;
+  slots = stands.slots ∙ slots;
+  is = subst (λ (k : ℕ). IsHeld n k groups stands.by x) same stands.is;
+  beside = λ more also. subst (λ (k : ℕ). Standing k (disks_in n x) more) same (stands.beside more (λ slot has. also slot (sym (ap (λ (some : ℕ → Bool). some slot) slots) ∙ has)));
+}
 
 -- one after the other
 pub ends_on : {a b c : MountedGroup} {s t u : BayState} (r : Result (Unit {0}) Refusal) → EndsOn a (Ok tt) b s t → EndsOn b r c t u → EndsOn a r c s u
@@ -117,6 +124,7 @@ listed_once n id g kept x stands = record {
     standing = stands.is.standing;
     there = stands.is.there;
   };
+  beside = stands.beside;
 }
 
 -- the commit of a plan that changes nothing that the group is

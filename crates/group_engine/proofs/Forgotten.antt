@@ -1,5 +1,5 @@
 -- Which copies of a store are left.
-use Rattle.std.proofs.Common.{◌≡◌, ◌≢◌, ⊎_elim, ℕ, ◌+◌, Bool, true, false, not, List, refl, sym, ap, subst, ◌∙◌, Option, Some, None, arith, ◌==◌, get_or}
+use Rattle.std.proofs.Common.{◌≡◌, ◌≢◌, ⊎_elim, ℕ, suc, ◌+◌, ◌≤◌, Bool, true, false, cond, not, List, [], ◌∷◌, length, refl, sym, ap, subst, ◌∙◌, Option, Some, None, arith, ◌==◌, get_or}
 use Rattle.std.specs.Option.{option_map}
 use Rattle.std.proofs.lemmas.Bool.{cases_eq, eq-eqb, ne_eqb, false≢true}
 use Rattle.std.proofs.lemmas.Option.{same_Some, none-some}
@@ -14,7 +14,7 @@ use Rattle.group_engine.specs.declared.attached.Attached.{Attached}
 
 -- before the first disk
 pub none_forgotten : (old : Stored) (disks : List (Option Attached)) (named : ℕ) → KeepsNamed old old disks named 0
-none_forgotten old disks named = record { table = refl; number = refl; copies = λ c. ((λ h. (h, λ un. omega (arith, un.1))), (λ h. h.0)) }
+none_forgotten old disks named = record { table = refl; number = refl; many = omega arith; copies = λ c. ((λ h. (h, λ un. omega (arith, un.1))), (λ h. h.0)) }
 
 -- a copy that isn't on the first disks, on one disk more
 later_unnamed : (disks : List (Option Attached)) (named front next : ℕ) (c : DirCopy) → next ≡ front + 1 → (IsUnnamed disks named front c → ⊥)
@@ -29,6 +29,7 @@ named_stays : (old now : Stored) (disks : List (Option Attached)) (named front n
 named_stays old now disks named front next is bit keeps = record {
   table = keeps.table;
   number = keeps.number;
+  many = keeps.many;
   copies = λ c. (
     (λ h. let was = (keeps.copies c).0 h in (was.0, later_unnamed disks named front next c is was.1 (λ out at. false≢true (sym out ∙ bit)))),
     (λ h. (keeps.copies c).1 (h.0, λ un. h.1 (un.0, omega (arith, un.1, is), un.2, un.3))),
@@ -39,6 +40,14 @@ off_is : (slot : ℕ) (copies : List DirCopy) (c : DirCopy) → IsAmong (off slo
 off_is slot copies c h =
     let passes : not (c.slot == slot) ≡ true = filter_out (λ (d : DirCopy). not (d.slot == slot)) copies c h in
     (among_filter (λ (d : DirCopy). not (d.slot == slot)) copies c h, λ same. false≢true (ap not (sym (eq-eqb c.slot slot same)) ∙ passes))
+
+fewer_off : (slot : ℕ) (copies : List DirCopy) → length (off slot copies) ≤ length copies
+fewer_off slot [] = omega arith
+fewer_off slot (c ∷ copies) = go (not (c.slot == slot)) (fewer_off slot copies)
+  where
+    go : (b : Bool) → length (off slot copies) ≤ length copies → length (cond b (c ∷ off slot copies) (off slot copies)) ≤ suc (length copies)
+    go true fewer = omega (arith, fewer)
+    go false fewer = omega (arith, fewer)
 
 is_off : (slot : ℕ) (copies : List DirCopy) (c : DirCopy) → IsAmong copies c → c.slot ≢ slot → IsAmong (off slot copies) c
 is_off slot copies c h differ = among_filtered (λ (d : DirCopy). not (d.slot == slot)) copies c h (ap not (ne_eqb c.slot slot differ))
@@ -56,6 +65,7 @@ one_forgotten old now after disks named front next is forgets keeps = go (has_bi
     go false bit None at same = record {
       table = ap (λ (x : Stored). x.table) same ∙ keeps.table;
       number = ap (λ (x : Stored). x.number) same ∙ keeps.number;
+      many = omega (arith, ap (λ (x : Stored). length x.copies) same, keeps.many);
       copies = λ c. (
         (λ h.
             let was = (keeps.copies c).0 (subst (λ (x : Stored). IsAmong x.copies c) same h) in
@@ -66,6 +76,7 @@ one_forgotten old now after disks named front next is forgets keeps = go (has_bi
     go false bit (Some a) at same = record {
       table = ap (λ (x : Stored). x.table) same ∙ keeps.table;
       number = ap (λ (x : Stored). x.number) same ∙ keeps.number;
+      many = omega (arith, ap (λ (x : Stored). length x.copies) same, fewer_off a.slot now.copies, keeps.many);
       copies = λ c. (
         (λ h.
             let left = off_is a.slot now.copies c (subst (λ (x : Stored). IsAmong x.copies c) same h) in

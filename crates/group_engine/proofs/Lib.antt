@@ -14,6 +14,7 @@ pub mod Mounting
 pub mod Commits
 pub mod Unchanged
 pub mod Elsewhere
+pub mod Beside
 pub mod Statuses
 pub mod Bytes
 pub mod Surplus

@@ -38,7 +38,8 @@ use Rattle.status_register.proofs.RowFits.{AreLong, row_sizes}
 use Rattle.status_register.proofs.Taking.{status_gate_either}
 use Rattle.group_engine.proofs.Covering.{record_covers}
 pub use Rattle.group_engine.specs.Recorded.{MayBeWritten}
-use Rattle.group_engine.proofs.Standings.{IsThere, stands_by, there_by, there_over}
+use Rattle.group_engine.specs.Commits.{StandsIn}
+use Rattle.group_engine.proofs.Standings.{IsThere, stands_beside, stands_by, there_by, there_over}
 
 record_there : (id : ℕ) (some : ℕ → Bool) (old : Image) (r s : Status) (slot : ℕ) (bytes : List ℕ) → slot < length old → RaisesRecords id (disk_of old slot) (metadata bytes) s
     → IsThere (within some (all_members id old)) r → IsThere (within some (all_members id (written old slot bytes))) r
@@ -133,8 +134,16 @@ module _ (n id : ℕ) (groups : List Group) (slots_of : ℕ → Bool) (v next : 
   abbrev before : Kept
   before = record { completed = v; begun = []; slots = slots_of }
 
-  -- While the record is put, the image is held for the groups, with the record begun.
-  pub being_written : MayBeWritten n id groups before next x → ((b : ℕ) → n ≤ b → FitsIn b id (Some v) (next ∷ []) y)
+  -- While the record is put, it and the one before are there with the attached disks.
+  both_there : MayBeWritten n id groups before next x → (t : Status) → IsAmong (v ∷ next ∷ []) t → IsThere (within slots_of (all_members id (disks_in n y))) t
+  both_there may t counts = ⊎_elim
+      (λ (same : t ≡ v). subst (λ (u : Status). IsThere (within slots_of (all_members id (disks_in n y))) u) (sym same) (row_there id next allowed ms x y long row slots_of n v v_there))
+      (λ later. ⊎_elim
+      (λ (same : t ≡ next). subst (λ (u : Status). IsThere (within slots_of (all_members id (disks_in n y))) u) (sym same) (row_there id next allowed ms x y long row slots_of n next may.there))
+      (λ none. absurd none) later) counts
+
+  -- The image is held for the groups, with the record begun.
+  being_written : MayBeWritten n id groups before next x → ((b : ℕ) → n ≤ b → FitsIn b id (Some v) (next ∷ []) y)
       → IsHeld n id groups (record { completed = v; begun = next ∷ []; slots = slots_of }) y
   being_written may wide = record {
     sound = λ few. let slots = few + n in fewer_slots_are_sound id few slots y groups (Some v) (next ∷ []) (omega arith) (record {
@@ -147,12 +156,17 @@ module _ (n id : ℕ) (groups : List Group) (slots_of : ℕ → Bool) (v next : 
           (row_covers id next allowed ms x y long row slots groups next may.own_births (may.covers slots)))
           (λ none. absurd none) later) counts;
     });
-    standing = stands_by id (disks_in n y) slots_of v (next ∷ []) (wide n (omega arith)) (λ t counts. ⊎_elim
-        (λ (same : t ≡ v). subst (λ (u : Status). IsThere (within slots_of (all_members id (disks_in n y))) u) (sym same) (row_there id next allowed ms x y long row slots_of n v v_there))
-        (λ later. ⊎_elim
-        (λ (same : t ≡ next). subst (λ (u : Status). IsThere (within slots_of (all_members id (disks_in n y))) u) (sym same) (row_there id next allowed ms x y long row slots_of n next may.there))
-        (λ none. absurd none) later) counts);
+    standing = stands_by id (disks_in n y) slots_of v (next ∷ []) (wide n (omega arith)) (both_there may);
     there = λ slot has. let h = is.there slot has in (h.0, header_same slot ∙ h.1, h.2);
+  }
+
+  -- So it stands for them, with the attached disks and any others.
+  pub stands_written : MayBeWritten n id groups before next x → ((b : ℕ) → n ≤ b → FitsIn b id (Some v) (next ∷ []) y) → StandsIn n id groups before y
+  stands_written may wide = record {
+    by = record { completed = v; begun = next ∷ []; slots = slots_of };
+    slots = refl;
+    is = being_written may wide;
+    beside = λ slots more. stands_beside id (disks_in n y) slots_of slots v (next ∷ []) (wide n (omega arith)) more (both_there may);
   }
 
   -- Once it is complete, the image is held for the groups that the record covers.
@@ -218,13 +232,13 @@ module _ (n : ℕ) (groups : List Group) (slots_of : ℕ → Bool) (register lat
   abbrev first : Kept
   first = record { completed = v; begun = []; slots = slots_of }
 
-  pub record_moments : NowOnly s (MayBeWritten n id groups first r) → LeavesOnly s t (IsHeld n id groups (record { completed = v; begun = r ∷ []; slots = slots_of }))
+  pub record_moments : NowOnly s (MayBeWritten n id groups first r) → LeavesOnly s t (StandsIn n id groups first)
   record_moments may = record {
     later = run.later;
     ended = run.ended;
     each = λ k y low high left.
         let from = run.moments k y low high left in
-        being_written n id groups slots_of v r allowed (attached_to register.members next) from.0 y (now.now from.0 from.1) (long.now from.0 from.1) from.2 (may.now from.0 from.1)
+        stands_written n id groups slots_of v r allowed (attached_to register.members next) from.0 y (now.now from.0 from.1) (long.now from.0 from.1) from.2 (may.now from.0 from.1)
         (λ b le. ((history_wide b le).moments.each k y low high left).fits);
   }
 

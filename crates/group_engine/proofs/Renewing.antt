@@ -84,8 +84,9 @@ module _ (r : Status) (ms : List Member) (m : Member) (among : IsAmong ms m) (na
   passes : test m ≡ true
   passes = λ i. eq-eqb m.header.number m.header.number refl i && eq-eqb m.header.birth named.entry.birth (sym named.birth) i
 
-  -- a copy is found on the disk of each named member, where these have contents
-  pub copy_there : ((x : Member) → IsAmong ms x → IsNamed r x.header → (c : Content) × (x.disk.content ≡ Some c)) → (c : Content) × IsAmong (copies r ms) c
+  -- a copy is found on the disk of a named member, where each member that is this disk has a content
+  pub copy_there : ((x : Member) → IsAmong ms x → IsNamed r x.header → x.header.number ≡ m.header.number → x.header.birth ≡ m.header.birth → (c : Content) × (x.disk.content ≡ Some c))
+      → (c : Content) × IsAmong (copies r ms) c
   unfolding copies
   copy_there have =
       let f = find_some test ms m among passes in
@@ -100,7 +101,7 @@ module _ (r : Status) (ms : List Member) (m : Member) (among : IsAmong ms m) (na
         entry_is = ap (entry_of r.entries) number ∙ named.entry_is;
         birth = sym birth;
       } in
-      let c = have x x_among x_named in
+      let c = have x x_among x_named number (birth ∙ named.birth) in
       let held : held_by (find test ms) ≡ c.0 ∷ [] = ap held_by f.1 ∙ ap to_list c.1 in
       let here : copy_on ms m.header.number (entry_of r.entries m.header.number) ≡ c.0 ∷ [] = ap (copy_on ms m.header.number) named.entry_is ∙ held in (
         c.0,
@@ -108,10 +109,15 @@ module _ (r : Status) (ms : List Member) (m : Member) (among : IsAmong ms m) (na
             (subst (λ (l : List Content). IsAmong l c.0) (sym here) (inl refl)),
       )
 
-  pub some_found : ((x : Member) → IsAmong ms x → IsNamed r x.header → (c : Content) × (x.disk.content ≡ Some c)) → (c : Content) × (directories r ms ≡ Some c)
-  some_found have =
+  pub found_by_copy : ((x : Member) → IsAmong ms x → IsNamed r x.header → x.header.number ≡ m.header.number → x.header.birth ≡ m.header.birth → (c : Content) × (x.disk.content ≡ Some c))
+      → (c : Content) × (directories r ms ≡ Some c)
+  found_by_copy have =
       let c = copy_there have in
       newest_some (copies r ms) c.0 c.1
+
+  -- so it is where each named member has one
+  pub some_found : ((x : Member) → IsAmong ms x → IsNamed r x.header → (c : Content) × (x.disk.content ≡ Some c)) → (c : Content) × (directories r ms ≡ Some c)
+  some_found have = found_by_copy (λ x among_x named_x number birth. have x among_x named_x)
 
   pub content_found : (c : Content) → ((x : Member) → IsAmong ms x → IsNamed r x.header → x.disk.content ≡ Some c) → directories r (within (λ any. true) ms) ≡ Some c
   content_found c have =

@@ -1,13 +1,25 @@
 -- Status and directories are there with some disks, where each record that counts has its members and its copies among them.
 use Rattle.std.proofs.Common.{◌≡◌, inl, ⊎_elim, ℕ, Bool, true, false, cond, not, ◌&&◌, List, [], ◌∷◌, map, refl, sym, ap, subst, ◌∙◌, Option, Some, None, IsTrue}
+use Rattle.bay.specs.Image as bay
+use Rattle.asm_group.specs.Group.{Group}
+use Rattle.asm_formats.specs.Content.{Content}
+use Rattle.asm_formats.specs.Metadata.{Metadata}
 use Rattle.asm_formats.specs.Status.{Status}
 use Rattle.asm_formats.specs.Among.{IsAmong}
-use Rattle.asm_images.specs.Members.{Image, Member, all_members, within, statuses}
+use Rattle.asm_images.specs.Kept.{Kept, IsHeld}
+use Rattle.asm_images.specs.Members.{Image, Member, AreDistinct, all_members, within, statuses, disk_of}
 use Rattle.asm_images.specs.Register.{Fits, HoldsOne, greatest, is_enough, status, status_by}
 use Rattle.asm_images.specs.Directories.{directories, newest}
 use Rattle.asm_images.specs.Stands.{Standing}
 use Rattle.asm_images.proofs.History.{among_statuses, greatest_is, nothing_greatest, not_older, status_counts, status_parts}
+use Rattle.asm_images.proofs.Enough.{more_enough}
+use Rattle.asm_images.proofs.Held.{held_stands}
+use Rattle.asm_images.proofs.Members.{member_is}
+use Rattle.asm_images.proofs.Membership.{among_within, filter_out}
+use Rattle.asm_images.proofs.OneContent.{found_is_held}
 use Rattle.asm_images.proofs.Replacing.{Keeps, copies_map, is_enough_map}
+use Rattle.group_engine.specs.Commits.{StandsIn}
+use Rattle.group_engine.proofs.Renewing.{among_some, found_by_copy}
 pub use Rattle.group_engine.specs.Recorded.{IsThere}
 
 some_greatest : (rs : List Status) (r : Status) → IsAmong rs r → (g : Status) × (greatest rs ≡ Some g)
@@ -37,6 +49,40 @@ stands_by id image slots v begun fits there =
       status_is = status_is id ms g.0 g.1 is.enough is.alive;
       directories_is = is.found;
     }
+
+-- ---- more disks
+
+module _ (id : ℕ) (image : Image) (distinct : AreDistinct (all_members id image)) (some more : ℕ → Bool) (also : (slot : ℕ) → some slot ≡ true → more slot ≡ true) where
+  abbrev ms : List Member
+  ms = all_members id image
+
+  -- members that are one disk have one content
+  same_content : (m x : Member) (c : Content) → IsAmong ms m → IsAmong ms x → x.header.number ≡ m.header.number → x.header.birth ≡ m.header.birth → m.disk.content ≡ Some c → x.disk.content ≡ Some c
+  same_content m x c among_m among_x number birth is =
+      let slot : x.slot ≡ m.slot = distinct x m among_x among_m number birth in
+      let disk : x.disk ≡ m.disk = (member_is id image x among_x).disk ∙ ap (disk_of image) slot ∙ sym (member_is id image m among_m).disk in
+      ap (λ (d : Metadata). d.content) disk ∙ is
+
+  with_more : (m : Member) → IsAmong (within some ms) m → IsAmong (within more ms) m
+  unfolding within
+  with_more m h = among_some more ms m (among_within some ms m h) (also m.slot (filter_out (λ (k : Member). some k.slot) ms m h))
+
+  -- what is there with some disks is there with more
+  pub there_with_more : (r : Status) → IsThere (within some ms) r → IsThere (within more ms) r
+  there_with_more r is =
+      let held = found_is_held r (within some ms) is.content is.found in
+      let copy = found_by_copy r (within more ms) held.0 (with_more held.0 held.1) held.2
+      (λ x among named number birth. (is.content, same_content held.0 x is.content (among_within some ms held.0 held.1) (among_within more ms x among) number birth held.3)) in
+      record { enough = more_enough r some more ms also is.enough; alive = is.alive; content = copy.0; found = copy.1 }
+
+-- Status and directories are there with any others as well
+pub stands_beside : (id : ℕ) (image : Image) (some more : ℕ → Bool) (v : Status) (begun : List Status) → Fits id (all_members id image) (Some v) begun → ((slot : ℕ) → some slot ≡ true → more slot ≡ true)
+    → ((s : Status) → IsAmong (v ∷ begun) s → IsThere (within some (all_members id image)) s) → Standing id image more
+stands_beside id image some more v begun fits also there = stands_by id image more v begun fits (λ s counts. there_with_more id image fits.distinct some more also s (there s counts))
+
+-- where no record is begun
+pub stands_at_rest : (n id : ℕ) (groups : List Group) (kept : Kept) (image : bay.Image) → kept.begun ≡ [] → IsHeld n id groups kept image → StandsIn n id groups kept image
+stands_at_rest n id groups kept image rests is = record { by = kept; slots = refl; is = is; beside = λ slots more. held_stands n id groups kept image slots is rests more }
 
 -- ---- what stays
 

@@ -1,5 +1,5 @@
 -- What the writing of a status record has done, at each of its ends.
-use Rattle.std.proofs.Common.{◌≡◌, inl, inr, ℕ, refl, sym, ap, subst, ◌∙◌, Result, Ok, Err, arith}
+use Rattle.std.proofs.Common.{◌≡◌, inl, inr, ℕ, ◌+◌, ◌≤◌, [], ◌∷◌, refl, sym, ap, subst, ◌∙◌, Result, Ok, Err, arith}
 use Rattle.bay.specs.State.{BayState, IsSound}
 use Rattle.bay.specs.Moments.{Runs}
 use Rattle.bay.proofs.Calls.{leaves_begin}
@@ -16,7 +16,7 @@ use Rattle.status_register.specs.Registered.{Registered}
 use Rattle.status_register.specs.Writes.{after_write}
 use Rattle.status_register.specs.declared.error.Dead.{Dead}
 use Rattle.group_engine.specs.Changes.{IsAsBefore}
-use Rattle.group_engine.specs.Commits.{IsDismountedBy, IsLostIn, StatusCause}
+use Rattle.group_engine.specs.Commits.{IsDismountedBy, IsLostIn, StatusCause, turns_at_most}
 use Rattle.group_engine.specs.Dropping.{HasWritten}
 use Rattle.group_engine.specs.Forgetting.{KeepsNamed}
 use Rattle.group_engine.specs.Mounts.{IsMounted, IsOwn, IsReady, IsWhole, MountedGroup}
@@ -25,7 +25,9 @@ use Rattle.group_engine.specs.Statuses.{IsNextOf, WritesStatus}
 use Rattle.group_engine.proofs.Causes.{dead_lost, nothing_own, written_own}
 use Rattle.group_engine.proofs.Ends.{id_same, keeps_dismounted, members_same, out_of_calls}
 use Rattle.group_engine.proofs.Mounting.{still_ready}
+use Rattle.group_engine.proofs.Standings.{stands_at_rest}
 use Rattle.group_engine.proofs.Statuses.{status_done, status_moments, status_whole}
+use Rattle.group_engine.proofs.Turns.{one_turn}
 use Rattle.group_engine.proofs.Unchanged.{same_mounts, same_whole}
 
 module _ (was : MountedGroup) (mounted : IsMounted was) (whole : IsWhole was) (next : Status) (s : BayState) (ready : IsReady was s) (cat : Catalogued) where
@@ -47,9 +49,10 @@ module _ (was : MountedGroup) (mounted : IsMounted was) (whole : IsWhole was) (n
         mounted = tt;
         recorded = tt;
         cause = tt;
-        moments = λ n g kept gets. leaves_begin (record { now = λ image left. record { by = kept; slots = refl; is = gets.mounts.now.now image left } });
+        moments = λ n g kept gets. leaves_begin (record { now = λ image left. stands_at_rest n was.register.id (g ∷ []) kept image gets.mounts.begun (gets.mounts.now.now image left) });
         done = tt;
         refused = λ takes n g kept mounts. same_mounts n was s s g kept mounts unchanged.calls.runs cat was.store before unchanged mounts.ready.store (record { same = λ k. refl });
+        turns = omega arith;
       }
     where
       ready_same : IsReady (record was { catalog = cat }) s
@@ -96,6 +99,7 @@ module _ (was : MountedGroup) (mounted : IsMounted was) (whole : IsWhole was) (n
           moments = λ n g kept gets. status_moments n was next s t sound g kept gets answer reg written;
           done = λ n g kept gets. status_done n was next s t sound g kept gets answer reg written taken ok cat tables shape new keeps later;
           refused = λ takes. tt;
+          turns = omega (arith, left.many, one_turn was.register reg next answer written.register);
         }
 
     -- a majority was lost
@@ -113,4 +117,5 @@ module _ (was : MountedGroup) (mounted : IsMounted was) (whole : IsWhole was) (n
           moments = λ n g kept gets. status_moments n was next s t sound g kept gets answer reg written;
           done = tt;
           refused = λ takes. absurd (out_of_calls now after dead.slot refusal by takes);
+          turns = subst (λ (v : MountedGroup). turns_at_most v ≤ turns_at_most was + 1) (sym by.new_is) (omega (arith, one_turn was.register reg next answer written.register));
         }

@@ -5,7 +5,6 @@ use Rattle.std.proofs.lemmas.Bool.{cases_Bool, false≢true}
 use Rattle.std.specs.Prelude.{MatchResult, OnOk}
 use Rattle.bay.specs.State.{BayState, IsSound}
 use Rattle.bay.specs.Moments.{Runs, NowOnly, LeavesOnly}
-use Rattle.bay.proofs.Calls.{leaves_less}
 use Rattle.asm_group.specs.Group.{Group}
 use Rattle.asm_group.specs.Shape.{Shape, is_shape}
 use Rattle.asm_formats.specs.Sets.{has_bit, elements}
@@ -133,7 +132,7 @@ module _ (n : ℕ) (m : MountedGroup) (next : Status) (s t : BayState) (sound : 
 
   -- While the record is put, each image is held for the group.
   pub status_moments : LeavesOnly s t (StandsIn n id (g ∷ []) kept)
-  status_moments = leaves_less (λ x is. record { by = record { completed = r; begun = numbered m.register next ∷ []; slots = kept.slots }; slots = refl; is = is })
+  status_moments = subst (λ (k : Kept). LeavesOnly s t (StandsIn n id (g ∷ []) k)) (kept_is n m s g kept mounts)
       (record_moments n (g ∷ []) kept.slots m.register reg next answer s t sound gets.turns written.allowed mounts.register stand long run written.history may)
 
   -- Once it is complete, the group is mounted with it.

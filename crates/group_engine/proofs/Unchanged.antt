@@ -25,6 +25,7 @@ use Rattle.group_engine.specs.Changes.{IsAsBefore}
 use Rattle.group_engine.specs.Commits.{StandsIn}
 use Rattle.group_engine.specs.Mounts.{MountedGroup, IsWhole, Mounts}
 use Rattle.group_engine.proofs.Mounting.{shaped_copy, still_ready}
+use Rattle.group_engine.proofs.Standings.{stands_at_rest}
 
 -- more groups may be
 pub widen_held : (n id : ℕ) (g h : Group) (kept : Kept) (x : bay.Image) → IsHeld n id (g ∷ []) kept x → IsHeld n id (g ∷ h ∷ []) kept x
@@ -68,7 +69,7 @@ module _ (n : ℕ) (m : MountedGroup) (s t : BayState) (g : Group) (kept : Kept)
     ended = run.ended;
     each = λ k y low high left.
         let from = run.moments k y low high left in
-        record { by = kept; slots = refl; is = widen_held n m.register.id g h kept y (same_is_held n m.register.id (g ∷ []) kept from.0 y from.2 (mounts.now.now from.0 from.1)) };
+        stands_at_rest n m.register.id (g ∷ h ∷ []) kept y mounts.begun (widen_held n m.register.id g h kept y (same_is_held n m.register.id (g ∷ []) kept from.0 y from.2 (mounts.now.now from.0 from.1)));
   }
 
   pub same_now : NowOnly t (IsHeld n m.register.id (g ∷ []) kept)

@@ -1,5 +1,5 @@
 -- What a commit of a mounted group does.
-use Rattle.std.specs.Prelude.{◌≡◌, ◌⊎◌, ⊤, ℕ, ◌+◌, ◌<◌, ◌≤◌, ◌^◌, true, List, [], ◌∷◌, length, Some, IfErr, OnErr, OnOk, Result}
+use Rattle.std.specs.Prelude.{◌≡◌, ◌⊎◌, ⊤, ℕ, ◌+◌, ◌<◌, ◌≤◌, ◌^◌, Bool, true, List, [], ◌∷◌, length, Some, IfErr, OnErr, OnOk, Result}
 use Rattle.bay.specs.Image.{Image}
 use Rattle.bay.specs.State.{BayState}
 use Rattle.bay.specs.Counts.{Rose}
@@ -13,7 +13,9 @@ use Rattle.asm_base.specs.declared.refusal.DiskRef.TheVariants as disk
 use Rattle.asm_base.specs.declared.refusal.Refusal.{Refusal}
 use Rattle.asm_base.specs.declared.refusal.Refusal.TheVariants as cause
 use Rattle.asm_formats.specs.Among.{IsAmong}
+use Rattle.asm_images.specs.Bridge.{disks_in}
 use Rattle.asm_images.specs.Kept.{Kept, IsHeld}
+use Rattle.asm_images.specs.Stands.{Standing}
 use Rattle.catalog_tables.specs.Changing.{IsAfter}
 use Rattle.catalog_tables.specs.Tables.{Tables}
 use Rattle.asm_formats.specs.Sets.{elements, has_bit}
@@ -35,6 +37,8 @@ pub record StandsIn (n id : ℕ) (groups : List Group) (kept : Kept) (image : Im
   pub by : Kept
   pub slots : by.slots ≡ kept.slots
   pub is : IsHeld n id groups by image
+  -- with the attached disks and any others, Status and directories are there
+  pub beside : (slots : ℕ → Bool) → ((slot : ℕ) → kept.slots slot ≡ true → slots slot ≡ true) → Standing id (disks_in n image) slots
 
 -- The group that a change leads to: its tables say so, and its bytes stand on the disks as they are.
 pub record LeadsTo (n : ℕ) (m : MountedGroup) (put : List Entry) (gone : List Key) (s : BayState) (g h : Group) (kept : Kept) : Type 0 where

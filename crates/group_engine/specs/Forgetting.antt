@@ -1,5 +1,5 @@
 -- Copies that are given up.
-use Rattle.std.specs.Prelude.{◌≡◌, ℕ, ◌<◌, Bool, true, false, List, ◌↔◌, Option, Some, None}
+use Rattle.std.specs.Prelude.{◌≡◌, ℕ, ◌<◌, ◌≤◌, Bool, true, false, List, length, ◌↔◌, Option, Some, None}
 use Rattle.asm_formats.specs.Sets.{has_bit}
 use Rattle.asm_formats.specs.Among.{IsAmong}
 use Rattle.change_directory.specs.declared.copy.DirCopy.{DirCopy}
@@ -21,4 +21,5 @@ IsUnnamed disks named front c = (d : ℕ) × (d < front) × (has_bit named d ≡
 pub record KeepsNamed (old new : Stored) (disks : List (Option Attached)) (named front : ℕ) : Type 0 where
   pub table : new.table ≡ old.table
   pub number : new.number ≡ old.number
+  pub many : length new.copies ≤ length old.copies
   pub copies : (c : DirCopy) → IsAmong new.copies c ↔ (IsAmong old.copies c × (IsUnnamed disks named front c → ⊥))

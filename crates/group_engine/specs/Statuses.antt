@@ -1,5 +1,5 @@
 -- What the writing of a group's status record does.
-use Rattle.std.specs.Prelude.{◌≡◌, ℕ, false, List, [], ◌∷◌, IfErr, IsTrue, OnErr, OnOk, Result}
+use Rattle.std.specs.Prelude.{◌≡◌, ℕ, ◌+◌, ◌≤◌, false, List, [], ◌∷◌, IfErr, IsTrue, OnErr, OnOk, Result}
 use Rattle.bay.specs.State.{BayState}
 use Rattle.bay.specs.Moments.{LeavesOnly}
 use Rattle.allocator.specs.UnitMaps.{UnitMap}
@@ -14,7 +14,7 @@ use Rattle.asm_images.specs.Kept.{Kept}
 use Rattle.catalog_tables.specs.Placing.{HasUnits, HaveSameUnits}
 use Rattle.status_register.specs.Holders.{numbered}
 use Rattle.status_register.specs.Reaching.{Reaches}
-use Rattle.group_engine.specs.Commits.{StandsIn, StatusCause}
+use Rattle.group_engine.specs.Commits.{StandsIn, StatusCause, turns_at_most}
 use Rattle.group_engine.specs.Mounts.{HaveBirths, IsCopyOf, IsMounted, MountedGroup, Mounts}
 use Rattle.group_engine.specs.Own.{KeepsGroup}
 use Rattle.group_engine.specs.Recorded.{MayGet}
@@ -51,3 +51,5 @@ pub record WritesStatus (old : MountedGroup) (next : Status) (answer : Result (U
   pub done : OnOk answer ((n : ℕ) (g : Group) (kept : Kept) → MayGet n old next s g kept
       → (later : Kept) × (later.slots ≡ kept.slots) × Mounts n new t g later)
   pub refused : IsMounted new → OnErr answer ((n : ℕ) (g : Group) (kept : Kept) → Mounts n old s g kept → Mounts n new t g kept)
+  -- the record takes a turn
+  pub turns : turns_at_most new ≤ turns_at_most old + 1

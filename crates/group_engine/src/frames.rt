@@ -7,7 +7,7 @@ ghost use Rattle.asm_group.specs.Group.{Group};
 ghost use Rattle.asm_base.specs.declared.refusal.DiskRef.{DiskRef};
 ghost use Rattle.asm_images.specs.Kept.{Kept};
 ghost use Rattle.group_engine.specs.Commits.{DismountCause};
-ghost use Rattle.group_engine.specs.Frames.{KeepsOwn, SparedIsHeld, SparesDisks, SparesGroup, StaysAttached};
+ghost use Rattle.group_engine.specs.Frames.{KeepsOwn, KeptSparesOthers, SparedIsHeld, SparesDisks, SparesGroup, StaysAttached};
 ghost use Rattle.group_engine.specs.Mounts.{IsMounted, IsReady, IsWhole, MountedGroup, Mounts, Takes};
 ghost use Rattle.group_engine.specs.Own.{KeepsGroup};
 
@@ -37,6 +37,11 @@ pub fn mounted_elsewhere<B: Bay, T: Slots, S: Step>(start: &B, end: &B)
     ensures { (n : ℕ) (m : MountedGroup) (g : Group) (kept : Kept) → Mounts n m (B.state start.now) g kept → StaysAttached (B.state start.now) (B.state end.now)
         → Runs T.among S.leads (B.state start.now) (B.state end.now) → ((x y : Image) → S.leads x y → SparesGroup m.register.id x y)
         → Mounts n m (B.state end.now) g kept }
+{}
+
+/// Where each image of each moment of a call is held for a mounted group, the disks of every other id's members stay.
+pub fn others_are_spared<B: Bay>(start: &B, end: &B)
+    ensures { KeptSparesOthers (B.state start.now) (B.state end.now) }
 {}
 
 /// Where the same disks are attached, they stay so, and those of each group do.

@@ -34,8 +34,8 @@ pub use byte_laws::{
 pub use commit_laws::{committed_is_sound, committing_is_sound, committing_is_standing};
 pub use flight::Flight;
 pub use frames::{
-    calls_keep, causes_join, giving_up_keeps, mounted_elsewhere, ready_elsewhere, ready_with_own,
-    spared_is_held, stays_attached,
+    calls_keep, causes_join, giving_up_keeps, mounted_elsewhere, others_are_spared,
+    ready_elsewhere, ready_with_own, spared_is_held, stays_attached,
 };
 pub use letting_laws::{keeping_lets_go, lettings_join};
 pub use mounted::Mounted;

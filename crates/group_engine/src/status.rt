@@ -1,11 +1,11 @@
 //! A group's status record is written anew.
-ghost use Rattle.std.specs.Prelude.{◌≡◌, ◌∷◌, [], ℕ, IfErr, OnErr, OnOk};
+ghost use Rattle.std.specs.Prelude.{◌≡◌, ◌≤◌, ◌+◌, ◌∷◌, [], ℕ, IfErr, OnErr, OnOk};
 ghost use Rattle.bay.specs.Moments.{LeavesOnly};
 ghost use Rattle.asm_group.specs.Group.{Group};
 ghost use Rattle.asm_images.specs.Kept.{Kept};
 ghost use Rattle.catalog_tables.specs.Placing.{HaveSameUnits};
 ghost use Rattle.status_register.specs.Holders.{numbered};
-ghost use Rattle.group_engine.specs.Commits.{StandsIn, StatusCause};
+ghost use Rattle.group_engine.specs.Commits.{StandsIn, StatusCause, turns_at_most};
 ghost use Rattle.group_engine.specs.Mounts.{IsMounted, IsReady, IsWhole, Mounts};
 ghost use Rattle.group_engine.specs.Own.{KeepsGroup};
 ghost use Rattle.group_engine.specs.Recorded.{MayGet};
@@ -54,6 +54,8 @@ impl Mounted {
             → (later : Kept) × (later.slots ≡ kept.slots) × Mounts n self.new (B.state bay.new) g later) }
         // Where it is refused and the group takes calls, nothing has changed.
         ensures refused { IsMounted self.new → OnErr result ((n : ℕ) (g : Group) (kept : Kept) → Mounts n self.old (B.state bay.old) g kept → Mounts n self.new (B.state bay.new) g kept) }
+        // The record takes a turn.
+        ensures turns { turns_at_most self.new ≤ turns_at_most self.old + 1 }
     {
         match self.access {
             Access::Mounted => self.write_status(alloc, bay, next),

@@ -3,7 +3,7 @@ use Rattle.catalog.specs.ExtentPlans.{MayCut, with_cut}
 use Rattle.catalog.specs.Plans.{IsPlan}
 use Rattle.catalog_tables.specs.Tables.{Catalogued}
 use Rattle.group_engine.proofs.Cuts.{cut_surplus}
-use Rattle.group_engine.proofs.Endings.{ends_planned}
+use Rattle.group_engine.proofs.Endings.{ends_begin, ends_planned, ends_without}
 use Rattle.group_engine.proofs.mounted.Mounted.cut_chunk.Goals as goal
 
 pub returns-in-Ok : goal.returns-in-Ok
@@ -18,3 +18,12 @@ returns-in-Ok g c =
     let plan = subst (λ (v : Catalogued). IsPlan v put gone (with_cut v.tables f n from)) c.catalog-3.ensures c.in-Ok.ensures.planned in
     ends_planned m c.commit_plan.new.self put gone (with_cut m.catalog.tables f n from) (g.B.Bay.state c.args.bay.now) (g.B.Bay.state c.commit_plan.new.bay)
     (cut_surplus m.register.value.entries m.catalog put gone f n from c.requires.whole.are_tables may plan) c.commit_plan.result c.requires.mounted c.commit_plan.ensures.goes c.commit_plan.ensures.commits
+
+pub returns-in_default : goal.returns-in_default
+returns-in_default g c = ends_begin c.args.self.now (g.B.Bay.state c.args.bay.now) c.requires.mounted c.requires.whole c.requires.ready
+
+pub returns-then-is_cut : goal.returns-then-is_cut
+returns-then-is_cut g c = ends_begin c.args.self.now (g.B.Bay.state c.args.bay.now) c.requires.mounted c.requires.whole c.requires.ready
+
+pub returns : goal.returns
+returns g c = ends_without c.args.self.now (g.B.Bay.state c.args.bay.now) c.requires.whole c.requires.ready

@@ -30,3 +30,6 @@ returns-in-Ok-clause-ends g c =
     let plan = subst (λ (v : Catalogued). IsPlan v put gone (without_pending v.tables)) c.catalog-2.ensures (c.in-Ok.ensures.planned owned) in
     ends_planned m c.commit_plan.new.self put gone (without_pending m.catalog.tables) (g.B.Bay.state c.args.bay.now) (g.B.Bay.state c.commit_plan.new.bay)
     (operation_surplus m.register.value.entries m.catalog put gone (without_pending m.catalog.tables).operations plan) c.commit_plan.result c.requires.mounted c.commit_plan.ensures.goes c.commit_plan.ensures.commits
+
+pub returns-clause-ends : goal.returns-clause-ends
+returns-clause-ends g c = ends_without c.args.self.now (g.B.Bay.state c.args.bay.now) c.requires.whole c.requires.ready

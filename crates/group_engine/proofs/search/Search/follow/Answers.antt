@@ -1,4 +1,4 @@
-use Rattle.std.proofs.Common.{◌≡◌, ◌∙◌, ◌/◌, Bool, true, false, ◌&&◌, List, sym, ap, subst}
+use Rattle.std.proofs.Common.{◌≡◌, ◌∙◌, ◌/◌, Bool, false, ◌&&◌, List, sym, ap, subst}
 use Rattle.asm_formats.specs.Status.{Entry}
 use Rattle.catalog_tables.specs.Rules.{is_regular_chunk}
 use Rattle.rebalance.specs.Cursors.{IsFollowed, passes_at}
