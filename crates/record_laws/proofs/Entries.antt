@@ -119,7 +119,7 @@ module _ (s : BayState) (m : MountedGroup) (next : Status) (change : ChangesDisk
       (λ w. absurd (false≢true (sym (ap is_some (ap (λ (j : ℕ). entry_of r.entries j) (sym f.1) ∙ w.none)) ∙ some)))
       (change.each e f.0)
 
-  kept_was : (d : ℕ) (h : Header) → is_some (entry_of r.entries d) ≡ true → IsTrue (is_kept next d h) → IsTrue (is_kept r d h)
+  pub kept_was : (d : ℕ) (h : Header) → is_some (entry_of r.entries d) ≡ true → IsTrue (is_kept next d h) → IsTrue (is_kept r d h)
   unfolding is_kept
   kept_was d h some is = still_kept d h (entry_of next.entries d) refl some is
 
@@ -164,5 +164,5 @@ entries_may_be_got s sound = λ n m next g kept c change.
     may_be_got n m s g kept c.mounts next c.may c.turns change.births (given s m next change)
     (λ x left slots k among shape had. has_units s sound n m next g kept c.mounts c.may change x left slots k among shape had)
     (kept_was s m next change)
-    change.directories
+    change.some
     (λ l are. described s m next change c.may g c.mounts.represents.shape l are (c.mounts.represents.describes l are))

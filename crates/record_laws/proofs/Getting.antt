@@ -71,12 +71,12 @@ module _ (n : ℕ) (m : MountedGroup) (s : BayState) (g : Group) (kept : Kept) (
     abbrev q : Status
     q = numbered m.register next
 
-    -- a record with as many copies
+    -- a record that names a copy
     module _ (births : r.births ≤ next.births)
         (given : (e : Entry) → IsAmong next.entries e → (e.birth ≤ r.births) ⊎ HasBirth r e.birth)
         (units : (x : bay.Image) → s.leaves s.calls x → KeepsUnits id x g r next)
         (still : (d : ℕ) (h : Header) → is_some (entry_of r.entries d) ≡ true → IsTrue (is_kept next d h) → IsTrue (is_kept r d h))
-        (copies : next.directories ≡ r.directories)
+        (some : (d : ℕ) → IsAmong (elements r.directories) d → (k : ℕ) × IsAmong (elements next.directories) k)
         (describes : (l : List Item) → AreItemsOf m.catalog.tables l → DescribesGroup next l g) where
       alike : (x : bay.Image) (left : s.leaves s.calls x) (slots : ℕ) → IsAlike id (disks_in slots x) g r q (record { commit = m.store.number; items = Some (items n m s g kept mounts).0 }) (items n m s g kept mounts).0
       unfolding is_kept
@@ -99,7 +99,7 @@ module _ (n : ℕ) (m : MountedGroup) (s : BayState) (g : Group) (kept : Kept) (
         births = births_given x left;
         own_births = λ e h. omega (arith, births_given x left e h, births);
         covers = λ slots. alike_is_covered id (disks_in slots x) g r q (record { commit = m.store.number; items = Some (items n m s g kept mounts).0 }) (items n m s g kept mounts).0 (alike x left slots) (covers_now x left slots);
-        there = let c = some_copy x left in is_there n m s g kept mounts x left next is_next c.0 (subst (λ (set : ℕ). IsAmong (elements set) c.0) (sym copies) c.1);
+        there = let c = some_copy x left in let k = some c.0 c.1 in is_there n m s g kept mounts x left next is_next k.0 k.1;
       }
 
       pub may_be_got : MayGet n m next s g kept

@@ -8,3 +8,7 @@ pub mod Partners
 pub mod Fewer
 pub mod Entries
 pub mod Gone
+pub mod Attaching
+pub mod Holding
+pub mod Beside
+pub mod Leaving

@@ -2,8 +2,10 @@
 use Rattle.std.proofs.Common.{◌≡◌, inr, ℕ, ◌≤◌, Bool, true, false, ◌&&◌, not, List, map, refl, sym, ap, subst, ◌∙◌, Option, Some, None, IsTrue}
 use Rattle.std.proofs.lemmas.Bool.{and_parts, false≢true}
 use Rattle.bay.specs.State.{BayState}
+use Rattle.asm_formats.specs.Among.{IsAmong}
 use Rattle.asm_formats.specs.Header.{Header}
 use Rattle.asm_formats.specs.Regions.{units_in}
+use Rattle.asm_formats.specs.Sets.{elements}
 use Rattle.asm_formats.specs.Status.{Entry, Status, entry_of}
 use Rattle.asm_placement.specs.Modes.{is_forced}
 use Rattle.asm_placement.specs.Partners.{HasPartners}
@@ -31,7 +33,7 @@ modes_may_be_got s = λ n m next g kept c change.
     (λ e h. let f = births_in next.entries r.entries change.entries e h in inr (record { entry = f.0; among = f.1; same = sym f.2 }))
     (λ x left slots k among shape had. same_units r next k change had)
     (λ d h some is. change.kept d h is)
-    change.directories
+    (λ d h. (d, subst (λ (set : ℕ). IsAmong (elements set) d) (sym change.directories) h))
     (λ l are. modes_describe r next l g change (c.mounts.represents.describes l are))
 
 -- ---- the same disks

@@ -97,7 +97,8 @@ pub record JoinsDisk (m : MountedGroup) (s : BayState) (e : Entry) : Type 0 wher
 
 -- The record has other entries than the one that holds: disks come, go, or get other modes or units. The group's tables keep their rules.
 pub record ChangesDisks (m : MountedGroup) (next : Status) (s : BayState) : Type 0 where
-  pub directories : next.directories ≡ m.register.value.directories
+  -- where the record that holds names a directory copy, a copy is left
+  pub some : (d : ℕ) → IsAmong (elements m.register.value.directories) d → (k : ℕ) × IsAmong (elements next.directories) k
   pub births : m.register.value.births ≤ next.births
   pub each : (e : Entry) → IsAmong next.entries e → KeepsEntry m e ⊎ JoinsDisk m s e
   pub rules : KeepsRules m.catalog.shape m.catalog.tables
