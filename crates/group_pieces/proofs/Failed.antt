@@ -86,7 +86,7 @@ module _ (failed since repair : ℕ) where
 
   -- ---- the same disks
 
-  bare_failed : (d : ℕ) (e : Entry) → bare (entry_failed failed d since repair e) ≡ bare e
+  pub bare_failed : (d : ℕ) (e : Entry) → bare (entry_failed failed d since repair e) ≡ bare e
   bare_failed d e = go (nat_lt e.number d && has_bit failed e.number)
     where
       go : (b : Bool) → bare (cond b (taken_off since repair e) e) ≡ bare e

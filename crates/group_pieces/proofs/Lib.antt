@@ -3,6 +3,8 @@ pub mod UsableCopies
 pub mod Places
 pub mod Homes
 pub mod Keeping
+pub mod Rewritten
+pub mod Targeting
 pub mod Agreeing
 pub mod SpareRuns
 pub mod Behind
@@ -10,5 +12,13 @@ pub mod Risen
 pub mod Leaving
 pub mod Marked
 pub mod Failed
+pub mod FailedModes
 pub mod Steps
 pub mod Written
+pub mod Holding
+pub mod MarkLookups
+pub mod MarkedBytes
+pub mod MarksLead
+pub mod Recording
+pub mod Flying
+pub mod WholePiece

@@ -45,7 +45,7 @@ module _ (m : MountedGroup) (x : ExtentId) (inner failed : ℕ) where
   abbrev left : ℕ → Bool
   left k = is_left m (extent_of m x) inner failed k
 
-  bit_left : (k : ℕ) → k < 3 → has_bit (left_of m x inner failed) k ≡ left k
+  pub bit_left : (k : ℕ) → k < 3 → has_bit (left_of m x inner failed) k ≡ left k
   bit_left zero few = bit_0 (left 0) (left 1) (left 2)
   bit_left (suc zero) few = bit_1 (left 0) (left 1) (left 2)
   bit_left (suc (suc zero)) few = bit_2 (left 0) (left 1) (left 2)

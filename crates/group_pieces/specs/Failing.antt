@@ -1,9 +1,12 @@
 -- The status record once disks failed.
-use Rattle.std.specs.Prelude.{◌≡◌, ◌<◌, ℕ, ◌&&◌, if◌then◌else◌, nat_lt, true, map}
+use Rattle.std.specs.Prelude.{◌≡◌, ◌<◌, ℕ, Bool, ◌&&◌, List, if◌then◌else◌, nat_lt, true, map}
 use Rattle.asm_group.specs.declared.Mode.TheVariants.{Offline}
 use Rattle.asm_formats.specs.Sets.{has_bit}
 use Rattle.asm_formats.specs.Status.{Entry, Status}
 use Rattle.asm_formats.specs.Among.{IsAmong}
+use Rattle.asm_placement.specs.Modes.{is_dropping, serves}
+use Rattle.asm_placement.specs.Partners.{HasPartners}
+use Rattle.record_laws.specs.Getting.{ChangesModesAlone}
 
 -- the entry Offline, since that second, for so many seconds until the disk is dropped
 abbrev pub taken_off : ℕ → ℕ → Entry → Entry
@@ -20,3 +23,17 @@ status_failed r failed below since repair = record r { entries = map (entry_fail
 -- the disks of the set are Offline, since that second
 abbrev pub AreOffline : ℕ → ℕ → Status → Type 0
 AreOffline failed since r = (e : Entry) → IsAmong r.entries e → e.number < 64 → has_bit failed e.number ≡ true → (e.mode ≡ Offline) × (e.since ≡ since)
+
+-- ---- the modes
+
+-- the disks of the set serve reads and writes
+abbrev pub AreServing : List Entry → ℕ → Type 0
+AreServing entries failed = (e : Entry) → IsAmong entries e → e.number < 64 → has_bit failed e.number ≡ true → serves e.mode ≡ true
+
+-- the entry is that of a disk of the set, which is being dropped
+abbrev pub is_dropping_in : ℕ → Entry → Bool
+is_dropping_in disks e = is_dropping e.mode && has_bit disks e.number
+
+-- Where the disks of the set serve and the partners are those of the table, the next record changes modes alone, and its partners are so too.
+abbrev pub FailsModes : Status → ℕ → Status → Type 0
+FailsModes r failed next = AreServing r.entries failed → HasPartners r.entries → ChangesModesAlone r next × HasPartners next.entries

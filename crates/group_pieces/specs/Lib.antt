@@ -9,3 +9,4 @@ pub mod Marking
 pub mod Pieces
 pub mod Failing
 pub mod Written
+pub mod Held

@@ -35,3 +35,8 @@ left_of m x inner failed = left_in m (extent_of m x) inner failed
 -- by these tables each copy that is left behind bears a mark
 abbrev pub AreMarked : MountedGroup → ExtentId → ℕ → ℕ → Tables → Type 0
 AreMarked m x inner failed t = (k : ℕ) → k < 3 → is_left m (extent_of m x) inner failed k ≡ true → has_bit (marks_of t x.file x.index) k ≡ true
+
+-- the homes of extents are the same, and each mark that was set is so still
+pub record MarksMore (t u : Tables) : Type 0 where
+  pub extents : u.extents ≡ t.extents
+  pub marks : (f i k : ℕ) → k < 3 → has_bit (marks_of t f i) k ≡ true → has_bit (marks_of u f i) k ≡ true

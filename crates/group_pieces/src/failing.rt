@@ -1,10 +1,12 @@
 // Disks that failed in a write are taken Offline.
 ghost use Rattle.std.specs.Prelude.{◌≡◌, IfOk, OnOk, IsTrue};
+ghost use Rattle.std.specs.List.{list_any};
 ghost use Rattle.asm_formats.specs.Status.{is_status};
 ghost use Rattle.group_engine.specs.Mounts.{IsMounted, Takes};
 ghost use Rattle.group_engine.specs.NextRecords.{KeepsDisks};
 ghost use Rattle.group_engine.specs.Pending.{GoesOn};
-ghost use Rattle.group_pieces.specs.Failing.{AreOffline, status_failed};
+ghost use Rattle.group_pieces.specs.Failing.{AreOffline, FailsModes, is_dropping_in, status_failed};
+ghost use Rattle.group_pieces.specs.Held.{FailedHeld};
 
 use asm_base::{DiskSet, Mode, NoMemory, Refusal};
 use bay::Bay;
@@ -27,6 +29,8 @@ pub(crate) fn take_offline<B: Bay>(
     ensures tables { m.new.catalog.tables ≡ m.old.catalog.tables }
     ensures offline { OnOk result (AreOffline failed since m.new.register.value) }
     ensures still { failed ≡ 0 → bay.new ≡ bay.old }
+    // A group that is mounted is held all the while, and mounted once it is done, where these disks serve.
+    ensures held { FailedHeld m.old failed result m.new (B.state bay.old) (B.state bay.new) }
 {
     if failed.bits() == 0 {
         return Ok(());
@@ -50,6 +54,8 @@ fn with_failed(
     ensures status { IfOk result (λ next. IsTrue (is_status next)) }
     ensures disks { IfOk result (KeepsDisks status.now) }
     ensures offline { IfOk result (AreOffline failed since) }
+    // Where these disks serve, modes alone change, and the partners are those of the table.
+    ensures modes { IfOk result (FailsModes status.now failed) }
 {
     let next = without_disks(status, failed, since, repair);
     if !any_dropping(status.entries(), failed) {
@@ -75,6 +81,8 @@ fn without_disks(status: &PstRecord, failed: DiskSet, since: u64, repair: u64) -
 }
 
 /// Whether one of the disks is being dropped.
-fn any_dropping(entries: &[PstEntry], disks: DiskSet) -> bool {
+fn any_dropping(entries: &[PstEntry], disks: DiskSet) -> bool
+    ensures { result ≡ list_any (is_dropping_in disks) entries.now }
+{
     entries.iter().any(|entry| matches!(entry.mode, Mode::Dropping) && disks.has(entry.number))
 }

@@ -3,6 +3,7 @@
 
 mod copies;
 mod failing;
+mod laws;
 mod marking;
 mod moving;
 mod piece;
@@ -12,6 +13,7 @@ mod usable;
 mod writing;
 
 pub use copies::{Place, read_copies, write_copies};
+pub use laws::bytes_mount;
 pub use piece::write_piece;
 pub use reading::{ReadError, read_piece};
 pub use spare::write_spare;

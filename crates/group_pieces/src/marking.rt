@@ -2,9 +2,11 @@
 ghost use Rattle.std.specs.Prelude.{◌≡◌, ◌<◌, ◌≤◌, ◌^◌, IsTrue, OnOk, ℕ};
 ghost use Rattle.asm_group.specs.Shape.{is_shape};
 ghost use Rattle.catalog_tables.specs.Faults.{IsCatalog};
+ghost use Rattle.group_engine.specs.Commits.{KeepsRecord, turns_at_most};
 ghost use Rattle.group_engine.specs.Mounts.{IsMounted, Takes};
 ghost use Rattle.group_engine.specs.Pending.{GoesOn};
-ghost use Rattle.group_pieces.specs.Marking.{AreMarked, bit_if, is_left, left_of, took};
+ghost use Rattle.group_pieces.specs.Held.{RecordsHeld};
+ghost use Rattle.group_pieces.specs.Marking.{AreMarked, MarksMore, bit_if, is_left, left_of, took};
 
 use crate::copies::Place;
 use crate::usable::{extent_of, place};
@@ -30,6 +32,13 @@ pub(crate) fn mark_left<B: Bay>(
     ensures goes { GoesOn m.old result m.new (B.state bay.old) (B.state bay.new) }
     ensures marked { OnOk result (AreMarked m.old x inner failed m.new.catalog.tables) }
     ensures still { left_of m.old x inner failed ≡ 0 → bay.new ≡ bay.old }
+    // A group that is mounted with the piece Free is held so all the while, and mounted with the bytes once it is done.
+    ensures held { RecordsHeld m.old x inner failed result m.new (B.state bay.old) (B.state bay.new) }
+    // Homes and marks stay, but that copies are marked.
+    ensures places { OnOk result (MarksMore m.old.catalog.tables m.new.catalog.tables) }
+    // Entries stay, and no turns are taken but those of copies that were given up.
+    ensures status { KeepsRecord m.old.register.value m.new.register.value }
+    ensures turns { turns_at_most m.new ≤ turns_at_most m.old }
 {
     let left = left_copies(m, x, inner, failed);
     if left == 0 {

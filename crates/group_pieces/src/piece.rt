@@ -1,5 +1,5 @@
 // A piece of an extent is written to every copy, and what failed is recorded.
-ghost use Rattle.std.specs.Prelude.{◌≡◌, ◌<◌, ◌^◌, IfErr, IfOk, OnOk, length};
+ghost use Rattle.std.specs.Prelude.{◌≡◌, ◌<◌, ◌^◌, IfErr, IfOk, OnErr, OnOk, length};
 ghost use Rattle.bay.specs.Moments.{NowOnly};
 ghost use Rattle.group_engine.specs.Mounts.{IsMounted, Takes};
 ghost use Rattle.group_engine.specs.Own.{KeepsGroup};
@@ -7,7 +7,8 @@ ghost use Rattle.group_engine.specs.Pending.{GoesOn};
 ghost use Rattle.group_pieces.specs.Copies.{HaveBut};
 ghost use Rattle.group_pieces.specs.Failing.{AreOffline};
 ghost use Rattle.group_pieces.specs.Faults.{AreRisen};
-ghost use Rattle.group_pieces.specs.Marking.{AreMarked, left_of};
+ghost use Rattle.group_pieces.specs.Held.{PieceHeld, RecordsHeld};
+ghost use Rattle.group_pieces.specs.Marking.{AreMarked, MarksMore, left_of};
 ghost use Rattle.group_pieces.specs.Pieces.{WritePieceCause, refusal_of};
 ghost use Rattle.group_pieces.specs.Usable.{AreNone, FitsExtent, places_at};
 ghost use Rattle.group_pieces.specs.Written.{WritesPiece, IsPlain};
@@ -51,6 +52,10 @@ pub fn write_piece<B: Bay>(
     ensures marked { IfOk result (λ failed. AreMarked m.old x inner failed m.new.catalog.tables) }
     ensures offline { IfOk result (λ failed. AreOffline failed now m.new.register.value) }
     ensures mounted { OnOk result (IsMounted m.new) }
+    // A group that is mounted is held with the piece's cells Free all the while, and mounted with the bytes once it is done.
+    ensures held { PieceHeld m.old x inner bytes.now result m.new (B.state bay.old) (B.state bay.new) }
+    // Where no copy is usable nothing was done.
+    ensures lost { AreNone (places_at m.old x inner) → (m.new ≡ m.old) × (bay.new ≡ bay.old) }
 {
     match m.takes_calls() {
         Ok(()) => write_mounted(m, alloc, bay, x, inner, bytes, now),
@@ -81,6 +86,10 @@ fn write_mounted<B: Bay>(
     ensures marked { IfOk result (λ failed. AreMarked m.old x inner failed m.new.catalog.tables) }
     ensures offline { IfOk result (λ failed. AreOffline failed now m.new.register.value) }
     ensures mounted { OnOk result (IsMounted m.new) }
+    // A group that is mounted is held with the piece's cells Free all the while, and mounted with the bytes once it is done.
+    ensures held { PieceHeld m.old x inner bytes.now result m.new (B.state bay.old) (B.state bay.new) }
+    // Where no copy is usable nothing was done.
+    ensures lost { AreNone (places_at m.old x inner) → (m.new ≡ m.old) × (bay.new ≡ bay.old) }
 {
     match write_usable(m, bay, x, inner, bytes) {
         Ok(failed) => {
@@ -123,6 +132,12 @@ fn settle<B: Bay>(
     ensures marked { OnOk result (AreMarked m.old x inner failed m.new.catalog.tables) }
     ensures offline { OnOk result (AreOffline failed now m.new.register.value) }
     ensures still { failed ≡ 0 → left_of m.old x inner failed ≡ 0 → bay.new ≡ bay.old }
+    // Homes and marks stay, but that copies are marked.
+    ensures places { OnOk result (MarksMore m.old.catalog.tables m.new.catalog.tables) }
+    // A group that is mounted with the piece Free is held so all the while, and mounted with the bytes once it is done.
+    ensures held { RecordsHeld m.old x inner failed result m.new (B.state bay.old) (B.state bay.new) }
+    // Where it is refused the group takes no more calls.
+    ensures shut { OnErr result (IsMounted m.new → ⊥) }
 {
     match record_faults(m, alloc, bay, x, inner, failed, now) {
         Ok(()) => Ok(()),
@@ -152,6 +167,10 @@ fn record_faults<B: Bay>(
     ensures marked { OnOk result (AreMarked m.old x inner failed m.new.catalog.tables) }
     ensures offline { OnOk result (AreOffline failed now m.new.register.value) }
     ensures still { failed ≡ 0 → left_of m.old x inner failed ≡ 0 → bay.new ≡ bay.old }
+    // Homes and marks stay, but that copies are marked.
+    ensures places { OnOk result (MarksMore m.old.catalog.tables m.new.catalog.tables) }
+    // A group that is mounted with the piece Free is held so all the while, and mounted with the bytes once it is done.
+    ensures held { RecordsHeld m.old x inner failed result m.new (B.state bay.old) (B.state bay.new) }
 {
     match mark_left(m, alloc, bay, x, inner, failed) {
         Ok(()) => take_offline(m, alloc, bay, failed, now),

@@ -5,8 +5,10 @@ ghost use Rattle.group_engine.specs.Mounts.{IsMounted, Takes};
 ghost use Rattle.group_engine.specs.Own.{KeepsGroup};
 ghost use Rattle.group_pieces.specs.Bytes.{WritesBytes};
 ghost use Rattle.group_pieces.specs.Copies.{HaveBut, PlacesOf};
+ghost use Rattle.group_pieces.specs.Failing.{AreServing};
 ghost use Rattle.group_pieces.specs.Faults.{AreRisen};
-ghost use Rattle.group_pieces.specs.Usable.{FitsExtent, places_at};
+ghost use Rattle.group_pieces.specs.Held.{WritesHeld};
+ghost use Rattle.group_pieces.specs.Usable.{AreNone, FitsExtent, places_at};
 ghost use Rattle.group_pieces.specs.Writes.{AreNumbered, IsWriteCause, SomeTook, have_failed};
 
 use crate::copies::{Place, write_copies};
@@ -42,6 +44,12 @@ pub fn write_usable<B: Bay>(
     ensures failed { IfOk result (λ failed. AreRisen m.now failed (B.state bay.old) (B.state bay.new)) }
     ensures some { IfOk result (SomeTook (places_at m.now x inner)) }
     ensures cause { IfErr result (IsWriteCause m.now x inner (B.state bay.old) (B.state bay.new)) }
+    // A group that is mounted is held with the piece's cells Free all the while, and with the bytes where no copy is left behind.
+    ensures holds { WritesHeld m.now x inner bytes.now result (B.state bay.old) (B.state bay.new) }
+    // The disks that failed serve.
+    ensures serving { IfOk result (AreServing m.now.register.value.entries) }
+    // Where no copy is usable nothing was done.
+    ensures lost { AreNone (places_at m.now x inner) → bay.new ≡ bay.old }
 {
     let places = usable_copies(m, x, inner);
     let Some(disk) = first_disk(&places) else {

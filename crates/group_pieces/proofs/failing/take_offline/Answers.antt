@@ -6,6 +6,8 @@ use Rattle.group_engine.specs.NextRecords.{KeepsDisks}
 use Rattle.group_engine.proofs.Endings.{goes_begin, goes_without}
 use Rattle.group_engine.proofs.NextRecords.{same_disks_are_next}
 use Rattle.group_pieces.specs.Failing.{AreOffline}
+use Rattle.group_pieces.specs.Failing.{FailsModes}
+use Rattle.group_pieces.proofs.Recording.{offline_none, offline_set, offline_without}
 use Rattle.group_pieces.proofs.Several.{no_bit}
 use Rattle.group_pieces.proofs.Steps.{on_ok}
 use Rattle.group_pieces.proofs.failing.take_offline.Goals as goal
@@ -44,3 +46,15 @@ returns-in-Ok-clause-offline g c = on_ok c.set_status.result (λ is. subst (AreO
 
 pub returns-in-Ok-clause-still : goal.returns-in-Ok-clause-still
 returns-in-Ok-clause-still g c = λ none. absurd (c.if-bits-eq0.false (c.bits.ensures.bits ∙ none))
+
+pub returns-then-bits-eq0-clause-held : goal.returns-then-bits-eq0-clause-held
+returns-then-bits-eq0-clause-held g c = offline_none c.args.m.now (g.B.Bay.state c.args.bay.now) c.args.failed
+
+pub returns-in-Err-clause-held : goal.returns-in-Err-clause-held
+returns-in-Err-clause-held g c = offline_without c.args.m.now (g.B.Bay.state c.args.bay.now) c.args.failed _
+
+pub returns-in-Ok-clause-held : goal.returns-in-Ok-clause-held
+returns-in-Ok-clause-held g c =
+    offline_set c.args.m.now (g.B.Bay.state c.args.bay.now) c.args.failed c.in-Ok.next c.in-Ok.ensures.status
+    (subst (λ (r : Status). FailsModes r c.args.failed c.in-Ok.next) c.status.ensures c.in-Ok.ensures.modes)
+    c.set_status.new.self (g.B.Bay.state c.set_status.new.bay) c.set_status.result (c.set_status.ensures.moments c.requires.mounted) (c.set_status.ensures.done c.requires.mounted)

@@ -3,7 +3,9 @@ use Rattle.asm_base.specs.declared.refusal.Refusal.{Refusal}
 use Rattle.group_engine.specs.Commits.{StatusCause}
 use Rattle.group_engine.specs.Mounts.{MountedGroup}
 use Rattle.group_engine.specs.Own.{KeepsGroup}
-use Rattle.group_engine.proofs.Endings.{keeps_closed}
+use Rattle.group_engine.specs.Mounts.{IsMounted}
+use Rattle.group_engine.proofs.Endings.{closed_takes_none, dismounted_takes_none, keeps_closed}
+use Rattle.group_pieces.proofs.Recording.{held_refused}
 use Rattle.group_pieces.proofs.piece.settle.Goals as goal
 
 pub returns-in-Ok-clause-goes : goal.returns-in-Ok-clause-goes
@@ -22,3 +24,18 @@ returns-clause-goes g c = record {
   mounted = tt;
   cause = tt;
 }
+
+pub returns-in-Err-Dismounted-clause-held : goal.returns-in-Err-Dismounted-clause-held
+returns-in-Err-Dismounted-clause-held g c =
+    held_refused c.args.m.now (g.B.Bay.state c.args.bay.now) (g.B.Bay.state c.record_faults.new.bay) c.args.x c.args.inner c.args.failed c.record_faults.result c.record_faults.new.m c.record_faults.new.m _ c.record_faults.ensures.held
+
+pub returns-clause-held : goal.returns-clause-held
+returns-clause-held g c =
+    held_refused c.args.m.now (g.B.Bay.state c.args.bay.now) (g.B.Bay.state c.record_faults.new.bay) c.args.x c.args.inner c.args.failed c.record_faults.result c.record_faults.new.m c.close.new.self _ c.record_faults.ensures.held
+
+pub returns-in-Err-Dismounted-clause-shut : goal.returns-in-Err-Dismounted-clause-shut
+returns-in-Err-Dismounted-clause-shut g c = dismounted_takes_none c.args.m.now c.record_faults.new.m (g.B.Bay.state c.args.bay.now) (g.B.Bay.state c.record_faults.new.bay) _ c.requires.mounted
+    (subst (λ (e : Refusal). StatusCause c.args.m.now c.record_faults.new.m (g.B.Bay.state c.args.bay.now) (g.B.Bay.state c.record_faults.new.bay) e) c.in-Err-Dismounted.field-0-is c.in-Err-Dismounted.ensures.goes.cause)
+
+pub returns-clause-shut : goal.returns-clause-shut
+returns-clause-shut g c = λ mounted. closed_takes_none c.record_faults.new.m (subst IsMounted c.close.ensures mounted)

@@ -6,8 +6,10 @@ use Rattle.group_pieces.specs.Copies.{AreApart, AreUsable, FailedAlone, HaveBut,
 use Rattle.group_pieces.specs.Usable.{AreNone, first_disk, places_at}
 use Rattle.group_pieces.specs.Writes.{AreNumbered, have_failed}
 use Rattle.group_pieces.proofs.Behind.{piece_unwritten, piece_writes}
+use Rattle.group_pieces.proofs.FailedModes.{failed_serve}
+use Rattle.group_pieces.proofs.Holding.{held_failing, held_taken}
 use Rattle.group_pieces.proofs.Keeping.{writes_keep}
-use Rattle.group_pieces.proofs.Places.{none_is_there, places_apart, places_usable}
+use Rattle.group_pieces.proofs.Places.{first_is_there, none_is_there, places_apart, places_usable}
 use Rattle.group_pieces.proofs.Risen.{all_failed, are_risen, is_fault, some_took}
 use Rattle.group_pieces.proofs.UsableCopies.{short_inner}
 use Rattle.group_pieces.proofs.writing.write_usable.Goals as goal
@@ -123,3 +125,52 @@ pub returns-else-have_failed-clause-some : goal.returns-else-have_failed-clause-
 returns-else-have_failed-clause-some g c =
     let failed = c.write_copies-failed.result in
     some_took failed (places_at c.args.m.now c.args.x c.args.inner) (ap (have_failed failed) (sym c.usable_copies-places.ensures.value) ∙ sym c.have_failed.ensures ∙ c.if-have_failed.false)
+
+pub returns-in_default-clause-holds : goal.returns-in_default-clause-holds
+returns-in_default-clause-holds g c =
+    let takes = c.requires.takes c.requires.mounted in
+    let s = g.B.Bay.state c.args.bay.now in
+    let sound = g.met.B.Bay.sound c.args.bay.now in
+    held_failing c.args.m.now s s sound sound c.args.x c.args.inner c.args.bytes.now c.requires.piece
+    (piece_unwritten c.args.m.now s c.args.x c.args.inner (length c.args.bytes.now) takes.0 takes.1 c.requires.piece) _
+
+pub returns-then-have_failed-clause-holds : goal.returns-then-have_failed-clause-holds
+returns-then-have_failed-clause-holds g c =
+    let m = c.args.m.now in
+    let s = g.B.Bay.state c.args.bay.now in
+    let t = g.B.Bay.state c.write_copies-failed.new.bay in
+    let n = length c.args.bytes.now in
+    let takes = c.requires.takes c.requires.mounted in
+    held_failing m s t (g.met.B.Bay.sound c.args.bay.now) (g.met.B.Bay.sound c.write_copies-failed.new.bay) c.args.x c.args.inner c.args.bytes.now c.requires.piece
+    (piece_writes m s c.args.x c.args.inner n takes.0 takes.1 c.requires.piece t c.write_copies-failed.ensures.attached
+    (subst (λ (l : List (Option Place)). Runs (IsSlotOf l) (ChangesOnly (PlacesOf l n)) s t) c.usable_copies-places.ensures.value c.write_copies-failed.ensures.runs)) _
+
+pub returns-else-have_failed-clause-holds : goal.returns-else-have_failed-clause-holds
+returns-else-have_failed-clause-holds g c =
+    let m = c.args.m.now in
+    let s = g.B.Bay.state c.args.bay.now in
+    let t = g.B.Bay.state c.write_copies-failed.new.bay in
+    let n = length c.args.bytes.now in
+    let takes = c.requires.takes c.requires.mounted in
+    let value = c.usable_copies-places.ensures.value in
+    held_taken m s t (g.met.B.Bay.sound c.args.bay.now) (g.met.B.Bay.sound c.write_copies-failed.new.bay) c.args.x c.args.inner c.args.bytes.now c.requires.piece
+    (piece_writes m s c.args.x c.args.inner n takes.0 takes.1 c.requires.piece t c.write_copies-failed.ensures.attached
+    (subst (λ (l : List (Option Place)). Runs (IsSlotOf l) (ChangesOnly (PlacesOf l n)) s t) value c.write_copies-failed.ensures.runs))
+    c.write_copies-failed.result
+    (subst (λ (l : List (Option Place)). NowOnly t (HaveBut l c.write_copies-failed.result c.args.bytes.now)) value c.write_copies-failed.ensures.done)
+
+pub returns-then-have_failed-clause-lost : goal.returns-then-have_failed-clause-lost
+returns-then-have_failed-clause-lost g c = λ none.
+    absurd (first_is_there c.usable_copies-places.result c.in-Some.disk (sym c.in-Some.ensures) (subst AreNone (sym c.usable_copies-places.ensures.value) none))
+
+pub returns-else-have_failed-clause-lost : goal.returns-else-have_failed-clause-lost
+returns-else-have_failed-clause-lost g c = λ none.
+    absurd (first_is_there c.usable_copies-places.result c.in-Some.disk (sym c.in-Some.ensures) (subst AreNone (sym c.usable_copies-places.ensures.value) none))
+
+pub returns-else-have_failed-clause-serving : goal.returns-else-have_failed-clause-serving
+returns-else-have_failed-clause-serving g c =
+    let s = g.B.Bay.state c.args.bay.now in
+    let t = g.B.Bay.state c.write_copies-failed.new.bay in
+    let failed = c.write_copies-failed.result in
+    failed_serve c.args.m.now c.args.x c.args.inner failed s t (c.requires.takes c.requires.mounted).0.status
+    (subst (λ (l : List (Option Place)). FailedAlone l failed s t) c.usable_copies-places.ensures.value c.write_copies-failed.ensures.failed)

@@ -1,0 +1,89 @@
+-- What the disks hold of a group over the write of a piece: the copies, the move that is on its way, and what is recorded.
+use Rattle.std.proofs.Common.{ℕ, [], ◌∷◌, length, Result, Ok, Err, Option, refl}
+use Rattle.bay.specs.Moments.{LeavesOnly, NowOnly}
+use Rattle.bay.specs.State.{BayState, IsSound}
+use Rattle.bay.proofs.Calls.{leaves_less, leaves_on}
+use Rattle.asm_group.specs.Group.{Group}
+use Rattle.asm_group.specs.Names.{Bytes}
+use Rattle.asm_base.specs.declared.kinds.ExtentId.{ExtentId}
+use Rattle.asm_base.specs.declared.refusal.Refusal.{Refusal}
+use Rattle.asm_images.specs.Kept.{Kept}
+use Rattle.group_engine.specs.declared.flight.Flight.{Flight}
+use Rattle.group_engine.specs.Commits.{StandsIn}
+use Rattle.group_engine.specs.Mounts.{IsMounted, IsReady, IsWhole, MountedGroup}
+use Rattle.group_engine.proofs.Standings.{stands_at_rest}
+use Rattle.group_pieces.specs.declared.writing.WriteError.{WriteError}
+use Rattle.group_pieces.specs.declared.writing.WriteError.TheVariants as error
+use Rattle.group_pieces.specs.Bytes.{WritesBytes}
+use Rattle.group_pieces.specs.Copies.{HaveBut}
+use Rattle.group_pieces.specs.Failing.{AreServing}
+use Rattle.group_pieces.specs.Held.{FlightIsSpare, IsWritten, PieceHeld, RecordsHeld, TakesBytes, WritesHeld, piece_freed}
+use Rattle.group_pieces.specs.Usable.{FitsExtent, places_at}
+use Rattle.group_pieces.specs.Written.{MovedBytes}
+use Rattle.group_pieces.proofs.Behind.{piece_unwritten}
+use Rattle.group_pieces.proofs.Flying.{flight_mounts, flying_moments, flying_mounts, has_still}
+use Rattle.group_pieces.proofs.Holding.{held_failing}
+
+-- no copy took the bytes
+pub piece_failing : (m : MountedGroup) (x : ExtentId) (inner : ℕ) (bytes : Bytes) (why : WriteError) (e : Refusal) (s t : BayState) → WritesHeld m x inner bytes (Err why) s t → PieceHeld m x inner bytes (Err e) m s t
+piece_failing m x inner bytes why e s t writes = record {
+  moments = λ n g kept is. leaves_less (λ y. stands_at_rest n m.register.id (piece_freed x inner (length bytes) g ∷ []) kept y is.mounts.begun) (writes.moments n g kept is.mounts);
+  done = tt;
+  spare = tt;
+  refused = λ mounted n g kept mounts. writes.mounted n g kept mounts;
+}
+
+-- nothing was done
+pub piece_shut : (m : MountedGroup) (x : ExtentId) (inner : ℕ) (bytes : Bytes) (e : Refusal) (s : BayState) → IsSound s → FitsExtent m.catalog.shape x.index inner (length bytes) → PieceHeld m x inner bytes (Err e) m s s
+piece_shut m x inner bytes e s sound piece = record {
+  moments = λ n g kept is. leaves_less (λ y. stands_at_rest n m.register.id (piece_freed x inner (length bytes) g ∷ []) kept y is.mounts.begun) ((same is.mounts.whole is.mounts.ready).moments n g kept is.mounts);
+  done = tt;
+  spare = tt;
+  refused = λ mounted n g kept mounts. (same mounts.whole mounts.ready).mounted n g kept mounts;
+}
+  where
+    same : IsWhole m → IsReady m s → WritesHeld m x inner bytes (Err error.Lost) s s
+    same whole ready = held_failing m s s sound sound x inner bytes piece (piece_unwritten m s x inner (length bytes) whole ready piece) error.Lost
+
+module _ (m : MountedGroup) (flown : Option Flight) (s t u v : BayState) (x : ExtentId) (inner : ℕ) (bytes : Bytes) (piece : FitsExtent m.catalog.shape x.index inner (length bytes)) (failed : ℕ)
+    (writes : WritesHeld m x inner bytes (Ok failed) s t) (has : NowOnly t (HaveBut (places_at m x inner) failed bytes)) (serving : AreServing m.register.value.entries failed)
+    (flies : WritesBytes m (MovedBytes m x inner (length bytes)) t u) where
+  abbrev mid : MountedGroup
+  mid = record m { flight = flown }
+
+  is_written : (n : ℕ) (g : Group) (kept : Kept) → TakesBytes n m s g kept → IsWritten mid x inner failed u n g kept bytes
+  is_written n g kept is =
+      let there = writes.mounted n g kept is.mounts in
+      record {
+        mounts = flight_mounts n m u (piece_freed x inner (length bytes) g) kept flown (flying_mounts n m t u (piece_freed x inner (length bytes) g) kept there x inner (length bytes) piece is.spare flies);
+        piece = piece;
+        has = has_still m t there.whole there.ready x inner (length bytes) piece is.spare bytes failed u refl has flies;
+        serving = serving;
+        turns = is.turns;
+      }
+
+  all_moments : (answer : Result (Unit {0}) Refusal) (new : MountedGroup) → RecordsHeld mid x inner failed answer new u v → (n : ℕ) (g : Group) (kept : Kept) → TakesBytes n m s g kept
+      → LeavesOnly s v (StandsIn n m.register.id (piece_freed x inner (length bytes) g ∷ []) kept)
+  all_moments answer new records n g kept is =
+      let h = piece_freed x inner (length bytes) g in
+      leaves_on (leaves_less (λ y. stands_at_rest n m.register.id (h ∷ []) kept y is.mounts.begun) (writes.moments n g kept is.mounts))
+      (leaves_on (leaves_less (λ y. stands_at_rest n m.register.id (h ∷ []) kept y is.mounts.begun) (flying_moments n m t u h kept (writes.mounted n g kept is.mounts) x inner (length bytes) piece is.spare flies))
+      (records.moments n g kept bytes (is_written n g kept is)))
+
+  -- what failed was recorded
+  pub piece_done : (new : MountedGroup) → RecordsHeld mid x inner failed (Ok tt) new u v → (FlightIsSpare m → FlightIsSpare new) → PieceHeld m x inner bytes (Ok failed) new s v
+  piece_done new records spares = record {
+    moments = all_moments (Ok tt) new records;
+    done = λ n g kept is. records.done n g kept bytes (is_written n g kept is);
+    spare = spares;
+    refused = λ mounted. tt;
+  }
+
+  -- it couldn't be
+  pub piece_refused : (new : MountedGroup) (why e : Refusal) → RecordsHeld mid x inner failed (Err why) new u v → (IsMounted new → ⊥) → PieceHeld m x inner bytes (Err e) new s v
+  piece_refused new why e records shut = record {
+    moments = all_moments (Err why) new records;
+    done = tt;
+    spare = tt;
+    refused = λ mounted. absurd (shut mounted);
+  }
