@@ -1,12 +1,13 @@
 -- Records with other modes: the same disks.
-use Rattle.std.proofs.Common.{◌≡◌, ℕ, Bool, true, false, cond, List, [], ◌∷◌, map, length, refl, sym, subst, ◌∙◌, ◌==◌, arith, IsTrue}
+use Rattle.std.proofs.Common.{◌≡◌, ℕ, Bool, true, false, cond, List, [], ◌∷◌, map, length, refl, sym, ap, subst, ◌∙◌, ◌==◌, arith, IsTrue}
 use Rattle.asm_group.specs.declared.Mode.{Mode}
 use Rattle.asm_group.specs.declared.Mode.TheVariants.{Offline}
 use Rattle.asm_formats.specs.Status.{Entry, Status, is_status}
 use Rattle.asm_images.specs.RecordLaws.{bare}
 use Rattle.status_table.specs.Changes.{entries_with_partners, entry_with_mode, entry_with_offline, status_with_mode, status_with_offline, status_with_partners}
 use Rattle.group_engine.specs.NextRecords.{KeepsDisks}
-use Rattle.disk_modes.specs.Records.{HasFewer, IsChanged}
+use Rattle.disk_modes.specs.declared.records.NewModes.{NewModes}
+use Rattle.disk_modes.specs.Records.{HasFewer, IsChanged, entry_after}
 
 -- ---- one change
 
@@ -66,5 +67,12 @@ keeps_on r s t one two = record {
 }
 
 -- other modes, other partners and fewer copies
-pub changed_by : (r modes next s : Status) → KeepsDisks r modes → IsTrue (is_status next) → KeepsDisks modes next → HasFewer next s → IsChanged r s
-changed_by r modes next s one allowed two fewer = record { named = next; allowed = allowed; disks = keeps_on r modes next one two; fewer = fewer }
+pub changed_by : (new : NewModes) (r modes next s : Status) → KeepsDisks r modes → modes ≡ record r { entries = map (entry_after new) r.entries } → IsTrue (is_status next) → KeepsDisks modes next
+    → next.births ≡ modes.births → HasFewer next s → IsChanged r s
+changed_by new r modes next s one made allowed two births fewer = record {
+  named = next;
+  allowed = allowed;
+  disks = keeps_on r modes next one two;
+  births = births ∙ ap (λ (x : Status). x.births) made;
+  fewer = fewer;
+}

@@ -8,3 +8,8 @@ pub mod Naming
 pub mod Drops
 pub mod Found
 pub mod Resized
+pub mod Held
+pub mod Getting
+pub mod Checked
+pub mod Sized
+pub mod Expiring

@@ -79,7 +79,7 @@ named_all disks i dropping forced le is = record {
 -- ---- entries
 
 -- each disk's number is below 64
-small : (e : Entry) → is_entry e ≡ true → e.number < 64
+pub small : (e : Entry) → is_entry e ≡ true → e.number < 64
 unfolding is_entry
 small e ok = ltb-true e.number most_disks (and_parts (nat_lt e.number most_disks) _ ok).0
 

@@ -26,3 +26,14 @@ pub record HasAll (directories disks : ℕ) (by : DiskRef) : Type 0 where
 abbrev pub DirectoriesCause : ℕ → ℕ → Refusal → Type 0
 DirectoriesCause directories disks (cause.HoldsDirectories by) = HasAll directories disks by
 DirectoriesCause directories disks _ = ⊥
+
+-- a disk that has a copy, and isn't one of those that lose theirs
+pub record IsLeft (directories off : ℕ) : Type 0 where
+  pub disk : ℕ
+  pub small : disk < 64
+  pub has : has_bit directories disk ≡ true
+  pub stays : has_bit off disk ≡ false
+
+-- where there are directory copies, one is left
+abbrev pub LeavesCopy : ℕ → ℕ → Type 0
+LeavesCopy directories off = (d : ℕ) → d < 64 → has_bit directories d ≡ true → IsLeft directories off

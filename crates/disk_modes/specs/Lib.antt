@@ -6,3 +6,4 @@ pub mod Causes
 pub mod Effects
 pub mod Finding
 pub mod Sizes
+pub mod Stops

@@ -1,5 +1,5 @@
 -- Which modes statements on disks take.
-use Rattle.std.specs.Prelude.{◌≡◌, ℕ, ◌<◌, ◌&&◌, Bool, not, find, List, Option, Some}
+use Rattle.std.specs.Prelude.{◌≡◌, ℕ, ◌<◌, ◌&&◌, Bool, true, not, find, List, Option, Some}
 use Rattle.asm_group.specs.declared.GroupKind.{GroupKind}
 use Rattle.asm_group.specs.declared.GroupKind.TheVariants as kind
 use Rattle.asm_group.specs.declared.Mode.{Mode}
@@ -7,6 +7,7 @@ use Rattle.asm_base.specs.declared.refusal.DiskRef.{DiskRef}
 use Rattle.asm_base.specs.declared.refusal.DiskRef.TheVariants as disk
 use Rattle.asm_base.specs.declared.refusal.Refusal.{Refusal}
 use Rattle.asm_base.specs.declared.refusal.Refusal.TheVariants as cause
+use Rattle.asm_formats.specs.Among.{IsAmong}
 use Rattle.asm_formats.specs.Sets.{has_bit}
 use Rattle.asm_formats.specs.Status.{Entry, Status}
 use Rattle.asm_placement.specs.Modes.{is_forced, is_online, serves}
@@ -24,6 +25,10 @@ takes statement.Resize m = serves m
 -- the first disk of the set whose mode the statement doesn't take
 abbrev pub other : Statement → ℕ → List Entry → Option Entry
 other of disks es = find (λ (e : Entry). has_bit disks e.number && not (takes of e.mode)) es
+
+-- the statement takes each disk of the set
+abbrev pub AllTaken : Statement → ℕ → List Entry → Type 0
+AllTaken of disks es = (e : Entry) → IsAmong es e → has_bit disks e.number ≡ true → takes of e.mode ≡ true
 
 -- the entry is there, and has this disk and this mode
 abbrev pub IsState : Option Entry → DiskRef → Mode → Type 0

@@ -19,12 +19,13 @@ pub record HasFewer (r s : Status) : Type 0 where
   pub same : s ≡ record r { directories = s.directories }
   pub fewer : (d : ℕ) → IsAmong (elements s.directories) d → IsAmong (elements r.directories) d
 
--- s has the id, the sets and the disks of r, and no more directory copies; modes, times and partners may differ.
+-- s has the id, the sets, the births and the disks of r, and no more directory copies; modes, times and partners may differ.
 pub record IsChanged (r s : Status) : Type 0 where
   -- the record with all directory copies
   pub named : Status
   pub allowed : IsTrue (is_status named)
   pub disks : KeepsDisks r named
+  pub births : named.births ≡ r.births
   pub fewer : HasFewer named s
 
 -- ---- entries

@@ -3,6 +3,8 @@ ghost use Rattle.std.specs.Prelude.{OnOk, Some};
 ghost use Rattle.group_engine.specs.Mounts.{IsMounted, Takes};
 ghost use Rattle.group_engine.specs.Pending.{GoesOn};
 ghost use Rattle.disk_modes.specs.Effects.{Makes, PutsBoth, PutsModes, PutsRebalance};
+ghost use Rattle.disk_modes.specs.declared.changing.Changes.TheVariants as changes;
+ghost use Rattle.disk_modes.specs.Stops.{CommitsRebalance, MayMake, MayPut, StaysHeld};
 
 use crate::records::{NewModes, next_record};
 use asm_base::{NoMemory, Refusal};
@@ -34,6 +36,7 @@ pub(crate) fn change_disks<B: Bay>(
     requires takes { Takes m.old (B.state bay.old) }
     ensures goes { GoesOn m.old result m.new (B.state bay.old) (B.state bay.new) }
     ensures done { OnOk result (Makes changes.now new.now m.old m.new) }
+    ensures held { MayMake changes.now new.now m.old → StaysHeld m.old m.new (B.state bay.old) (B.state bay.new) }
 {
     m.set_flight(None);
     make_changes(m, alloc, bay, new, changes)
@@ -50,6 +53,7 @@ fn make_changes<B: Bay>(
     requires takes { Takes m.old (B.state bay.old) }
     ensures goes { GoesOn m.old result m.new (B.state bay.old) (B.state bay.new) }
     ensures done { OnOk result (Makes changes.now new.now m.old m.new) }
+    ensures held { MayMake changes.now new.now m.old → StaysHeld m.old m.new (B.state bay.old) (B.state bay.new) }
 {
     match *changes {
         Changes::Modes => put_modes(m, alloc, bay, new),
@@ -70,6 +74,7 @@ fn rebalance_first<B: Bay>(
     requires takes { Takes m.old (B.state bay.old) }
     ensures goes { GoesOn m.old result m.new (B.state bay.old) (B.state bay.new) }
     ensures done { OnOk result (PutsBoth power new.now m.old m.new) }
+    ensures held { MayMake (changes.RebalanceThenModes power) new.now m.old → StaysHeld m.old m.new (B.state bay.old) (B.state bay.new) }
 {
     match put_rebalance(m, alloc, bay, Some(power)) {
         Ok(()) => modes_or_shut(m, alloc, bay, new),
@@ -88,6 +93,7 @@ fn modes_first<B: Bay>(
     requires takes { Takes m.old (B.state bay.old) }
     ensures goes { GoesOn m.old result m.new (B.state bay.old) (B.state bay.new) }
     ensures done { OnOk result (PutsBoth power new.now m.old m.new) }
+    ensures held { MayMake (changes.ModesThenRebalance power) new.now m.old → StaysHeld m.old m.new (B.state bay.old) (B.state bay.new) }
 {
     match put_modes(m, alloc, bay, new) {
         Ok(()) => rebalance_or_shut(m, alloc, bay, power),
@@ -106,6 +112,7 @@ fn modes_or_shut<B: Bay>(
     requires takes { Takes m.old (B.state bay.old) }
     ensures goes { GoesOn m.old result m.new (B.state bay.old) (B.state bay.new) }
     ensures done { OnOk result (PutsModes new.now m.old m.new) }
+    ensures held { MayPut new.now m.old.register.value → StaysHeld m.old m.new (B.state bay.old) (B.state bay.new) }
 {
     match put_modes(m, alloc, bay, new) {
         Ok(()) => Ok(()),
@@ -128,6 +135,7 @@ fn rebalance_or_shut<B: Bay>(
     requires takes { Takes m.old (B.state bay.old) }
     ensures goes { GoesOn m.old result m.new (B.state bay.old) (B.state bay.new) }
     ensures done { OnOk result (PutsRebalance (Some power) m.old m.new) }
+    ensures commits { CommitsRebalance m.old result m.new (B.state bay.old) (B.state bay.new) }
 {
     match put_rebalance(m, alloc, bay, Some(power)) {
         Ok(()) => Ok(()),
@@ -150,6 +158,7 @@ fn put_modes<B: Bay>(
     requires takes { Takes m.old (B.state bay.old) }
     ensures goes { GoesOn m.old result m.new (B.state bay.old) (B.state bay.new) }
     ensures done { OnOk result (PutsModes new.now m.old m.new) }
+    ensures held { MayPut new.now m.old.register.value → StaysHeld m.old m.new (B.state bay.old) (B.state bay.new) }
 {
     match next_record(alloc, m.status(), new) {
         Ok(next) => m.set_status(alloc, bay, &next),
@@ -168,6 +177,7 @@ pub(crate) fn put_rebalance<B: Bay>(
     requires takes { Takes m.old (B.state bay.old) }
     ensures goes { GoesOn m.old result m.new (B.state bay.old) (B.state bay.new) }
     ensures done { OnOk result (PutsRebalance power m.old m.new) }
+    ensures commits { CommitsRebalance m.old result m.new (B.state bay.old) (B.state bay.new) }
 {
     match m.catalog().plan_rebalance(alloc, power) {
         Ok(change) => m.commit_plan(alloc, bay, &change),

@@ -1,9 +1,10 @@
 // Why a statement on disks is refused.
-ghost use Rattle.std.specs.Prelude.{◌≡◌, IfErr, IfSome};
-ghost use Rattle.std.specs.Bool.{OnTrue};
-ghost use Rattle.disk_modes.specs.Directories.{DirectoriesCause, IsLeast, IsWithin};
+ghost use Rattle.std.specs.Prelude.{◌≡◌, ◌<◌, ℕ, IfErr, IfNone, IfSome, OnOk, false};
+ghost use Rattle.std.specs.Bool.{OnFalse, OnTrue};
+ghost use Rattle.asm_formats.specs.Sets.{has_bit};
+ghost use Rattle.disk_modes.specs.Directories.{DirectoriesCause, IsLeast, IsLeft, IsWithin, LeavesCopy};
 ghost use Rattle.disk_modes.specs.Losing.{LosingCause};
-ghost use Rattle.disk_modes.specs.Modes.{GroupsCause, StateCause, groups_needed, other, takes};
+ghost use Rattle.disk_modes.specs.Modes.{AllTaken, GroupsCause, StateCause, groups_needed, other, takes};
 
 use crate::losing::{Counted, first_losing};
 use asm_base::{DiskRef, DiskSet, GroupKind, Mode, Refusal};
@@ -50,7 +51,8 @@ pub(crate) fn check_modes(
     disks: DiskSet,
     statement: Statement,
 ) -> Result<(), Refusal>
-    ensures { IfErr result (StateCause statement disks entries.now) }
+    ensures cause { IfErr result (StateCause statement disks entries.now) }
+    ensures taken { OnOk result (AllTaken statement disks entries.now) }
 {
     match other(entries, disks, statement) {
         Some(entry) => Err(Refusal::DiskState {
@@ -70,7 +72,8 @@ pub(crate) fn directories_of(status: &PstRecord) -> DiskSet
 
 /// Refused as HoldsDirectories where a set of disks has all directory copies, by the least that has one.
 pub(crate) fn check_directories(directories: DiskSet, disks: DiskSet) -> Result<(), Refusal>
-    ensures { IfErr result (DirectoriesCause directories disks) }
+    ensures cause { IfErr result (DirectoriesCause directories disks) }
+    ensures left { OnOk result (LeavesCopy directories disks) }
 {
     if !is_within(directories, disks) {
         return Ok(());
@@ -85,7 +88,8 @@ pub(crate) fn check_directories(directories: DiskSet, disks: DiskSet) -> Result<
 
 /// Whether each disk of a set is in the other.
 fn is_within(set: DiskSet, all: DiskSet) -> bool
-    ensures { OnTrue result (IsWithin set all) }
+    ensures within { OnTrue result (IsWithin set all) }
+    ensures left { OnFalse result (IsLeft set all) }
 {
     for disk in 0..64u8 {
         if set.has(disk) && !all.has(disk) {
@@ -97,7 +101,8 @@ fn is_within(set: DiskSet, all: DiskSet) -> bool
 
 /// The least disk of a set.
 fn least_of(set: DiskSet) -> Option<u8>
-    ensures { IfSome result (IsLeast set) }
+    ensures least { IfSome result (IsLeast set) }
+    ensures none { IfNone result ((d : ℕ) → d < 64 → has_bit set d ≡ false) }
 {
     for disk in 0..64u8 {
         if set.has(disk) {

@@ -1,14 +1,16 @@
 //! DROP and UNDROP.
-ghost use Rattle.std.specs.Prelude.{◌≡◌, ◌⊎◌, ◌<◌, ◌==◌, ℕ, IfErr, OnOk, if◌then◌else◌, not};
+ghost use Rattle.std.specs.Prelude.{◌≡◌, ◌⊎◌, ◌<◌, ◌≤◌, ◌+◌, ◌==◌, ℕ, IfErr, OnOk, if◌then◌else◌, not};
 ghost use Rattle.asm_formats.specs.Sets.{has_bit};
 ghost use Rattle.asm_placement.specs.Modes.{is_dropping};
-ghost use Rattle.group_engine.specs.Commits.{StatusCause};
+ghost use Rattle.group_engine.specs.Commits.{StatusCause, turns_at_most};
 ghost use Rattle.group_engine.specs.Mounts.{IsMounted, IsWhole, Takes};
 ghost use Rattle.group_engine.specs.Own.{KeepsGroup};
-ghost use Rattle.group_engine.specs.Pending.{GoesOn};
+ghost use Rattle.group_engine.specs.Pending.{GoesOn, StandsThrough, StaysMounted};
 ghost use Rattle.disk_modes.specs.declared.records.NewModes.TheVariants as modes;
 ghost use Rattle.disk_modes.specs.Causes.{DropRefused, drop_as};
+ghost use Rattle.disk_modes.specs.Directories.{LeavesCopy};
 ghost use Rattle.disk_modes.specs.Effects.{AreNamed, Drops, PutsBoth, Undrops, changes_for, has_dropping, undropping};
+ghost use Rattle.disk_modes.specs.Stops.{AreTakenAs, HasTwoTurns, MayPut, StaysHeld, TakesDisk};
 
 use crate::changing::{Changes, change_disks};
 use crate::checking::{
@@ -56,6 +58,11 @@ pub fn drop_disks<B: Bay>(
     // Each disk that the statement names has the mode of its last option, and those with FORCE no directory copy.
     ensures done { OnOk result (Drops disks.now power m.old m.new) }
     ensures cause { IfErr result (λ refusal. DropRefused m.old refusal ⊎ StatusCause m.old m.new (B.state bay.old) (B.state bay.new) refusal) }
+    // The group stays the one that it is, where turns don't run out: at each moment each image is held for it alone, whatever the
+    // answer, and while it takes calls it is mounted. The record takes a turn; that of the commit costs a copy.
+    ensures moments { HasTwoTurns m.old → StandsThrough m.old (B.state bay.old) (B.state bay.new) }
+    ensures stays { HasTwoTurns m.old → IsMounted m.new → StaysMounted m.old m.new (B.state bay.old) (B.state bay.new) }
+    ensures turns { HasTwoTurns m.old → turns_at_most m.new ≤ turns_at_most m.old + 1 }
 {
     m.takes_calls()?;
     let named = named_by(disks);
@@ -103,7 +110,8 @@ fn and_named(named: Named, disk: u8, force: bool) -> Named
 /// Tries the refusals of a DROP.
 fn check_drop(m: &Mounted, disks: &[DropDisk], named: &Named) -> Result<(), Refusal>
     requires { IsWhole m.now }
-    ensures { IfErr result (DropRefused m.now) }
+    ensures cause { IfErr result (DropRefused m.now) }
+    ensures may { AreNamed disks.now named.now.dropping named.now.forced → OnOk result (MayPut (modes.Dropped named.now.dropping named.now.forced) m.now.register.value) }
 {
     match check_named(m, disks, named) {
         Ok(()) => check_copies(m, named),
@@ -113,7 +121,8 @@ fn check_drop(m: &Mounted, disks: &[DropDisk], named: &Named) -> Result<(), Refu
 
 /// Refused as DiskState by the first disk of the statement whose mode its option doesn't take.
 fn check_named(m: &Mounted, disks: &[DropDisk], named: &Named) -> Result<(), Refusal>
-    ensures { IfErr result (DropRefused m.now) }
+    ensures cause { IfErr result (DropRefused m.now) }
+    ensures taken { OnOk result (AreTakenAs m.now named.now.forced disks.now) }
 {
     for one in disks {
         match check_one(m, one.disk, named.forced.has(one.disk)) {
@@ -126,7 +135,8 @@ fn check_named(m: &Mounted, disks: &[DropDisk], named: &Named) -> Result<(), Ref
 
 #[tactic(auto, using(crate::proofs::Reasons::drop_state_by))]
 fn check_one(m: &Mounted, disk: u8, force: bool) -> Result<(), Refusal>
-    ensures { IfErr result (DropRefused m.now) }
+    ensures cause { IfErr result (DropRefused m.now) }
+    ensures taken { OnOk result (TakesDisk (drop_as force) disk m.now.register.value.entries) }
 {
     let alone = with_number(DiskSet::empty(), disk);
     check_modes(m.status().entries(), alone, drop_as(force))
@@ -146,7 +156,8 @@ fn drop_as(force: bool) -> Statement
 #[tactic(auto, using(crate::proofs::Reasons::drop_copies_by))]
 fn check_copies(m: &Mounted, named: &Named) -> Result<(), Refusal>
     requires { IsWhole m.now }
-    ensures { IfErr result (DropRefused m.now) }
+    ensures cause { IfErr result (DropRefused m.now) }
+    ensures left { OnOk result (LeavesCopy m.now.register.value.directories named.now.forced) }
 {
     match check_directories(directories_of(m.status()), named.forced) {
         Ok(()) => check_current(m, named),
@@ -213,6 +224,7 @@ fn drop_named<B: Bay>(
     requires takes { Takes m.old (B.state bay.old) }
     ensures goes { GoesOn m.old result m.new (B.state bay.old) (B.state bay.new) }
     ensures done { OnOk result (PutsBoth power (modes.Dropped named.now.dropping named.now.forced) m.old m.new) }
+    ensures held { MayPut (modes.Dropped named.now.dropping named.now.forced) m.old.register.value → HasTwoTurns m.old → StaysHeld m.old m.new (B.state bay.old) (B.state bay.new) }
 {
     let changes = changes_for(named, power);
     change_disks(m, alloc, bay, &modes_of(named), &changes)
@@ -236,6 +248,11 @@ pub fn undrop_disks<B: Bay>(m: &mut Mounted, alloc: Global, bay: &mut B) -> Resu
     ensures mounted { OnOk result (IsMounted m.new) }
     ensures done { OnOk result (Undrops m.old m.new) }
     ensures cause { IfErr result (StatusCause m.old m.new (B.state bay.old) (B.state bay.new)) }
+    // The group stays the one that it is: at each moment each image is held for it alone, whatever the answer, and while it takes
+    // calls it is mounted. The record takes a turn; that of the commit costs a copy.
+    ensures moments { StandsThrough m.old (B.state bay.old) (B.state bay.new) }
+    ensures stays { IsMounted m.new → StaysMounted m.old m.new (B.state bay.old) (B.state bay.new) }
+    ensures turns { turns_at_most m.new ≤ turns_at_most m.old + 1 }
 {
     m.takes_calls()?;
     let changes = undropping(m.status().entries());

@@ -1,9 +1,12 @@
 //! Expiry of disks, and REBALANCE.
-ghost use Rattle.std.specs.Prelude.{◌≡◌, IfErr, IfOk, OnOk, Some};
-ghost use Rattle.group_engine.specs.Commits.{StatusCause};
+ghost use Rattle.std.specs.Prelude.{◌≡◌, ◌≤◌, ◌+◌, IfErr, IfOk, OnOk, Some, true};
+ghost use Rattle.group_engine.specs.Commits.{StatusCause, turns_at_most};
 ghost use Rattle.group_engine.specs.Mounts.{IsMounted, Takes};
 ghost use Rattle.group_engine.specs.Own.{KeepsGroup};
+ghost use Rattle.group_engine.specs.Pending.{StandsThrough, StaysMounted};
+ghost use Rattle.group_reports.specs.Disks.{may_go};
 ghost use Rattle.disk_modes.specs.Effects.{DropsByForce, Expires, PutsRebalance};
+ghost use Rattle.disk_modes.specs.Stops.{HasTwoTurns, StaysHeld};
 
 use crate::changing::{Changes, change_disks, put_rebalance};
 use crate::finding::with_number;
@@ -29,6 +32,11 @@ pub fn expire<B: Bay>(
     // The disk was the one that expires, and is Forced now; where none expires the group stays.
     ensures done { IfOk result (λ disk. Expires now m.old disk m.new) }
     ensures cause { IfErr result (StatusCause m.old m.new (B.state bay.old) (B.state bay.new)) }
+    // The group stays the one that it is, where turns don't run out: at each moment each image is held for it alone, whatever the
+    // answer, and while it takes calls it is mounted. The record takes a turn; that of the commit costs a copy.
+    ensures moments { HasTwoTurns m.old → StandsThrough m.old (B.state bay.old) (B.state bay.new) }
+    ensures stays { HasTwoTurns m.old → IsMounted m.new → StaysMounted m.old m.new (B.state bay.old) (B.state bay.new) }
+    ensures turns { HasTwoTurns m.old → turns_at_most m.new ≤ turns_at_most m.old + 1 }
 {
     m.takes_calls()?;
     match expiring(m.catalog(), m.status(), now) {
@@ -50,6 +58,7 @@ fn expire_disk<B: Bay>(
     ensures mounted { IfOk result (λ disk. IsMounted m.new) }
     ensures done { IfOk result (λ said. (said ≡ Some disk) × DropsByForce disk m.old m.new) }
     ensures cause { IfErr result (StatusCause m.old m.new (B.state bay.old) (B.state bay.new)) }
+    ensures held { may_go m.old.catalog m.old.register.value disk ≡ true → HasTwoTurns m.old → StaysHeld m.old m.new (B.state bay.old) (B.state bay.new) }
 {
     let new = NewModes::Dropped {
         dropping: DiskSet::empty(),
@@ -78,6 +87,11 @@ pub fn set_rebalance<B: Bay>(
     ensures keeps { KeepsGroup m.old m.new (B.state bay.old) (B.state bay.new) }
     ensures mounted { OnOk result (IsMounted m.new) }
     ensures done { OnOk result (PutsRebalance power m.old m.new) }
+    // The group stays the one that it is: at each moment each image is held for it alone, whatever the answer, and while it takes
+    // calls it is mounted. Each turn that it takes costs a copy.
+    ensures moments { StandsThrough m.old (B.state bay.old) (B.state bay.new) }
+    ensures stays { IsMounted m.new → StaysMounted m.old m.new (B.state bay.old) (B.state bay.new) }
+    ensures turns { turns_at_most m.new ≤ turns_at_most m.old }
     ensures cause { IfErr result (StatusCause m.old m.new (B.state bay.old) (B.state bay.new)) }
 {
     m.takes_calls()?;

@@ -1,11 +1,13 @@
 //! OFFLINE.
-ghost use Rattle.std.specs.Prelude.{◌≡◌, ◌⊎◌, IfErr, OnOk, unwrap_or};
-ghost use Rattle.group_engine.specs.Commits.{StatusCause};
+ghost use Rattle.std.specs.Prelude.{◌≡◌, ◌⊎◌, ◌≤◌, ◌+◌, IfErr, OnOk, unwrap_or};
+ghost use Rattle.group_engine.specs.Commits.{StatusCause, turns_at_most};
 ghost use Rattle.group_engine.specs.Mounts.{IsMounted, Takes};
 ghost use Rattle.group_engine.specs.Own.{KeepsGroup};
-ghost use Rattle.group_engine.specs.Pending.{GoesOn};
+ghost use Rattle.group_engine.specs.Pending.{GoesOn, StandsThrough, StaysMounted};
 ghost use Rattle.disk_modes.specs.Causes.{OfflineRefused};
+ghost use Rattle.disk_modes.specs.Directories.{LeavesCopy};
 ghost use Rattle.disk_modes.specs.Effects.{TakesOffline};
+ghost use Rattle.disk_modes.specs.Stops.{MayGoOffline, StaysHeld};
 
 use crate::changing::{Changes, change_disks};
 use crate::checking::{Statement, check_directories, check_extents, check_modes, directories_of};
@@ -34,6 +36,11 @@ pub fn offline_disks<B: Bay>(
     // The disks are Offline, and have no directory copy; all else of the record stays, and so do the tables.
     ensures done { OnOk result (TakesOffline disks repair now m.old m.new) }
     ensures cause { IfErr result (λ refusal. OfflineRefused m.old disks refusal ⊎ StatusCause m.old m.new (B.state bay.old) (B.state bay.new) refusal) }
+    // The group stays the one that it is: at each moment each image is held for it alone, whatever the answer, and while it takes
+    // calls it is mounted. The record takes a turn.
+    ensures moments { StandsThrough m.old (B.state bay.old) (B.state bay.new) }
+    ensures stays { IsMounted m.new → StaysMounted m.old m.new (B.state bay.old) (B.state bay.new) }
+    ensures turns { turns_at_most m.new ≤ turns_at_most m.old + 1 }
 {
     m.takes_calls()?;
     match check_offline(m, disks) {
@@ -55,6 +62,7 @@ fn put_offline<B: Bay>(
     requires takes { Takes m.old (B.state bay.old) }
     ensures goes { GoesOn m.old result m.new (B.state bay.old) (B.state bay.new) }
     ensures done { OnOk result (TakesOffline disks repair now m.old m.new) }
+    ensures held { MayGoOffline m.old disks → StaysHeld m.old m.new (B.state bay.old) (B.state bay.new) }
 {
     let new = NewModes::Offline {
         disks,
@@ -67,7 +75,8 @@ fn put_offline<B: Bay>(
 /// Tries the refusals of an OFFLINE.
 #[tactic(auto, using(crate::proofs::Reasons::offline_state_by))]
 fn check_offline(m: &Mounted, disks: DiskSet) -> Result<(), Refusal>
-    ensures { IfErr result (OfflineRefused m.now disks) }
+    ensures cause { IfErr result (OfflineRefused m.now disks) }
+    ensures may { OnOk result (MayGoOffline m.now disks) }
 {
     match check_modes(m.status().entries(), disks, Statement::Offline) {
         Ok(()) => check_copies(m, disks),
@@ -77,7 +86,8 @@ fn check_offline(m: &Mounted, disks: DiskSet) -> Result<(), Refusal>
 
 #[tactic(auto, using(crate::proofs::Reasons::offline_copies_by))]
 fn check_copies(m: &Mounted, disks: DiskSet) -> Result<(), Refusal>
-    ensures { IfErr result (OfflineRefused m.now disks) }
+    ensures cause { IfErr result (OfflineRefused m.now disks) }
+    ensures left { OnOk result (LeavesCopy m.now.register.value.directories disks) }
 {
     match check_directories(directories_of(m.status()), disks) {
         Ok(()) => check_usable(m, disks),

@@ -136,6 +136,7 @@ fn with_partners_for(
     requires { IsTrue (is_status status.now) }
     ensures status { IfOk result (λ next. IsTrue (is_status next)) }
     ensures disks { IfOk result (KeepsDisks status.now) }
+    ensures births { IfOk result (λ next. next.births ≡ status.now.births) }
     ensures partners { IfOk result (λ next. next.entries ≡ with_partners_for new.now status.now.entries) }
 {
     match *new {
@@ -149,6 +150,7 @@ fn with_new_partners(alloc: Global, status: &PstRecord) -> Result<PstRecord, NoM
     requires { IsTrue (is_status status.now) }
     ensures status { IfOk result (λ next. IsTrue (is_status next)) }
     ensures disks { IfOk result (KeepsDisks status.now) }
+    ensures births { IfOk result (λ next. next.births ≡ status.now.births) }
     ensures partners { IfOk result (λ next. next.entries ≡ with_partners status.now.entries) }
 {
     let sets = partners(alloc, status.entries())?;

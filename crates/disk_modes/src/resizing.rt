@@ -1,15 +1,17 @@
 //! RESIZE.
 ghost use Rattle.std.specs.Bool.{OnTrue};
 ghost use Rattle.std.specs.List.{list_any};
-ghost use Rattle.std.specs.Prelude.{◌≡◌, ◌⊎◌, IfErr, IsTrue, OnOk, map};
+ghost use Rattle.std.specs.Prelude.{◌≡◌, ◌⊎◌, ◌≤◌, ◌+◌, IfErr, IsTrue, OnOk, map};
 ghost use Rattle.asm_formats.specs.Status.{is_status};
-ghost use Rattle.group_engine.specs.Commits.{StatusCause};
+ghost use Rattle.catalog_tables.specs.Rules.{KeepsRules};
+ghost use Rattle.group_engine.specs.Commits.{StatusCause, turns_at_most};
 ghost use Rattle.group_engine.specs.Mounts.{IsMounted, Takes};
 ghost use Rattle.group_engine.specs.Own.{KeepsGroup};
-ghost use Rattle.group_engine.specs.Pending.{GoesOn};
+ghost use Rattle.group_engine.specs.Pending.{GoesOn, StandsThrough, StaysMounted};
 ghost use Rattle.group_engine.specs.Statuses.{IsNextOf};
 ghost use Rattle.disk_modes.specs.Causes.{ResizeRefused};
 ghost use Rattle.disk_modes.specs.Sizes.{HasAsked, PutsUnits, Resizes, entry_capped, is_other, status_resized};
+ghost use Rattle.disk_modes.specs.Stops.{FitImages, StaysHeld};
 
 use crate::changing::put_rebalance;
 use crate::checking::{Statement, check_modes};
@@ -37,6 +39,11 @@ pub fn resize_disks<B: Bay>(
     // The disks have the units of the size, or of their images, and a rebalance is active.
     ensures done { OnOk result (Resizes disks size power m.old m.new) }
     ensures cause { IfErr result (λ refusal. ResizeRefused m.old disks refusal ⊎ StatusCause m.old m.new (B.state bay.old) (B.state bay.new) refusal) }
+    // The group stays the one that it is: at each moment each image is held for it alone, whatever the answer, and while it takes
+    // calls it is mounted. The record takes a turn; that of the commit costs a copy.
+    ensures moments { StandsThrough m.old (B.state bay.old) (B.state bay.new) }
+    ensures stays { IsMounted m.new → StaysMounted m.old m.new (B.state bay.old) (B.state bay.new) }
+    ensures turns { turns_at_most m.new ≤ turns_at_most m.old + 1 }
 {
     m.takes_calls()?;
     let asked = Asked { disks, size };
@@ -49,7 +56,8 @@ pub fn resize_disks<B: Bay>(
 /// Tries the refusals of a RESIZE.
 #[tactic(auto, using(crate::proofs::Reasons::resize_state_by))]
 fn check_resize(m: &Mounted, asked: &Asked) -> Result<(), Refusal>
-    ensures { IfErr result (ResizeRefused m.now asked.now.disks) }
+    ensures cause { IfErr result (ResizeRefused m.now asked.now.disks) }
+    ensures fit { OnOk result (FitImages asked.now m.now) }
 {
     match check_modes(m.status().entries(), asked.disks, Statement::Resize) {
         Ok(()) => check_sizes(m, asked),
@@ -69,6 +77,7 @@ fn resize<B: Bay>(
     requires takes { Takes m.old (B.state bay.old) }
     ensures goes { GoesOn m.old result m.new (B.state bay.old) (B.state bay.new) }
     ensures done { OnOk result (Resizes asked.now.disks asked.now.size power m.old m.new) }
+    ensures held { FitImages asked.now m.old → StaysHeld m.old m.new (B.state bay.old) (B.state bay.new) }
 {
     m.set_flight(None);
     rebalance_first(m, alloc, bay, asked, power)
@@ -86,6 +95,7 @@ fn rebalance_first<B: Bay>(
     requires takes { Takes m.old (B.state bay.old) }
     ensures goes { GoesOn m.old result m.new (B.state bay.old) (B.state bay.new) }
     ensures done { OnOk result (Resizes asked.now.disks asked.now.size power m.old m.new) }
+    ensures held { FitImages asked.now m.old → StaysHeld m.old m.new (B.state bay.old) (B.state bay.new) }
 {
     match put_rebalance(m, alloc, bay, Some(power)) {
         Ok(()) => units_or_shut(m, alloc, bay, asked),
@@ -104,6 +114,7 @@ fn units_or_shut<B: Bay>(
     requires takes { Takes m.old (B.state bay.old) }
     ensures goes { GoesOn m.old result m.new (B.state bay.old) (B.state bay.new) }
     ensures done { OnOk result (PutsUnits asked.now m.old m.new) }
+    ensures held { FitImages asked.now m.old → KeepsRules m.old.catalog.shape m.old.catalog.tables → StaysHeld m.old m.new (B.state bay.old) (B.state bay.new) }
 {
     match put_units(m, alloc, bay, asked) {
         Ok(()) => Ok(()),
@@ -126,6 +137,7 @@ fn put_units<B: Bay>(
     requires takes { Takes m.old (B.state bay.old) }
     ensures goes { GoesOn m.old result m.new (B.state bay.old) (B.state bay.new) }
     ensures done { OnOk result (PutsUnits asked.now m.old m.new) }
+    ensures held { FitImages asked.now m.old → KeepsRules m.old.catalog.shape m.old.catalog.tables → StaysHeld m.old m.new (B.state bay.old) (B.state bay.new) }
 {
     if !has_others(m, m.status().entries(), asked) {
         return Ok(());
@@ -147,6 +159,7 @@ fn put_next<B: Bay>(
     requires asked { HasAsked asked.now m.old next.now }
     ensures goes { GoesOn m.old result m.new (B.state bay.old) (B.state bay.new) }
     ensures done { OnOk result (PutsUnits asked.now m.old m.new) }
+    ensures held { FitImages asked.now m.old → KeepsRules m.old.catalog.shape m.old.catalog.tables → StaysHeld m.old m.new (B.state bay.old) (B.state bay.new) }
 {
     let _asked = asked.disks;
     if !m.may_get(next) {

@@ -1,7 +1,9 @@
 // The units that disks have, need and are to have.
-ghost use Rattle.std.specs.Prelude.{◌≡◌, IfErr};
+ghost use Rattle.std.specs.Prelude.{◌≡◌, ◌≤◌, IfErr, OnOk, true};
+ghost use Rattle.asm_formats.specs.Sets.{has_bit};
 ghost use Rattle.disk_modes.specs.Causes.{ResizeRefused};
 ghost use Rattle.disk_modes.specs.Sizes.{image_units, units_asked, units_in};
+ghost use Rattle.disk_modes.specs.Stops.{FitImages};
 
 use asm_base::{DiskRef, DiskSet, Home, Homes, Refusal, Shape};
 use catalog::Catalog;
@@ -66,7 +68,8 @@ fn least_units(shape: &Shape, used: u64) -> u64 {
 
 /// Refused as TooSmall by the least of the disks whose image has fewer units than it is to have, or that needs more.
 pub(crate) fn check_sizes(m: &Mounted, asked: &Asked) -> Result<(), Refusal>
-    ensures { IfErr result (ResizeRefused m.now asked.now.disks) }
+    ensures cause { IfErr result (ResizeRefused m.now asked.now.disks) }
+    ensures fit { OnOk result (FitImages asked.now m.now) }
 {
     let ends = used_ends(m.catalog());
     for disk in 0..64u8 {
@@ -80,7 +83,8 @@ pub(crate) fn check_sizes(m: &Mounted, asked: &Asked) -> Result<(), Refusal>
 
 /// The same of one disk, with the units up to its last used one.
 fn check_size(m: &Mounted, asked: &Asked, disk: u8, used: u64) -> Result<(), Refusal>
-    ensures { IfErr result (ResizeRefused m.now asked.now.disks) }
+    ensures cause { IfErr result (ResizeRefused m.now asked.now.disks) }
+    ensures fits { OnOk result (has_bit asked.now.disks disk ≡ true → units_asked m.now.catalog.shape m.now.disks asked.now.size disk ≤ image_units m.now.catalog.shape m.now.disks disk) }
 {
     if !asked.disks.has(disk) {
         return Ok(());
@@ -97,7 +101,8 @@ fn check_size(m: &Mounted, asked: &Asked, disk: u8, used: u64) -> Result<(), Ref
 }
 
 fn too_small(m: &Mounted, asked: &Asked, disk: u8, need: u64) -> Result<(), Refusal>
-    ensures { IfErr result (ResizeRefused m.now asked.now.disks) }
+    ensures cause { IfErr result (ResizeRefused m.now asked.now.disks) }
+    ensures refused { OnOk result ⊥ }
 {
     let _group = m.status();
     let _asked = asked.disks;

@@ -1,5 +1,7 @@
 use Rattle.group_engine.proofs.Endings.{goes_on}
 use Rattle.disk_modes.proofs.Effects.{made_behind}
+use Rattle.disk_modes.proofs.Getting.{may_behind}
+use Rattle.disk_modes.proofs.Held.{held_behind}
 use Rattle.disk_modes.proofs.Steps.{given_mounted, given_up, takes_on}
 use Rattle.disk_modes.proofs.changing.change_disks.Goals as goal
 
@@ -17,3 +19,10 @@ returns-clause-goes g c =
 pub returns-clause-done : goal.returns-clause-done
 returns-clause-done g c =
     made_behind c.args.changes.now c.args.new.now c.args.m.now c.set_flight.new.self c.make_changes.new.m c.make_changes.result c.set_flight.ensures c.make_changes.ensures.done
+
+pub returns-clause-held : goal.returns-clause-held
+returns-clause-held g c = λ may.
+    let m = c.args.m.now in
+    let new = c.set_flight.new.self in
+    held_behind m c.make_changes.new.m (g.B.Bay.state c.args.bay.now) (g.B.Bay.state c.make_changes.new.bay) c.requires.mounted c.requires.takes new c.set_flight.ensures
+    (c.make_changes.ensures.held (may_behind c.args.changes.now c.args.new.now m new c.set_flight.ensures may))

@@ -2,6 +2,8 @@ use Rattle.std.proofs.Common.{IsTrue, sym, subst}
 use Rattle.asm_formats.specs.Status.{Status, is_status}
 use Rattle.disk_modes.specs.Records.{IsChanged, IsUnder}
 use Rattle.disk_modes.proofs.Effects.{modes_put}
+use Rattle.disk_modes.proofs.Getting.{modes_got, record_held}
+use Rattle.disk_modes.proofs.Held.{held_here}
 use Rattle.disk_modes.proofs.NextRecords.{changed_is_next}
 use Rattle.disk_modes.proofs.Steps.{goes_short, kept}
 use Rattle.disk_modes.proofs.changing.put_modes.Goals as goal
@@ -29,3 +31,17 @@ returns-in-Ok-clause-done g c =
 
 pub returns-in-Err-clause-goes : goal.returns-in-Err-clause-goes
 returns-in-Err-clause-goes g c = goes_short (kept c.args.m.now (g.B.Bay.state c.args.bay.now) c.requires.takes)
+
+pub returns-in-Ok-clause-held : goal.returns-in-Ok-clause-held
+returns-in-Ok-clause-held g c = λ may.
+    let m = c.args.m.now in
+    let s = g.B.Bay.state c.args.bay.now in
+    let e = c.set_status.ensures in
+    let changed = subst (λ (r : Status). IsChanged r c.in-Ok.next) c.status.ensures c.in-Ok.ensures.changed in
+    let under = subst (λ (r : Status). IsUnder c.args.new.now r c.in-Ok.next) c.status.ensures c.in-Ok.ensures.under in
+    record_held m c.set_status.new.self c.in-Ok.next s (g.B.Bay.state c.set_status.new.bay)
+    (λ n h kept mounts turns. modes_got s m c.args.new.now c.in-Ok.next c.in-Ok.ensures.status changed under may n h kept mounts turns)
+    c.set_status.result (e.moments c.requires.mounted) (e.done c.requires.mounted) e.refused e.turns
+
+pub returns-in-Err-clause-held : goal.returns-in-Err-clause-held
+returns-in-Err-clause-held g c = λ may. held_here c.args.m.now (g.B.Bay.state c.args.bay.now)

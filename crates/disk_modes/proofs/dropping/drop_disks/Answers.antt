@@ -5,6 +5,7 @@ use Rattle.asm_base.specs.declared.refusal.Refusal.{Refusal}
 use Rattle.group_engine.specs.Commits.{StatusCause}
 use Rattle.disk_modes.specs.Causes.{DropRefused}
 use Rattle.disk_modes.proofs.Drops.{drops_done}
+use Rattle.disk_modes.proofs.Held.{held_here}
 use Rattle.disk_modes.proofs.Steps.{kept, on_err, shut_cause}
 use Rattle.disk_modes.proofs.dropping.drop_disks.Goals as goal
 
@@ -26,7 +27,7 @@ pub returns-in-Err-clause-keeps : goal.returns-in-Err-clause-keeps
 returns-in-Err-clause-keeps g c = kept c.args.m.now (g.B.Bay.state c.args.bay.now) c.requires.takes
 
 pub returns-in-Err-clause-cause : goal.returns-in-Err-clause-cause
-returns-in-Err-clause-cause g c = inl c.in-Err.ensures
+returns-in-Err-clause-cause g c = inl c.in-Err.ensures.cause
 
 pub check_drop-requires : goal.check_drop-requires
 check_drop-requires g c = (c.requires.takes c.in_ok-takes_calls.ensures.ok).0
@@ -36,3 +37,30 @@ returns-in-Ok-clause-done g c =
     let named = c.named_by-named.result in
     drops_done c.args.disks.now named.dropping named.forced c.args.power c.args.m.now c.drop_named.new.m c.drop_named.result c.named_by-named.ensures
     (c.requires.takes c.in_ok-takes_calls.ensures.ok).0.status c.drop_named.ensures.done
+
+pub returns-in_err-takes_calls-clause-moments : goal.returns-in_err-takes_calls-clause-moments
+returns-in_err-takes_calls-clause-moments g c = λ turns. (held_here c.args.m.now (g.B.Bay.state c.args.bay.now)).moments
+
+pub returns-in-Err-clause-moments : goal.returns-in-Err-clause-moments
+returns-in-Err-clause-moments g c = λ turns. (held_here c.args.m.now (g.B.Bay.state c.args.bay.now)).moments
+
+pub returns-in-Ok-clause-moments : goal.returns-in-Ok-clause-moments
+returns-in-Ok-clause-moments g c = λ turns. (c.drop_named.ensures.held (c.in-Ok.ensures.may c.named_by-named.ensures) turns).moments
+
+pub returns-in_err-takes_calls-clause-stays : goal.returns-in_err-takes_calls-clause-stays
+returns-in_err-takes_calls-clause-stays g c = λ turns. (held_here c.args.m.now (g.B.Bay.state c.args.bay.now)).stays
+
+pub returns-in-Err-clause-stays : goal.returns-in-Err-clause-stays
+returns-in-Err-clause-stays g c = λ turns. (held_here c.args.m.now (g.B.Bay.state c.args.bay.now)).stays
+
+pub returns-in-Ok-clause-stays : goal.returns-in-Ok-clause-stays
+returns-in-Ok-clause-stays g c = λ turns. (c.drop_named.ensures.held (c.in-Ok.ensures.may c.named_by-named.ensures) turns).stays
+
+pub returns-in_err-takes_calls-clause-turns : goal.returns-in_err-takes_calls-clause-turns
+returns-in_err-takes_calls-clause-turns g c = λ turns. (held_here c.args.m.now (g.B.Bay.state c.args.bay.now)).turns
+
+pub returns-in-Err-clause-turns : goal.returns-in-Err-clause-turns
+returns-in-Err-clause-turns g c = λ turns. (held_here c.args.m.now (g.B.Bay.state c.args.bay.now)).turns
+
+pub returns-in-Ok-clause-turns : goal.returns-in-Ok-clause-turns
+returns-in-Ok-clause-turns g c = λ turns. (c.drop_named.ensures.held (c.in-Ok.ensures.may c.named_by-named.ensures) turns).turns

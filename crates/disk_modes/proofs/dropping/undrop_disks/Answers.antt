@@ -1,5 +1,7 @@
 use Rattle.std.proofs.lemmas.Result.{err_from_is_err_and}
 use Rattle.disk_modes.proofs.Drops.{undrops_done}
+use Rattle.disk_modes.proofs.Getting.{may_undrop}
+use Rattle.disk_modes.proofs.Held.{held_here}
 use Rattle.disk_modes.proofs.Steps.{kept, shut_cause}
 use Rattle.disk_modes.proofs.dropping.undrop_disks.Goals as goal
 
@@ -14,3 +16,21 @@ returns-in_err-takes_calls-clause-cause g c =
 pub returns-clause-done : goal.returns-clause-done
 returns-clause-done g c =
     undrops_done c.args.m.now c.change_disks.new.m c.status.result.now c.entries.result.now c.undropping-changes.result c.change_disks.result c.status.ensures c.entries.ensures.entries c.undropping-changes.ensures c.change_disks.ensures.done
+
+pub returns-in_err-takes_calls-clause-moments : goal.returns-in_err-takes_calls-clause-moments
+returns-in_err-takes_calls-clause-moments g c = (held_here c.args.m.now (g.B.Bay.state c.args.bay.now)).moments
+
+pub returns-clause-moments : goal.returns-clause-moments
+returns-clause-moments g c = (c.change_disks.ensures.held (may_undrop c.args.m.now c.entries.result.now c.undropping-changes.result c.undropping-changes.ensures)).moments
+
+pub returns-in_err-takes_calls-clause-stays : goal.returns-in_err-takes_calls-clause-stays
+returns-in_err-takes_calls-clause-stays g c = (held_here c.args.m.now (g.B.Bay.state c.args.bay.now)).stays
+
+pub returns-clause-stays : goal.returns-clause-stays
+returns-clause-stays g c = (c.change_disks.ensures.held (may_undrop c.args.m.now c.entries.result.now c.undropping-changes.result c.undropping-changes.ensures)).stays
+
+pub returns-in_err-takes_calls-clause-turns : goal.returns-in_err-takes_calls-clause-turns
+returns-in_err-takes_calls-clause-turns g c = (held_here c.args.m.now (g.B.Bay.state c.args.bay.now)).turns
+
+pub returns-clause-turns : goal.returns-clause-turns
+returns-clause-turns g c = (c.change_disks.ensures.held (may_undrop c.args.m.now c.entries.result.now c.undropping-changes.result c.undropping-changes.ensures)).turns

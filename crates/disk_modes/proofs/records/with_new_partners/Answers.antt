@@ -19,3 +19,6 @@ returns-clause-partners c =
     let es = c.args.status.now.entries in
     ap (λ (r : Status). r.entries) c.with_partners.ensures.value ∙ ap (entries_with_partners es) c.deref.ensures.value
     ∙ subst (λ (xs : List Entry). entries_with_partners xs c.in_ok-sets.sets.items ≡ with_partners xs) c.entries.ensures.entries c.in_ok-sets.ensures.entries
+
+pub returns-clause-births : goal.returns-clause-births
+returns-clause-births c = ap (λ (r : Status). r.births) c.with_partners.ensures.value

@@ -3,6 +3,7 @@ use Rattle.std.specs.List.{list_any}
 use Rattle.asm_formats.specs.Status.{Entry, Status, is_status}
 use Rattle.group_engine.proofs.Endings.{goes_begin}
 use Rattle.disk_modes.specs.Sizes.{is_other}
+use Rattle.disk_modes.proofs.Held.{held_here}
 use Rattle.disk_modes.proofs.Reasons.{of_record}
 use Rattle.disk_modes.proofs.Resized.{no_units_put, of_status}
 use Rattle.disk_modes.proofs.resizing.put_units.Goals as goal
@@ -24,3 +25,6 @@ with_asked-next-requires g c = subst (λ (r : Status). IsTrue (is_status r)) (sy
 
 pub put_next-requires-clause-asked : goal.put_next-requires-clause-asked
 put_next-requires-clause-asked g c = of_status c.args.asked.now c.args.m.now c.status-2.result.now c.with_asked-next.result c.status-2.ensures c.with_asked-next.ensures
+
+pub returns-then-not-has_others-clause-held : goal.returns-then-not-has_others-clause-held
+returns-then-not-has_others-clause-held g c = λ fit rules. held_here c.args.m.now (g.B.Bay.state c.args.bay.now)

@@ -3,6 +3,8 @@ use Rattle.asm_base.specs.declared.refusal.Refusal.TheVariants as cause
 use Rattle.group_engine.specs.Mounts.{MountedGroup}
 use Rattle.group_engine.specs.Pending.{GoesOn}
 use Rattle.group_engine.proofs.Endings.{keeps_closed}
+use Rattle.disk_modes.specs.Stops.{StaysHeld}
+use Rattle.disk_modes.proofs.Held.{held_closed}
 use Rattle.disk_modes.proofs.resizing.units_or_shut.Goals as goal
 
 pub returns-clause-goes : goal.returns-clause-goes
@@ -11,3 +13,6 @@ returns-clause-goes g c =
     let t = g.B.Bay.state c.put_units.new.bay in
     subst (λ (v : MountedGroup). GoesOn c.args.m.now (Err cause.NoMemory) v s t) (sym c.close.ensures)
     (record { keeps = keeps_closed c.put_units.ensures.goes.keeps; mounted = tt; cause = tt })
+
+pub returns-clause-held : goal.returns-clause-held
+returns-clause-held g c = λ fit rules. subst (λ (v : MountedGroup). StaysHeld c.args.m.now v (g.B.Bay.state c.args.bay.now) (g.B.Bay.state c.put_units.new.bay)) (sym c.close.ensures) (held_closed (c.put_units.ensures.held fit rules))
