@@ -1,0 +1,17 @@
+pub mod Lists
+pub mod Chunks
+pub mod Names
+pub mod Sizes
+pub mod Counts
+pub mod Apart
+pub mod Places
+pub mod Standing
+pub mod Records
+pub mod Tree
+pub mod Numbered
+pub mod Gaps
+pub mod Catalogs
+pub mod NoFault
+pub mod Damage
+pub mod Bodies
+pub mod Copies

@@ -1,0 +1,13 @@
+pub mod Lookups
+pub mod Agreeing
+pub mod Standing
+pub mod Leading
+pub mod Elsewhere
+pub mod Spare
+pub mod Later
+pub mod Flying
+pub mod Filling
+pub mod Following
+pub mod Writing
+pub mod Staying
+pub mod Added

@@ -1,0 +1,5 @@
+use Rattle.flight_laws.proofs.Flying.{put_agrees}
+use Rattle.flight_laws.proofs.put_agrees.Goals as goal
+
+pub returns : goal.returns
+returns g c = put_agrees (g.B.Bay.state c.args.start.now) (g.B.Bay.state c.args.end.now) (g.met.B.Bay.sound c.args.end.now)

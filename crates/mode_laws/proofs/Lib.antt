@@ -1,0 +1,4 @@
+pub mod Mapped
+pub mod Statements
+pub mod Others
+pub mod Coming

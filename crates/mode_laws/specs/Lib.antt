@@ -1,0 +1,4 @@
+pub mod Events
+pub mod Statements
+pub mod Others
+pub mod Coming
