@@ -1,21 +1,23 @@
 -- The group stays mounted while directory copies are brought up, and while what a stop left undone is ended.
-use Rattle.std.proofs.Common.{◌≡◌, ℕ, ◌+◌, ◌*◌, ◌≤◌, [], ◌∷◌, refl, subst, ◌∙◌, arith}
+use Rattle.std.proofs.Common.{◌≡◌, ℕ, ◌+◌, ◌*◌, ◌≤◌, [], ◌∷◌, refl, ◌∙◌, arith}
 use Rattle.bay.specs.Moments.{LeavesOnly}
 use Rattle.bay.specs.State.{BayState}
 use Rattle.bay.proofs.Calls.{leaves_begin, leaves_less, leaves_on}
 use Rattle.asm_group.specs.Group.{Group}
-use Rattle.asm_images.specs.Kept.{Kept, IsHeld}
+use Rattle.asm_images.specs.Kept.{Kept}
 use Rattle.group_engine.specs.Commits.{StandsIn, turns_at_most}
 use Rattle.group_engine.specs.Copying.{MayRecord, MountsLater, StandThrough}
 use Rattle.group_engine.specs.Mounts.{MountedGroup, Mounts}
 use Rattle.group_engine.specs.Pending.{HasTurns, StandsThrough, StaysMounted}
+use Rattle.group_engine.proofs.Endings.{kept_before}
+use Rattle.group_engine.proofs.Standings.{stands_at_rest}
 use Rattle.group_disks.specs.Bringing.{MountsBehind, StandWhile, TurnsLast}
 use Rattle.group_disks.specs.Leaving.{IsMountedOn}
 
 -- ---- nothing was done
 
 stands_now : (m : MountedGroup) (s : BayState) (n : ℕ) (g : Group) (kept : Kept) → Mounts n m s g kept → LeavesOnly s s (StandsIn n m.register.id (g ∷ []) kept)
-stands_now m s n g kept mounts = leaves_begin (record { now = λ image left. record { by = kept; slots = refl; is = mounts.now.now image left } })
+stands_now m s n g kept mounts = leaves_begin (record { now = λ image left. stands_at_rest n m.register.id (g ∷ []) kept image mounts.begun (mounts.now.now image left) })
 
 pub stands_still : (m : MountedGroup) (s : BayState) → StandThrough m s s
 stands_still m s n g kept may = stands_now m s n g kept may.mounts
@@ -50,7 +52,7 @@ module _ (calls : ℕ) (old mid : MountedGroup) (s m t : BayState) (turns : turn
   stands_more same before through last n g kept is =
       let may = may_record last n g kept is in
       leaves_on (before (omega (arith, last)) n g kept is)
-      (leaves_less (λ x here. record { by = here.by; slots = here.slots ∙ may.1; is = subst (λ (id : ℕ). IsHeld n id (g ∷ []) here.by x) same here.is }) (through n g may.0 may.2))
+      (leaves_less (λ x here. kept_before n old.register.id mid.register.id (g ∷ []) kept may.0 x same may.1 here) (through n g may.0 may.2))
 
   pub mounts_more : (new : MountedGroup) → MountsLater mid new m t → MountsBehind (calls + 1) old new s t
   mounts_more new after last n g kept is =
@@ -70,7 +72,7 @@ module _ (calls : ℕ) (old mid : MountedGroup) (s m t : BayState) (turns : turn
   stands_to_end same before through last n g kept is =
       let may = may_end last n g kept is in
       leaves_on (before (omega (arith, last)) n g kept is)
-      (leaves_less (λ x here. record { by = here.by; slots = here.slots ∙ may.1; is = subst (λ (id : ℕ). IsHeld n id (g ∷ []) here.by x) same here.is }) (through n g may.0 may.2 may.3))
+      (leaves_less (λ x here. kept_before n old.register.id mid.register.id (g ∷ []) kept may.0 x same may.1 here) (through n g may.0 may.2 may.3))
 
   pub mounts_to_end : (new : MountedGroup) → StaysMounted mid new m t → MountsBehind (calls + 1) old new s t
   mounts_to_end new after last n g kept is =

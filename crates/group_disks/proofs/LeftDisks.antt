@@ -28,6 +28,7 @@ use Rattle.directory_store.proofs.Storing.{kept_have_records}
 use Rattle.group_engine.specs.CommitSteps.{content_of}
 use Rattle.group_engine.specs.Mounts.{AreOwn, MountedGroup, Mounts, Represents}
 use Rattle.group_engine.proofs.Items.{content_is}
+use Rattle.group_engine.specs.Frames.{SparesOtherIds}
 use Rattle.group_mount.specs.Mounting.{Allows}
 use Rattle.group_mount.specs.Quorum.{IsQuorum}
 use Rattle.group_mount.specs.Recovered.{ChangesMembers, IsMeant, KeepsDisk, LeavesOneGroup, StoodFor, kept_by}
@@ -37,7 +38,7 @@ use Rattle.group_mount.specs.declared.recovering.Parts.{Parts}
 use Rattle.group_mount.proofs.NextRecords.{element_small}
 use Rattle.status_register.specs.declared.member.Member.{Member}
 use Rattle.status_register.proofs.Meeting.{any_among, found}
-use Rattle.group_disks.specs.Leaving.{ClaimsGroup, IsMountedOn, SparesOtherIds}
+use Rattle.group_disks.specs.Leaving.{ClaimsGroup, IsMountedOn}
 use Rattle.group_disks.specs.Mounting.{mounted_of}
 use Rattle.group_disks.proofs.MountedParts.{parts_ready, parts_whole}
 

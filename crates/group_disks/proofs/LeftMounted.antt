@@ -23,7 +23,7 @@ use Rattle.group_mount.specs.declared.quorum.MountOption.{MountOption}
 use Rattle.group_mount.specs.declared.quorum.Quorate.{Quorate}
 use Rattle.group_mount.specs.declared.recovering.Parts.{Parts}
 use Rattle.group_disks.specs.Clearing.{IsRefusalOf}
-use Rattle.group_disks.specs.Leaving.{ClaimsGroup, IsMountedOn, LeavesClaimed, LeavesRefused, MountsOne, claimed, looked}
+use Rattle.group_disks.specs.Leaving.{ClaimsGroup, IsMountedOn, LeavesClaimed, LeavesMounted, LeavesRefused, MountsOne, before_record, behind_record, claimed, looked}
 use Rattle.group_disks.specs.Mounting.{free_disks, mounted_of}
 use Rattle.group_disks.proofs.LeftDisks.{claims, parts_on, stood_on}
 use Rattle.group_disks.proofs.Takeovers.{in_left, is_inside, quorate_left}
@@ -47,8 +47,8 @@ module _ (name : Bytes) (n : ℕ) (held : List ℕ) (option : MountOption) {B : 
   looks_refused (error.Damaged slot block) run = run
   looks_refused error.DirectoriesLost run = run
   looks_refused (error.MissingDisk number disk) run = run
-  looks_refused (error.Dead slot disk) run = tt
-  looks_refused error.NoMemory run = tt
+  looks_refused (error.Dead slot disk) run = before_record (looked run)
+  looks_refused error.NoMemory run = before_record (looked run)
 
   -- a claim is refused by the majority
   pub claim_refused : (q : Quorate) (u : BayState) (e : MountError) → RecoverCause q e u t → LeavesClaimed state name n held option s t → LeavesRefused state name n held option s t e
@@ -58,19 +58,19 @@ module _ (name : Bytes) (n : ℕ) (held : List ℕ) (option : MountOption) {B : 
   claim_refused q u (error.Damaged slot block) cause left = absurd cause
   claim_refused q u error.DirectoriesLost cause left = absurd cause
   claim_refused q u (error.MissingDisk number disk) cause left = absurd cause
-  claim_refused q u (error.Dead slot disk) cause left = tt
-  claim_refused q u error.NoMemory cause left = tt
+  claim_refused q u (error.Dead slot disk) cause left = before_record left
+  claim_refused q u error.NoMemory cause left = before_record left
 
-  -- nothing is said of a group that was lost
-  pub lost_refused : (m : MountedGroup) (given : Refusal) (e : MountError) → IsRefusalOf m given e → LeavesRefused state name n held option s t e
-  lost_refused m given error.NoGroup is = absurd is
-  lost_refused m given error.TwoGroups is = absurd is
-  lost_refused m given (error.NoMajority seen need) is = absurd is
-  lost_refused m given (error.Damaged slot block) is = absurd is
-  lost_refused m given error.DirectoriesLost is = absurd is
-  lost_refused m given (error.MissingDisk number disk) is = absurd is
-  lost_refused m given (error.Dead slot disk) is = tt
-  lost_refused m given error.NoMemory is = tt
+  -- a group that was mounted is lost
+  pub lost_refused : (m : MountedGroup) (given : Refusal) (e : MountError) → IsRefusalOf m given e → LeavesMounted state name n held option s t → LeavesRefused state name n held option s t e
+  lost_refused m given error.NoGroup is left = absurd is
+  lost_refused m given error.TwoGroups is left = absurd is
+  lost_refused m given (error.NoMajority seen need) is left = absurd is
+  lost_refused m given (error.Damaged slot block) is left = absurd is
+  lost_refused m given error.DirectoriesLost is left = absurd is
+  lost_refused m given (error.MissingDisk number disk) is left = absurd is
+  lost_refused m given (error.Dead slot disk) is left = behind_record left
+  lost_refused m given error.NoMemory is left = behind_record left
 
 -- ---- what was found
 
@@ -96,7 +96,7 @@ module _ (name : Bytes) (n : ℕ) (held : List ℕ) (option : MountOption) (foun
 
     pub not_renewed_leaves : LeavesClaimed state name n held option s t
     not_renewed_leaves = claimed
-        (record { found = found; between = between; is = was; quorum = q; later = later; quorate = quorate_left name n held option found f is slots q (state later) quorate }) claim
+        (record { found = found; between = between; is = was; searched = first; quorum = q; later = later; quorate = quorate_left name n held option found f is slots q (state later) quorate }) claim
 
   module _ (q : Quorate) (was : IsFound name n found s (state between)) (quorate : IsQuorate option f q (state later)) (now : ℕ) (parts : Parts) (are : ArePartsOf q now parts t)
       (members : Runs (IsSlotIn q.headed.items) (ChangesMembers q.id) (state later) t)
@@ -113,7 +113,7 @@ module _ (name : Bytes) (n : ℕ) (held : List ℕ) (option : MountOption) (foun
 
     pub mounts_one : (m : MountedGroup) → m ≡ mounted_of parts → MountsOne state name n held option m s t
     mounts_one m same = subst (λ (k : MountedGroup). MountsOne state name n held option k s t) (sym same) (record {
-      was = record { found = found; between = between; is = was; quorum = q; later = later; quorate = quorate_left name n held option found f is slots q (state later) quorate };
+      was = record { found = found; between = between; is = was; searched = first; quorum = q; later = later; quorate = quorate_left name n held option found f is slots q (state later) quorate };
       id = are.register.own;
       looks = looks_two;
       claims = claim q was quorate members (Ok parts) leaves;

@@ -36,3 +36,6 @@ pub mod Births
 pub mod Takeovers
 pub mod LeftDisks
 pub mod LeftMounted
+pub mod OwnMembers
+pub mod LeftBehind
+pub mod Unmounted

@@ -89,20 +89,20 @@ module _ (name : Bytes) (n : ℕ) (held : List ℕ) (option : MountOption) (foun
     pub quorum_cause : (between : B) (t : BayState) (e : MountError) → IsFound name n found s (state between) → QuorumCause option f e (state between) t → IsMountCause state name n held option s t e
     quorum_cause between t e was cause = not_quorate (record { found = found; between = between; is = was; cause = cause_left e (state between) t cause })
 
-    pub was_quorate : (between later : B) (q : Quorate) → IsFound name n found s (state between) → IsQuorate option f q (state later) → WasQuorate state name n held option s
-    was_quorate between later q was quorate = record { found = found; between = between; is = was; quorum = q; later = later; quorate = quorate_left q (state later) quorate }
+    pub was_quorate : (between later : B) (q : Quorate) → IsFound name n found s (state between) → Runs (λ slot. slot < n) Same s (state between) → IsQuorate option f q (state later) → WasQuorate state name n held option s
+    was_quorate between later q was searched quorate = record { found = found; between = between; is = was; searched = searched; quorum = q; later = later; quorate = quorate_left q (state later) quorate }
 
     pub taken_over : (between later : B) (q : Quorate) (now : ℕ) (parts : Parts) (m : MountedGroup) (set : ℕ) (t : BayState) → IsFound name n found s (state between)
-        → IsQuorate option f q (state later) → ArePartsOf q now parts t → m ≡ mounted_of parts → AreNamed q.survey.value q.survey.read set
+        → Runs (λ slot. slot < n) Same s (state between) → IsQuorate option f q (state later) → ArePartsOf q now parts t → m ≡ mounted_of parts → AreNamed q.survey.value q.survey.read set
         → IsTakenOver state name n held option now m set s t
     unfolding was_quorate
-    taken_over between later q now parts m set t was quorate are same named =
-        record { was = was_quorate between later q was quorate; parts = parts; are = are; group = same; named = named }
+    taken_over between later q now parts m set t was searched quorate are same named =
+        record { was = was_quorate between later q was searched quorate; parts = parts; are = are; group = same; named = named }
 
-    pub renewed_cause : (between later : B) (q : Quorate) (t : BayState) (e : MountError) → IsFound name n found s (state between) → IsQuorate option f q (state later) → RecoverCause q e (state later) t
-        → IsMountCause state name n held option s t e
+    pub renewed_cause : (between later : B) (q : Quorate) (t : BayState) (e : MountError) → IsFound name n found s (state between) → Runs (λ slot. slot < n) Same s (state between) → IsQuorate option f q (state later)
+        → RecoverCause q e (state later) t → IsMountCause state name n held option s t e
     unfolding was_quorate
-    renewed_cause between later q t e was quorate cause = not_renewed (record { was = was_quorate between later q was quorate; cause = cause })
+    renewed_cause between later q t e was searched quorate cause = not_renewed (record { was = was_quorate between later q was searched quorate; cause = cause })
 
 -- those that were read have numbers of disks
 pub read_numbered : (option : MountOption) (f : FoundDisks) (q : Quorate) (t : BayState) → IsQuorate option f q t → AreNumbered q.survey.read

@@ -1,5 +1,5 @@
 -- What a mount leaves on the disks until its group's record is written anew, and once it is.
-use Rattle.std.specs.Prelude.{◌≡◌, ◌≢◌, ⊤, ℕ, ◌+◌, ◌*◌, ◌<◌, ◌≤◌, IsSome, List, [], ◌∷◌}
+use Rattle.std.specs.Prelude.{◌≡◌, ◌≢◌, ℕ, ◌+◌, ◌*◌, ◌<◌, ◌≤◌, IsSome, List, [], ◌∷◌}
 use Rattle.bay.specs.Image.{Image, Same}
 use Rattle.bay.specs.Moments.{LeavesOnly, NowOnly, Runs}
 use Rattle.bay.specs.State.{BayState}
@@ -8,7 +8,7 @@ use Rattle.asm_group.specs.Names.{Bytes}
 use Rattle.asm_formats.specs.Among.{IsAmong}
 use Rattle.asm_images.specs.Kept.{Kept}
 use Rattle.group_engine.specs.Commits.{StandsIn, turns_at_most}
-use Rattle.group_engine.specs.Frames.{SparesGroup}
+use Rattle.group_engine.specs.Frames.{SparesOtherIds}
 use Rattle.group_engine.specs.Mounts.{MountedGroup, Mounts}
 use Rattle.group_engine.specs.Own.{KeepsGroup}
 use Rattle.group_mount.specs.Mounting.{Allows}
@@ -20,10 +20,6 @@ use Rattle.group_mount.specs.declared.quorum.Quorate.{Quorate}
 use Rattle.group_disks.specs.Mounting.{WasQuorate}
 
 -- ---- at each moment
-
--- the disks of each other id stay
-abbrev pub SparesOtherIds : ℕ → Image → Image → Type 0
-SparesOtherIds own old new = (id : ℕ) → id ≢ own → SparesGroup id old new
 
 -- Calls on n slots claim the group that was read, and may write its record anew.
 pub record ClaimsGroup (n : ℕ) (q : Quorate) (s t : BayState) : Type 0 where
@@ -38,14 +34,6 @@ pub record ClaimsGroup (n : ℕ) (q : Quorate) (s t : BayState) : Type 0 where
 pub data LeavesClaimed {B : Type 0} (state : B → BayState) (name : Bytes) (n : ℕ) (held : List ℕ) (option : MountOption) (s t : BayState) : Type 0 where
   looked : Runs (λ slot. slot < n) Same s t → LeavesClaimed state name n held option s t
   claimed : (was : WasQuorate state name n held option s) → ClaimsGroup n was.quorum s t → LeavesClaimed state name n held option s t
-
--- Where a mount is refused for what was found or read, nothing was written, and where a majority is wanting, at most a claim. A group that is dead, or
--- for which memory is wanting, may have been lost behind its record: of that nothing is said.
-abbrev pub LeavesRefused : {B : Type 0} → (B → BayState) → Bytes → ℕ → List ℕ → MountOption → BayState → BayState → MountError → Type 0
-LeavesRefused {B} state name n held option s t (error.NoMajority seen need) = LeavesClaimed state name n held option s t
-LeavesRefused {B} state name n held option s t (error.Dead slot disk) = ⊤
-LeavesRefused {B} state name n held option s t error.NoMemory = ⊤
-LeavesRefused {B} state name n held option s t _ = Runs (λ slot. slot < n) Same s t
 
 -- ---- once the record is written
 
@@ -76,5 +64,38 @@ pub record WasMounted {B : Type 0} (state : B → BayState) (name : Bytes) (n : 
   pub since : KeepsGroup group m (state at) t
   -- since then each image of each moment is held for the group that was mounted, and for no other
   pub moments : (g : Group) (is : IsMountedOn 65 n g group (state at)) → LeavesOnly (state at) t (StandsIn n group.register.id (g ∷ []) is.kept)
+  -- over the whole mount each disk that changes is a member of the group's id before and after
+  pub members : (g : Group) → IsMountedOn 65 n g group (state at) → Runs (λ slot. slot < n) (ChangesMembers group.register.id) s t
   -- It is mounted on the disks as they are. Each of 64 copies that were brought up may have cost two turns.
   pub now : (g : Group) → IsMountedOn 65 n g group (state at) → IsMountedOn (65 + 2 * 64) n g m t
+
+-- Where the images stand for no group under the id, none is mounted.
+abbrev pub NothingIsMounted : {B : Type 0} → (B → BayState) → BayState → BayState → Type 0
+NothingIsMounted {B} state s t =
+    (name : Bytes) (n : ℕ) (held : List ℕ) (option : MountOption) (m : MountedGroup) (mounts : MountsOne state name n held option m s t)
+    → StoodFor mounts.was.quorum [] s → IsSome s.holds → ⊥
+
+-- ---- refusals
+
+-- A mount that was refused behind its record: at a moment of it, when the bay was `at`, a group was mounted on the disks as they were. Since then
+-- each image of each moment is held for it alone.
+pub record LeavesMounted {B : Type 0} (state : B → BayState) (name : Bytes) (n : ℕ) (held : List ℕ) (option : MountOption) (s t : BayState) : Type 0 where
+  pub group : MountedGroup
+  pub at : B
+  pub one : MountsOne state name n held option group s (state at)
+  pub moments : (g : Group) (is : IsMountedOn 65 n g group (state at)) → LeavesOnly (state at) t (StandsIn n group.register.id (g ∷ []) is.kept)
+  -- over the whole mount each disk that changes is a member of the group's id before and after
+  pub members : (g : Group) → IsMountedOn 65 n g group (state at) → Runs (λ slot. slot < n) (ChangesMembers group.register.id) s t
+
+-- What a mount leaves that was refused before or behind its record: at most a claim, or a group that was mounted and is lost.
+pub data LeavesLost {B : Type 0} (state : B → BayState) (name : Bytes) (n : ℕ) (held : List ℕ) (option : MountOption) (s t : BayState) : Type 0 where
+  before_record : LeavesClaimed state name n held option s t → LeavesLost state name n held option s t
+  behind_record : LeavesMounted state name n held option s t → LeavesLost state name n held option s t
+
+-- Where a mount is refused for what was found or read, nothing was written, and where a majority is wanting, at most a claim. A group that is dead, or
+-- for which memory is wanting, may also have been lost behind its record.
+abbrev pub LeavesRefused : {B : Type 0} → (B → BayState) → Bytes → ℕ → List ℕ → MountOption → BayState → BayState → MountError → Type 0
+LeavesRefused {B} state name n held option s t (error.NoMajority seen need) = LeavesClaimed state name n held option s t
+LeavesRefused {B} state name n held option s t (error.Dead slot disk) = LeavesLost state name n held option s t
+LeavesRefused {B} state name n held option s t error.NoMemory = LeavesLost state name n held option s t
+LeavesRefused {B} state name n held option s t _ = Runs (λ slot. slot < n) Same s t

@@ -1,5 +1,7 @@
 -- What a mount gives, and why it is refused.
 use Rattle.std.specs.Prelude.{◌≡◌, ◌<◌, ℕ, Bool, true, false, List, [], ◌∷◌, set, replicate, Option, Some, None}
+use Rattle.bay.specs.Image.{Same}
+use Rattle.bay.specs.Moments.{Runs}
 use Rattle.bay.specs.State.{BayState}
 use Rattle.asm_group.specs.Names.{Bytes, is_same_name}
 use Rattle.asm_formats.specs.Among.{IsAmong}
@@ -57,11 +59,12 @@ pub record IsMountedBy (name : Bytes) (held : List ℕ) (m : MountedGroup) (stat
 abbrev pub free_disks : List ℕ → FoundDisks → FoundDisks
 free_disks held found = record found { headed = not_held held found.headed }
 
--- The group was found, and is quorate in this state.
+-- The group was found by a search that wrote nothing, and is quorate in this state.
 pub record WasQuorate {B : Type 0} (state : B → BayState) (name : Bytes) (n : ℕ) (held : List ℕ) (option : MountOption) (s : BayState) : Type 0 where
   pub found : FoundDisks
   pub between : B
   pub is : IsFound name n found s (state between)
+  pub searched : Runs (λ slot. slot < n) Same s (state between)
   pub quorum : Quorate
   pub later : B
   pub quorate : IsQuorate option (free_disks held found) quorum (state later)

@@ -1,5 +1,9 @@
-//! That a creation is a step of the world at every moment. Each function does nothing; its contract is the law.
+//! That a creation is a step of the world at every moment, and that a mount finds no group where there is none. Each function does
+//! nothing; its contract is the law.
 ghost use Rattle.group_disks.specs.CreateLaws.{FormingCreates, FormedIsHeld};
+ghost use Rattle.group_disks.specs.Leaving.{NothingIsMounted};
+
+use bay::Bay;
 
 /// While a disk is given the parts of a new group, every other id stands by its history for what it stood for and gets no member,
 /// and the new id stands for the empty group or for none.
@@ -10,4 +14,9 @@ pub fn forming_creates()
 /// Once the disk has all parts, the new group is there, and all that is kept of a mounted group is known of it.
 pub fn formed_is_held()
     ensures { FormedIsHeld }
+{}
+
+/// Where the images that a stop may leave stand for no group under an id, none is mounted from them.
+pub fn nothing_is_mounted<B: Bay>(start: &B, end: &B)
+    ensures { NothingIsMounted B.state (B.state start.now) (B.state end.now) }
 {}

@@ -123,10 +123,11 @@ fn finish<B: Bay>(
 }
 
 /// Mounts the group of a name. Images in the slots `held` are attached to other groups, and are no members. The refusals are
-/// tried in this order: NoGroup, TwoGroups, NoMajority, Damaged in a claim or status body, DirectoriesLost, Damaged in the
-/// directories, MissingDisk where the mount isn't forced, NoMajority at the claim, Dead where too few disks took the record
-/// anew or no directory copy a commit. NoMemory comes at any point. A directory copy that lags behind is brought up, where its
-/// disk was read and takes it.
+/// tried in this order: NoGroup, TwoGroups, NoMajority, Damaged in a claim or status body, NoMajority where the last epoch is
+/// used up, Damaged in the header of a member that isn't a disk of the group, DirectoriesLost, Damaged in the directories,
+/// MissingDisk where the mount isn't forced, NoMajority at the claim, Dead where too few disks took the record anew or no
+/// directory copy a commit. NoMemory comes at any point. A directory copy that lags behind is brought up, where its disk was
+/// read and takes it.
 pub fn mount_group<B: Bay>(
     alloc: Global,
     bay: &mut B,
@@ -147,9 +148,10 @@ pub fn mount_group<B: Bay>(
     ensures attached { StaysAttached (B.state bay.old) (B.state bay.new) }
     ensures spares { SparesHeld held.now (length paths.now) (B.state bay.old) (B.state bay.new) }
     // A refusal for what was found or read leaves all as it was, and at each moment of a claim the images stand for groups of before.
+    // Behind the record each image is held for the group that was mounted, and disks of its id's members alone change.
     ensures refused { IfErr result (LeavesRefused B.state name.now (length paths.now) held.now option (B.state bay.old) (B.state bay.new)) }
     // With its record anew one of these groups was mounted on the disks as they were. It went on from there: since then each image
-    // is held for it alone, and it is mounted on the disks as they are.
+    // is held for it alone, and it is mounted on the disks as they are. Over all of it disks of its id's members alone change.
     ensures mounts { IfOk result (λ m. WasMounted B.state name.now (length paths.now) held.now option m (B.state bay.old) (B.state bay.new)) }
 {
     let taken = take_over(alloc, bay, paths, name, option, now, held)?;

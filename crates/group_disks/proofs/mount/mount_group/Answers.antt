@@ -2,6 +2,7 @@ use Rattle.std.proofs.Common.{length}
 use Rattle.group_disks.specs.Mounting.{not_cleared}
 use Rattle.group_disks.proofs.BroughtMounts.{on_later, on_through}
 use Rattle.group_disks.proofs.Clears.{lost_by}
+use Rattle.group_disks.proofs.LeftBehind.{left_mounted, members_over}
 use Rattle.group_disks.proofs.LeftMounted.{lost_refused}
 use Rattle.group_disks.proofs.Staying.{stays_keeps, stays_trans}
 use Rattle.group_disks.proofs.Takeovers.{cleared_spares, recovered, still_mounted}
@@ -49,20 +50,32 @@ returns-in-Err-clause-spares g c =
 
 pub returns-in-Ok-clause-mounts : goal.returns-in-Ok-clause-mounts
 returns-in-Ok-clause-mounts g c =
-    let group = c.in_ok-taken.taken.group in
+    let name = c.args.name.now in
     let n = length c.args.paths.now in
-    let u = g.B.Bay.state c.take_over.new.bay in
+    let group = c.in_ok-taken.taken.group in
+    let new = c.finish.new.m in
+    let at = c.take_over.new.bay in
+    let u = g.B.Bay.state at in
     let t = g.B.Bay.state c.finish.new.bay in
     record {
       group = group;
-      at = c.take_over.new.bay;
+      at = at;
       one = c.in_ok-taken.ensures.mounts;
       since = c.finish.ensures.keeps;
-      moments = λ k is. on_through group c.finish.new.m n k u t is c.finish.ensures.moments;
-      now = λ k is. on_later group c.finish.new.m n k u t is (c.finish.ensures.mounts c.in-Ok.ensures.mounted) c.finish.ensures.turns;
+      moments = λ k is. on_through group new n k u t is c.finish.ensures.moments;
+      members = members_over g.B.Bay.state name n c.args.held.now c.args.option group new (g.B.Bay.state c.args.bay.now) at t (g.met.B.Bay.sound at) (g.met.B.Bay.sound c.finish.new.bay)
+          c.in_ok-taken.ensures.mounts c.in_ok-taken.ensures.inside c.finish.ensures.keeps c.finish.ensures.moments;
+      now = λ k is. on_later group new n k u t is (c.finish.ensures.mounts c.in-Ok.ensures.mounted) c.finish.ensures.turns;
     }
 
 pub returns-in-Err-clause-refused : goal.returns-in-Err-clause-refused
 returns-in-Err-clause-refused g c =
-    lost_refused c.args.name.now (length c.args.paths.now) c.args.held.now c.args.option g.B.Bay.state (g.B.Bay.state c.args.bay.now) (g.B.Bay.state c.finish.new.bay) c.finish.new.m c.in-Err.refusal
-    c.refusal_of_commit.result c.refusal_of_commit.ensures
+    let name = c.args.name.now in
+    let n = length c.args.paths.now in
+    let held = c.args.held.now in
+    let s = g.B.Bay.state c.args.bay.now in
+    let at = c.take_over.new.bay in
+    let t = g.B.Bay.state c.finish.new.bay in
+    lost_refused name n held c.args.option g.B.Bay.state s t c.finish.new.m c.in-Err.refusal c.refusal_of_commit.result c.refusal_of_commit.ensures
+    (left_mounted g.B.Bay.state name n held c.args.option c.in_ok-taken.taken.group c.finish.new.m s at t (g.met.B.Bay.sound at) (g.met.B.Bay.sound c.finish.new.bay) c.in_ok-taken.ensures.mounts
+    c.in_ok-taken.ensures.inside c.finish.ensures.keeps c.finish.ensures.moments)

@@ -60,7 +60,7 @@ returns-in_err-parts-clause-cause g c =
     let p = err_from_is_err_and c.from_residual-in_err-parts.result c.from_residual-in_err-parts.ensures.1 in
     rw (p.1, p.2) (renewed_cause c.args.name.now (length c.args.paths.now) c.args.held.now c.args.option found c.without-found.result c.without-found.ensures c.in_ok-searched.ensures.slots
     g.B.Bay.state (g.B.Bay.state c.args.bay.now) c.find.new.bay c.quorate.new.bay c.in_ok-quorate.quorate (g.B.Bay.state c.recover.new.bay) c.in_err-parts.field-0.0
-    c.in_ok-searched.ensures.answer c.in_ok-quorate.ensures.answer c.in_err-parts.ensures.cause)
+    c.in_ok-searched.ensures.answer c.find.ensures.runs c.in_ok-quorate.ensures.answer c.in_err-parts.ensures.cause)
 
 -- ---- what is attached stays so
 
@@ -144,13 +144,13 @@ returns-clause-taken g c =
     let q = c.in_ok-quorate.quorate in
     taken_over c.args.name.now (length c.args.paths.now) c.args.held.now c.args.option c.in_ok-searched.searched c.without-found.result c.without-found.ensures c.in_ok-searched.ensures.slots
     g.B.Bay.state (g.B.Bay.state c.args.bay.now) c.find.new.bay c.quorate.new.bay q c.args.now c.in_ok-parts.parts c.mounted_of.result c.named_disks-named.result (g.B.Bay.state c.recover.new.bay)
-    c.in_ok-searched.ensures.answer c.in_ok-quorate.ensures.answer c.in_ok-parts.ensures.parts c.mounted_of.ensures
+    c.in_ok-searched.ensures.answer c.find.ensures.runs c.in_ok-quorate.ensures.answer c.in_ok-parts.ensures.parts c.mounted_of.ensures
     (λ d lt. c.named_disks-named.ensures d lt ∙ (λ i. is_named_in (c.value.ensures i) (c.seen.ensures i) d))
 
 pub returns-clause-was : goal.returns-clause-was
 returns-clause-was g c =
     was_quorate c.args.name.now (length c.args.paths.now) c.args.held.now c.args.option c.in_ok-searched.searched c.without-found.result c.without-found.ensures c.in_ok-searched.ensures.slots
-    g.B.Bay.state (g.B.Bay.state c.args.bay.now) c.find.new.bay c.quorate.new.bay c.in_ok-quorate.quorate c.in_ok-searched.ensures.answer c.in_ok-quorate.ensures.answer
+    g.B.Bay.state (g.B.Bay.state c.args.bay.now) c.find.new.bay c.quorate.new.bay c.in_ok-quorate.quorate c.in_ok-searched.ensures.answer c.find.ensures.runs c.in_ok-quorate.ensures.answer
 
 -- ---- what is left on the disks
 
