@@ -1,16 +1,12 @@
 -- A group is created beside others.
-use Rattle.std.proofs.Common.{◌≡◌, ◌≢◌, ◌⊎◌, inl, inr, ⊎_elim, ℕ, ◌+◌, ◌<◌, ◌≤◌, Bool, true, List, [], ◌∷◌, refl, sym, ◌∙◌, ap, subst, arith}
-use Rattle.std.proofs.lemmas.Bool.{cases_Bool, cases_eq}
+use Rattle.std.proofs.Common.{◌≡◌, ◌≢◌, inl, inr, ⊎_elim, ℕ, ◌+◌, ◌<◌, ◌≤◌, Bool, true, List, [], ◌∷◌, Some, refl, sym, ◌∙◌, ◌↔◌, ap, subst, arith}
+use Rattle.std.proofs.lemmas.Bool.{cases_eq}
 use Rattle.std.proofs.lemmas.Option.{none-some}
 use Rattle.bay.specs.Image.{Image}
 use Rattle.bay.specs.State.{BayState, IsSound}
 use Rattle.bay.specs.Moments.{Runs}
 use Rattle.asm_group.specs.Group.{Group}
-use Rattle.asm_formats.specs.Metadata.{header_of}
-use Rattle.asm_images.specs.Bridge.{disk_bytes}
 use Rattle.asm_images.specs.Kept.{IsMemberIn}
-use Rattle.asm_images.proofs.Bridges.{same_disk}
-use Rattle.asm_images.proofs.Held.{same_member as same_disk_member}
 use Rattle.asm_world.specs.Between.{groups_between}
 use Rattle.asm_world.specs.Command.{Command}
 use Rattle.asm_world.specs.World.{SessionEntry, World, groups_of, has_mounted, is_mounted}
@@ -21,11 +17,11 @@ use Rattle.group_disks.proofs.Outsiders.{others_allow}
 use Rattle.group_engine.specs.Frames.{SparesGroup, StaysAttached}
 use Rattle.group_engine.specs.Mounts.{MountedGroup}
 use Rattle.group_engine.proofs.Elsewhere.{mounts_elsewhere, spared_is_held}
-use Rattle.session_claims.specs.Claims.{HasMembersOf, IsMountedAs, IsPaired, IsSettledId, IsStanding, IsUntouched, KeepsWorlds, StandsFor, single, torn, untouched}
+use Rattle.session_claims.specs.Claims.{HoldsMembers, IsMountedAs, IsPaired, IsStanding, KeepsWorlds, StandsFor}
 use Rattle.session_claims.specs.Laws.{CreationKeeps, MountsGoOn, IsFreshId, ReplacesGroups}
-use Rattle.session_claims.proofs.Edited.{member_was, others_stay, replaced}
-use Rattle.session_claims.proofs.Images.{all_stand, among-behind, among-front, more_allows, same_members}
-use Rattle.session_claims.proofs.Looks.{was_single}
+use Rattle.session_claims.proofs.Edited.{others_stay, replaced}
+use Rattle.session_claims.proofs.Images.{all_stand, among-behind, among-front, has_slot, held_has, more_allows, slot_has}
+use Rattle.session_claims.proofs.Members.{HoldsMembersOf, disk_keeps, same_keeps}
 use Rattle.session_claims.proofs.Pairs.{mounted_pair, pair_mounted}
 
 -- calls, with what is known of the images from which they lead
@@ -75,10 +71,14 @@ module _ (old new : BayState) (sound : IsSound old) (n : ℕ) (known : ℕ → B
     apart : e.id ≢ made
     apart same = is_new (subst (λ (i : ℕ). has_mounted w i ≡ true) same (pair_mounted w.session groups e m pair is))
 
+    has_own : (x : Image) → old.leaves old.calls x → HasMember e.id x
+    has_own x left = subst (λ (i : ℕ). HasMember i x) k.same (held_has n m.register.id (k.group ∷ []) k.kept x (k.mounts.now.now x left))
+
+    -- the disks hold a member of it, and none on the new group's disk
     no_member : (x : Image) → old.leaves old.calls x → IsFree old.holds creation.slot → IsMemberIn e.id x creation.slot → ⊥
     no_member x left free has =
         let now = sound.told x left in
-        let there = (k.mounts.now.now now.0 (sound.held now.0 now.1)).there creation.slot (k.alone.now x left creation.slot has) in
+        let there = stands.members now.0 x now.1 left e.id creation.slot (has_own now.0 (sound.held now.0 now.1)) has in
         none-some there.0 (sym (free now.0 now.1) ∙ there.1)
 
     spares : (x y : Image) → old.leaves old.calls x → Step x y → SparesGroup e.id x y
@@ -105,11 +105,6 @@ module _ (old new : BayState) (sound : IsSound old) (n : ℕ) (known : ℕ → B
       only = k.only;
       kept = k.kept;
       mounts = mounts_elsewhere n m old new k.group k.kept sound k.mounts attached (with_left sound creation.moments) own_spares;
-      alone = record {
-        now = λ image left slot has.
-            let x = before new.calls image creation.moments.later (omega arith) left in
-            k.alone.now x.0 x.1 slot (member_was e.id slot x.0 image (spares x.0 image x.1 x.2) has);
-      };
       turns = k.turns;
     }
 
@@ -118,56 +113,48 @@ module _ (old new : BayState) (sound : IsSound old) (n : ℕ) (known : ℕ → B
         let x = before mo image from to left in
         all_stand n e.id m (groups_of w e.id) old k image (spared_is_held n m.register.id (k.group ∷ []) k.kept x.0 image (own_spares x.0 image (x.1, x.2)) (k.mounts.now.now x.0 x.1))
 
-  -- ---- an id whose members are as they were when the run began
+  -- ---- members
 
-  module _ (id : ℕ) (other : id ≢ made) (u : IsUntouched id (groups_of w id) old) (x y : Image) (left : old.leaves old.calls x) (may : Step x y) where
-    -- the disk that the new group gets was no member
-    no_first : IsFree old.holds creation.slot → IsMemberIn id u.first creation.slot → ⊥
-    no_first free has =
-        let now = sound.told x left in
-        let same = u.members now.0 (sound.held now.0 now.1) creation.slot (inl has) in
-        none-some has.0 (sym (free now.0 now.1) ∙ ap header_of same ∙ has.1)
+  -- of another id no disk becomes one
+  others_held : (id : ℕ) → id ≢ made → (h x held image : Image) → old.holds ≡ Some h → old.leaves old.calls x → Step h held → Step x image → HoldsMembersOf id held image
+  others_held id other h x held image holds left to_held to_image slot has is = ⊎_elim
+      (λ (here : slot ≡ creation.slot). subst (λ (s : ℕ). IsMemberIn id held s) (sym here) (at_its_disk (to_image.creates.joins id other (subst (λ (s : ℕ). IsMemberIn id image s) here is))))
+      (λ differ. (at_others h held to_held slot differ).0 (was slot ((at_others x image to_image slot differ).1 is)))
+      (cases_eq slot creation.slot)
+    where
+      at_others : (a b : Image) → Step a b → (s : ℕ) → s ≢ creation.slot → IsMemberIn id a s ↔ IsMemberIn id b s
+      at_others a b step s differ = disk_keeps id s a b (record { size = step.creates.elsewhere.size s differ; byte = λ k. step.creates.elsewhere.byte s k differ })
 
-    not_here : IsFree old.holds creation.slot → (s : ℕ) → IsMemberIn id u.first s ⊎ IsMemberIn id y s → s ≢ creation.slot
-    not_here free s (inl has) at = no_first free (subst (λ (k : ℕ). IsMemberIn id u.first k) at has)
-    not_here free s (inr has) at =
-        let was = may.creates.joins id other (subst (λ (k : ℕ). IsMemberIn id y k) at has) in
-        no_first free (same_disk_member id creation.slot x u.first (sym (u.members x left creation.slot (inr was))) was)
+      was : (s : ℕ) → IsMemberIn id x s → IsMemberIn id h s
+      was s = stands.members h x holds left id s (to_held.creates.members id other has)
 
-    at_others : (s : ℕ) → s ≢ creation.slot → disk_bytes y s ≡ disk_bytes x s
-    at_others s differ = same_disk x y s (may.creates.elsewhere.size s differ) (λ k. may.creates.elsewhere.byte s k differ)
+      at_its_disk : IsMemberIn id x creation.slot → IsMemberIn id held creation.slot
+      at_its_disk member = ⊎_elim
+          (λ same. (same_keeps id h held same creation.slot).0 (was creation.slot member))
+          (λ free. absurd (let there = was creation.slot member in none-some there.0 (sym (free h holds) ∙ there.1)))
+          to_held.free
 
-    at_member : (s : ℕ) → s ≢ creation.slot → IsMemberIn id u.first s ⊎ IsMemberIn id y s → disk_bytes x s ≡ disk_bytes u.first s
-    at_member s differ (inl has) = u.members x left s (inl has)
-    at_member s differ (inr has) = u.members x left s (inr (same_disk_member id s y x (sym (at_others s differ)) has))
+  -- of the new one its disk alone
+  new_slot : (x image : Image) (slot : ℕ) → old.leaves old.calls x → Step x image → IsMemberIn made image slot → slot ≡ creation.slot
+  new_slot x image slot left step is = ⊎_elim
+      (λ here. here)
+      (λ differ.
+      let stays = disk_keeps made slot x image (record { size = step.creates.elsewhere.size slot differ; byte = λ k. step.creates.elsewhere.byte slot k differ }) in
+      absurd (none_before x left (slot_has made x slot (stays.1 is))))
+      (cases_eq slot creation.slot)
 
-    stays_members : HasMembersOf id u.first y
-    stays_members s has = ⊎_elim
-        (λ same. same_members id u.first x y same (u.members x left) s has)
-        (λ free. let differ = not_here free s has in at_others s differ ∙ at_member s differ has)
-        may.free
-
-  stays_settled : (id : ℕ) → id ≢ made → IsSettledId id (groups_of w id) old → IsSettledId id (groups_of w id) new
-  stays_settled id other (single group is) = single group is
-  stays_settled id other (torn a b is) = torn a b is
-  stays_settled id other (untouched u) = untouched (record {
-    completed = u.completed;
-    begun = u.begun;
-    first = u.first;
-    stands = u.stands;
-    sound = λ image left slots.
-        let x = before new.calls image creation.moments.later (omega arith) left in
-        x.2.creates.others id slots (groups_of w id) u.completed u.begun other (u.sound x.0 x.1 slots);
-    members = λ image left.
-        let x = before new.calls image creation.moments.later (omega arith) left in
-        stays_members id other u x.0 image x.1 x.2;
-  })
-
-  settled_now : (id : ℕ) → id ≢ made → IsSettledId id (groups_of w id) new
-  settled_now id other = ⊎_elim
-      (λ (was : has_mounted w id ≡ true). let one = was_single n known given old w groups stands id was in single one.0 one.1)
-      (λ no. stays_settled id other (stands.settled id no))
-      (cases_Bool (has_mounted w id))
+  members_now : (held image : Image) → new.holds ≡ Some held → new.leaves new.calls image → HoldsMembers held image
+  members_now held image holds left id =
+      let h = creation.moments.held held holds in
+      let x = before new.calls image creation.moments.later (omega arith) left in
+      ⊎_elim
+      (λ (here : id ≡ made). subst (λ (i : ℕ). HoldsMembersOf i held image) (sym here)
+      (λ slot has is.
+      let at = has_slot made held has in
+      let same : at.0 ≡ slot = new_slot h.0 held at.0 (sound.held h.0 h.1) h.2 at.1 ∙ sym (new_slot x.0 image slot x.1 x.2 is) in
+      subst (λ (s : ℕ). IsMemberIn made held s) same at.1))
+      (λ other. others_held id other h.0 x.0 held image h.1 x.1 h.2 x.2)
+      (cases_eq id made)
 
   -- the new group
   new_mounted : (m : MountedGroup) → m.register.id ≡ made → MountsNew n g m old new → IsMountedAs n made m (g ∷ []) new
@@ -179,7 +166,6 @@ module _ (old new : BayState) (sound : IsSound old) (n : ℕ) (known : ℕ → B
         only = refl;
         kept = is.kept;
         mounts = is.mounts;
-        alone = record { now = λ image left slot has. is.only.now image left slot (subst (λ (i : ℕ). IsMemberIn i image slot) (sym same) has) };
         turns = omega (arith, mounts.turns);
       }
 
@@ -202,10 +188,7 @@ module _ (old new : BayState) (sound : IsSound old) (n : ℕ) (known : ℕ → B
           (subst (λ (i : ℕ). IsMountedAs n i m (g ∷ []) new) (sym mine.0) (new_mounted m mine.1.0 mine.1.1)))
           (λ other. subst (λ (l : List Group). IsMountedAs n e.id m l new) (sym (others_have e.id other.0)) (mounted_now e m other.1 is))
           (goes.pairs e m pair is);
-      settled = λ id out. ⊎_elim
-          (λ (here : id ≡ made). single g (ap (λ (i : ℕ). groups_of w' i) here ∙ made_has))
-          (λ other. subst (λ (l : List Group). IsSettledId id l new) (sym (others_have id other)) (settled_now id other))
-          (cases_eq id made);
+      members = members_now;
       origin = λ image id left has.
           let x = before new.calls image creation.moments.later (omega arith) left in
           ⊎_elim (λ (here : id ≡ made). inl (omega (arith, here, more)))

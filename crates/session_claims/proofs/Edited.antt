@@ -1,40 +1,36 @@
 -- An edit of one mounted group.
 use Rattle.std.proofs.Common.{◌≡◌, ◌≢◌, inl, inr, ⊎_elim, ℕ, ◌≤◌, Bool, true, List, [], ◌∷◌, Result, Ok, Err, refl, sym, ◌∙◌, ap, subst, arith, if◌then◌else◌}
-use Rattle.std.proofs.lemmas.Bool.{cases_Bool, cases_eq, eq-eqb, ne_eqb}
+use Rattle.std.proofs.lemmas.Bool.{cases_eq, eq-eqb, ne_eqb}
 use Rattle.bay.specs.Image.{Image, Same}
 use Rattle.bay.specs.State.{BayState, IsSound}
-use Rattle.bay.specs.Moments.{NowOnly, Runs}
+use Rattle.bay.specs.Moments.{Runs}
 use Rattle.asm_base.specs.declared.refusal.DiskRef.TheVariants as disk
 use Rattle.asm_base.specs.declared.refusal.Refusal.{Refusal}
 use Rattle.asm_base.specs.declared.refusal.Refusal.TheVariants as cause
 use Rattle.asm_group.specs.Group.{Group}
 use Rattle.asm_group.specs.Refusal as r
-use Rattle.asm_images.specs.Bridge.{disk_bytes}
-use Rattle.asm_images.specs.Kept.{IsHeld, IsMemberIn}
-use Rattle.asm_images.proofs.Bridges.{same_disk}
-use Rattle.asm_images.proofs.Held.{same_member as same_disk_member}
+use Rattle.asm_images.specs.Kept.{IsHeld}
 use Rattle.asm_formats.specs.Among.{IsAmong}
 use Rattle.asm_world.specs.Between.{groups_between}
 use Rattle.asm_world.specs.Command.{Command}
-use Rattle.asm_world.specs.World.{SessionEntry, World, groups_of, has_mounted, is_mounted}
-use Rattle.edit_laws.specs.Edits.{EditCall, IsHeldOver, SparesOthers, edited_by}
-use Rattle.edit_laws.proofs.Alone.{stands_with_all, stays_alone}
-use Rattle.edit_laws.proofs.Beside.{others_are_spared, others_stay_mounted}
+use Rattle.asm_world.specs.World.{SessionEntry, World, groups_of, is_mounted}
+use Rattle.edit_laws.specs.Edits.{EditCall, IsHeldOver, edited_by}
 use Rattle.edit_laws.proofs.Leading.{edit_is_held}
-use Rattle.edit_laws.proofs.Spared.{spared_is_sound}
-use Rattle.group_disks.specs.Creating.{HasMember}
+use Rattle.edit_laws.proofs.WithAll.{stands_with_all}
 use Rattle.group_mount.specs.Mounting.{Allows}
+use Rattle.group_mount.specs.Recovered.{ChangesMembers}
 use Rattle.group_engine.specs.Commits.{IsIdle, IsIdleBut, StatusCause}
-use Rattle.group_engine.specs.Frames.{SameDisk, SparesGroup, StaysAttached}
-use Rattle.group_engine.specs.Mounts.{HasOnly, IsMounted, MountedGroup, IsOwn}
+use Rattle.group_engine.specs.Frames.{StaysAttached}
+use Rattle.group_engine.specs.Mounts.{IsMounted, IsOwn, MountedGroup}
 use Rattle.group_engine.proofs.Causes.{not_mounted}
-use Rattle.group_engine.proofs.Elsewhere.{spared_is_held, stays_attached}
+use Rattle.group_engine.proofs.Elsewhere.{stays_attached}
 use Rattle.group_files.specs.declared.edit.GroupEdit.{GroupEdit}
-use Rattle.session_claims.specs.Claims.{HasMembersOf, IsMountedAs, IsPaired, IsSettledId, IsStanding, KeepsWorlds, StandsFor, single, torn, untouched}
+use Rattle.session_claims.specs.Claims.{IsMountedAs, IsPaired, IsStanding, KeepsWorlds, StandsFor}
 use Rattle.session_claims.specs.Laws.{CommitsEdit, EditKeeps, EditsTo, MountsGoOn, RefusalKeeps, ReplacesGroups, TearingKeeps}
-use Rattle.session_claims.proofs.Images.{all_stand, among-behind, among-front, has_slot, held_allows, more_allows, slot_has}
-use Rattle.session_claims.proofs.Looks.{allows_now, alone_now, mounted_now, origin_now, settled_now, was_single}
-use Rattle.session_claims.proofs.Pairs.{mounted_pair}
+use Rattle.session_claims.proofs.Images.{among-behind, among-front, held_allows, more_allows}
+use Rattle.session_claims.proofs.Looks.{allows_now, members_now as members_stay, mounted_now, origin_now as origin_stays}
+use Rattle.session_claims.proofs.Members.{kept_change}
+use Rattle.session_claims.proofs.Others.{members_now, origin_now, other_allows, other_mounted, other_stands}
 
 abbrev done_as : Group → Result Group r.Refusal
 done_as g = Ok g
@@ -42,26 +38,7 @@ done_as g = Ok g
 ok_is : (x y : Group) → done_as x ≡ done_as y → x ≡ y
 ok_is x y same = cc
 
--- ---- disks of other ids
-
-disk_stays : (slot : ℕ) (x y : Image) → SameDisk slot x y → disk_bytes y slot ≡ disk_bytes x slot
-disk_stays slot x y same = same_disk x y slot same.size same.byte
-
--- a member of an id whose disks stay was one
-pub member_was : (id slot : ℕ) (x y : Image) → SparesGroup id x y → IsMemberIn id y slot → IsMemberIn id x slot
-member_was id slot x y spares has = ⊎_elim
-    (λ same. same_disk_member id slot y x (sym (disk_stays slot x y same)) has)
-    (λ none. absurd (none.1 has.0 has.1 has.2))
-    (spares slot)
-
-members_stay : (id : ℕ) (first x y : Image) → SparesGroup id x y → HasMembersOf id first x → HasMembersOf id first y
-members_stay id first x y spares of slot has = ⊎_elim
-    (λ same. disk_stays slot x y same ∙ of slot (⊎_elim (λ before. inl before) (λ now. inr (same_disk_member id slot y x (sym (disk_stays slot x y same)) now)) has))
-    (λ none. ⊎_elim
-    (λ (before : IsMemberIn id first slot). let was = same_disk_member id slot first x (of slot (inl before)) before in absurd (none.0 was.0 was.1 was.2))
-    (λ now. absurd (none.1 now.0 now.1 now.2))
-    has)
-    (spares slot)
+-- ---- lists of groups
 
 pub replaced : (w : World) (id : ℕ) (groups : List Group) (w' : World) → ReplacesGroups w id groups w' → groups_of w' id ≡ groups
 replaced w id groups w' is = is id ∙ ap (λ (b : Bool). if b then groups else groups_of w id) (eq-eqb id id refl)
@@ -96,15 +73,11 @@ module _ (s t : BayState) (sound : IsSound s) (later : IsSound t) (n : ℕ) (kno
   over : IsHeldOver c h s t
   over = subst (λ (x : Group). IsHeldOver c x s t) after_is led.2
 
-  alone : NowOnly s (HasOnly own k.kept)
-  alone = subst (λ (i : ℕ). NowOnly s (HasOnly i k.kept)) (sym k.same) k.alone
+  changes : Runs (IsOwn old) (ChangesMembers own) s t
+  changes = kept_change s t sound later n old new (k.group ∷ h ∷ []) k.group k.kept k.mounts work.keeps over.moments
 
-  spared : Runs (IsOwn old) (SparesOthers own) s t
-  spared = others_are_spared s t sound later c h k.mounts work.keeps over
-
-  -- what an image of a moment comes from
-  before : (m : ℕ) (image : Image) → s.calls ≤ m → m ≤ t.calls → t.leaves m image → (x : Image) × s.leaves s.calls x × SparesOthers own x image
-  before m image from until left = spared.moments m image from until left
+  attached : StaysAttached s t
+  attached = stays_attached work.keeps.attached
 
   -- ---- at each moment
 
@@ -113,86 +86,20 @@ module _ (s t : BayState) (sound : IsSound s) (later : IsSound t) (n : ℕ) (kno
       let at = over.moments.each m image from until left in
       subst (λ (x : Group). Allows own (x ∷ h ∷ []) image) group_is (held_allows n own (k.group ∷ h ∷ []) at.by image at.is)
 
-  other_allows : (i m : ℕ) (image : Image) → i ≢ own → s.calls ≤ m → m ≤ t.calls → t.leaves m image → Allows i (groups_of w i) image
-  other_allows i m image differ from until left = λ slots.
-      let x = before m image from until left in
-      let a = stands.allows x.0 i x.1 slots in
-      record { completed = a.completed; begun = a.begun; holds = spared_is_sound slots i (groups_of w i) a.completed a.begun x.0 image (x.2 i differ) a.holds }
-
   own_stands : (m : ℕ) (image : Image) → s.calls ≤ m → m ≤ t.calls → t.leaves m image → IsStanding n own image
-  own_stands m image from until left = (stands_with_all s t c h k.mounts work.keeps alone over).each m image from until left
+  own_stands m image from until left = (stands_with_all s t c h over).each m image from until left
 
-  other_stands : (i m : ℕ) (image : Image) → i ≢ own → has_mounted w i ≡ true → s.calls ≤ m → m ≤ t.calls → t.leaves m image → IsStanding n i image
-  other_stands i m image differ was from until left =
-      let x = before m image from until left in
-      let p = mounted_pair w.session groups i stands.entries was in
-      let o = stands.mounted p.0 p.1 p.2 p.3 in
-      let apart : p.1.register.id ≢ own = λ same. differ (sym p.4 ∙ sym o.same ∙ same) in
-      subst (λ (j : ℕ). IsStanding n j image) p.4
-      (all_stand n p.0.id p.1 (groups_of w p.0.id) s o image (spared_is_held n p.1.register.id (o.group ∷ []) o.kept x.0 image (x.2 p.1.register.id apart) (o.mounts.now.now x.0 x.1)))
+  -- what stands under other ids does so still
+  others_allow : (i m : ℕ) (image : Image) → i ≢ own → s.calls ≤ m → m ≤ t.calls → t.leaves m image → Allows i (groups_of w i) image
+  others_allow = other_allows s t sound n known given w groups stands own (IsOwn old) changes attached
 
-  -- ---- in the moment that lasts
-
-  other_mounted : (f : SessionEntry) (m : MountedGroup) → f.id ≢ own → IsPaired w.session groups f m → is_mounted f ≡ true → IsMountedAs n f.id m (groups_of w f.id) t
-  other_mounted f m differ at on =
-      let o = stands.mounted f m at on in
-      record {
-        same = o.same;
-        group = o.group;
-        only = o.only;
-        kept = o.kept;
-        mounts = others_stay_mounted s t sound later c h m o.group o.kept k.mounts work.keeps over o.mounts (λ same. differ (sym o.same ∙ same));
-        alone = record {
-          now = λ image left slot has.
-              let x = before t.calls image spared.later (omega arith) left in
-              o.alone.now x.0 x.1 slot (member_was f.id slot x.0 image (x.2 f.id differ) has);
-        };
-        turns = o.turns;
-      }
-
-  other_settled : (i : ℕ) → i ≢ own → IsSettledId i (groups_of w i) t
-  other_settled i differ = ⊎_elim
-      (λ (was : has_mounted w i ≡ true). let one = was_single n known given s w groups stands i was in single one.0 one.1)
-      (λ no. go (stands.settled i no))
-      (cases_Bool (has_mounted w i))
-    where
-      go : IsSettledId i (groups_of w i) s → IsSettledId i (groups_of w i) t
-      go (single group one) = single group one
-      go (torn a b two) = torn a b two
-      go (untouched u) = untouched (record {
-        completed = u.completed;
-        begun = u.begun;
-        first = u.first;
-        stands = u.stands;
-        sound = λ image left slots.
-            let x = before t.calls image spared.later (omega arith) left in
-            spared_is_sound slots i (groups_of w i) u.completed u.begun x.0 image (x.2 i differ) (u.sound x.0 x.1 slots);
-        members = λ image left.
-            let x = before t.calls image spared.later (omega arith) left in
-            members_stay i u.first x.0 image (x.2 i differ) (u.members x.0 x.1);
-      })
-
-  alone_after : NowOnly t (HasOnly own k.kept)
-  alone_after = record { now = λ image left. let stays = stays_alone s t c k.mounts work.keeps alone in stays.each t.calls image stays.later (omega arith) left }
-
-  -- a member was one before, under the group's own id too
-  was_member : (image : Image) (i : ℕ) → t.leaves t.calls image → HasMember i image → (x : Image) × s.leaves s.calls x × HasMember i x
-  was_member image i left has = ⊎_elim
-      (λ (here : i ≡ own).
-      let x = before t.calls image spared.later (omega arith) left in
-      let at = has_slot i image has in
-      let attached : k.kept.slots at.0 ≡ true = alone_after.now image left at.0 (subst (λ (j : ℕ). IsMemberIn j image at.0) here at.1) in
-      (x.0, x.1, subst (λ (j : ℕ). HasMember j x.0) (sym here) (slot_has own x.0 at.0 ((k.mounts.now.now x.0 x.1).there at.0 attached))))
-      (λ differ.
-      let x = before t.calls image spared.later (omega arith) left in
-      let at = has_slot i image has in
-      (x.0, x.1, slot_has i x.0 at.0 (member_was i at.0 x.0 image (x.2 i differ) at.1)))
-      (cases_eq i own)
+  others_mounted : (f : SessionEntry) (m : MountedGroup) → f.id ≢ own → IsPaired w.session groups f m → is_mounted f ≡ true → IsMountedAs n f.id m (groups_of w f.id) t
+  others_mounted = other_mounted s t sound n known given w groups stands own (IsOwn old) changes attached
 
   -- ---- all of it
 
   module _ (command : Command) (list : List Group) (has_after : IsAmong list h) (replaces : ReplacesGroups w e.id list w') (IsNew : MountedGroup → Type 0) (goes : MountsGoOn e.id IsNew w w' groups groups')
-      (own_now : (image : Image) → t.leaves t.calls image → Allows own list image) (own_mounted : (m : MountedGroup) → IsNew m → IsMountedAs n e.id m list t) (own_settled : IsSettledId own list t) where
+      (own_now : (image : Image) → t.leaves t.calls image → Allows own list image) (own_mounted : (m : MountedGroup) → IsNew m → IsMountedAs n e.id m list t) where
     own_list : groups_of w' own ≡ list
     own_list = ap (λ (i : ℕ). groups_of w' i) k.same ∙ replaced w e.id list w' replaces
 
@@ -210,19 +117,21 @@ module _ (s t : BayState) (sound : IsSound s) (later : IsSound t) (n : ℕ) (kno
           (λ (e : x ≡ h). among-behind (groups_of w id) _ x (among-front (groups_of w' id) _ x (subst (λ (l : List Group). IsAmong l x) (sym (ap (λ (i : ℕ). groups_of w' i) here ∙ own_list)) (subst (λ (y : Group). IsAmong list y) (sym e) has_after))))
           (λ none. absurd none) rest) among)
           (subst (λ (i : ℕ). Allows i (g ∷ h ∷ []) image) (sym here) (own_allows m image from (omega arith) left)))
-          (λ differ. more_allows id (groups_of w id) (groups_between w command w' id) image (λ x among. among-front (groups_of w id) _ x among) (other_allows id m image differ from (omega arith) left))
+          (λ differ.
+          more_allows id (groups_of w id) (groups_between w command w' id) image (λ x among. among-front (groups_of w id) _ x among)
+          (others_allow id m image differ from (omega arith) left))
           (cases_eq id own);
       there = λ m image id from until left was still. ⊎_elim
           (λ (here : id ≡ own). subst (λ (i : ℕ). IsStanding n i image) (sym here) (own_stands m image from (omega arith) left))
-          (λ differ. other_stands id m image differ was from (omega arith) left)
+          (λ differ. other_stands s t sound n known given w groups stands own (IsOwn old) changes attached id m image differ was from (omega arith) left)
           (cases_eq id own);
       now = record {
-        tells = spared.tells stands.tells;
+        tells = changes.tells stands.tells;
         entries = goes.entries;
         ids = goes.ids;
         allows = λ image id left. ⊎_elim
             (λ (here : id ≡ own). subst (λ (l : List Group). Allows id l image) (sym (ap (λ (i : ℕ). groups_of w' i) here ∙ own_list)) (subst (λ (i : ℕ). Allows i list image) (sym here) (own_now image left)))
-            (λ differ. subst (λ (l : List Group). Allows id l image) (sym (other_list id differ)) (other_allows id t.calls image differ spared.later (omega arith) left))
+            (λ differ. subst (λ (l : List Group). Allows id l image) (sym (other_list id differ)) (others_allow id t.calls image differ changes.later (omega arith) left))
             (cases_eq id own);
         mounted = λ f m at yes. ⊎_elim
             (λ mine.
@@ -230,20 +139,17 @@ module _ (s t : BayState) (sound : IsSound s) (later : IsSound t) (n : ℕ) (kno
             subst (λ (l : List Group). IsMountedAs n f.id m l t) (sym list_is) (subst (λ (i : ℕ). IsMountedAs n i m list t) (sym mine.0) (own_mounted m mine.1)))
             (λ other.
             let differ : f.id ≢ own = λ same. other.0 (same ∙ k.same) in
-            subst (λ (l : List Group). IsMountedAs n f.id m l t) (sym (other_list f.id differ)) (other_mounted f m differ other.1 yes))
+            subst (λ (l : List Group). IsMountedAs n f.id m l t) (sym (other_list f.id differ)) (others_mounted f m differ other.1 yes))
             (goes.pairs f m at yes);
-        settled = λ id out. ⊎_elim
-            (λ (here : id ≡ own). subst (λ (l : List Group). IsSettledId id l t) (sym (ap (λ (i : ℕ). groups_of w' i) here ∙ own_list)) (subst (λ (i : ℕ). IsSettledId i list t) (sym here) own_settled))
-            (λ differ. subst (λ (l : List Group). IsSettledId id l t) (sym (other_list id differ)) (other_settled id differ))
-            (cases_eq id own);
-        origin = λ image id left has. let x = was_member image id left has in stands.origin x.0 id x.1 x.2;
+        members = members_now s t sound n known given w groups stands own (IsOwn old) changes attached;
+        origin = origin_now s t sound n known given w groups stands own (IsOwn old) changes attached;
       };
     }
 
   -- its commit dismounted the group
   torn_keeps : (command : Command) → ReplacesGroups w e.id (g ∷ h ∷ []) w' → MountsGoOn e.id (λ m. ⊥) w w' groups groups' → KeepsWorlds n known command given s t w w' groups'
   torn_keeps command replaces goes =
-      edit_keeps command (g ∷ h ∷ []) (inr (inl refl)) replaces (λ m. ⊥) goes (λ image left. own_allows t.calls image spared.later (omega arith) left) (λ m none. absurd none) (torn g h refl)
+      edit_keeps command (g ∷ h ∷ []) (inr (inl refl)) replaces (λ m. ⊥) goes (λ image left. own_allows t.calls image changes.later (omega arith) left) (λ m none. absurd none)
 
 -- it was done
 module _ (s t : BayState) (sound : IsSound s) (later : IsSound t) where
@@ -261,14 +167,8 @@ module _ (s t : BayState) (sound : IsSound s) (later : IsSound t) where
         only = refl;
         kept = o.done.0;
         mounts = o.done.2;
-        alone = record {
-          now = λ image left slot has.
-              ap (λ (slots : ℕ → Bool). slots slot) o.done.1
-              ∙ (alone_after s t sound later n known given w w' groups groups' e edit old new (Ok tt) g h stands pair is work to).now image left slot (subst (λ (i : ℕ). IsMemberIn i image slot) (sym k.same) has);
-        };
         turns = omega (arith, k.turns, (work.committed.commits.held work.mounted).turns);
       }))
-      (single h refl)
 
   pub tearing_keeps : TearingKeeps s t
   tearing_keeps n known given w w' groups groups' e edit old new answer g h command stands pair is work to replaces goes =
@@ -306,12 +206,11 @@ module _ (s t : BayState) (sound : IsSound s) where
                 only = k.only;
                 kept = k.kept;
                 mounts = led.2.refused mounted;
-                alone = alone_now s t sound n known given (λ (slot : ℕ). ⊥) w groups runs attached stands e.id k.kept k.alone;
                 turns = omega (arith, k.turns, held.turns);
               })))
               (λ other. mounted_now s t sound n known given (λ (slot : ℕ). ⊥) w groups runs attached stands f m other.1 yes)
               (goes.pairs f m at yes));
-          settled = λ id out. subst (λ (l : List Group). IsSettledId id l t) (sym (same id)) (settled_now s t sound n known given (λ (slot : ℕ). ⊥) w groups runs attached stands id);
-          origin = λ image id left has. origin_now s t sound n known given (λ (slot : ℕ). ⊥) w groups runs attached stands given (omega arith) image id left has;
+          members = members_stay s t sound n known given (λ (slot : ℕ). ⊥) w groups runs attached stands;
+          origin = λ image id left has. origin_stays s t sound n known given (λ (slot : ℕ). ⊥) w groups runs attached stands given (omega arith) image id left has;
         };
       }

@@ -1,23 +1,25 @@
 -- Images that stay, as far as what they stand for goes.
-use Rattle.std.proofs.Common.{◌≡◌, inl, inr, ℕ, suc, true, List, [], ◌∷◌, ◌++◌, Option, refl, sym, ◌∙◌, subst, arith}
+use Rattle.std.proofs.Common.{inl, inr, ℕ, suc, true, List, [], ◌∷◌, ◌++◌, Option, refl, sym, subst, arith}
 use Rattle.bay.specs.Image.{Image, Same}
 use Rattle.bay.specs.State.{BayState}
 use Rattle.asm_group.specs.Group.{Group}
 use Rattle.asm_formats.specs.Status.{Status}
 use Rattle.asm_formats.specs.Among.{IsAmong}
-use Rattle.asm_images.specs.Bridge.{disk_bytes, disks_in}
+use Rattle.asm_images.specs.Bridge.{disks_in}
 use Rattle.asm_images.specs.Kept.{IsHeld, IsMemberIn, Kept}
-use Rattle.asm_images.specs.Members.{all_members}
+use Rattle.asm_images.specs.Members.{all_members, within}
 use Rattle.asm_images.specs.Sound.{SoundBy, Sound}
-use Rattle.asm_images.proofs.Bridges.{same_is_same, same_disk}
-use Rattle.asm_images.proofs.Held.{held_stands, same_member as same_disk_member}
+use Rattle.asm_images.proofs.Bridges.{same_is_same}
+use Rattle.asm_images.proofs.Held.{held_stands}
+use Rattle.asm_images.proofs.Membership.{among_within}
+use Rattle.asm_images.proofs.OneContent.{found_is_held}
 use Rattle.group_disks.specs.Creating.{HasMember}
 use Rattle.group_mount.specs.Mounting.{Allows}
 use Rattle.group_disks.proofs.Outsiders.{widened}
 use Rattle.group_engine.specs.Mounts.{MountedGroup}
 use Rattle.group_engine.proofs.Slots.{member_seen, member_there}
 use Rattle.status_register.specs.Surveys.{disk_in}
-use Rattle.session_claims.specs.Claims.{HasMembersOf, IsMountedAs, IsSoundBy, IsStanding}
+use Rattle.session_claims.specs.Claims.{IsMountedAs, IsSoundBy, IsStanding}
 
 pub same_allows : (id : ℕ) (groups : List Group) (x y : Image) → Same x y → Allows id groups x → Allows id groups y
 same_allows id groups x y same allows = λ slots. let P : List (List ℕ) → Type 0 = λ disks. Sound id disks groups in subst P (sym (same_is_same slots x y same)) (allows slots)
@@ -31,14 +33,6 @@ same_member id x y same has = record {
 
 pub same_sound : (id : ℕ) (groups : List Group) (completed : Option Status) (begun : List Status) (x y : Image) → Same x y → IsSoundBy id groups completed begun x → IsSoundBy id groups completed begun y
 same_sound id groups completed begun x y same sound slots = let P : List (List ℕ) → Type 0 = λ disks. SoundBy id disks groups completed begun in subst P (sym (same_is_same slots x y same)) (sound slots)
-
--- the disk of one slot
-pub same_at : (x y : Image) (slot : ℕ) → Same x y → disk_bytes y slot ≡ disk_bytes x slot
-same_at x y slot same = same_disk x y slot (same.size slot) (λ k. same.byte slot k)
-
-pub same_members : (id : ℕ) (first x y : Image) → Same x y → HasMembersOf id first x → HasMembersOf id first y
-same_members id first x y same has slot (inl before) = same_at x y slot same ∙ has slot (inl before)
-same_members id first x y same has slot (inr now) = same_at x y slot same ∙ has slot (inr (same_disk_member id slot y x (sym (same_at x y slot same)) now))
 
 pub more_allows : (id : ℕ) (groups more : List Group) (x : Image) → ((g : Group) → IsAmong groups g → IsAmong more g) → Allows id groups x → Allows id more x
 more_allows id groups more x wider allows = λ slots. widened id (disks_in slots x) groups more (allows slots) wider
@@ -69,6 +63,13 @@ slot_has id x slot has = record {
 -- of one that is held the disks hold the group
 pub held_allows : (n id : ℕ) (groups : List Group) (kept : Kept) (x : Image) → IsHeld n id groups kept x → Allows id groups x
 held_allows n id groups kept x held = λ slots. record { completed = _; begun = kept.begun; holds = held.sound slots }
+
+-- it has a member
+pub held_has : (n id : ℕ) (groups : List Group) (kept : Kept) (x : Image) → IsHeld n id groups kept x → HasMember id x
+held_has n id groups kept x held =
+    let ms = all_members id (disks_in n x) in
+    let copy = found_is_held held.standing.record_ (within kept.slots ms) held.standing.content held.standing.directories_is in
+    record { slots = n; member = copy.0; is = among_within kept.slots ms copy.0 copy.1 }
 
 -- it is there with all disks
 pub all_stand : (n id : ℕ) (m : MountedGroup) (groups : List Group) (bay : BayState) (k : IsMountedAs n id m groups bay) (x : Image) → IsHeld n m.register.id (k.group ∷ []) k.kept x → IsStanding n id x

@@ -1,5 +1,10 @@
 pub mod Pairs
 pub mod Images
+pub mod Members
+pub mod Others
 pub mod Looks
 pub mod Edited
 pub mod Created
+pub mod FoundIds
+pub mod FoundMembers
+pub mod Mounted

@@ -1,32 +1,23 @@
 -- A command that wrote nothing.
-use Rattle.std.proofs.Common.{◌≡◌, ◌⊎◌, inl, inr, ⊎_elim, ℕ, ◌<◌, ◌≤◌, Bool, true, List, [], ◌∷◌, sym, ◌∙◌, ap, subst, arith}
-use Rattle.std.proofs.lemmas.Bool.{cases_Bool}
+use Rattle.std.proofs.Common.{◌≡◌, ◌⊎◌, inl, inr, ⊎_elim, ℕ, ◌<◌, ◌≤◌, Bool, true, List, [], ◌∷◌, Some, sym, subst, arith}
 use Rattle.bay.specs.Image.{Image, Same}
 use Rattle.bay.specs.State.{BayState, IsSound}
-use Rattle.bay.specs.Moments.{NowOnly, Runs}
+use Rattle.bay.specs.Moments.{Runs}
 use Rattle.asm_group.specs.Group.{Group}
-use Rattle.asm_images.specs.Kept.{Kept}
-use Rattle.asm_images.proofs.Held.{same_is_held, same_member as same_disk_member}
+use Rattle.asm_images.proofs.Held.{same_is_held}
 use Rattle.asm_world.specs.Between.{groups_between}
 use Rattle.asm_world.specs.Command.{Command}
-use Rattle.asm_world.specs.World.{SessionEntry, World, groups_of, has_mounted, is_mounted}
+use Rattle.asm_world.specs.World.{SessionEntry, World, groups_of, is_mounted}
 use Rattle.group_disks.specs.Creating.{HasMember}
 use Rattle.group_mount.specs.Mounting.{Allows}
 use Rattle.group_engine.specs.Frames.{StaysAttached}
-use Rattle.group_engine.specs.Mounts.{HasOnly, MountedGroup}
+use Rattle.group_engine.specs.Mounts.{MountedGroup}
 use Rattle.group_engine.proofs.Elsewhere.{mounts_elsewhere}
-use Rattle.session_claims.specs.Claims.{IsMountedAs, IsPaired, IsSettledId, IsStanding, KeepsWorlds, StandsFor, single, torn, untouched}
+use Rattle.session_claims.specs.Claims.{HoldsMembers, IsMountedAs, IsPaired, IsStanding, KeepsWorlds, StandsFor}
 use Rattle.session_claims.specs.Laws.{AreSome, LooksKeep}
-use Rattle.session_claims.proofs.Images.{all_stand, among-front, more_allows, same_allows, same_at, same_member, same_members, same_sound}
+use Rattle.session_claims.proofs.Images.{all_stand, among-front, more_allows, same_allows, same_member}
+use Rattle.session_claims.proofs.Members.{same_keeps, still_held}
 use Rattle.session_claims.proofs.Pairs.{mounted_pair}
-
--- of an id that was mounted the list has one group
-pub was_single : (n : ℕ) (known : ℕ → Bool) (given : ℕ) (bay : BayState) (w : World) (groups : List MountedGroup) → StandsFor n known given bay w groups → (id : ℕ) → has_mounted w id ≡ true
-    → (g : Group) × (groups_of w id ≡ g ∷ [])
-was_single n known given bay w groups stands id is =
-    let p = mounted_pair w.session groups id stands.entries is in
-    let k = stands.mounted p.0 p.1 p.2 p.3 in
-    (k.group, ap (λ (i : ℕ). groups_of w i) (sym p.4) ∙ k.only)
 
 module _ (old new : BayState) (sound : IsSound old) (n : ℕ) (known : ℕ → Bool) (given : ℕ) (slots : ℕ → Type 0) (w : World) (groups : List MountedGroup) (runs : Runs slots Same old new) (attached : StaysAttached old new)
     (stands : StandsFor n known given old w groups) where
@@ -37,27 +28,11 @@ module _ (old new : BayState) (sound : IsSound old) (n : ℕ) (known : ℕ → B
   now : (image : Image) → new.leaves new.calls image → (x : Image) × old.leaves old.calls x × Same x image
   now image left = before new.calls image runs.later (omega arith) left
 
-  settled_same : (id : ℕ) → IsSettledId id (groups_of w id) old → IsSettledId id (groups_of w id) new
-  settled_same id (single group is) = single group is
-  settled_same id (torn a b is) = torn a b is
-  settled_same id (untouched u) = untouched (record {
-    completed = u.completed;
-    begun = u.begun;
-    first = u.first;
-    stands = u.stands;
-    sound = λ image left. let x = now image left in same_sound id (groups_of w id) u.completed u.begun x.0 image x.2 (u.sound x.0 x.1);
-    members = λ image left. let x = now image left in same_members id u.first x.0 image x.2 (u.members x.0 x.1);
-  })
-
-  pub settled_now : (id : ℕ) → IsSettledId id (groups_of w id) new
-  settled_now id = ⊎_elim
-      (λ (was : has_mounted w id ≡ true). let g = was_single n known given old w groups stands id was in single g.0 g.1)
-      (λ no. settled_same id (stands.settled id no))
-      (cases_Bool (has_mounted w id))
-
-  -- the members of an id are those before
-  pub alone_now : (id : ℕ) (kept : Kept) → NowOnly old (HasOnly id kept) → NowOnly new (HasOnly id kept)
-  alone_now id kept only = record { now = λ image left slot has. let x = now image left in only.now x.0 x.1 slot (same_disk_member id slot image x.0 (sym (same_at x.0 image slot x.2)) has) }
+  pub members_now : (held image : Image) → new.holds ≡ Some held → new.leaves new.calls image → HoldsMembers held image
+  members_now held image holds left id =
+      let h = runs.held held holds in
+      let x = now image left in
+      still_held id h.0 x.0 held image (same_keeps id h.0 held h.2) (same_keeps id x.0 image x.2) (stands.members h.0 x.0 h.1 x.1 id)
 
   pub mounted_now : (e : SessionEntry) (m : MountedGroup) → IsPaired w.session groups e m → is_mounted e ≡ true → IsMountedAs n e.id m (groups_of w e.id) new
   mounted_now e m pair is =
@@ -68,7 +43,6 @@ module _ (old new : BayState) (sound : IsSound old) (n : ℕ) (known : ℕ → B
         only = k.only;
         kept = k.kept;
         mounts = mounts_elsewhere n m old new k.group k.kept sound k.mounts attached runs (λ x y same slot. inl (record { size = same.size slot; byte = same.byte slot }));
-        alone = alone_now e.id k.kept k.alone;
         turns = k.turns;
       }
 
@@ -97,7 +71,7 @@ module _ (old new : BayState) (sound : IsSound old) (n : ℕ) (known : ℕ → B
       ids = some.ids;
       allows = λ image id left. subst (λ (l : List Group). Allows id l image) (sym (some.lists id)) (allows_now image id left);
       mounted = λ e m pair is. subst (λ (l : List Group). IsMountedAs n e.id m l new) (sym (some.lists e.id)) (mounted_now e m (some.pairs e m pair is) is);
-      settled = λ id out. subst (λ (l : List Group). IsSettledId id l new) (sym (some.lists id)) (settled_now id);
+      members = members_now;
       origin = origin_now given' more;
     };
   }

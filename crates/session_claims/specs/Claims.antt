@@ -1,11 +1,10 @@
 -- What a stop may leave between two commands, against the world and the groups that are mounted.
-use Rattle.std.specs.Prelude.{◌≡◌, ◌⊎◌, ℕ, ◌+◌, ◌<◌, ◌≤◌, ◌^◌, Bool, IsSome, true, false, List, [], ◌∷◌, length, Option}
+use Rattle.std.specs.Prelude.{◌≡◌, ◌⊎◌, ℕ, ◌+◌, ◌<◌, ◌≤◌, ◌^◌, Bool, IsSome, true, List, [], ◌∷◌, length, Option, Some}
 use Rattle.bay.specs.Image.{Image}
-use Rattle.bay.specs.Moments.{NowOnly}
 use Rattle.bay.specs.State.{BayState}
 use Rattle.asm_group.specs.Group.{Group}
 use Rattle.asm_formats.specs.Status.{Status}
-use Rattle.asm_images.specs.Bridge.{disk_bytes, disks_in}
+use Rattle.asm_images.specs.Bridge.{disks_in}
 use Rattle.asm_images.specs.Kept.{Kept, IsMemberIn}
 use Rattle.asm_images.specs.Sound.{SoundBy}
 use Rattle.asm_images.specs.Stands.{Standing}
@@ -15,7 +14,7 @@ use Rattle.asm_world.specs.World.{SessionEntry, World, groups_of, has_mounted, i
 use Rattle.group_disks.specs.Creating.{HasMember}
 use Rattle.group_mount.specs.Mounting.{Allows}
 use Rattle.group_engine.specs.Commits.{turns_at_most}
-use Rattle.group_engine.specs.Mounts.{HasOnly, MountedGroup, Mounts}
+use Rattle.group_engine.specs.Mounts.{MountedGroup, Mounts}
 use Rattle.world_steps.specs.Told.{AreIdsApart}
 
 -- ---- a group and its entry
@@ -32,15 +31,14 @@ IsPaired (e ∷ entries) (m ∷ groups) entry group = ((entry ≡ e) × (group �
 abbrev pub IsStanding : ℕ → ℕ → Image → Type 0
 IsStanding n id image = Standing id (disks_in n image) (λ any. true)
 
--- A mounted group: it is the only one of its id's list, it is mounted on the disks as they are, by one history of all images that a
--- stop now may leave, and its attached disks are the only members of its id. It rests: no record is begun behind the completed one.
+-- A mounted group: it is the only one of its id's list, and it is mounted on the disks as they are, by one history of all images that a
+-- stop now may leave. It rests: no record is begun behind the completed one. Disks that aren't attached to it may be members of its id.
 pub record IsMountedAs (n id : ℕ) (m : MountedGroup) (groups : List Group) (bay : BayState) : Type 0 where
   pub same : m.register.id ≡ id
   pub group : Group
   pub only : groups ≡ group ∷ []
   pub kept : Kept
   pub mounts : Mounts n m bay group kept
-  pub alone : NowOnly bay (HasOnly id kept)
   -- commits don't use up its turns
   pub turns : turns_at_most m + 1 < 2 ^ 64
 
@@ -48,31 +46,14 @@ pub record IsMountedAs (n id : ℕ) (m : MountedGroup) (groups : List Group) (ba
 abbrev pub IsSoundBy : ℕ → List Group → Option Status → List Status → Image → Type 0
 IsSoundBy id groups completed begun image = (slots : ℕ) → SoundBy id (disks_in slots image) groups completed begun
 
--- the members of the id are those of the first image, with the same bytes
-abbrev pub HasMembersOf : ℕ → Image → Image → Type 0
-HasMembersOf id first image = (slot : ℕ) → IsMemberIn id first slot ⊎ IsMemberIn id image slot → disk_bytes image slot ≡ disk_bytes first slot
-
--- An id whose members are as they were when the run began: one history is that of the image then, and of each that a stop now may leave.
-pub record IsUntouched (id : ℕ) (groups : List Group) (bay : BayState) : Type 0 where
-  pub completed : Option Status
-  pub begun : List Status
-  pub first : Image
-  pub stands : IsSoundBy id groups completed begun first
-  pub sound : (image : Image) → bay.leaves bay.calls image → IsSoundBy id groups completed begun image
-  pub members : (image : Image) → bay.leaves bay.calls image → HasMembersOf id first image
-
--- What a mount would find of an id that isn't mounted: the members that were there when the run began; or one group, which the run
--- made or dismounted; or the group before a commit or the one after, which dismounted it.
-pub data IsSettledId (id : ℕ) (groups : List Group) (bay : BayState) : Type 0 where
-  untouched : IsUntouched id groups bay → IsSettledId id groups bay
-  single : (group : Group) → groups ≡ group ∷ [] → IsSettledId id groups bay
-  torn : (before after : Group) → groups ≡ before ∷ after ∷ [] → IsSettledId id groups bay
-
 -- ---- all groups
 
+-- Of each id of which the disks hold a member, they hold all members that the image has.
+abbrev pub HoldsMembers : Image → Image → Type 0
+HoldsMembers held image = (id slot : ℕ) → HasMember id held → IsMemberIn id image slot → IsMemberIn id held slot
+
 -- Each image that a stop now may leave stands for the groups of the world, under every id, and its members are of ids that the run
--- gave, which are below a number, or that were known when it began. Each mounted group is mounted on the disks as they are; of each
--- other id it is known what a mount would find.
+-- gave, which are below a number, or that were known when it began. Each mounted group is mounted on the disks as they are.
 pub record StandsFor (n : ℕ) (known : ℕ → Bool) (given : ℕ) (bay : BayState) (w : World) (groups : List MountedGroup) : Type 0 where
   -- the bay tells what its disks hold
   pub tells : IsSome bay.holds
@@ -80,7 +61,8 @@ pub record StandsFor (n : ℕ) (known : ℕ → Bool) (given : ℕ) (bay : BaySt
   pub ids : AreIdsApart w.session
   pub allows : (image : Image) (id : ℕ) → bay.leaves bay.calls image → Allows id (groups_of w id) image
   pub mounted : (e : SessionEntry) (m : MountedGroup) → IsPaired w.session groups e m → is_mounted e ≡ true → IsMountedAs n e.id m (groups_of w e.id) bay
-  pub settled : (id : ℕ) → has_mounted w id ≡ false → IsSettledId id (groups_of w id) bay
+  -- so a disk on which no open header is read is a member of no mounted group
+  pub members : (held image : Image) → bay.holds ≡ Some held → bay.leaves bay.calls image → HoldsMembers held image
   pub origin : (image : Image) (id : ℕ) → bay.leaves bay.calls image → HasMember id image → (id < given) ⊎ (known id ≡ true)
 
 -- In each moment that ends in a command the disks hold groups between, and each group that stays mounted is there; in the one

@@ -1,7 +1,7 @@
 -- How commands keep what a stop may leave.
-use Rattle.std.specs.Prelude.{◌≡◌, ◌≢◌, ◌⊎◌, ℕ, ◌+◌, ◌≤◌, ◌==◌, Bool, true, List, [], ◌∷◌, length, Result, Ok, Err, if◌then◌else◌}
+use Rattle.std.specs.Prelude.{◌≡◌, ◌≢◌, ◌⊎◌, ℕ, ◌+◌, ◌^◌, ◌<◌, ◌≤◌, ◌==◌, Bool, true, false, List, [], ◌∷◌, length, Result, Ok, Err, if◌then◌else◌}
 use Rattle.bay.specs.Image.{Same}
-use Rattle.bay.specs.Moments.{Runs}
+use Rattle.bay.specs.Moments.{LeavesOnly, Runs}
 use Rattle.bay.specs.State.{BayState}
 use Rattle.asm_base.specs.declared.refusal.Refusal.{Refusal}
 use Rattle.asm_group.specs.Group.{Group}
@@ -10,12 +10,15 @@ use Rattle.asm_world.specs.World.{SessionEntry, World, groups_of, has_mounted, i
 use Rattle.edit_laws.specs.Edits.{edited_by}
 use Rattle.group_disks.specs.Creating.{HasCreated}
 use Rattle.group_disks.specs.FirstParts.{MountsNew}
+use Rattle.group_disks.specs.Leaving.{IsMountedOn}
 use Rattle.group_engine.specs.Frames.{StaysAttached}
 use Rattle.group_engine.specs.Mounts.{IsMounted, MountedGroup}
 use Rattle.group_engine.specs.Own.{KeepsGroup}
 use Rattle.group_files.specs.Edits.{IsCommitted}
 use Rattle.group_files.specs.GroupEdits.{IsEditPlan}
 use Rattle.group_files.specs.declared.edit.GroupEdit.{GroupEdit}
+use Rattle.group_mount.specs.Mounting.{Allows}
+use Rattle.group_mount.specs.Recovered.{ChangesMembers}
 use Rattle.session_claims.specs.Claims.{IsPaired, KeepsWorlds, StandsFor}
 use Rattle.world_steps.specs.Told.{AreIdsApart}
 
@@ -92,3 +95,34 @@ CreationKeeps old new =
     (n : ℕ) (known : ℕ → Bool) (given given' made : ℕ) (g : Group) (ok : Bool) (w w' : World) (groups groups' : List MountedGroup) (command : Command) → StandsFor n known given old w groups → IsFreshId known given made
     → made + 1 ≤ given' → HasCreated n made g ok old new → StaysAttached old new → ReplacesGroups w made (g ∷ []) w' → (has_mounted w made ≡ true → ⊥)
     → MountsGoOn made (λ m. (m.register.id ≡ made) × MountsNew n g m old new) w w' groups groups' → KeepsWorlds n known command given' old new w w' groups'
+
+-- ---- a mount
+
+-- Calls on n slots under an id: each image of each moment stands for these groups under it, and each disk that changes is a member of it
+-- before and after.
+pub record WorksUnder (n id : ℕ) (groups : List Group) (old new : BayState) : Type 0 where
+  pub moments : LeavesOnly old new (Allows id groups)
+  pub members : Runs (λ slot. slot < n) (ChangesMembers id) old new
+  pub attached : StaysAttached old new
+
+-- A mount under an id: at each moment the disks stand for what they stood for, and in the end the group is mounted on them as they are.
+pub record MountsUnder (n id : ℕ) (w : World) (g : Group) (m : MountedGroup) (old new : BayState) : Type 0 where
+  pub out : has_mounted w id ≡ false
+  pub works : WorksUnder n id (groups_of w id) old new
+  pub same : m.register.id ≡ id
+  -- commits don't use up its turns
+  pub most : ℕ
+  pub few : most + 1 < 2 ^ 64
+  pub is : IsMountedOn most n g m new
+
+-- Over a mount the disks hold the groups of its id, and then the one that is mounted.
+abbrev pub MountKeeps : BayState → BayState → Type 0
+MountKeeps s t =
+    (n : ℕ) (known : ℕ → Bool) (given : ℕ) (w w' : World) (groups groups' : List MountedGroup) (id : ℕ) (g : Group) (m : MountedGroup) (command : Command) → StandsFor n known given s w groups
+    → MountsUnder n id w g m s t → ReplacesGroups w id (g ∷ []) w' → MountsGoOn id (λ x. x ≡ m) w w' groups groups' → KeepsWorlds n known command given s t w w' groups'
+
+-- Where it was refused, wherever it came to, they hold the groups of its id.
+abbrev pub RefusedMountKeeps : BayState → BayState → Type 0
+RefusedMountKeeps s t =
+    (n : ℕ) (known : ℕ → Bool) (given : ℕ) (w w' : World) (groups groups' : List MountedGroup) (id : ℕ) (command : Command) → StandsFor n known given s w groups
+    → has_mounted w id ≡ false → WorksUnder n id (groups_of w id) s t → AreSome w w' groups groups' → KeepsWorlds n known command given s t w w' groups'

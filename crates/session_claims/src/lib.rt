@@ -2,9 +2,12 @@
 //! does nothing; its contract is the law.
 #![tactic(auto)]
 
-ghost use Rattle.session_claims.specs.Laws.{CreationKeeps, EditKeeps, LooksKeep, RefusalKeeps, TearingKeeps};
+ghost use Rattle.session_claims.specs.Laws.{CreationKeeps, EditKeeps, LooksKeep, MountKeeps, RefusalKeeps, RefusedMountKeeps, TearingKeeps};
+
+mod found;
 
 use bay::{Bay, Slots};
+pub use found::mounts_find;
 
 /// A command that wrote nothing, and after which no more groups are mounted, keeps what the disks stand for.
 pub fn looks_keep<B: Bay, T: Slots>(start: &B, end: &B)
@@ -24,4 +27,11 @@ pub fn edits_keep<B: Bay>(start: &B, end: &B)
 /// mounted.
 pub fn creations_keep<B: Bay>(start: &B, end: &B)
     ensures { CreationKeeps (B.state start.now) (B.state end.now) }
+{}
+
+/// While a group is mounted the disks stand for what they stood for, under its id and all others, and each group that was mounted
+/// is so still. Once it is done the group is mounted too; refused, wherever it came to, nothing else is known of its id than before.
+pub fn mounts_keep<B: Bay>(start: &B, end: &B)
+    ensures done { MountKeeps (B.state start.now) (B.state end.now) }
+    ensures refused { RefusedMountKeeps (B.state start.now) (B.state end.now) }
 {}

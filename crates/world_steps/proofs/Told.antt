@@ -1,6 +1,7 @@
 -- Mounted groups stay alone under their ids.
-use Rattle.std.proofs.Common.{◌≡◌, ◌≢◌, ◌⊎◌, inl, inr, ⊎_elim, ℕ, suc, Bool, true, false, cond, List, [], ◌∷◌, ◌++◌, Some, refl, sym, ◌∙◌, ap, subst, arith}
+use Rattle.std.proofs.Common.{◌≡◌, ◌≢◌, ◌⊎◌, ◌&&◌, ◌||◌, ◌==◌, inl, inr, ⊎_elim, ℕ, suc, Bool, true, false, cond, List, [], ◌∷◌, ◌++◌, Some, refl, sym, ◌∙◌, ap, subst, arith}
 use Rattle.std.specs.Prelude.{All}
+use Rattle.std.specs.List.{list_any}
 use Rattle.std.specs.FinMap as maps
 use Rattle.std.specs.Cmp.{unsigned_tied}
 use Rattle.std.proofs.lemmas.Bool.{cases_Bool, cases_eq, cond-false, cond-true, eq-eqb, false≢true, ne_eqb}
@@ -35,15 +36,33 @@ pub among_either : (xs ys : List SessionEntry) (e : SessionEntry) → IsAmong (x
 among_either [] ys e is = inr is
 among_either (x ∷ xs) ys e is = ⊎_elim (λ here. inl (inl here)) (λ later. ⊎_elim (λ front. inl (inr front)) (λ back. inr back) (among_either xs ys e later)) is
 
-pub apart_joined : (xs : List SessionEntry) (x : SessionEntry) → AreIdsApart xs → ((e : SessionEntry) → IsAmong xs e → e.id ≢ x.id) → AreIdsApart (xs ++ x ∷ [])
-apart_joined [] x all new = (λ f none. absurd none, tt)
-apart_joined (y ∷ xs) x all new = (
+-- an entry whose id no mounted one has comes last
+apart_last : (xs : List SessionEntry) (x : SessionEntry) → AreIdsApart xs → ((e : SessionEntry) → IsAmong xs e → is_mounted e ≡ true → e.id ≢ x.id) → AreIdsApart (xs ++ x ∷ [])
+apart_last [] x all new = (λ f none. absurd none, tt)
+apart_last (y ∷ xs) x all new = (
   λ f is mounted_y mounted_f. ⊎_elim
       (λ front. all.0 f front mounted_y mounted_f)
-      (λ last. ⊎_elim (λ (same : f ≡ x). subst (λ (e : SessionEntry). y.id ≢ e.id) (sym same) (new y (inl refl))) (λ none. absurd none) last)
+      (λ last. ⊎_elim (λ (same : f ≡ x). subst (λ (e : SessionEntry). y.id ≢ e.id) (sym same) (new y (inl refl) mounted_y)) (λ none. absurd none) last)
       (among_either xs (x ∷ []) f is),
-  apart_joined xs x all.1 (λ e is. new e (inr is)),
+  apart_last xs x all.1 (λ e is. new e (inr is)),
 )
+
+pub apart_joined : (xs : List SessionEntry) (x : SessionEntry) → AreIdsApart xs → ((e : SessionEntry) → IsAmong xs e → e.id ≢ x.id) → AreIdsApart (xs ++ x ∷ [])
+apart_joined xs x all new = apart_last xs x all (λ e is mounted. new e is)
+
+-- no mounted entry has an id that isn't mounted
+none_mounted : (es : List SessionEntry) (id : ℕ) → list_any (λ (e : SessionEntry). is_mounted e && (e.id == id)) es ≡ false → (e : SessionEntry) → IsAmong es e → is_mounted e ≡ true → e.id ≢ id
+none_mounted [] id none e is mounted = absurd is
+none_mounted (x ∷ es) id none e is mounted = ⊎_elim
+    (λ (here : e ≡ x). λ same.
+    let at : (is_mounted x && (x.id == id)) ≡ true = ap (λ (y : SessionEntry). is_mounted y && (y.id == id)) (sym here) ∙ rw mounted (eq-eqb e.id id same) in
+    false≢true (sym (neither (is_mounted x && (x.id == id)) (list_any (λ (e : SessionEntry). is_mounted e && (e.id == id)) es) none).0 ∙ at))
+    (λ later. none_mounted es id (neither (is_mounted x && (x.id == id)) (list_any (λ (e : SessionEntry). is_mounted e && (e.id == id)) es) none).1 e later mounted)
+    is
+  where
+    neither : (a b : Bool) → (a || b) ≡ false → (a ≡ false) × (b ≡ false)
+    neither true b isnt = absurd (false≢true (sym isnt))
+    neither false b isnt = (refl, isnt)
 
 -- entries that are mounted under one id are one
 pub one_entry : (es : List SessionEntry) (a b : SessionEntry) → AreIdsApart es → IsAmong es a → IsAmong es b → is_mounted a ≡ true → is_mounted b ≡ true → a.id ≡ b.id → a ≡ b
@@ -142,6 +161,14 @@ groups_stay_alone = record {
             (among_either w.session (mounted_entry g.name id ∷ []) e is);
         apart = apart_joined w.session (mounted_entry g.name id) has.apart fresh;
       };
+  mounted = λ w name id g out has. record {
+    one = λ e is mounted. ⊎_elim
+        (λ front. one_after w id e.id g (has.one e (fewer_among w.session name e front) mounted))
+        (λ last. ⊎_elim (λ (same : e ≡ mounted_entry g.name id). (g, ap (λ (x : SessionEntry). maps.get (maps.insert w.groups id (g ∷ [])) x.id) same ∙ got_same w id (g ∷ []))) (λ none. absurd none) last)
+        (among_either (without_entry w.session name) (mounted_entry g.name id ∷ []) e is);
+    apart = apart_last (without_entry w.session name) (mounted_entry g.name id) (fewer_apart w.session name has.apart)
+        (λ e is mounted. none_mounted w.session id out e (fewer_among w.session name e is) mounted);
+  };
   changed = λ w id g has. record { one = λ e is mounted. one_after w id e.id g (has.one e is mounted); apart = has.apart };
   torn = λ w id name g h disk at has.
       let named = named_among w.session name at.entry at.named in

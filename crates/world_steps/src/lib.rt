@@ -25,7 +25,7 @@ pub fn commands_have_parts()
     ensures attributes { AttributesHaveParts }
 {}
 
-/// In a world whose mounted groups are alone under their ids they stay so over creations, edits and dismounts.
+/// In a world whose mounted groups are alone under their ids they stay so over creations, mounts, edits and dismounts.
 pub fn groups_stay_alone()
     ensures { GroupsStayAlone }
 {}
