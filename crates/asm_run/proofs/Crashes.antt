@@ -2,7 +2,7 @@
 use Rattle.std.proofs.Common.{◌≡◌, ℕ, ◌<◌, ◌≤◌, Bool, true, List, [], ◌∷◌, ◌++◌, length, inl, inr, refl, sym, ◌∙◌, ap, subst, arith}
 use Rattle.std.proofs.lemmas.Bool.{cases_lt}
 use Rattle.bay.specs.Image.{Image}
-use Rattle.bay.specs.State.{BayState}
+use Rattle.bay.specs.State.{BayState, IsSound}
 use Rattle.asm_group.specs.Group.{Group}
 use Rattle.asm_group.specs.Names.{Bytes}
 use Rattle.asm_images.proofs.Spans.{widen_keeps}
@@ -21,8 +21,9 @@ use Rattle.serving.specs.Acts.{Holding}
 use Rattle.session.specs.Claims.{held_outside, IsProvedApartIn}
 use Rattle.session.specs.Meaning.{meaning}
 use Rattle.session.specs.Sessions.{Roster}
-use Rattle.session_claims.specs.Claims.{IsPaired, IsStanding, StandsFor, untouched}
-use Rattle.session_claims.proofs.Images.{same_sound, same_members, same_member, all_stand}
+use Rattle.session_claims.specs.Claims.{IsPaired, IsStanding, StandsFor}
+use Rattle.session_claims.proofs.Images.{same_sound, same_member, all_stand}
+use Rattle.session_claims.proofs.Members.{one_holds}
 use Rattle.session_claims.proofs.Pairs.{mounted_pair}
 use Rattle.world_steps.specs.Runs.{AllFrom, IsRunFrom}
 use Rattle.world_steps.specs.Told.{AreIdsApart}
@@ -40,8 +41,8 @@ allows-more paths leaves id groups more image allowed slots =
     }
 
 -- what is known of the disks before a run
-pub starts-stands : (n : ℕ) (known : ℕ → Bool) (bay : BayState) (w : World) → w.session ≡ [] → StartsAs known bay w → StandsFor n known 0 bay w []
-starts-stands n known bay w none s = record {
+pub starts-stands : (n : ℕ) (known : ℕ → Bool) (bay : BayState) (w : World) → IsSound bay → w.session ≡ [] → StartsAs known bay w → StandsFor n known 0 bay w []
+starts-stands n known bay w sound none s = record {
   tells = s.tells;
   entries = ap (λ (l : List SessionEntry). length l) (sym none);
   ids = subst (λ (l : List SessionEntry). AreIdsApart l) (sym none) tt;
@@ -49,16 +50,7 @@ starts-stands n known bay w none s = record {
   allows = λ image id left slots.
       let by = s.stands id in
       record { completed = by.completed; begun = by.begun; holds = same_sound id (groups_of w id) by.completed by.begun s.first image (s.one image left) by.sound slots };
-  settled = λ id out.
-      let by = s.stands id in
-      untouched (record {
-        completed = by.completed;
-        begun = by.begun;
-        first = s.first;
-        stands = by.sound;
-        sound = λ image left. same_sound id (groups_of w id) by.completed by.begun s.first image (s.one image left) by.sound;
-        members = λ image left. same_members id s.first s.first image (s.one image left) (λ slot has. refl);
-      });
+  members = λ held image holds left. one_holds s.first held image (s.one held (sound.held held holds)) (s.one image left);
   origin = λ image id left member. inr (s.is_known id (same_member id s.first image (s.one image left) member));
 }
 

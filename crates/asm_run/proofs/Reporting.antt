@@ -3,7 +3,7 @@ use Rattle.std.proofs.Common.{◌≡◌, ◌⊎◌, ℕ, ◌+◌, ◌≤◌, Boo
 use Rattle.std.proofs.lemmas.List.{append-nil, take_all}
 use Rattle.std.specs.Io.KnownBytes.{Consumes, IsAtEnd}
 use Rattle.bay.proofs.Known.{Appends-none}
-use Rattle.bay.specs.State.{BayState}
+use Rattle.bay.specs.State.{BayState, IsSound}
 use Rattle.asm_group.specs.Names.{Bytes}
 use Rattle.asm_world.specs.Generator.{generated, generated_script}
 use Rattle.asm_world.specs.Run.{State, Phase, Resting, Entry, IsGenerated, IsPrinted, IsPrintedToCut, answered, marks_of, has_refusal}
@@ -153,10 +153,10 @@ first_roster session none zero = ap (λ (groups : List MountedGroup). roster gro
 
 pub transcript-of : {C : Type 0} (gives : C → ℕ → C → Type 0) (paths : List Bytes) (Told : List (Entry Counts) → Type 0) (served : Result (Unit {0}) Stop) (status : ℕ) (marks : List ℕ) (left left' taken taken' : Option Bytes)
     (clock clock' : C) (old new : BayState) (before last : Roster) (time' : ℕ) (phase : Phase) (w w' : World) (below' : ℕ → GroupBelow) (marks' : List ℕ) (refused : Bool) (manner manner' : Manner) →
-    w.session ≡ [] → before ≡ roster [] 0 → status ≡ status_number served refused → marks ≡ marks' → (is_whole served ≡ true → phase ≡ Resting) → ((history : List (Entry Counts)) → AreTold manner history → Told history) →
+    IsSound old → w.session ≡ [] → before ≡ roster [] 0 → status ≡ status_number served refused → marks ≡ marks' → (is_whole served ≡ true → phase ≡ Resting) → ((history : List (Entry Counts)) → AreTold manner history → Told history) →
     Serves gives paths served left left' (scene w quiet Resting 0 before old taken clock [] false manner) (scene w' below' phase time' last new taken' clock' marks' refused manner') →
     Transcript gives paths Told status marks left left' taken taken' clock clock' old new w
-transcript-of gives paths Told served status marks left left' taken taken' clock clock' old new before last time' phase w w' below' marks' refused manner manner' none is_first is_status is_marks rest tells serves =
+transcript-of gives paths Told served status marks left left' taken taken' clock clock' old new before last time' phase w w' below' marks' refused manner manner' sound none is_first is_status is_marks rest tells serves =
     let S : Roster → Type 0 = λ r.
     Serves gives paths served left left' (scene w quiet Resting 0 r old taken clock [] false manner) (scene w' below' phase time' last new taken' clock' marks' refused manner') in
     let s = subst S is_first serves in
@@ -174,7 +174,7 @@ transcript-of gives paths Told served status marks left left' taken taken' clock
       told = tells p.history p.told;
       printed = either-cut (is_whole served) p.history p.printed;
       run = p.run;
-      on_disks = λ known starts. (p.holds known (starts-stands (length paths) known old w none starts)).held;
+      on_disks = λ known starts. (p.holds known (starts-stands (length paths) known old w sound none starts)).held;
       ends = p.ends;
       times = p.readings;
       calls_are = refl;
@@ -183,17 +183,17 @@ transcript-of gives paths Told served status marks left left' taken taken' clock
       marks_are = all;
       marks_rise = subst P (sym all) (marks_rise_by (first_state w old) p.history p.calls_rise);
       crash_before = λ known starts before rest cut.
-          held-before paths new (first_state w old) p.history known last w' (p.holds known (starts-stands (length paths) known old w none starts)) before rest cut;
+          held-before paths new (first_state w old) p.history known last w' (p.holds known (starts-stands (length paths) known old w sound none starts)) before rest cut;
       crash = λ known starts all.
-          crash-safe paths new (first_state w old) end p.history known last p.ends refl all (p.holds known (starts-stands (length paths) known old w none starts));
+          crash-safe paths new (first_state w old) end p.history known last p.ends refl all (p.holds known (starts-stands (length paths) known old w sound none starts));
       outcome = subst Q (sym is_status) (outcome-of served refused s.taken s.commands p.history left' end s.are_answered p.commands_are p.printed rest p.refusal);
     }
 
 -- nothing was read and nothing done, for the words or for want of memory
 pub transcript-none : {C : Type 0} (gives : C → ℕ → C → Type 0) (paths : List Bytes) (Told : List (Entry Counts) → Type 0) (status : ℕ) (marks : List ℕ) (left taken : Option Bytes) (clock : C) (bay : BayState) (w : World) →
-    w.session ≡ [] → (status ≡ 2) ⊎ (status ≡ 5) → marks ≡ [] → Told [] → Transcript gives paths Told status marks left left taken taken clock clock bay bay w
+    IsSound bay → w.session ≡ [] → (status ≡ 2) ⊎ (status ≡ 5) → marks ≡ [] → Told [] → Transcript gives paths Told status marks left left taken taken clock clock bay bay w
 unfolding cut
-transcript-none gives paths Told status marks left taken clock bay w first is none told =
+transcript-none gives paths Told status marks left taken clock bay w sound first is none told =
     let P : List ℕ → Type 0 = λ ms. RisesFrom bay.calls ms in
     let big : 2 ≤ status = elim is [ inl e ↦ omega (arith, e) | inr e ↦ omega (arith, e) ] in
     let other : (status ≡ 3) ⊎ (status ≡ 6) → ⊥ = λ e. elim is [
@@ -218,9 +218,9 @@ transcript-none gives paths Told status marks left taken clock bay w first is no
       marks_are = none;
       marks_rise = subst P (sym none) tt;
       crash_before = λ known starts before rest cut.
-          held-before paths bay (first_state w bay) [] known (roster [] 0) w (record { held = tt; now = λ all. starts-stands (length paths) known bay w first starts }) before rest cut;
+          held-before paths bay (first_state w bay) [] known (roster [] 0) w (record { held = tt; now = λ all. starts-stands (length paths) known bay w sound first starts }) before rest cut;
       crash = λ known starts all.
-          crash-safe paths bay (first_state w bay) (first_state w bay) [] known (roster [] 0) refl refl all (record { held = tt; now = λ all. starts-stands (length paths) known bay w first starts });
+          crash-safe paths bay (first_state w bay) (first_state w bay) [] known (roster [] 0) refl refl all (record { held = tt; now = λ all. starts-stands (length paths) known bay w sound first starts });
       outcome = record {
         usage = λ _. (refl, refl);
         short = omega arith;
@@ -250,20 +250,20 @@ answers-all gives number paths Told status marks rest taken taken' clock clock' 
 
 pub generated-of : {C : Type 0} (gives : C → ℕ → C → Type 0) (number : ℕ) (paths : List Bytes) (served : Result (Unit {0}) Stop) (status : ℕ) (marks : List ℕ) (text rest : Bytes) (taken taken' : Option Bytes)
     (clock clock' : C) (old new : BayState) (before last : Roster) (time' : ℕ) (phase : Phase) (w w' : World) (below' : ℕ → GroupBelow) (marks' : List ℕ) (refused : Bool) (manner' : Manner) →
-    w.session ≡ [] → before ≡ roster [] 0 → status ≡ status_number served refused → marks ≡ marks' → (is_whole served ≡ true → phase ≡ Resting) → length paths ≡ 4 → has_quote paths ≡ false → text ≡ generated_script number paths →
+    IsSound old → w.session ≡ [] → before ≡ roster [] 0 → status ≡ status_number served refused → marks ≡ marks' → (is_whole served ≡ true → phase ≡ Resting) → length paths ≡ 4 → has_quote paths ≡ false → text ≡ generated_script number paths →
     Serves gives paths served (Some text) (Some rest) (scene w quiet Resting 0 before old taken clock [] false (InShort 1023)) (scene w' below' phase time' last new taken' clock' marks' refused manner') →
     GeneratedRun gives number paths status marks taken taken' clock clock' old new w
-generated-of gives number paths served status marks text rest taken taken' clock clock' old new before last time' phase w w' below' marks' refused manner' none is_first is_status is_marks rests four unquoted is s =
+generated-of gives number paths served status marks text rest taken taken' clock clock' old new before last time' phase w w' below' marks' refused manner' sound none is_first is_status is_marks rests four unquoted is s =
     let Told : List (Entry Counts) → Type 0 = IsGenerated (length (generated number paths)) in
     let T : Bytes → Type 0 = λ bytes. Transcript gives paths Told status marks (Some bytes) (Some rest) taken taken' clock clock' old new w in
     let all = subst T is (transcript-of gives paths Told served status marks (Some text) (Some rest) taken taken' clock clock' old new before last time' phase w w' below' marks' refused (InShort 1023) manner'
-    none is_first is_status is_marks rests (λ history told. let G : ℕ → Type 0 = λ n. IsGenerated n history in subst G (sym (count-generated number paths four)) (all-generated 1023 history told)) s) in
+    sound none is_first is_status is_marks rests (λ history told. let G : ℕ → Type 0 = λ n. IsGenerated n history in subst G (sym (count-generated number paths four)) (all-generated 1023 history told)) s) in
     record { rest = rest; transcript = all; all_answered = answers-all gives number paths Told status marks rest taken taken' clock clock' old new w all unquoted }
 
 pub generated-none : {C : Type 0} (gives : C → ℕ → C → Type 0) (number : ℕ) (paths : List Bytes) (status : ℕ) (marks : List ℕ) (taken : Option Bytes) (clock : C) (bay : BayState) (w : World) →
-    w.session ≡ [] → (status ≡ 2) ⊎ (status ≡ 5) → marks ≡ [] → GeneratedRun gives number paths status marks taken taken clock clock bay bay w
-generated-none gives number paths status marks taken clock bay w first is none = record {
+    IsSound bay → w.session ≡ [] → (status ≡ 2) ⊎ (status ≡ 5) → marks ≡ [] → GeneratedRun gives number paths status marks taken taken clock clock bay bay w
+generated-none gives number paths status marks taken clock bay w sound first is none = record {
   rest = generated_script number paths;
-  transcript = transcript-none gives paths (IsGenerated (length (generated number paths))) status marks (Some (generated_script number paths)) taken clock bay w first is none tt;
+  transcript = transcript-none gives paths (IsGenerated (length (generated number paths))) status marks (Some (generated_script number paths)) taken clock bay w sound first is none tt;
   all_answered = λ small. absurd (elim is [ inl e ↦ omega (arith, e, small) | inr e ↦ omega (arith, e, small) ]);
 }

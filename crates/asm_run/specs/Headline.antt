@@ -83,8 +83,9 @@ pub record Transcript {C : Type 0} (gives : C → ℕ → C → Type 0) (paths :
   -- Up to the first that isn't proved, each move is one that the world may make, and each reply has its cause. An edit, and a command that
   -- shows a group or goes into one, counts as proved in a state in which each mounted group is alone under its id.
   pub run : IsRunFrom (outside paths new.leaves) IsProvedIn (first_state w old) history
-  -- The same where the images at the start stand for the world, also of what asks the disks, up to the first move that isn't proved so. In the
-  -- moments that end in these moves each image stands for groups between.
+  -- The same where the images at the start stand for the world, also of what asks the disks, up to the first move that isn't proved so. A
+  -- mount counts as proved so in a state in which each mounted group is alone under its id, and each id has at most one group. In the moments
+  -- that end in these moves each image stands for groups between.
   pub on_disks : (known : ℕ → Bool) → StartsAs known old w → IsRunFrom (held_outside paths new.leaves) (IsProvedApartIn known) (first_state w old) history
   pub ends : end_of (first_state w old) history ≡ end
   pub times : Readings gives clock (times_of history) clock'
@@ -93,8 +94,8 @@ pub record Transcript {C : Type 0} (gives : C → ℕ → C → Type 0) (paths :
   pub past : Past old new
   pub marks_are : marks ≡ marks_of history
   pub marks_rise : RisesFrom old.calls marks
-  -- Where the images at the start stand for the world, each stop in the first moves leaves groups between, as long as these are proved,
-  -- and each creation among them keeps the premises.
+  -- Where the images at the start stand for the world, each stop in the first moves leaves groups between, as long as each of these is
+  -- proved and meets its premises in the state before it.
   pub crash_before : (known : ℕ → Bool) → StartsAs known old w → (before rest : List (Entry Counts)) → history ≡ before ++ rest → AllFrom (IsProvedApartIn known) (first_state w old) before
       → AreHeld paths new.leaves (first_state w old) before
   -- the same of all moves, and of what a stop now leaves

@@ -37,9 +37,10 @@ use Rattle.session_claims.specs.Claims.{IsMountedAs, IsPaired, StandsFor}
 use Rattle.session_claims.proofs.Looks.{looks_keep}
 use Rattle.session.specs.Counts.{ReplyCause}
 use Rattle.session.specs.Effects.{HasEffect, IsProvedOn, IsServed, anywhere, below_with, on_disks}
+use Rattle.session.specs.Groups.{mounts}
 use Rattle.session.specs.Meaning.{meaning}
 use Rattle.session.specs.Naming.{IsGroupOf, IsOutCause, group_among, in_state, of_entry}
-use Rattle.session.specs.Proved.{is_proved_as}
+use Rattle.session.specs.Proved.{IsOneFor, is_proved_as}
 use Rattle.session.specs.Sessions.{Knows, Roster, SessionView, roster_of}
 use Rattle.session.proofs.AnsweredLines.{reply_of}
 use Rattle.session.proofs.Creation.{same_some}
@@ -111,6 +112,9 @@ module _ (paths : List Bytes) (text path : Bytes) (at size : ℕ) (says : meanin
   at_place : (o : Option (Bytes × Path)) → target_from session.place path ≡ o → target_from w.place path ≡ o
   at_place o is = ap (λ (p : List Bytes). target_from p path) knows.place_is ∙ is
 
+  no_mount : IsOneFor (meaning text) w
+  no_mount is = absurd (false≢true (subst (λ (c : Command). mounts c ≡ true) says is))
+
   -- It is proved where the disks stand for the world.
   by_disks : (reply : Reply) → ((known : ℕ → Bool) → StandsFor (length paths) known was.given s w was.groups → Does reply) → IsDone reply
   by_disks reply does = record {
@@ -124,7 +128,7 @@ module _ (paths : List Bytes) (text path : Bytes) (at size : ℕ) (says : meanin
 
       on : IsProvedOn paths was s w (meaning text) reply → Does reply
       on (anywhere is) = absurd (never is)
-      on (on_disks known is stands) = does known stands
+      on (on_disks known is stands one) = does known stands
 
   -- the world may answer so, and it has its cause
   abbrev Answers : r.Refusal → Type 0
@@ -135,7 +139,7 @@ module _ (paths : List Bytes) (text path : Bytes) (at size : ℕ) (says : meanin
     calls = only.runs.later;
     past = λ m image before left. (only.runs.ended m image before).0 left;
     effect = λ proved met.
-        (by_disks (Refused [] c) (λ known stands. let a = answers known stands in (refused c a.0 a.1).effect (on_disks known (rw says refl) stands) met)).effect proved met;
+        (by_disks (Refused [] c) (λ known stands. let a = answers known stands in (refused c a.0 a.1).effect (on_disks known (rw says refl) stands no_mount) met)).effect proved met;
   }
 
   -- ---- the path leads to no group

@@ -2,4 +2,9 @@ pub mod Creations
 pub mod Entering
 pub mod Formed
 pub mod Leaving
+pub mod MountAnswers
+pub mod MountDesks
+pub mod MountDisks
+pub mod MountWorld
 pub mod Named
+pub mod ToldGroup

@@ -1,23 +1,24 @@
 -- How a group is mounted into the session.
-use Rattle.std.specs.Prelude.{◌≡◌, ◌⊎◌, List, ◌∷◌, ◌++◌, [], ◌≤◌, Bool, true, false, IsTrue, IfErr, OnOk, Result, ℕ, get_or, length}
-use Rattle.bay.specs.State.{BayState}
-use Rattle.asm_base.specs.Refusals.{said}
-use Rattle.asm_group.specs.Refusal as r
-use Rattle.group_disks.specs.Mounting.{IsMountCause}
-use Rattle.group_mount.specs.declared.error.MountError.{MountError}
-use Rattle.group_mount.specs.declared.error.MountError.TheVariants as error
+use Rattle.std.specs.Prelude.{◌≡◌, ◌⊎◌, List, ◌∷◌, ◌++◌, [], ◌≤◌, Bool, true, false, IfErr, OnOk, Result, get_or, length}
 use Rattle.bay.specs.declared.disk.Bay as Bay
 use Rattle.bay.specs.declared.host.Host as Host
-use Rattle.asm_group.specs.Names.{Bytes, is_same_name}
+use Rattle.asm_base.specs.Refusals.{said}
 use Rattle.asm_base.specs.declared.refusal.Refusal.{Refusal}
 use Rattle.asm_base.specs.declared.refusal.Refusal.TheVariants as cause
+use Rattle.asm_group.specs.Names.{Bytes}
+use Rattle.asm_group.specs.Refusal as r
 use Rattle.asm_world.specs.World.{mounted_entry, without_entry}
-use Rattle.group_engine.specs.Mounts.{MountedGroup, IsMounted}
+use Rattle.group_disks.specs.Leaving.{LeavesRefused, WasMounted}
+use Rattle.group_disks.specs.Mounting.{IsMountCause, IsMountedBy}
+use Rattle.group_engine.specs.Frames.{StaysAttached}
+use Rattle.group_engine.specs.Mounts.{MountedGroup}
+use Rattle.group_mount.specs.declared.error.MountError.{MountError}
+use Rattle.group_mount.specs.declared.error.MountError.TheVariants as error
 use Rattle.group_mount.specs.declared.quorum.MountOption.{MountOption}
 use Rattle.group_mount.specs.declared.quorum.MountOption.TheVariants.{Force, NoForce}
 use Rattle.session.specs.Desks.{paths_on}
 use Rattle.session.specs.Effects.{Past}
-use Rattle.session.specs.Sessions.{AreReady, SessionView, held_by, without_groups}
+use Rattle.session.specs.Sessions.{AreReady, held_by, without_groups}
 use Rattle.session.specs.declared.desk.Desk.{Desk}
 
 abbrev pub option_of : Bool → MountOption
@@ -35,19 +36,22 @@ mount_said paths (error.MissingDisk number name) = r.MissingDisks name
 mount_said paths (error.Dead slot name) = r.Dismounted name
 mount_said paths error.NoMemory = r.NoMemory
 
--- The refusal tells why the group wasn't mounted, past the slots that the mounted groups hold.
-pub record IsMountRefusal {B : Type 0} (state : B → BayState) (n : ℕ) (paths : List Bytes) (groups : List MountedGroup) (name : Bytes) (option : MountOption) (old new : B) (refusal : Refusal) : Type 0 where
+-- The refusal tells why the group wasn't mounted, past the slots that the mounted groups hold, and the mount left the disks so.
+pub record IsMountRefusal {B H : Type 0} {bay : Bay.Ghosts B} {host : Host.Ghosts H} (name : Bytes) (option : MountOption) (old new : Desk B H bay host) (refusal : Refusal) : Type 0 where
   pub error_is : MountError
-  pub cause_is : IsMountCause state name n (held_by groups) option (state old) (state new) error_is
-  pub says : said (λ _. []) refusal ≡ mount_said paths error_is
+  pub cause_is : IsMountCause bay.state name (length old.paths.items) (held_by old.session.groups) option (bay.state old.bay) (bay.state new.bay) error_is
+  pub leaves : LeavesRefused bay.state name (length old.paths.items) (held_by old.session.groups) option (bay.state old.bay) (bay.state new.bay) error_is
+  pub says : said (λ _. []) refusal ≡ mount_said (paths_on old) error_is
 
--- A group of the name is the last, in place of one of its name.
-pub record Enters (name : Bytes) (old new : SessionView) : Type 0 where
+-- A group of the name is the last, in place of one of its name. It was mounted from the disks in slots that no other group holds.
+pub record Enters {B H : Type 0} {bay : Bay.Ghosts B} {host : Host.Ghosts H} (name : Bytes) (option : MountOption) (old new : Desk B H bay host) : Type 0 where
   pub group : MountedGroup
-  pub mounted : IsMounted group
-  pub named : IsTrue (is_same_name group.name name)
-  pub entries : new.entries ≡ without_entry old.entries group.name ++ mounted_entry group.name group.register.value.id ∷ []
-  pub groups : new.groups ≡ without_groups old.entries old.groups group.name ++ group ∷ []
+  pub is : IsMountedBy name (held_by old.session.groups) group (bay.state new.bay)
+  pub mounts : WasMounted bay.state name (length old.paths.items) (held_by old.session.groups) option group (bay.state old.bay) (bay.state new.bay)
+  pub entries : new.session.entries ≡ without_entry old.session.entries group.name ++ mounted_entry group.name group.register.value.id ∷ []
+  pub groups : new.session.groups ≡ without_groups old.session.entries old.session.groups group.name ++ group ∷ []
+  -- no id that was given is given anew
+  pub given : old.session.given ≤ new.session.given
 
 -- A group was mounted, or the session is as it was, but for want of memory. In each case all groups take the next call.
 pub record MountsInto {B H : Type 0} {bay : Bay.Ghosts B} {host : Host.Ghosts H} (name : Bytes) (option : MountOption) (result : Result (Unit {0}) Refusal) (old new : Desk B H bay host) : Type 0 where
@@ -57,5 +61,6 @@ pub record MountsInto {B H : Type 0} {bay : Bay.Ghosts B} {host : Host.Ghosts H}
   pub ready : AreReady new.session.groups (bay.state new.bay)
   pub calls : (bay.state old.bay).calls ≤ (bay.state new.bay).calls
   pub past : Past (bay.state old.bay) (bay.state new.bay)
-  pub entered : OnOk result (Enters name old.session new.session)
-  pub refused : IfErr result (λ refusal. ((new.session ≡ old.session) × IsMountRefusal bay.state (length old.paths.items) (paths_on old) old.session.groups name option old.bay new.bay refusal) ⊎ (refusal ≡ cause.NoMemory))
+  pub attached : StaysAttached (bay.state old.bay) (bay.state new.bay)
+  pub entered : OnOk result (Enters name option old new)
+  pub refused : IfErr result (λ refusal. ((new.session ≡ old.session) × IsMountRefusal name option old new refusal) ⊎ (refusal ≡ cause.NoMemory))

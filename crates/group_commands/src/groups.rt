@@ -20,9 +20,7 @@ use group_disks::{create_group, drop_group as drop_disks_of};
 use group_engine::Mounted;
 use group_sql::{Attribute, NewDisk, NewFailgroup};
 use new_groups::{GroupAsked, Known};
-use session::{
-    Answer, Desk, FoundIds, GroupWork, Reply, no_memory, refuse, refused, too_many_groups,
-};
+use session::{Answer, Desk, FoundIds, GroupWork, Reply, no_memory, refused, too_many_groups};
 use std::alloc::Global;
 
 /// The item of a list of one.
@@ -311,7 +309,7 @@ pub fn drop_group<B: Bay, H: Host>(
 }
 
 /// MOUNT. Its refusals in order: AlreadyMounted, TooMany, and then those of the disks. A group that was dismounted is tried
-/// afresh, and stays so where it is refused.
+/// afresh, and stays so where it is refused. Where the disks stand for the world it is proved what it does, but for want of memory.
 pub fn mount<B: Bay, H: Host>(
     desk: &mut Desk<B, H>,
     text: &[u8],
@@ -323,10 +321,10 @@ pub fn mount<B: Bay, H: Host>(
     ensures answers { IsAnswered text.now result desk.old desk.new }
 {
     if desk.session.has_mounted(&group) {
-        return refuse(desk, text, Refusal::AlreadyMounted);
+        return refused(desk.alloc, Refusal::AlreadyMounted);
     }
     if desk.session.is_full() {
-        return refuse(desk, text, too_many_groups());
+        return refused(desk.alloc, too_many_groups());
     }
     match mount_named(desk, &group, option_of(force)) {
         Ok(()) => Answer::plain(desk.alloc, Reply::Done(List::new(desk.alloc))),

@@ -132,7 +132,7 @@ acts-answers gives paths whole found text reply sent w w' below below' time was 
           record { does = answers effect; caused = (effect.ids_read, effect.made, effect.counted, effect.worked); calls = served.calls; images = λ m image from before left id. tt; there = λ m image from before left id was is. tt };
       calls = served.calls;
       past = served.past;
-      holds = λ known stands meets. let effect = served.effect (on_disks known meets.0.0 stands) meets.1 in let keeps = effect.keeps known stands meets.0.1 in
+      holds = λ known stands meets. let effect = served.effect (on_disks known meets.0.0 stands meets.2) meets.1 in let keeps = effect.keeps known stands meets.0.1 in
           (record { does = answers effect; caused = (effect.ids_read, effect.made, effect.counted, effect.worked); calls = served.calls; images = λ m image from before left id. keeps.held m image id from before left; there = λ m image from before left id was is. keeps.there m image id from before left was is }, keeps.now);
       texts = texts;
       written = written;

@@ -127,10 +127,11 @@ refused_in NoCommand paths c cause s t = ⊤
 abbrev pub is_proved : Command → Bool
 is_proved c = proved_in (family_of c) c
 
--- Whether it asks the disks for what they hold. What such a command does is proved where the disks stand for the world.
+-- Whether it asks the disks for what they hold: dbread for bytes, MOUNT for a group. What such a command does is proved where the disks
+-- stand for the world.
 abbrev pub asks_disks : Command → Bool
 asks_disks (Asked (c.DbRead path at size)) = true
-asks_disks other = false
+asks_disks other = groups.mounts other
 
 -- whether it is proved what it does where the disks stand for the world
 abbrev pub is_proved_on_disks : Command → Bool
@@ -145,13 +146,17 @@ edits_in other = false
 abbrev pub is_edit : Command → Bool
 is_edit c = edits_in (family_of c)
 
+-- an edit or a mount: where memory was short for it, its reply doesn't tell what it left of its group
+abbrev pub may_stop_torn : Command → Bool
+may_stop_torn c = is_edit c || groups.mounts c
+
 abbrev shown_in : Family → Command → Bool
 shown_in Groups c = groups.shows_group c
 shown_in Places c = places.shows_group c
 shown_in Reports c = reports.shows_group c
 shown_in other c = false
 
--- whether it tells of groups as they are mounted, or goes into one
+-- whether it tells of groups as they are mounted, goes into one or mounts one
 abbrev pub shows_group : Command → Bool
 shows_group c = shown_in (family_of c) c
 

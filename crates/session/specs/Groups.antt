@@ -1,5 +1,5 @@
 -- How groups come and go. Of DISMOUNT and CHECK it is proved what they do, and of the creation of an EXTERNAL group on one disk, of which
--- its path alone is said.
+-- its path alone is said; of MOUNT, where the disks stand for the world.
 use Rattle.std.specs.Prelude.{◌≡◌, ⊤, ℕ, Bool, true, false, ◌||◌, is_some, List, [], ◌∷◌, Option, Some, None, if◌then◌else◌}
 use Rattle.std.specs.Option.{option_map}
 use Rattle.std.specs.FinMap as maps
@@ -58,17 +58,22 @@ creation_asked (Said s) = creation_in s
 creation_asked (Asked verb) = None
 creation_asked (Unreadable at) = None
 
--- of which it is proved what they do
+-- of which it is proved on each bay what they do
 abbrev pub is_proved : Command → Bool
 is_proved (Said (CreateGroup name kind groups attributes)) = is_some (external_path kind groups attributes)
 is_proved (Said (DropGroup name contents)) = false
 is_proved (Said (Alter name (Mount force))) = false
 is_proved other = true
 
--- which tell of a group as it is mounted
+-- which mount a group that the disks hold
+abbrev pub mounts : Command → Bool
+mounts (Said (Alter name (Mount force))) = true
+mounts other = false
+
+-- Which tell of a group as it is mounted, or mount one: a name finds at most one group only where each mounted group has its entry's name.
 abbrev pub shows_group : Command → Bool
 shows_group (Said (Alter name Check)) = true
-shows_group other = false
+shows_group other = mounts other
 
 -- ---- what is counted of them
 

@@ -40,7 +40,7 @@ fn edit_any<B: Bay>(
 
 impl Session {
     /// No two groups have one name, and each entry has its group.
-    fn shows_names(&self)
+    pub(crate) fn shows_names(&self)
         ensures apart { AreNamesApart self.now.entries }
         ensures paired { length self.now.groups ≡ length self.now.entries }
     {

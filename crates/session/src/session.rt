@@ -5,6 +5,7 @@ ghost use Rattle.bay.specs.Counts.{last_count};
 ghost use Rattle.asm_world.specs.Causes.{mounted_count, is_mounted_as};
 ghost use Rattle.asm_world.specs.World.{World, entry_among, mounted_entry, without_entry};
 ghost use Rattle.group_engine.specs.Mounts.{IsMounted};
+ghost use Rattle.session.specs.Editing.{AreNamesApart};
 ghost use Rattle.session.specs.Entries.{entry_view, group_view};
 ghost use Rattle.session.specs.Sessions.{AreGiven, given_after, entries_of, groups_of, without_groups};
 
@@ -125,10 +126,13 @@ impl Session {
         false
     }
 
-    /// Whether a group of the name is mounted.
+    /// Whether a group of the name is mounted. No two groups have one name, and each entry has its group.
     pub fn has_mounted(&self, name: &Name) -> bool
-        ensures { result ≡ is_mounted_as (entry_among self.now.entries name.now) }
+        ensures mounted { result ≡ is_mounted_as (entry_among self.now.entries name.now) }
+        ensures apart { AreNamesApart self.now.entries }
+        ensures paired { length self.now.groups ≡ length self.now.entries }
     {
+        self.shows_names();
         match self.groups.get(SoughtName { name }) {
             Some(entry) => entry.is_mounted(),
             None => false,
@@ -196,6 +200,7 @@ impl Session {
     pub fn enter_mounted(&mut self, group: Mounted) -> Result<(), NoMemory>
         requires mounted { IsMounted group }
         ensures place { self.new.place ≡ self.old.place }
+        ensures given { OnOk result (self.old.given ≤ self.new.given) }
         ensures entered { OnOk result (self.new.entries ≡ without_entry self.old.entries group.name ++ mounted_entry group.name group.register.value.id ∷ []) }
         ensures groups { OnOk result (self.new.groups ≡ without_groups self.old.entries self.old.groups group.name ++ group ∷ []) }
         ensures refused { OnErr result ((self.new.groups ≡ self.old.groups) ⊎ (self.new.groups ≡ without_groups self.old.entries self.old.groups group.name)) }

@@ -16,7 +16,7 @@ returns-in-Ok-clause-transcript g c = λ w first.
     let knows : Knows c.new-program.result.desk.session w quiet = record { entries_are = rw new.session.0 first.no_entries; place_is = rw new.place first.at_top; below_is = first_below c.new-program.result.desk.session.entries c.new-program.result.desk.session.groups new.session.0; told = λ lengths. first_told w first.no_entries c.new-program.result.desk.session.groups } in
     let s = c.serve-outcome.ensures.serves w quiet 0 knows in
     let served = rw (new.marks, new.refused, new.manner, new.bay, new.sink, new.clock, new.paths) at s.serves in
-    rw (c.ended.ensures.outside.0, c.ended.ensures.outside.1, c.ended.ensures.outside.2) (generated-of _ c.args.number _ c.serve-outcome.result _ _ _ _ _ _ _ _ _ _ _ _ _ _ _ _ _ _ c.serve-outcome.new.self.refused _ first.no_entries (first_roster c.new-program.result.desk.session new.groups new.session.1)
+    rw (c.ended.ensures.outside.0, c.ended.ensures.outside.1, c.ended.ensures.outside.2) (generated-of _ c.args.number _ c.serve-outcome.result _ _ _ _ _ _ _ _ _ _ _ _ _ _ _ _ _ _ c.serve-outcome.new.self.refused _ (g.met.B.Bay.sound c.args.bay) first.no_entries (first_roster c.new-program.result.desk.session new.groups new.session.1)
     c.ended.ensures.status c.ended.ensures.marks s.rests (length-map _ string_bytes ∙ c.requires.four) c.requires.unquoted
     (c.in-Ok.ensures ∙ ap (λ images. generated_script c.args.number (map string_bytes images)) c.deref.ensures.value) served)
 
@@ -29,4 +29,4 @@ returns-in-Ok-clause-taken g c = (
 pub returns-in-Err-clause-transcript : goal.returns-in-Err-clause-transcript
 returns-in-Err-clause-transcript g c = λ w first.
     let done = c.nothing_done.ensures in
-    rw (done.outside.0, done.outside.1, done.outside.2) (generated-none _ c.args.number _ _ _ _ _ _ w first.no_entries (inr done.status) done.marks)
+    rw (done.outside.0, done.outside.1, done.outside.2) (generated-none _ c.args.number _ _ _ _ _ _ w (g.met.B.Bay.sound c.args.bay) first.no_entries (inr done.status) done.marks)

@@ -2,10 +2,10 @@ use Rattle.std.proofs.Common.{◌≡◌, List, length, ap, subst, refl, sym, ◌
 use Rattle.asm_base.specs.Refusals.{said}
 use Rattle.asm_world.specs.Command.{Said}
 use Rattle.asm_world.specs.Statement.{Alter, Dismount}
-use Rattle.asm_world.specs.World.{World, SessionEntry, entry_in, without_entry}
+use Rattle.asm_world.specs.World.{SessionEntry, entry_in, without_entry}
 use Rattle.group_engine.specs.Mounts.{MountedGroup}
 use Rattle.session.specs.Meaning.{meaning}
-use Rattle.session.specs.Sessions.{AreToldBy, Knows, groups_below, without_groups}
+use Rattle.session.specs.Sessions.{AreToldBy, groups_below, without_groups}
 use Rattle.session.proofs.Languages.{meaning_is}
 use Rattle.session.proofs.Entries.{none-leaves}
 use Rattle.session.proofs.Knowing.{groups_without_none, left_told}
