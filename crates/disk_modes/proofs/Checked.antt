@@ -23,10 +23,9 @@ use Rattle.disk_modes.specs.declared.changing.Changes.TheVariants as changes
 use Rattle.disk_modes.specs.declared.dropping.DropDisk.{DropDisk}
 use Rattle.disk_modes.specs.declared.records.NewModes.{NewModes}
 use Rattle.disk_modes.specs.declared.records.NewModes.TheVariants as modes
-use Rattle.disk_modes.specs.Causes.{drop_as}
 use Rattle.disk_modes.specs.Effects.{AreNamed, changes_for, is_dropped_by}
 use Rattle.disk_modes.specs.Directories.{IsLeft, LeavesCopy}
-use Rattle.disk_modes.specs.Modes.{AllTaken, other, takes}
+use Rattle.disk_modes.specs.Modes.{AllTaken, drop_as, other, takes}
 use Rattle.disk_modes.specs.Stops.{AreTaken, AreTakenAs, HasTwoTurns, MayMake, MayPut, TakesDisk}
 use Rattle.disk_modes.proofs.Naming.{small}
 use Rattle.disk_modes.proofs.Reasons.{of_record}

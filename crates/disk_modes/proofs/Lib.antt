@@ -3,6 +3,7 @@ pub mod Steps
 pub mod NextRecords
 pub mod Reasons
 pub mod Entries
+mod Ends
 pub mod Effects
 pub mod Naming
 pub mod Drops

@@ -46,6 +46,10 @@ lies_in c of name e = takes of e.quorum && is_in_group c name e
 abbrev pub is_attached : MountedGroup → ℕ → Bool
 is_attached m d = nat_lt d 64 && is_some (slot_at m.disks d)
 
+-- the set has the attached disks
+abbrev pub AreAttached : MountedGroup → ℕ → Type 0
+AreAttached m set = (d : ℕ) → d < 64 → has_bit set d ≡ is_attached m d
+
 -- the disk serves
 abbrev pub is_serving : MountedGroup → Entry → Bool
 is_serving m e = serves e.mode && is_attached m e.number

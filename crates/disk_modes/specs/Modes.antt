@@ -1,5 +1,5 @@
 -- Which modes statements on disks take.
-use Rattle.std.specs.Prelude.{◌≡◌, ℕ, ◌<◌, ◌&&◌, Bool, true, not, find, List, Option, Some}
+use Rattle.std.specs.Prelude.{◌≡◌, ℕ, ◌<◌, ◌&&◌, Bool, true, false, not, find, List, Option, Some}
 use Rattle.asm_group.specs.declared.GroupKind.{GroupKind}
 use Rattle.asm_group.specs.declared.GroupKind.TheVariants as kind
 use Rattle.asm_group.specs.declared.Mode.{Mode}
@@ -21,6 +21,11 @@ takes statement.Offline m = is_online m
 takes statement.Drop m = is_online m
 takes statement.Force m = not (is_forced m)
 takes statement.Resize m = serves m
+
+-- a disk is dropped with FORCE or without it
+abbrev pub drop_as : Bool → Statement
+drop_as true = statement.Force
+drop_as false = statement.Drop
 
 -- the first disk of the set whose mode the statement doesn't take
 abbrev pub other : Statement → ℕ → List Entry → Option Entry

@@ -17,9 +17,8 @@ use Rattle.disk_modes.specs.declared.checking.Statement.TheVariants as statement
 use Rattle.disk_modes.specs.declared.dropping.DropDisk.{DropDisk}
 use Rattle.disk_modes.specs.declared.records.NewModes.{NewModes}
 use Rattle.disk_modes.specs.declared.records.NewModes.TheVariants as modes
-use Rattle.disk_modes.specs.Causes.{drop_as}
 use Rattle.disk_modes.specs.Directories.{LeavesCopy}
-use Rattle.disk_modes.specs.Modes.{AllTaken, takes}
+use Rattle.disk_modes.specs.Modes.{AllTaken, drop_as, takes}
 use Rattle.disk_modes.specs.Records.{taken_off}
 use Rattle.disk_modes.specs.Sizes.{image_units, units_asked}
 use Rattle.disk_modes.specs.declared.sizes.Asked.{Asked}

@@ -7,9 +7,10 @@ ghost use Rattle.group_engine.specs.Mounts.{IsMounted, IsWhole, Takes};
 ghost use Rattle.group_engine.specs.Own.{KeepsGroup};
 ghost use Rattle.group_engine.specs.Pending.{GoesOn, StandsThrough, StaysMounted};
 ghost use Rattle.disk_modes.specs.declared.records.NewModes.TheVariants as modes;
-ghost use Rattle.disk_modes.specs.Causes.{DropRefused, drop_as};
+ghost use Rattle.disk_modes.specs.Causes.{DropCause, DropRefused, IsFirstState, IsStateOf, LeavesTooLittle};
 ghost use Rattle.disk_modes.specs.Directories.{LeavesCopy};
 ghost use Rattle.disk_modes.specs.Effects.{AreNamed, Drops, PutsBoth, Undrops, changes_for, has_dropping, undropping};
+ghost use Rattle.disk_modes.specs.Modes.{drop_as};
 ghost use Rattle.disk_modes.specs.Stops.{AreTakenAs, HasTwoTurns, MayPut, StaysHeld, TakesDisk};
 
 use crate::changing::{Changes, change_disks};
@@ -57,7 +58,7 @@ pub fn drop_disks<B: Bay>(
     ensures mounted { OnOk result (IsMounted m.new) }
     // Each disk that the statement names has the mode of its last option, and those with FORCE no directory copy.
     ensures done { OnOk result (Drops disks.now power m.old m.new) }
-    ensures cause { IfErr result (λ refusal. DropRefused m.old refusal ⊎ StatusCause m.old m.new (B.state bay.old) (B.state bay.new) refusal) }
+    ensures cause { IfErr result (λ refusal. DropRefused m.old disks.now refusal ⊎ StatusCause m.old m.new (B.state bay.old) (B.state bay.new) refusal) }
     // The group stays the one that it is, where turns don't run out: at each moment each image is held for it alone, whatever the
     // answer, and while it takes calls it is mounted. The record takes a turn; that of the commit costs a copy.
     ensures moments { HasTwoTurns m.old → StandsThrough m.old (B.state bay.old) (B.state bay.new) }
@@ -110,7 +111,7 @@ fn and_named(named: Named, disk: u8, force: bool) -> Named
 /// Tries the refusals of a DROP.
 fn check_drop(m: &Mounted, disks: &[DropDisk], named: &Named) -> Result<(), Refusal>
     requires { IsWhole m.now }
-    ensures cause { IfErr result (DropRefused m.now) }
+    ensures cause { IfErr result (DropCause m.now disks.now named.now.dropping named.now.forced) }
     ensures may { AreNamed disks.now named.now.dropping named.now.forced → OnOk result (MayPut (modes.Dropped named.now.dropping named.now.forced) m.now.register.value) }
 {
     match check_named(m, disks, named) {
@@ -121,7 +122,7 @@ fn check_drop(m: &Mounted, disks: &[DropDisk], named: &Named) -> Result<(), Refu
 
 /// Refused as DiskState by the first disk of the statement whose mode its option doesn't take.
 fn check_named(m: &Mounted, disks: &[DropDisk], named: &Named) -> Result<(), Refusal>
-    ensures cause { IfErr result (DropRefused m.now) }
+    ensures cause { IfErr result (IsFirstState m.now named.now.forced disks.now) }
     ensures taken { OnOk result (AreTakenAs m.now named.now.forced disks.now) }
 {
     for one in disks {
@@ -133,9 +134,8 @@ fn check_named(m: &Mounted, disks: &[DropDisk], named: &Named) -> Result<(), Ref
     Ok(())
 }
 
-#[tactic(auto, using(crate::proofs::Reasons::drop_state_by))]
 fn check_one(m: &Mounted, disk: u8, force: bool) -> Result<(), Refusal>
-    ensures cause { IfErr result (DropRefused m.now) }
+    ensures cause { IfErr result (IsStateOf (drop_as force) disk m.now.register.value.entries) }
     ensures taken { OnOk result (TakesDisk (drop_as force) disk m.now.register.value.entries) }
 {
     let alone = with_number(DiskSet::empty(), disk);
@@ -156,7 +156,7 @@ fn drop_as(force: bool) -> Statement
 #[tactic(auto, using(crate::proofs::Reasons::drop_copies_by))]
 fn check_copies(m: &Mounted, named: &Named) -> Result<(), Refusal>
     requires { IsWhole m.now }
-    ensures cause { IfErr result (DropRefused m.now) }
+    ensures cause { IfErr result (LeavesTooLittle m.now named.now.dropping named.now.forced) }
     ensures left { OnOk result (LeavesCopy m.now.register.value.directories named.now.forced) }
 {
     match check_directories(directories_of(m.status()), named.forced) {
@@ -168,7 +168,7 @@ fn check_copies(m: &Mounted, named: &Named) -> Result<(), Refusal>
 #[tactic(auto, using(crate::proofs::Reasons::drop_losing_by))]
 fn check_current(m: &Mounted, named: &Named) -> Result<(), Refusal>
     requires { IsWhole m.now }
-    ensures { IfErr result (DropRefused m.now) }
+    ensures { IfErr result (LeavesTooLittle m.now named.now.dropping named.now.forced) }
 {
     if named.forced.bits() == 0 {
         return check_left(m, named);
@@ -188,7 +188,7 @@ fn check_current(m: &Mounted, named: &Named) -> Result<(), Refusal>
 #[tactic(auto, using(crate::proofs::Reasons::drop_groups_by))]
 fn check_left(m: &Mounted, named: &Named) -> Result<(), Refusal>
     requires { IsWhole m.now }
-    ensures { IfErr result (DropRefused m.now) }
+    ensures { IfErr result (LeavesTooLittle m.now named.now.dropping named.now.forced) }
 {
     if named.dropping.bits() == 0 {
         return Ok(());

@@ -95,7 +95,6 @@ fn check_copies(m: &Mounted, disks: DiskSet) -> Result<(), Refusal>
     }
 }
 
-#[tactic(auto, using(crate::proofs::Reasons::offline_losing_by))]
 fn check_usable(m: &Mounted, disks: DiskSet) -> Result<(), Refusal>
     ensures { IfErr result (OfflineRefused m.now disks) }
 {

@@ -38,7 +38,7 @@ pub fn resize_disks<B: Bay>(
     ensures mounted { OnOk result (IsMounted m.new) }
     // The disks have the units of the size, or of their images, and a rebalance is active.
     ensures done { OnOk result (Resizes disks size power m.old m.new) }
-    ensures cause { IfErr result (λ refusal. ResizeRefused m.old disks refusal ⊎ StatusCause m.old m.new (B.state bay.old) (B.state bay.new) refusal) }
+    ensures cause { IfErr result (λ refusal. ResizeRefused m.old (record { disks = disks; size = size }) refusal ⊎ StatusCause m.old m.new (B.state bay.old) (B.state bay.new) refusal) }
     // The group stays the one that it is: at each moment each image is held for it alone, whatever the answer, and while it takes
     // calls it is mounted. The record takes a turn; that of the commit costs a copy.
     ensures moments { StandsThrough m.old (B.state bay.old) (B.state bay.new) }
@@ -56,7 +56,7 @@ pub fn resize_disks<B: Bay>(
 /// Tries the refusals of a RESIZE.
 #[tactic(auto, using(crate::proofs::Reasons::resize_state_by))]
 fn check_resize(m: &Mounted, asked: &Asked) -> Result<(), Refusal>
-    ensures cause { IfErr result (ResizeRefused m.now asked.now.disks) }
+    ensures cause { IfErr result (ResizeRefused m.now asked.now) }
     ensures fit { OnOk result (FitImages asked.now m.now) }
 {
     match check_modes(m.status().entries(), asked.disks, Statement::Resize) {

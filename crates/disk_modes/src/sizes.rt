@@ -1,13 +1,17 @@
 // The units that disks have, need and are to have.
-ghost use Rattle.std.specs.Prelude.{◌≡◌, ◌≤◌, IfErr, OnOk, true};
+ghost use Rattle.std.specs.Prelude.{◌≡◌, ◌⊎◌, ℕ, ◌+◌, ◌*◌, ◌<◌, ◌≤◌, ◌^◌, IfErr, IfSome, OnOk, Some, get_or, length, true};
+ghost use Rattle.asm_formats.specs.Among.{IsAmong};
+ghost use Rattle.asm_formats.specs.Regions.{reserved_units};
 ghost use Rattle.asm_formats.specs.Sets.{has_bit};
-ghost use Rattle.disk_modes.specs.Causes.{ResizeRefused};
+ghost use Rattle.asm_placement.specs.Layout.{units_of};
+ghost use Rattle.disk_modes.specs.Causes.{AreEnds, IsEnd, IsExtentAt, IsHomeEnd, IsTooSmall, ResizeRefused};
 ghost use Rattle.disk_modes.specs.Sizes.{image_units, units_asked, units_in};
 ghost use Rattle.disk_modes.specs.Stops.{FitImages};
 
 use asm_base::{DiskRef, DiskSet, Home, Homes, Refusal, Shape};
 use catalog::Catalog;
 use group_engine::Mounted;
+use striping::units_of;
 
 /// The most units that a disk may have.
 const MOST_UNITS: u64 = 16_777_216;
@@ -56,19 +60,21 @@ fn units_in(shape: &Shape, bytes: u64) -> u64
 }
 
 /// The units that a disk needs: those of its directory region with 16 for users, and those up to its last used one.
-fn least_units(shape: &Shape, used: u64) -> u64 {
+fn least_units(shape: &Shape, used: u64) -> u64
+    ensures { (result ≡ reserved_units shape.now + 16) ⊎ (result ≡ used) }
+{
     let au = shape.au as u64;
     if au == 0 {
         return used;
     }
     let blocks = 14 + 2 * shape.dir_blocks as u64;
     let reserved = (blocks * 4096 + (au - 1)) / au;
-    reserved.saturating_add(LEAST_USER_UNITS).max(used)
+    (reserved + LEAST_USER_UNITS).max(used)
 }
 
 /// Refused as TooSmall by the least of the disks whose image has fewer units than it is to have, or that needs more.
 pub(crate) fn check_sizes(m: &Mounted, asked: &Asked) -> Result<(), Refusal>
-    ensures cause { IfErr result (ResizeRefused m.now asked.now.disks) }
+    ensures cause { IfErr result (ResizeRefused m.now asked.now) }
     ensures fit { OnOk result (FitImages asked.now m.now) }
 {
     let ends = used_ends(m.catalog());
@@ -83,7 +89,8 @@ pub(crate) fn check_sizes(m: &Mounted, asked: &Asked) -> Result<(), Refusal>
 
 /// The same of one disk, with the units up to its last used one.
 fn check_size(m: &Mounted, asked: &Asked, disk: u8, used: u64) -> Result<(), Refusal>
-    ensures cause { IfErr result (ResizeRefused m.now asked.now.disks) }
+    requires { IsEnd m.now.catalog disk used }
+    ensures cause { IfErr result (ResizeRefused m.now asked.now) }
     ensures fits { OnOk result (has_bit asked.now.disks disk ≡ true → units_asked m.now.catalog.shape m.now.disks asked.now.size disk ≤ image_units m.now.catalog.shape m.now.disks disk) }
 {
     if !asked.disks.has(disk) {
@@ -101,7 +108,9 @@ fn check_size(m: &Mounted, asked: &Asked, disk: u8, used: u64) -> Result<(), Ref
 }
 
 fn too_small(m: &Mounted, asked: &Asked, disk: u8, need: u64) -> Result<(), Refusal>
-    ensures cause { IfErr result (ResizeRefused m.now asked.now.disks) }
+    requires named { has_bit asked.now.disks disk ≡ true }
+    requires small { IsTooSmall m.now asked.now disk need }
+    ensures cause { IfErr result (ResizeRefused m.now asked.now) }
     ensures refused { OnOk result ⊥ }
 {
     let _group = m.status();
@@ -113,40 +122,57 @@ fn too_small(m: &Mounted, asked: &Asked, disk: u8, need: u64) -> Result<(), Refu
 }
 
 /// Of each disk the units up to its last used one. It goes over the extents once.
-fn used_ends(catalog: &Catalog) -> [u64; 64] {
+fn used_ends(catalog: &Catalog) -> [u64; 64]
+    ensures { AreEnds catalog.now result }
+{
     let mut ends = [0u64; 64];
     for (at, chunk) in catalog.chunks() {
-        end_behind(&mut ends, catalog, at.1, chunk.as_slice());
+        end_behind(&mut ends, catalog, *at, chunk.as_slice());
     }
     ends
 }
 
 /// The same with the extents of a chunk.
-fn end_behind(ends: &mut [u64], catalog: &Catalog, chunk: u32, extents: &[Homes]) {
-    let mut index = chunk as u64 * 256;
+fn end_behind(ends: &mut [u64], catalog: &Catalog, at: (u32, u32), extents: &[Homes])
+    requires ends { AreEnds catalog.now ends.old }
+    requires there { IsAmong catalog.now.tables.extents (at, extents.now) }
+    requires few { length extents.now ≤ 256 }
+    ensures { AreEnds catalog.now ends.new }
+{
+    let mut index = at.1 as u64 * 256;
     for homes in extents {
-        let units = catalog.units_of(index.min(u32::MAX as u64) as u32) as u64;
-        end_behind_homes(ends, units, homes);
-        index = index.saturating_add(1);
+        end_behind_homes(ends, catalog, index, homes);
+        index += 1;
     }
 }
 
-/// The same with the copies of an extent of so many units.
-fn end_behind_homes(ends: &mut [u64], units: u64, homes: &Homes) {
+/// The same with the copies of an extent.
+fn end_behind_homes(ends: &mut [u64], catalog: &Catalog, index: u64, homes: &Homes)
+    requires ends { AreEnds catalog.now ends.old }
+    requires there { IsExtentAt catalog.now index homes.now }
+    ensures { AreEnds catalog.now ends.new }
+{
+    let units = units_of(catalog.shape().step, index) as u64;
     let homes = *homes;
-    end_behind_home(ends, units, homes.first);
-    end_behind_home(ends, units, homes.second);
-    end_behind_home(ends, units, homes.third);
+    end_behind_home(ends, catalog, units, homes.first);
+    end_behind_home(ends, catalog, units, homes.second);
+    end_behind_home(ends, catalog, units, homes.third);
 }
 
 /// The same with one copy.
-fn end_behind_home(ends: &mut [u64], units: u64, home: Option<Home>) {
+fn end_behind_home(ends: &mut [u64], catalog: &Catalog, units: u64, home: Option<Home>)
+    requires ends { AreEnds catalog.now ends.old }
+    requires few { units ≤ 16 }
+    requires there { IfSome home (λ h. IsHomeEnd catalog.now h.disk (h.unit + units)) }
+    ensures { AreEnds catalog.now ends.new }
+{
+    let _catalog = catalog.shape();
     let Some(home) = home else {
         return;
     };
     let place = home.disk as usize;
     if place < ends.len() {
-        let end = (home.unit as u64).saturating_add(units);
+        let end = home.unit as u64 + units;
         ends[place] = ends[place].max(end);
     }
 }

@@ -13,9 +13,8 @@ use Rattle.disk_modes.specs.declared.dropping.DropDisk.{DropDisk}
 use Rattle.disk_modes.specs.declared.records.Becomes.{Becomes}
 use Rattle.disk_modes.specs.declared.records.Becomes.TheVariants as becomes
 use Rattle.disk_modes.specs.declared.records.NewModes.TheVariants as modes
-use Rattle.disk_modes.specs.Causes.{drop_as}
 use Rattle.disk_modes.specs.Effects.{drop_to, entry_dropped, has_dropping, option_of}
-use Rattle.disk_modes.specs.Modes.{takes}
+use Rattle.disk_modes.specs.Modes.{drop_as, takes}
 use Rattle.disk_modes.specs.Records.{entries_after, entry_after, entry_as}
 use Rattle.disk_modes.specs.Sizes.{entry_resized, units_asked}
 use Rattle.mode_laws.specs.Events.{EntryChange, ModeChange, ModeEvent, by_drop, by_force, by_offline, by_undrop, mode_after, times_after, offline_times, mode_if}

@@ -8,9 +8,8 @@ use Rattle.group_engine.specs.Mounts.{MountedGroup}
 use Rattle.disk_modes.specs.declared.checking.Statement.{Statement}
 use Rattle.disk_modes.specs.declared.checking.Statement.TheVariants as statement
 use Rattle.disk_modes.specs.declared.dropping.DropDisk.{DropDisk}
-use Rattle.disk_modes.specs.Causes.{drop_as}
 use Rattle.disk_modes.specs.Effects.{Drops, PutsRebalance, TakesOffline, Undrops, option_of}
-use Rattle.disk_modes.specs.Modes.{takes}
+use Rattle.disk_modes.specs.Modes.{drop_as, takes}
 use Rattle.disk_modes.specs.Sizes.{Resizes, units_asked}
 use Rattle.mode_laws.specs.Events.{ModeChange, ModeEvent, by_drop, by_force, by_offline, by_resize, by_undrop}
 

@@ -21,13 +21,13 @@ pub returns-in-Ok-clause-cause : goal.returns-in-Ok-clause-cause
 returns-in-Ok-clause-cause g c =
     let s = g.B.Bay.state c.args.bay.now in
     let t = g.B.Bay.state c.drop_named.new.bay in
-    on_err (StatusCause c.args.m.now c.drop_named.new.m s t) (λ (refusal : Refusal). DropRefused c.args.m.now refusal ⊎ StatusCause c.args.m.now c.drop_named.new.m s t refusal) c.drop_named.result (λ refusal why. inr why) c.drop_named.ensures.goes.cause
+    on_err (StatusCause c.args.m.now c.drop_named.new.m s t) (λ (refusal : Refusal). DropRefused c.args.m.now c.args.disks.now refusal ⊎ StatusCause c.args.m.now c.drop_named.new.m s t refusal) c.drop_named.result (λ refusal why. inr why) c.drop_named.ensures.goes.cause
 
 pub returns-in-Err-clause-keeps : goal.returns-in-Err-clause-keeps
 returns-in-Err-clause-keeps g c = kept c.args.m.now (g.B.Bay.state c.args.bay.now) c.requires.takes
 
 pub returns-in-Err-clause-cause : goal.returns-in-Err-clause-cause
-returns-in-Err-clause-cause g c = inl c.in-Err.ensures.cause
+returns-in-Err-clause-cause g c = inl (c.named_by-named.result.dropping, c.named_by-named.result.forced, c.named_by-named.ensures, c.in-Err.ensures.cause)
 
 pub check_drop-requires : goal.check_drop-requires
 check_drop-requires g c = (c.requires.takes c.in_ok-takes_calls.ensures.ok).0

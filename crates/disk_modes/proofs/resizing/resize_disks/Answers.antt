@@ -20,7 +20,7 @@ pub returns-in-Ok-clause-cause : goal.returns-in-Ok-clause-cause
 returns-in-Ok-clause-cause g c =
     let s = g.B.Bay.state c.args.bay.now in
     let t = g.B.Bay.state c.resize.new.bay in
-    on_err (StatusCause c.args.m.now c.resize.new.m s t) (λ (refusal : Refusal). ResizeRefused c.args.m.now c.args.disks refusal ⊎ StatusCause c.args.m.now c.resize.new.m s t refusal) c.resize.result (λ refusal why. inr why) c.resize.ensures.goes.cause
+    on_err (StatusCause c.args.m.now c.resize.new.m s t) (λ (refusal : Refusal). ResizeRefused c.args.m.now (record { disks = c.args.disks; size = c.args.size }) refusal ⊎ StatusCause c.args.m.now c.resize.new.m s t refusal) c.resize.result (λ refusal why. inr why) c.resize.ensures.goes.cause
 
 pub returns-in-Err-clause-keeps : goal.returns-in-Err-clause-keeps
 returns-in-Err-clause-keeps g c = kept c.args.m.now (g.B.Bay.state c.args.bay.now) c.requires.takes
