@@ -1,11 +1,13 @@
 -- Several commits that take no new block, as they end a pending operation.
-use Rattle.std.specs.Prelude.{◌≡◌, ℕ, ◌+◌, ◌<◌, ◌≤◌, ◌^◌, List, [], ◌∷◌, IfErr, OnOk, Option, Some, None, Result}
+use Rattle.std.specs.Prelude.{◌≡◌, ℕ, ◌+◌, ◌<◌, ◌≤◌, ◌^◌, List, [], ◌∷◌, length, filter, IfErr, OnOk, Option, Some, None, Result}
 use Rattle.bay.specs.Moments.{LeavesOnly}
 use Rattle.bay.specs.State.{BayState}
 use Rattle.asm_group.specs.Group.{Group}
 use Rattle.asm_group.specs.Shape.{Shape}
 use Rattle.asm_base.specs.declared.refusal.Refusal.{Refusal}
 use Rattle.asm_formats.specs.Items.{FileHead}
+use Rattle.asm_formats.specs.Status.{Entry}
+use Rattle.asm_placement.specs.Modes.{serves}
 use Rattle.asm_images.specs.Kept.{Kept}
 use Rattle.catalog.specs.FilePlans.{HasSoMany}
 use Rattle.catalog_tables.specs.Tables.{Tables}
@@ -26,6 +28,19 @@ pub record GoesOn (old : MountedGroup) (answer : Result (Unit {0}) Refusal) (new
 -- Turns don't run out, whichever of the group's directory copies are given up.
 abbrev pub HasTurns : MountedGroup → Type 0
 HasTurns m = turns_at_most m + 1 < 2 ^ 64
+
+-- how many disks serve reads and writes
+abbrev pub serving_in : List Entry → ℕ
+serving_in entries = length (filter (λ (e : Entry). serves e.mode) entries)
+
+-- The turns that were taken, and one for each copy and each disk that may fail still: a record by which disks are taken Offline costs one
+-- that served.
+abbrev pub turns_with_faults : MountedGroup → ℕ
+turns_with_faults m = turns_at_most m + serving_in m.register.value.entries
+
+-- Turns don't run out, whatever fails.
+abbrev pub OutlastsFaults : MountedGroup → Type 0
+OutlastsFaults m = turns_with_faults m + 1 < 2 ^ 64
 
 -- Each image of each moment from s to t is held for the group that was mounted, and for no other.
 abbrev pub StandsThrough : MountedGroup → BayState → BayState → Type 0

@@ -1,5 +1,5 @@
 -- The record with failed disks Offline changes modes alone.
-use Rattle.std.proofs.Common.{◌≡◌, ⊎_elim, ℕ, ◌<◌, ◌^◌, Bool, true, false, cond, List, [], ◌∷◌, refl, sym, ap, subst, ◌∙◌, Option, Some}
+use Rattle.std.proofs.Common.{◌≡◌, ⊎_elim, ℕ, ◌<◌, Bool, true, false, cond, List, [], ◌∷◌, refl, sym, ap, subst, ◌∙◌, Option}
 use Rattle.std.specs.Prelude.{◌&&◌, ◌||◌, nat_lt}
 use Rattle.std.specs.List.{list_all, list_any}
 use Rattle.std.proofs.lemmas.Bool.{and_parts, false≢true, ltb-true, true≢false}
@@ -10,8 +10,7 @@ use Rattle.asm_base.specs.declared.kinds.ExtentId.{ExtentId}
 use Rattle.asm_formats.specs.Among.{IsAmong}
 use Rattle.asm_formats.specs.Sets.{has_bit, most_disks}
 use Rattle.asm_formats.specs.Items.{Home}
-use Rattle.asm_formats.specs.Status.{ascends_from, Entry, Status, entry_of, is_entry, is_status}
-use Rattle.asm_placement.specs.DiskSets.{numbers}
+use Rattle.asm_formats.specs.Status.{Entry, Status, entry_of, is_entry, is_status}
 use Rattle.asm_placement.specs.Copies.{entry_at_home, is_on}
 use Rattle.asm_placement.specs.Modes.{is_dropping, is_forced, mode_is, serves, stays}
 use Rattle.asm_placement.proofs.Chosen.{entry_found}
@@ -23,6 +22,7 @@ use Rattle.record_laws.specs.Getting.{ChangesModesAlone}
 use Rattle.record_laws.proofs.Changing.{modes_join, modes_of_each}
 use Rattle.record_laws.proofs.Partners.{table_is_made, table_stays}
 use Rattle.group_engine.specs.Mounts.{MountedGroup}
+use Rattle.group_engine.proofs.Records.{record_parts}
 use Rattle.group_pieces.specs.Failing.{AreServing, FailsModes, entry_failed, is_dropping_in, status_failed, taken_off}
 use Rattle.group_pieces.specs.Copies.{FailedAlone}
 use Rattle.group_pieces.specs.Usable.{extent_of, places_at}
@@ -64,33 +64,25 @@ small_number : (e : Entry) → is_entry e ≡ true → e.number < 64
 unfolding is_entry
 small_number e is = ltb-true e.number 64 (and_parts (nat_lt e.number most_disks) _ is).0
 
-all_entries : (r : Status) → is_status r ≡ true → list_all is_entry r.entries ≡ true
-unfolding is_status
-all_entries r h =
-    let a = (and_parts (nat_lt r.id (2 ^ 64)) _ h).1 in
-    let b = (and_parts (nat_lt r.epoch (2 ^ 64)) _ a).1 in
-    let c = (and_parts (nat_lt r.turn (2 ^ 64)) _ b).1 in
-    let d = (and_parts (nat_lt r.births (2 ^ 64)) _ c).1 in
-    let e = (and_parts (nat_lt r.holders (2 ^ 64)) _ d).1 in
-    let f = (and_parts (nat_lt r.next_holders (2 ^ 64)) _ e).1 in
-    let g = (and_parts (nat_lt r.directories (2 ^ 64)) _ f).1 in
-    (and_parts (list_all is_entry r.entries) _ g).0
-
 pub small_numbers : (r : Status) → is_status r ≡ true → (e : Entry) → IsAmong r.entries e → e.number < 64
-small_numbers r is e among = small_number e (all_of is_entry r.entries e (all_entries r is) among)
+small_numbers r is e among = small_number e (all_of is_entry r.entries e (record_parts r is).entries among)
 
-module _ (failed since repair : ℕ) (r : Status) where
+module _ (failed since repair : ℕ) (r : Status) (allowed : is_status r ≡ true) where
   abbrev change : Entry → Entry
   change = entry_failed failed 64 since repair
 
   abbrev next : Status
   next = status_failed r failed 64 since repair
 
+  -- the entry of a disk of the set serves
+  entry_serves : AreServing r.entries failed → (e : Entry) → IsAmong r.entries e → e.number < 64 → has_bit failed e.number ≡ true → serves e.mode ≡ true
+  entry_serves serving e among small bit = ap (mode_is serves) (sym (entry_found 0 r.entries e (record_parts r allowed).order among)) ∙ serving e.number small bit
+
   keeps_disk : AreServing r.entries failed → (e : Entry) → IsAmong r.entries e → KeepsDisk e (change e)
   keeps_disk serving e among = record { disk = bare_failed failed since repair 64 e; forced = go (nat_lt e.number 64 && has_bit failed e.number) refl }
     where
       go : (b : Bool) → (nat_lt e.number 64 && has_bit failed e.number) ≡ b → is_forced e.mode ≡ true → is_forced (cond b (taken_off since repair e) e).mode ≡ true
-      go true is forced = let p = and_parts (nat_lt e.number 64) (has_bit failed e.number) is in absurd (serving_unforced e.mode (serving e among (ltb-true e.number 64 p.0) p.1) forced)
+      go true is forced = let p = and_parts (nat_lt e.number 64) (has_bit failed e.number) is in absurd (serving_unforced e.mode (entry_serves serving e among (ltb-true e.number 64 p.0) p.1) forced)
       go false is forced = forced
 
   modes : AreServing r.entries failed → ChangesModesAlone r next
@@ -107,7 +99,7 @@ module _ (failed since repair : ℕ) (r : Status) where
       go true is =
           let p = and_parts (nat_lt e.number 64) (has_bit failed e.number) is in
           let out = not_dropping (is_dropping e.mode) (has_bit failed e.number) (none_of (is_dropping_in failed) r.entries e none among) p.1 in
-          record { number = refl; failgroup = refl; quorum = refl; partners = refl; stays = sym (serving_stays e.mode (serving e among (ltb-true e.number 64 p.0) p.1) out) }
+          record { number = refl; failgroup = refl; quorum = refl; partners = refl; stays = sym (serving_stays e.mode (entry_serves serving e among (ltb-true e.number 64 p.0) p.1) out) }
       go false is = record { number = refl; failgroup = refl; quorum = refl; partners = refl; stays = refl }
 
   -- none of the disks was being dropped
@@ -117,36 +109,22 @@ module _ (failed since repair : ℕ) (r : Status) where
 
   -- the partners are made anew
   pub fails_partners : (q : Status) (sets : List ℕ) → q ≡ next → is_status q ≡ true → entries_with_partners q.entries sets ≡ with_partners q.entries → FailsModes r failed (status_with_partners q sets)
-  fails_partners q sets is allowed made serving partners =
+  fails_partners q sets is after made serving partners =
       let joined : ChangesModesAlone q (record q { entries = with_partners q.entries }) = modes_of_each q (λ (e : Entry). record e { partners = partner_set q.entries e.number }) (λ e among. record { disk = refl; forced = λ forced. forced }) in
       subst (λ (es : List Entry). ChangesModesAlone r (record q { entries = es }) × HasPartners es) (sym made) (
         modes_join r q (record q { entries = with_partners q.entries }) (subst (λ (z : Status). ChangesModesAlone r z) (sym is) (modes serving)) joined,
-        table_is_made q.entries (small_numbers q allowed),
+        table_is_made q.entries (small_numbers q after),
       )
 
 -- ---- disks of places
 
-ascending : (r : Status) → is_status r ≡ true → ascends_from 0 (numbers r.entries) ≡ true
-unfolding is_status
-ascending r h =
-    let a = (and_parts (nat_lt r.id (2 ^ 64)) _ h).1 in
-    let b = (and_parts (nat_lt r.epoch (2 ^ 64)) _ a).1 in
-    let c = (and_parts (nat_lt r.turn (2 ^ 64)) _ b).1 in
-    let d = (and_parts (nat_lt r.births (2 ^ 64)) _ c).1 in
-    let e = (and_parts (nat_lt r.holders (2 ^ 64)) _ d).1 in
-    let f = (and_parts (nat_lt r.next_holders (2 ^ 64)) _ e).1 in
-    let g = (and_parts (nat_lt r.directories (2 ^ 64)) _ f).1 in
-    let i = (and_parts (list_all is_entry r.entries) _ g).1 in
-    (and_parts (ascends_from 0 (numbers r.entries)) _ i).0
-
 -- the disks of usable copies serve
-pub failed_serve : (m : MountedGroup) (x : ExtentId) (inner failed : ℕ) (s t : BayState) → is_status m.register.value ≡ true → FailedAlone (places_at m x inner) failed s t → AreServing m.register.value.entries failed
-failed_serve m x inner failed s t allowed alone e among small bit =
+pub failed_serve : (m : MountedGroup) (x : ExtentId) (inner failed : ℕ) (s t : BayState) → FailedAlone (places_at m x inner) failed s t → AreServing m.register.value.entries failed
+failed_serve m x inner failed s t alone k small bit =
     let entries = m.register.value.entries in
-    let f = alone e.number small bit in
+    let f = alone k small bit in
     let place = some_place m (extent_of m x) inner f.0 f.1 in
-    let disk : place.at.home.disk ≡ e.number = sym place.at.disk ∙ f.2 in
+    let disk : place.at.home.disk ≡ k = sym place.at.disk ∙ f.2 in
     let served : mode_is serves (entry_of entries place.at.home.disk) ≡ true =
     ap (λ (o : Option Home). mode_is serves (entry_at_home entries o)) (sym place.at.at) ∙ (and_parts (is_on serves entries (copy_of (extent_of m x) place.copy)) _ place.at.readable).0 in
-    let found : entry_of entries place.at.home.disk ≡ Some e = ap (entry_of entries) disk ∙ entry_found 0 entries e (ascending m.register.value allowed) among in
-    subst (λ (o : Option Entry). mode_is serves o ≡ true) found served
+    subst (λ (d : ℕ). mode_is serves (entry_of entries d) ≡ true) disk served

@@ -13,6 +13,7 @@ pub mod Leaving
 pub mod Marked
 pub mod Failed
 pub mod FailedModes
+pub mod FewerServing
 pub mod Steps
 pub mod Written
 pub mod Holding

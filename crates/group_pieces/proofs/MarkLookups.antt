@@ -97,7 +97,7 @@ module _ (t : Tables) (are : AreTables t) (f i set : ℕ) where
 
   -- homes stay, and so do marks
   pub marks_more : MarksMore t (with_marks_changed t f i set 0)
-  marks_more = record { extents = refl; marks = more }
+  marks_more = record { names = record { files = refl; nodes = refl; templates = refl }; extents = refl; marks = more }
     where
       more : (a j c : ℕ) → c < 3 → has_bit (marks_of t a j) c ≡ true → has_bit (marks_of (with_marks_changed t f i set 0) a j) c ≡ true
       more a j c lt is = ⊎_elim
@@ -111,4 +111,4 @@ module _ (t : Tables) (are : AreTables t) (f i set : ℕ) where
           (cases_eq a f)
 
 pub marks_same : (t : Tables) → MarksMore t t
-marks_same t = record { extents = refl; marks = λ f i k lt is. is }
+marks_same t = record { names = record { files = refl; nodes = refl; templates = refl }; extents = refl; marks = λ f i k lt is. is }

@@ -7,13 +7,14 @@ use Rattle.asm_base.specs.declared.refusal.Refusal.{Refusal}
 use Rattle.asm_base.specs.declared.refusal.Refusal.TheVariants as cause
 use Rattle.group_engine.specs.Commits.{StatusCause}
 use Rattle.group_engine.specs.Making.{IsShut}
-use Rattle.group_engine.specs.Mounts.{MountedGroup, Takes}
+use Rattle.group_engine.specs.Mounts.{IsMounted, MountedGroup, Takes}
 use Rattle.group_engine.specs.Own.{KeepsGroup}
 use Rattle.group_engine.specs.declared.access.Access.{Access}
 use Rattle.group_engine.specs.declared.access.Access.TheVariants as access
 use Rattle.group_engine.proofs.Causes.{nothing_kept}
 use Rattle.group_pieces.specs.declared.writing.WriteError.{WriteError}
 use Rattle.group_pieces.specs.declared.writing.WriteError.TheVariants as writes
+use Rattle.group_pieces.specs.Held.{PieceStays}
 use Rattle.group_pieces.specs.Pieces.{WritePieceCause, refusal_of}
 use Rattle.group_pieces.specs.Writes.{IsWriteCause}
 
@@ -55,3 +56,27 @@ shut_cause m x inner s t e = go m.access refl
 pub fault_cause : (old new : MountedGroup) (x : ExtentId) (inner : ℕ) (s t : BayState) (e : WriteError) → IsWriteCause old x inner s t e → WritePieceCause old x inner new s t (refusal_of x e)
 fault_cause old new x inner s t writes.Lost why = (refl, why)
 fault_cause old new x inner s t (writes.Fault disk) why = why
+
+-- ---- whether the group takes calls still
+
+-- no call changed it
+pub mounted_stays : (m : MountedGroup) (answer : Result ℕ Refusal) → IsMounted m → PieceStays answer m
+mounted_stays m (Ok failed) mounted = mounted
+mounted_stays m (Err (cause.WriteFault by)) mounted = mounted
+mounted_stays m (Err (cause.Lost x)) mounted = mounted
+mounted_stays m (Err _) mounted = tt
+
+-- it took none before
+pub shut_stays : (m : MountedGroup) (e : Refusal) → IsShut m.access e → PieceStays (Err e) m
+shut_stays m e = go m.access
+  where
+    go : (a : Access) → IsShut a e → PieceStays (Err e) m
+    go access.Mounted shut = absurd shut
+    go (access.Dismounted d) shut = subst (λ (r : Refusal). PieceStays (Err r) m) (sym shut) tt
+    go access.Closed shut = subst (λ (r : Refusal). PieceStays (Err r) m) (sym shut) tt
+
+-- what failed couldn't be recorded
+pub unrecorded_stays : (old new : MountedGroup) (s t : BayState) (e : Refusal) → StatusCause old new s t e → PieceStays (Err e) new
+unrecorded_stays old new s t (cause.WriteFault by) why = absurd why
+unrecorded_stays old new s t (cause.Lost x) why = absurd why
+unrecorded_stays old new s t _ why = tt

@@ -1,11 +1,12 @@
 -- What the disks hold of a mounted group while bytes of its files are written.
-use Rattle.std.specs.Prelude.{◌≡◌, ◌⊎◌, ℕ, ◌≤◌, true, [], ◌∷◌, length, get_or, Some, None, IfOk, OnErr, OnOk, Result}
+use Rattle.std.specs.Prelude.{◌≡◌, ◌⊎◌, ⊤, ℕ, ◌≤◌, true, [], ◌∷◌, length, get_or, Some, None, IfOk, OnErr, OnOk, Result, Ok, Err}
 use Rattle.bay.specs.Moments.{LeavesOnly, NowOnly}
 use Rattle.bay.specs.State.{BayState}
 use Rattle.asm_group.specs.Group.{Group}
 use Rattle.asm_group.specs.Names.{Bytes}
 use Rattle.asm_base.specs.declared.kinds.ExtentId.{ExtentId}
 use Rattle.asm_base.specs.declared.refusal.Refusal.{Refusal}
+use Rattle.asm_base.specs.declared.refusal.Refusal.TheVariants as cause
 use Rattle.asm_formats.specs.Items.{Home}
 use Rattle.asm_formats.specs.Regions.{reserved_units}
 use Rattle.asm_formats.specs.Sets.{has_bit}
@@ -15,10 +16,11 @@ use Rattle.asm_images.specs.Spans.{freed, settled}
 use Rattle.asm_images.specs.WriteLaws.{AreApart}
 use Rattle.catalog_tables.specs.Rules.{homes_at, marks_of}
 use Rattle.piece_laws.specs.Rewriting.{Rewrites}
+use Rattle.group_of.specs.Describing.{KeepsNames}
 use Rattle.group_engine.specs.declared.flight.Flight.{Flight}
 use Rattle.group_engine.specs.Commits.{StandsIn}
 use Rattle.group_engine.specs.Mounts.{IsMounted, MountedGroup, Mounts}
-use Rattle.group_engine.specs.Pending.{HasTurns}
+use Rattle.group_engine.specs.Pending.{HasTurns, turns_with_faults}
 use Rattle.group_pieces.specs.declared.writing.WriteError.{WriteError}
 use Rattle.group_pieces.specs.Bytes.{UserBytes, WritesBytes}
 use Rattle.group_pieces.specs.Copies.{HaveBut}
@@ -94,6 +96,13 @@ pub record TakesBytes (n : ℕ) (m : MountedGroup) (s : BayState) (g : Group) (k
   pub spare : FlightIsSpare m
   pub turns : HasTurns m
 
+-- a group takes calls still once a piece is written, and where each copy failed or none was usable
+abbrev pub PieceStays : Result ℕ Refusal → MountedGroup → Type 0
+PieceStays (Ok failed) new = IsMounted new
+PieceStays (Err (cause.WriteFault by)) new = IsMounted new
+PieceStays (Err (cause.Lost x)) new = IsMounted new
+PieceStays (Err _) new = ⊤
+
 -- A piece was written, on a group that is mounted.
 pub record PieceHeld (m : MountedGroup) (x : ExtentId) (inner : ℕ) (bytes : Bytes) (answer : Result ℕ Refusal) (new : MountedGroup) (s t : BayState) : Type 0 where
   -- each image of each moment is held for the group with the piece's cells Free
@@ -102,6 +111,12 @@ pub record PieceHeld (m : MountedGroup) (x : ExtentId) (inner : ℕ) (bytes : By
   -- once it is done, the group with the bytes is mounted
   pub done : OnOk answer ((n : ℕ) (g : Group) (kept : Kept) → TakesBytes n m s g kept → (later : Kept) × (later.slots ≡ kept.slots) × Mounts n new t (piece_written x inner bytes g) later)
   -- the new copy of the move that is on its way is spare still
-  pub spare : OnOk answer (FlightIsSpare m → FlightIsSpare new)
+  pub spare : IsMounted new → FlightIsSpare m → FlightIsSpare new
   -- where it was refused and the group takes calls, the one with the piece's cells Free is
   pub refused : IsMounted new → OnErr answer ((n : ℕ) (g : Group) (kept : Kept) → Mounts n m s g kept → Mounts n new t (piece_freed x inner (length bytes) g) kept)
+  -- it takes no calls only where it was dismounted, or memory was short
+  pub mounted : PieceStays answer new
+  -- turns are taken by faults alone
+  pub turns : IsMounted new → turns_with_faults new ≤ turns_with_faults m
+  -- heads, names, templates and settings stay
+  pub names : IsMounted new → KeepsNames m.catalog.tables new.catalog.tables

@@ -5,6 +5,7 @@ use Rattle.asm_formats.specs.Sets.{has_bit}
 use Rattle.catalog_tables.specs.Rules.{marks_of}
 use Rattle.catalog_tables.specs.Tables.{Tables}
 use Rattle.extent_copies.specs.declared.extent.Extent.{Extent}
+use Rattle.group_of.specs.Describing.{KeepsNames}
 use Rattle.group_engine.specs.Mounts.{MountedGroup}
 use Rattle.group_pieces.specs.declared.copies.Place.{Place}
 use Rattle.group_pieces.specs.Usable.{extent_of, place_at}
@@ -36,7 +37,8 @@ left_of m x inner failed = left_in m (extent_of m x) inner failed
 abbrev pub AreMarked : MountedGroup → ExtentId → ℕ → ℕ → Tables → Type 0
 AreMarked m x inner failed t = (k : ℕ) → k < 3 → is_left m (extent_of m x) inner failed k ≡ true → has_bit (marks_of t x.file x.index) k ≡ true
 
--- the homes of extents are the same, and each mark that was set is so still
+-- heads, names, templates, settings and the homes of extents are the same, and each mark that was set is so still
 pub record MarksMore (t u : Tables) : Type 0 where
+  pub names : KeepsNames t u
   pub extents : u.extents ≡ t.extents
   pub marks : (f i k : ℕ) → k < 3 → has_bit (marks_of t f i) k ≡ true → has_bit (marks_of u f i) k ≡ true

@@ -5,7 +5,7 @@ ghost use Rattle.asm_formats.specs.Status.{is_status};
 ghost use Rattle.group_engine.specs.Mounts.{IsMounted, Takes};
 ghost use Rattle.group_engine.specs.NextRecords.{KeepsDisks};
 ghost use Rattle.group_engine.specs.Pending.{GoesOn};
-ghost use Rattle.group_pieces.specs.Failing.{AreOffline, FailsModes, is_dropping_in, status_failed};
+ghost use Rattle.group_pieces.specs.Failing.{AreOffline, CostsFaults, FailsModes, FewerServe, is_dropping_in, status_failed};
 ghost use Rattle.group_pieces.specs.Held.{FailedHeld};
 
 use asm_base::{DiskSet, Mode, NoMemory, Refusal};
@@ -31,6 +31,8 @@ pub(crate) fn take_offline<B: Bay>(
     ensures still { failed ≡ 0 → bay.new ≡ bay.old }
     // A group that is mounted is held all the while, and mounted once it is done, where these disks serve.
     ensures held { FailedHeld m.old failed result m.new (B.state bay.old) (B.state bay.new) }
+    // A record costs a turn, and one disk at least that served.
+    ensures turns { OnOk result (CostsFaults m.old failed m.new) }
 {
     if failed.bits() == 0 {
         return Ok(());
@@ -56,6 +58,8 @@ fn with_failed(
     ensures offline { IfOk result (AreOffline failed since) }
     // Where these disks serve, modes alone change, and the partners are those of the table.
     ensures modes { IfOk result (FailsModes status.now failed) }
+    // Fewer disks serve then.
+    ensures fewer { IfOk result (FewerServe status.now failed) }
 {
     let next = without_disks(status, failed, since, repair);
     if !any_dropping(status.entries(), failed) {

@@ -5,7 +5,7 @@ ghost use Rattle.group_engine.specs.Mounts.{IsMounted, Takes};
 ghost use Rattle.group_engine.specs.Own.{KeepsGroup};
 ghost use Rattle.group_engine.specs.Pending.{GoesOn};
 ghost use Rattle.group_pieces.specs.Copies.{HaveBut};
-ghost use Rattle.group_pieces.specs.Failing.{AreOffline};
+ghost use Rattle.group_pieces.specs.Failing.{AreOffline, CostsFaults};
 ghost use Rattle.group_pieces.specs.Faults.{AreRisen};
 ghost use Rattle.group_pieces.specs.Held.{PieceHeld, RecordsHeld};
 ghost use Rattle.group_pieces.specs.Marking.{AreMarked, MarksMore, left_of};
@@ -132,10 +132,12 @@ fn settle<B: Bay>(
     ensures marked { OnOk result (AreMarked m.old x inner failed m.new.catalog.tables) }
     ensures offline { OnOk result (AreOffline failed now m.new.register.value) }
     ensures still { failed ≡ 0 → left_of m.old x inner failed ≡ 0 → bay.new ≡ bay.old }
-    // Homes and marks stay, but that copies are marked.
+    // Heads, names, homes and marks stay, but that copies are marked.
     ensures places { OnOk result (MarksMore m.old.catalog.tables m.new.catalog.tables) }
     // A group that is mounted with the piece Free is held so all the while, and mounted with the bytes once it is done.
     ensures held { RecordsHeld m.old x inner failed result m.new (B.state bay.old) (B.state bay.new) }
+    // Where the disks that failed serve, turns are taken by faults alone.
+    ensures turns { OnOk result (CostsFaults m.old failed m.new) }
     // Where it is refused the group takes no more calls.
     ensures shut { OnErr result (IsMounted m.new → ⊥) }
 {
@@ -167,10 +169,12 @@ fn record_faults<B: Bay>(
     ensures marked { OnOk result (AreMarked m.old x inner failed m.new.catalog.tables) }
     ensures offline { OnOk result (AreOffline failed now m.new.register.value) }
     ensures still { failed ≡ 0 → left_of m.old x inner failed ≡ 0 → bay.new ≡ bay.old }
-    // Homes and marks stay, but that copies are marked.
+    // Heads, names, homes and marks stay, but that copies are marked.
     ensures places { OnOk result (MarksMore m.old.catalog.tables m.new.catalog.tables) }
     // A group that is mounted with the piece Free is held so all the while, and mounted with the bytes once it is done.
     ensures held { RecordsHeld m.old x inner failed result m.new (B.state bay.old) (B.state bay.new) }
+    // Where the disks that failed serve, turns are taken by faults alone.
+    ensures turns { OnOk result (CostsFaults m.old failed m.new) }
 {
     match mark_left(m, alloc, bay, x, inner, failed) {
         Ok(()) => take_offline(m, alloc, bay, failed, now),

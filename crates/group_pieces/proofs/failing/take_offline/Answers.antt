@@ -6,7 +6,8 @@ use Rattle.group_engine.specs.NextRecords.{KeepsDisks}
 use Rattle.group_engine.proofs.Endings.{goes_begin, goes_without}
 use Rattle.group_engine.proofs.NextRecords.{same_disks_are_next}
 use Rattle.group_pieces.specs.Failing.{AreOffline}
-use Rattle.group_pieces.specs.Failing.{FailsModes}
+use Rattle.group_pieces.specs.Failing.{FailsModes, FewerServe}
+use Rattle.group_pieces.proofs.FewerServing.{nothing_costs, offline_costs}
 use Rattle.group_pieces.proofs.Recording.{offline_none, offline_set, offline_without}
 use Rattle.group_pieces.proofs.Several.{no_bit}
 use Rattle.group_pieces.proofs.Steps.{on_ok}
@@ -58,3 +59,11 @@ returns-in-Ok-clause-held g c =
     offline_set c.args.m.now (g.B.Bay.state c.args.bay.now) c.args.failed c.in-Ok.next c.in-Ok.ensures.status
     (subst (λ (r : Status). FailsModes r c.args.failed c.in-Ok.next) c.status.ensures c.in-Ok.ensures.modes)
     c.set_status.new.self (g.B.Bay.state c.set_status.new.bay) c.set_status.result (c.set_status.ensures.moments c.requires.mounted) (c.set_status.ensures.done c.requires.mounted)
+
+pub returns-then-bits-eq0-clause-turns : goal.returns-then-bits-eq0-clause-turns
+returns-then-bits-eq0-clause-turns g c = nothing_costs c.args.m.now c.args.failed
+
+pub returns-in-Ok-clause-turns : goal.returns-in-Ok-clause-turns
+returns-in-Ok-clause-turns g c =
+    offline_costs c.args.m.now c.args.failed c.in-Ok.next c.set_status.new.self c.set_status.result (λ none. c.if-bits-eq0.false (c.bits.ensures.bits ∙ none)) c.bits.ensures.small
+    (subst (λ (r : Status). FewerServe r c.args.failed c.in-Ok.next) c.status.ensures c.in-Ok.ensures.fewer) c.set_status.ensures.recorded c.set_status.ensures.turns

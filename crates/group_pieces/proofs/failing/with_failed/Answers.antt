@@ -7,8 +7,9 @@ use Rattle.group_pieces.specs.Failing.{AreOffline}
 use Rattle.std.specs.List.{list_any}
 use Rattle.asm_placement.specs.Partners.{with_partners}
 use Rattle.status_table.specs.Changes.{entries_with_partners}
-use Rattle.group_pieces.specs.Failing.{FailsModes, is_dropping_in}
+use Rattle.group_pieces.specs.Failing.{FailsModes, FewerServe, is_dropping_in}
 use Rattle.group_pieces.proofs.FailedModes.{fails_modes, fails_partners}
+use Rattle.group_pieces.proofs.FewerServing.{fewer_failed, fewer_partnered}
 use Rattle.group_pieces.proofs.Failed.{failed_disks, failed_offline, partners_disks, partners_offline}
 use Rattle.group_pieces.proofs.failing.with_failed.Goals as goal
 
@@ -36,7 +37,7 @@ returns-clause-offline c =
 
 pub returns-then-not-any_dropping-clause-modes : goal.returns-then-not-any_dropping-clause-modes
 returns-then-not-any_dropping-clause-modes c =
-    fails_modes c.args.failed c.args.since c.args.repair c.args.status.now c.without_disks-next.result c.without_disks-next.ensures.value
+    fails_modes c.args.failed c.args.since c.args.repair c.args.status.now c.requires c.without_disks-next.result c.without_disks-next.ensures.value
     (ap (list_any (is_dropping_in c.args.failed)) (sym c.entries.ensures.entries) ∙ sym c.any_dropping.ensures ∙ c.if-not-any_dropping.true)
 
 pub returns-clause-modes : goal.returns-clause-modes
@@ -47,4 +48,17 @@ returns-clause-modes c =
     ap (entries_with_partners next.entries) c.deref.ensures.value
     ∙ subst (λ (es : List Entry). entries_with_partners es c.in_ok-sets.sets.items ≡ with_partners es) c.entries-2.ensures.entries c.in_ok-sets.ensures.entries in
     subst (FailsModes c.args.status.now c.args.failed) (sym c.with_partners.ensures.value)
-    (fails_partners c.args.failed c.args.since c.args.repair c.args.status.now next sets c.without_disks-next.ensures.value c.without_disks-next.ensures.status made)
+    (fails_partners c.args.failed c.args.since c.args.repair c.args.status.now c.requires next sets c.without_disks-next.ensures.value c.without_disks-next.ensures.status made)
+
+pub returns-then-not-any_dropping-clause-fewer : goal.returns-then-not-any_dropping-clause-fewer
+returns-then-not-any_dropping-clause-fewer c = fewer_failed c.args.failed c.args.since c.args.repair c.args.status.now c.without_disks-next.result c.without_disks-next.ensures.value
+
+pub returns-clause-fewer : goal.returns-clause-fewer
+returns-clause-fewer c =
+    let next = c.without_disks-next.result in
+    let sets = c.deref.result.now in
+    let made : entries_with_partners next.entries sets ≡ with_partners next.entries =
+    ap (entries_with_partners next.entries) c.deref.ensures.value
+    ∙ subst (λ (es : List Entry). entries_with_partners es c.in_ok-sets.sets.items ≡ with_partners es) c.entries-2.ensures.entries c.in_ok-sets.ensures.entries in
+    subst (FewerServe c.args.status.now c.args.failed) (sym c.with_partners.ensures.value)
+    (fewer_partnered c.args.failed c.args.since c.args.repair c.args.status.now next sets c.without_disks-next.ensures.value made)

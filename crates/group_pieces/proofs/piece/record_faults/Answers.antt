@@ -2,6 +2,7 @@ use Rattle.std.proofs.Common.{sym, subst, ◌∙◌}
 use Rattle.catalog_tables.specs.Tables.{Tables}
 use Rattle.group_engine.proofs.Endings.{goes_on}
 use Rattle.group_pieces.specs.Marking.{AreMarked, MarksMore}
+use Rattle.group_pieces.proofs.FewerServing.{costs_on}
 use Rattle.group_pieces.proofs.Recording.{held_on}
 use Rattle.group_pieces.proofs.Steps.{any_ok, takes_next}
 use Rattle.group_pieces.proofs.piece.record_faults.Goals as goal
@@ -30,3 +31,7 @@ returns-in-Ok-clause-held g c =
 pub returns-in-Ok-clause-places : goal.returns-in-Ok-clause-places
 returns-in-Ok-clause-places g c =
     any_ok c.take_offline.result (subst (λ (t : Tables). MarksMore c.args.m.now.catalog.tables t) (sym c.take_offline.ensures.tables) c.in-Ok.ensures.places)
+
+pub returns-in-Ok-clause-turns : goal.returns-in-Ok-clause-turns
+returns-in-Ok-clause-turns g c =
+    costs_on c.args.m.now c.mark_left.new.m c.take_offline.new.m c.args.failed c.take_offline.result c.mark_left.ensures.status.entries c.mark_left.ensures.turns c.take_offline.ensures.turns

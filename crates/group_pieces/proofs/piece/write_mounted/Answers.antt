@@ -5,8 +5,9 @@ use Rattle.group_pieces.specs.Marking.{AreMarked, MarksMore, left_of}
 use Rattle.group_pieces.specs.Pieces.{WritePieceCause}
 use Rattle.group_engine.proofs.Causes.{calls_keep, cause_on}
 use Rattle.group_pieces.proofs.Risen.{rose_later}
-use Rattle.group_pieces.proofs.Steps.{fault_cause, piece_cause, takes_next}
+use Rattle.group_pieces.proofs.Steps.{fault_cause, piece_cause, takes_next, unrecorded_stays}
 use Rattle.group_pieces.proofs.UsableCopies.{short_inner}
+use Rattle.group_pieces.specs.Failing.{CostsFaults}
 use Rattle.group_pieces.specs.Held.{RecordsHeld}
 use Rattle.group_pieces.proofs.Flying.{spare_still}
 use Rattle.group_pieces.proofs.WholePiece.{piece_done, piece_failing, piece_refused}
@@ -82,11 +83,13 @@ returns-in-Ok-settle-clause-held g c =
     let t = g.B.Bay.state c.write_usable.new.bay in
     let u = g.B.Bay.state c.follow_move.new.bay in
     let v = g.B.Bay.state c.settle.new.bay in
+    let more = subst (λ (q : MountedGroup). MarksMore q.catalog.tables c.settle.new.m.catalog.tables) c.follow_move.ensures.same c.in-Ok-settle.ensures.places in
     piece_done m c.follow_move.new.m.flight (g.B.Bay.state c.args.bay.now) t u v c.args.x c.args.inner c.args.bytes.now c.requires.piece c.in-Ok.failed c.in-Ok.ensures.holds c.in-Ok.ensures.done c.in-Ok.ensures.serving
     c.follow_move.ensures.writes c.settle.new.m
     (subst (λ (q : MountedGroup). RecordsHeld q c.args.x c.args.inner c.in-Ok.failed (Ok tt) c.settle.new.m u v) c.follow_move.ensures.same c.in-Ok-settle.ensures.held)
-    (spare_still m c.settle.new.m (c.requires.takes c.requires.mounted).0.are_tables (calls_keep c.follow_move.ensures.keeps c.settle.ensures.goes.keeps).same
-    (subst (λ (q : MountedGroup). MarksMore q.catalog.tables c.settle.new.m.catalog.tables) c.follow_move.ensures.same c.in-Ok-settle.ensures.places))
+    c.in-Ok-settle.ensures.goes.mounted
+    (spare_still m c.settle.new.m (c.requires.takes c.requires.mounted).0.are_tables (calls_keep c.follow_move.ensures.keeps c.settle.ensures.goes.keeps).same more)
+    (subst (λ (q : MountedGroup). CostsFaults q c.in-Ok.failed c.settle.new.m) c.follow_move.ensures.same c.in-Ok-settle.ensures.turns) more.names
 
 pub returns-in-Err-settle-clause-held : goal.returns-in-Err-settle-clause-held
 returns-in-Err-settle-clause-held g c =
@@ -97,11 +100,11 @@ returns-in-Err-settle-clause-held g c =
     piece_refused m c.follow_move.new.m.flight (g.B.Bay.state c.args.bay.now) t u v c.args.x c.args.inner c.args.bytes.now c.requires.piece c.in-Ok.failed c.in-Ok.ensures.holds c.in-Ok.ensures.done c.in-Ok.ensures.serving
     c.follow_move.ensures.writes c.settle.new.m c.in-Err-settle.refusal _
     (subst (λ (q : MountedGroup). RecordsHeld q c.args.x c.args.inner c.in-Ok.failed (Err c.in-Err-settle.refusal) c.settle.new.m u v) c.follow_move.ensures.same c.in-Err-settle.ensures.held)
-    c.in-Err-settle.ensures.shut
+    (unrecorded_stays c.follow_move.new.m c.settle.new.m u v _ c.in-Err-settle.ensures.goes.cause) c.in-Err-settle.ensures.shut
 
 pub returns-in-Err-clause-held : goal.returns-in-Err-clause-held
 returns-in-Err-clause-held g c =
-    piece_failing c.args.m.now c.args.x c.args.inner c.args.bytes.now c.in-Err.error _ (g.B.Bay.state c.args.bay.now) (g.B.Bay.state c.write_usable.new.bay) c.in-Err.ensures.holds
+    piece_failing c.args.m.now c.args.x c.args.inner c.args.bytes.now c.in-Err.error _ (g.B.Bay.state c.args.bay.now) (g.B.Bay.state c.write_usable.new.bay) c.requires.mounted c.in-Err.ensures.holds
 
 pub returns-in-Ok-settle-clause-lost : goal.returns-in-Ok-settle-clause-lost
 returns-in-Ok-settle-clause-lost g c = λ none. let some = c.in-Ok.ensures.some in absurd (none some.0 some.1)

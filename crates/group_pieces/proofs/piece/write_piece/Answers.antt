@@ -12,4 +12,4 @@ returns-in-Err-clause-cause g c =
 
 pub returns-in-Err-clause-held : goal.returns-in-Err-clause-held
 returns-in-Err-clause-held g c =
-    piece_shut c.args.m.now c.args.x c.args.inner c.args.bytes.now _ (g.B.Bay.state c.args.bay.now) (g.met.B.Bay.sound c.args.bay.now) c.requires.piece
+    piece_shut c.args.m.now c.args.x c.args.inner c.args.bytes.now _ (g.B.Bay.state c.args.bay.now) (g.met.B.Bay.sound c.args.bay.now) c.requires.piece c.in-Err.ensures.cause

@@ -172,5 +172,5 @@ returns-else-have_failed-clause-serving g c =
     let s = g.B.Bay.state c.args.bay.now in
     let t = g.B.Bay.state c.write_copies-failed.new.bay in
     let failed = c.write_copies-failed.result in
-    failed_serve c.args.m.now c.args.x c.args.inner failed s t (c.requires.takes c.requires.mounted).0.status
+    failed_serve c.args.m.now c.args.x c.args.inner failed s t
     (subst (λ (l : List (Option Place)). FailedAlone l failed s t) c.usable_copies-places.ensures.value c.write_copies-failed.ensures.failed)
