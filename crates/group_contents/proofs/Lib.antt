@@ -2,5 +2,8 @@ pub mod Chains
 pub mod Failed
 pub mod Lost
 pub mod Opened
+pub mod Rounds
 pub mod Shown
+pub mod Spans
 pub mod Steps
+pub mod Written

@@ -4,3 +4,4 @@ pub mod Reading
 pub mod Removing
 pub mod Sizes
 pub mod Works
+pub mod Writing

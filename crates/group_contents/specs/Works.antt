@@ -1,5 +1,5 @@
 -- A piece of work on a group's files: what it does, and why it is refused.
-use Rattle.std.specs.Prelude.{◌⊎◌, ⊤, length}
+use Rattle.std.specs.Prelude.{◌⊎◌, ⊤, length, replicate, OnOk, Result}
 use Rattle.bay.specs.State.{BayState}
 use Rattle.asm_base.specs.declared.refusal.Refusal.{Refusal}
 use Rattle.group_engine.specs.Commits.{StatusCause}
@@ -7,6 +7,7 @@ use Rattle.group_engine.specs.Mounts.{MountedGroup}
 use Rattle.group_contents.specs.Files.{OpenCause, WriteFileCause}
 use Rattle.group_contents.specs.Removing.{IsRemoved, RemoveCause, Removes}
 use Rattle.group_contents.specs.Sizes.{ResizeCause, Resizes}
+use Rattle.group_contents.specs.Writing.{WritesFile}
 use Rattle.group_contents.specs.declared.work.FileWork.{FileWork}
 use Rattle.group_contents.specs.declared.work.FileWork.TheVariants as work
 
@@ -25,3 +26,9 @@ WorkCause old (work.Remove path) new s t refusal = RemoveCause old path.parts ne
 WorkCause old (work.RemoveFile path) new s t refusal = OpenCause old path.parts refusal ⊎ StatusCause old new s t refusal
 WorkCause old (work.Write path at bytes) new s t refusal = WriteFileCause old path.parts at (length bytes) new s t refusal
 WorkCause old (work.Fill path at len byte) new s t refusal = WriteFileCause old path.parts at len new s t refusal
+
+-- what it did to a group that takes calls, by its answer: of bytes that are written, what the disks hold at each moment
+abbrev pub WorkDoes : MountedGroup → FileWork → Result (Unit {0}) Refusal → MountedGroup → BayState → BayState → Type 0
+WorkDoes old (work.Write path at bytes) answer new s t = WritesFile old path.parts at bytes answer new s t
+WorkDoes old (work.Fill path at len byte) answer new s t = WritesFile old path.parts at (replicate len byte) answer new s t
+WorkDoes old other answer new s t = OnOk answer (WorkDone old other new)

@@ -128,6 +128,7 @@ pub fn check_span(m: &Mounted, file: &OpenFile, at: u64, len: u64) -> Result<(),
 pub(crate) fn open_span(m: &Mounted, path: &Path, at: u64, len: u64) -> Result<OpenFile, Refusal>
     ensures cause { IfErr result (AtFile m.now path.now.parts (SpanCause m.now at len)) }
     ensures opened { IfOk result (IsOpened m.now.catalog.tables path.now.parts) }
+    ensures span { IfOk result (IsSpan m.now at len) }
 {
     let file = match open(m, path) {
         Ok(file) => file,

@@ -1,8 +1,8 @@
 //! What commands ask of the files of one group.
 ghost use Rattle.std.specs.Prelude.{IfErr, OnOk};
-ghost use Rattle.group_engine.specs.Mounts.{Takes};
+ghost use Rattle.group_engine.specs.Mounts.{IsMounted, Takes};
 ghost use Rattle.group_engine.specs.Own.{KeepsGroup};
-ghost use Rattle.group_contents.specs.Works.{WorkCause, WorkDone};
+ghost use Rattle.group_contents.specs.Works.{WorkCause, WorkDoes, WorkDone};
 
 use crate::removing::{remove, remove_file};
 use crate::resizing::resize;
@@ -56,6 +56,8 @@ pub fn work_on_file<B: Bay>(
     ensures keeps { KeepsGroup m.old m.new (B.state bay.old) (B.state bay.new) }
     ensures cause { IfErr result (WorkCause m.old work.now m.new (B.state bay.old) (B.state bay.new)) }
     ensures done { OnOk result (WorkDone m.old work.now m.new) }
+    // Of bytes that are written on a group that takes calls: what the disks hold at each moment.
+    ensures does { IsMounted m.old → WorkDoes m.old work.now result m.new (B.state bay.old) (B.state bay.new) }
 {
     match work {
         FileWork::Resize { path, size } => resize(m, alloc, bay, path, *size, now),

@@ -1,13 +1,15 @@
 //! The bytes of a file are written.
-ghost use Rattle.std.specs.Prelude.{◌≡◌, ◌⊎◌, ◌<◌, ℕ, IfErr, IfOk, IfSome, OnOk, length, true};
+ghost use Rattle.std.specs.Prelude.{◌≡◌, ◌⊎◌, ◌+◌, ◌<◌, ◌^◌, ℕ, IfErr, IfOk, IfSome, OnOk, length, replicate, true};
 ghost use Rattle.asm_formats.specs.Sets.{has_bit};
 ghost use Rattle.asm_base.specs.declared.refusal.Refusal.TheVariants.{WriteFault};
 ghost use Rattle.striping.specs.Pieces.{IsLayout};
 ghost use Rattle.group_engine.specs.Mounts.{IsMounted, Takes};
 ghost use Rattle.group_engine.specs.Own.{KeepsGroup};
+ghost use Rattle.group_pieces.specs.Held.{PieceHeld};
 ghost use Rattle.group_pieces.specs.Usable.{FitsExtent};
 ghost use Rattle.file_extents.specs.Filling.{FailsMore, FillCause, PutCause};
 ghost use Rattle.group_contents.specs.Files.{WriteCause, WriteFileCause};
+ghost use Rattle.group_contents.specs.Writing.{IsLayoutOf, WritesFile, WritesSpan, done_of};
 
 use crate::buffers::buffer;
 use crate::entry_copies::EntryCopies;
@@ -87,6 +89,7 @@ fn write_one<B: Bay>(
     ensures mounted { OnOk result (IsMounted m.new) }
     ensures cause { IfErr result (PutCause m.old failed m.new (B.state bay.old) (B.state bay.new)) }
     ensures failed { IfOk result (λ more. FailsMore m.old failed more (B.state bay.old) (B.state bay.new)) }
+    ensures held { PieceHeld m.old piece.x piece.inner bytes.now result m.new (B.state bay.old) (B.state bay.new) }
 {
     match write_piece(m, alloc, bay, piece.x, piece.inner, bytes, now) {
         Ok(more) => Ok(joined(failed, more)),
@@ -97,10 +100,10 @@ fn write_one<B: Bay>(
     }
 }
 
-/// How the pieces of a write to a file lie, and the time in seconds.
+/// The file that is written, how its pieces lie, and the time in seconds.
 #[derive(Clone, Copy)]
 struct Writing {
-    file: u32,
+    file: OpenFile,
     layout: Layout,
     now: u64,
 }
@@ -123,6 +126,9 @@ fn write_bytes<B: Bay>(
     ensures mounted { OnOk result (IsMounted m.new) }
     ensures cause { IfErr result (PutCause m.old failed m.new (B.state bay.old) (B.state bay.new)) }
     ensures failed { IfOk result (λ more. FailsMore m.old failed more (B.state bay.old) (B.state bay.new)) }
+    ensures end { OnOk result (at + length bytes.now < 2 ^ 64) }
+    ensures held { IsLayoutOf writing.layout writing.file m.old.catalog.shape
+        → WritesSpan m.old writing.file at bytes.now (done_of result) m.new (B.state bay.old) (B.state bay.new) }
 {
     let mut failed = failed;
     let mut from = at;
@@ -130,7 +136,7 @@ fn write_bytes<B: Bay>(
     while done < bytes.len() {
         let left = (bytes.len() - done) as u64;
         let shape = m.catalog().shape();
-        let Some(piece) = first_piece(shape, writing.layout, writing.file, from, left) else {
+        let Some(piece) = first_piece(shape, writing.layout, writing.file.file, from, left) else {
             return Err(Refusal::NoMemory);
         };
         let part = &bytes[done..done + piece.len];
@@ -161,6 +167,9 @@ fn fill_bytes<B: Bay>(
     ensures keeps { KeepsGroup m.old m.new (B.state bay.old) (B.state bay.new) }
     ensures mounted { OnOk result (IsMounted m.new) }
     ensures cause { IfErr result (PutCause m.old 0 m.new (B.state bay.old) (B.state bay.new)) }
+    ensures held { (byte : ℕ) → buf.now ≡ replicate (length buf.now) byte
+        → IsLayoutOf writing.layout writing.file m.old.catalog.shape
+        → WritesSpan m.old writing.file at (replicate len byte) result m.new (B.state bay.old) (B.state bay.new) }
 {
     let mut failed = DiskSet::empty();
     let mut entry = EntryCopies::now(m);
@@ -197,11 +206,13 @@ pub(crate) fn fill_span<B: Bay>(
     ensures keeps { KeepsGroup m.old m.new (B.state bay.old) (B.state bay.new) }
     ensures mounted { OnOk result (IsMounted m.new) }
     ensures cause { IfErr result (WriteCause m.old m.new (B.state bay.old) (B.state bay.new)) }
+    ensures held { (byte : ℕ) → buf.now ≡ replicate (length buf.now) byte
+        → WritesSpan m.old file.now at (replicate len byte) result m.new (B.state bay.old) (B.state bay.new) }
 {
     match layout_of(m.catalog().shape(), file.stripe) {
         Some(layout) => {
             let writing = Writing {
-                file: file.file,
+                file: *file,
                 layout,
                 now,
             };
@@ -225,12 +236,13 @@ fn write_span<B: Bay>(
     requires takes { Takes m.old (B.state bay.old) }
     ensures keeps { KeepsGroup m.old m.new (B.state bay.old) (B.state bay.new) }
     ensures cause { IfErr result (WriteCause m.old m.new (B.state bay.old) (B.state bay.new)) }
+    ensures held { WritesSpan m.old file.now at bytes.now result m.new (B.state bay.old) (B.state bay.new) }
 {
     let Some(layout) = layout_of(m.catalog().shape(), file.stripe) else {
         return Err(Refusal::NoMemory);
     };
     let writing = Writing {
-        file: file.file,
+        file: *file,
         layout,
         now,
     };
@@ -265,6 +277,9 @@ pub fn write<B: Bay>(
     requires takes { Takes m.old (B.state bay.old) }
     ensures keeps { KeepsGroup m.old m.new (B.state bay.old) (B.state bay.new) }
     ensures cause { IfErr result (WriteFileCause m.old path.now.parts at (length bytes.now) m.new (B.state bay.old) (B.state bay.new)) }
+    // Of a group that takes calls: what the disks hold at each moment, and what is mounted in the end.
+    ensures does { IsMounted m.old
+        → WritesFile m.old path.now.parts at bytes.now result m.new (B.state bay.old) (B.state bay.new) }
 {
     match m.takes_calls() {
         Ok(()) => {}
@@ -290,6 +305,8 @@ pub fn fill<B: Bay>(
     requires takes { Takes m.old (B.state bay.old) }
     ensures keeps { KeepsGroup m.old m.new (B.state bay.old) (B.state bay.new) }
     ensures cause { IfErr result (WriteFileCause m.old path.now.parts at len m.new (B.state bay.old) (B.state bay.new)) }
+    ensures does { IsMounted m.old
+        → WritesFile m.old path.now.parts at (replicate len byte) result m.new (B.state bay.old) (B.state bay.new) }
 {
     match m.takes_calls() {
         Ok(()) => {}
