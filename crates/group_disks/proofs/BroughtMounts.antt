@@ -1,5 +1,5 @@
 -- The group stays mounted while directory copies are brought up, and while what a stop left undone is ended.
-use Rattle.std.proofs.Common.{◌≡◌, ℕ, ◌+◌, ◌*◌, ◌≤◌, [], ◌∷◌, refl, ◌∙◌, arith}
+use Rattle.std.proofs.Common.{◌≡◌, ⊎_elim, ℕ, ◌+◌, ◌*◌, ◌≤◌, [], ◌∷◌, None, refl, ◌∙◌, arith}
 use Rattle.bay.specs.Moments.{LeavesOnly}
 use Rattle.bay.specs.State.{BayState}
 use Rattle.bay.proofs.Calls.{leaves_begin, leaves_less, leaves_on}
@@ -8,6 +8,7 @@ use Rattle.asm_images.specs.Kept.{Kept}
 use Rattle.group_engine.specs.Commits.{StandsIn, turns_at_most}
 use Rattle.group_engine.specs.Copying.{MayRecord, MountsLater, StandThrough}
 use Rattle.group_engine.specs.Mounts.{MountedGroup, Mounts}
+use Rattle.group_engine.specs.Own.{IsSameGroup}
 use Rattle.group_engine.specs.Pending.{HasTurns, StandsThrough, StaysMounted}
 use Rattle.group_engine.proofs.Endings.{kept_before}
 use Rattle.group_engine.proofs.Standings.{stands_at_rest}
@@ -82,6 +83,10 @@ module _ (calls : ℕ) (old mid : MountedGroup) (s m t : BayState) (turns : turn
 
 -- ---- the group that a mount took over
 
+-- a move that is on its way goes on or is given up, and none begins
+pub still_later : (old new : MountedGroup) → IsSameGroup old new → old.flight ≡ None → new.flight ≡ None
+still_later old new same still = ⊎_elim (λ (on : new.flight ≡ old.flight). on ∙ still) (λ (gone : new.flight ≡ None). gone) same.flight
+
 module _ (group new : MountedGroup) (n : ℕ) (g : Group) (s t : BayState) (is : IsMountedOn 65 n g group s) where
   last : TurnsLast 65 group
   last = omega (arith, is.turns)
@@ -89,7 +94,7 @@ module _ (group new : MountedGroup) (n : ℕ) (g : Group) (s t : BayState) (is :
   pub on_through : StandWhile 65 group s t → LeavesOnly s t (StandsIn n group.register.id (g ∷ []) is.kept)
   on_through stands = stands last n g is.kept is.mounts
 
-  pub on_later : MountsBehind 65 group new s t → turns_at_most new ≤ turns_at_most group + 2 * 64 → IsMountedOn (65 + 2 * 64) n g new t
-  on_later mounts turns =
+  pub on_later : MountsBehind 65 group new s t → turns_at_most new ≤ turns_at_most group + 2 * 64 → IsSameGroup group new → IsMountedOn (65 + 2 * 64) n g new t
+  on_later mounts turns same =
       let later = mounts last n g is.kept is.mounts in
-      record { kept = later.0; mounts = later.2; turns = omega (arith, is.turns, turns) }
+      record { kept = later.0; mounts = later.2; turns = omega (arith, is.turns, turns); still = still_later group new same is.still }

@@ -175,6 +175,7 @@ module _ (slot : ℕ) where
               id = refl;
               value = refl;
               shape = usual;
+              still = refl;
               own = own_at;
               has = (0, first_member slot, refl, refl);
               whole = whole_at (subst (λ (q : Registered). Reaches q.members q.value) same reached);

@@ -139,5 +139,6 @@ pub new_mounts : {s mid t : BayState} (n slot : ℕ) (plan : Plan) (name : Bytes
 new_mounts {s} {mid} {t} n slot plan name m named inside looks founds says mounted = record {
   represents = subst (λ (l : Bytes). Represents m (made_group l)) named (represents slot n plan m t inside mounted);
   turns = ap (λ (r : Registered). r.turn + length m.store.copies) mounted.register ∙ ap (λ (l : List DirCopy). 1 + length l) mounted.copies;
+  still = mounted.still;
   alone = λ none. subst (λ (l : Bytes). IsAlone n (made_group l) m t) named (alone {s = s} {mid = mid} {t = t} n slot plan m inside looks founds says mounted none);
 }

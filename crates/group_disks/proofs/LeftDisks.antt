@@ -185,4 +185,5 @@ module _ (q : Quorate) (now : ℕ) (parts : Parts) (t : BayState) (are : ArePart
       kept = kept_by parts;
       mounts = parts_mount n slots;
       turns = omega (arith, one.turn, few);
+      still = refl;
     }

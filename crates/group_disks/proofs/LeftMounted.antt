@@ -81,6 +81,9 @@ module _ (name : Bytes) (n : ℕ) (held : List ℕ) (option : MountOption) (foun
   pub looks_two : Runs (λ slot. slot < n) Same s (state later)
   looks_two = looks_on n (is_inside name n held option found f is slots (state between) there) first read
 
+  pub reads_two : Runs (λ slot. slot < n) Same (state between) (state later)
+  reads_two = on_more (is_inside name n held option found f is slots (state between) there) read
+
   pub not_read : LeavesClaimed state name n held option s (state later)
   not_read = looked looks_two
 

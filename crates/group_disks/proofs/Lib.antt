@@ -39,3 +39,8 @@ pub mod LeftMounted
 pub mod OwnMembers
 pub mod LeftBehind
 pub mod Unmounted
+pub mod FoundIds
+pub mod LookedDisks
+pub mod LookedIds
+pub mod MountRefusals
+pub mod ReadNames

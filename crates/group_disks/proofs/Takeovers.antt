@@ -83,11 +83,13 @@ module _ (name : Bytes) (n : ℕ) (held : List ℕ) (option : MountOption) (foun
   -- ---- causes
 
   module _ {B : Type 0} (state : B → BayState) (s : BayState) where
-    pub others_cause : (t : BayState) → IsFound name n found s t → has_name (free_disks held found) name ≡ false → IsMountCause state name n held option s t error.NoGroup
-    others_cause t was none = of_others refl (record { found = found; is = was; none = none })
+    pub others_cause : (t : BayState) → Runs (λ slot. slot < n) Same s t → IsFound name n found s t → has_name (free_disks held found) name ≡ false → IsMountCause state name n held option s t error.NoGroup
+    others_cause t looks was none = of_others refl looks (record { found = found; is = was; none = none })
 
-    pub quorum_cause : (between : B) (t : BayState) (e : MountError) → IsFound name n found s (state between) → QuorumCause option f e (state between) t → IsMountCause state name n held option s t e
-    quorum_cause between t e was cause = not_quorate (record { found = found; between = between; is = was; cause = cause_left e (state between) t cause })
+    pub quorum_cause : (between : B) (t : BayState) (e : MountError) → IsFound name n found s (state between) → Runs (λ slot. slot < n) Same s (state between) → Runs (λ slot. slot < n) Same (state between) t
+        → QuorumCause option f e (state between) t → IsMountCause state name n held option s t e
+    quorum_cause between t e was searched reads cause =
+        not_quorate (record { found = found; slots = slots; between = between; is = was; searched = searched; reads = reads; cause = cause_left e (state between) t cause })
 
     pub was_quorate : (between later : B) (q : Quorate) → IsFound name n found s (state between) → Runs (λ slot. slot < n) Same s (state between) → IsQuorate option f q (state later) → WasQuorate state name n held option s
     was_quorate between later q was searched quorate = record { found = found; between = between; is = was; searched = searched; quorum = q; later = later; quorate = quorate_left q (state later) quorate }
@@ -100,9 +102,10 @@ module _ (name : Bytes) (n : ℕ) (held : List ℕ) (option : MountOption) (foun
         record { was = was_quorate between later q was searched quorate; parts = parts; are = are; group = same; named = named }
 
     pub renewed_cause : (between later : B) (q : Quorate) (t : BayState) (e : MountError) → IsFound name n found s (state between) → Runs (λ slot. slot < n) Same s (state between) → IsQuorate option f q (state later)
-        → RecoverCause q e (state later) t → IsMountCause state name n held option s t e
+        → Runs (λ slot. slot < n) Same (state between) (state later) → ((slot : ℕ) → (state later).faults slot ≤ t.faults slot) → RecoverCause q e (state later) t → IsMountCause state name n held option s t e
     unfolding was_quorate
-    renewed_cause between later q t e was searched quorate cause = not_renewed (record { was = was_quorate between later q was searched quorate; cause = cause })
+    renewed_cause between later q t e was searched quorate reads on cause =
+        not_renewed (record { was = was_quorate between later q was searched quorate; slots = slots; reads = reads; later = on; cause = cause })
 
 -- those that were read have numbers of disks
 pub read_numbered : (option : MountOption) (f : FoundDisks) (q : Quorate) (t : BayState) → IsQuorate option f q t → AreNumbered q.survey.read

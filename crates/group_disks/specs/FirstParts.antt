@@ -53,6 +53,7 @@ pub record IsMountedAs (slot : ℕ) (plan : Plan) (m : MountedGroup) (state : Ba
   pub id : m.register.id ≡ plan.id
   pub value : m.register.value ≡ record_of_plan plan
   pub shape : m.catalog.shape ≡ usual_shape
+  pub still : m.flight ≡ None
   pub own : (s : ℕ) → IsOwn m s → s ≡ slot
   pub has : IsOwn m slot
   pub whole : IsWhole m
@@ -78,11 +79,12 @@ pub record IsAlone (n : ℕ) (g : Group) (m : MountedGroup) (state : BayState) :
   pub mounts : Mounts n m state g kept
   pub only : NowOnly state (HasOnly m.register.id kept)
 
--- What a creation on n slots mounted: its tables say that it is the group g, one turn was taken, and there is one copy. Where no disk was
--- a member of its id before, it is mounted on the disks as they are.
+-- What a creation on n slots mounted: its tables say that it is the group g, one turn was taken, there is one copy, and no move is on its
+-- way. Where no disk was a member of its id before, it is mounted on the disks as they are.
 pub record MountsNew (n : ℕ) (g : Group) (m : MountedGroup) (old new : BayState) : Type 0 where
   pub represents : Represents m g
   pub turns : turns_at_most m ≡ 2
+  pub still : m.flight ≡ None
   pub alone : NowOnly old (λ image. HasMember m.register.id image → ⊥) → IsAlone n g m new
 
 -- each disk but that of the path stays

@@ -1,10 +1,10 @@
 -- What a mount leaves on the disks until its group's record is written anew, and once it is.
-use Rattle.std.specs.Prelude.{◌≡◌, ◌≢◌, ℕ, ◌+◌, ◌*◌, ◌<◌, ◌≤◌, IsSome, List, [], ◌∷◌}
+use Rattle.std.specs.Prelude.{◌≡◌, ◌≢◌, ℕ, ◌+◌, ◌*◌, ◌<◌, ◌≤◌, IsSome, true, List, None, [], ◌∷◌}
 use Rattle.bay.specs.Image.{Image, Same}
 use Rattle.bay.specs.Moments.{LeavesOnly, NowOnly, Runs}
 use Rattle.bay.specs.State.{BayState}
 use Rattle.asm_group.specs.Group.{Group}
-use Rattle.asm_group.specs.Names.{Bytes}
+use Rattle.asm_group.specs.Names.{Bytes, is_same_name}
 use Rattle.asm_formats.specs.Among.{IsAmong}
 use Rattle.asm_images.specs.Kept.{Kept}
 use Rattle.group_engine.specs.Commits.{StandsIn, turns_at_most}
@@ -37,11 +37,13 @@ pub data LeavesClaimed {B : Type 0} (state : B → BayState) (name : Bytes) (n :
 
 -- ---- once the record is written
 
--- The group is mounted on the disks of n slots as they are. The turns that it took, and those that commits may take, are so many at most.
+-- The group is mounted on the disks of n slots as they are, with no move on its way. The turns that it took, and those that commits may take,
+-- are so many at most.
 pub record IsMountedOn (most n : ℕ) (g : Group) (m : MountedGroup) (state : BayState) : Type 0 where
   pub kept : Kept
   pub mounts : Mounts n m state g kept
   pub turns : turns_at_most m ≤ most
+  pub still : m.flight ≡ None
 
 -- A group was read, and is mounted on the disks as they are.
 pub record MountsOne {B : Type 0} (state : B → BayState) (name : Bytes) (n : ℕ) (held : List ℕ) (option : MountOption) (m : MountedGroup) (s t : BayState) : Type 0 where
@@ -74,6 +76,12 @@ abbrev pub NothingIsMounted : {B : Type 0} → (B → BayState) → BayState →
 NothingIsMounted {B} state s t =
     (name : Bytes) (n : ℕ) (held : List ℕ) (option : MountOption) (m : MountedGroup) (mounts : MountsOne state name n held option m s t)
     → StoodFor mounts.was.quorum [] s → IsSome s.holds → ⊥
+
+-- Of the groups for which the images stand under the id that was read one has the name that was asked for.
+abbrev pub ReadsNamed : {B : Type 0} → (B → BayState) → BayState → Type 0
+ReadsNamed {B} state s =
+    (name : Bytes) (n : ℕ) (held : List ℕ) (option : MountOption) (was : WasQuorate state name n held option s) (groups : List Group) → Runs (λ slot. slot < n) Same s (state was.later)
+    → StoodFor was.quorum groups s → IsSome s.holds → (g : Group) × IsAmong groups g × (is_same_name g.name name ≡ true)
 
 -- ---- refusals
 

@@ -13,3 +13,4 @@ pub mod CreateLaws
 pub mod Probes
 pub mod Ready
 pub mod Leaving
+pub mod MountCauses

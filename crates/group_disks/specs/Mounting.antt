@@ -1,5 +1,5 @@
 -- What a mount gives, and why it is refused.
-use Rattle.std.specs.Prelude.{◌≡◌, ◌<◌, ℕ, Bool, true, false, List, [], ◌∷◌, set, replicate, Option, Some, None}
+use Rattle.std.specs.Prelude.{◌≡◌, ◌<◌, ◌≤◌, ℕ, Bool, true, false, List, [], ◌∷◌, set, replicate, Option, Some, None}
 use Rattle.bay.specs.Image.{Same}
 use Rattle.bay.specs.Moments.{Runs}
 use Rattle.bay.specs.State.{BayState}
@@ -102,22 +102,28 @@ pub record AreOthers (name : Bytes) (n : ℕ) (held : List ℕ) (s t : BayState)
   pub is : IsFound name n found s t
   pub none : has_name (free_disks held found) name ≡ false
 
--- The group was found and isn't quorate: between the search and this the bay was in this state.
+-- The group was found and isn't quorate: between the search and this the bay was in this state. Nothing was written.
 pub record IsNotQuorate {B : Type 0} (state : B → BayState) (name : Bytes) (n : ℕ) (held : List ℕ) (option : MountOption) (s t : BayState) (e : MountError) : Type 0 where
   pub found : FoundDisks
+  pub slots : found.slots ≡ n
   pub between : B
   pub is : IsFound name n found s (state between)
+  pub searched : Runs (λ slot. slot < n) Same s (state between)
+  pub reads : Runs (λ slot. slot < n) Same (state between) t
   pub cause : QuorumCause option (free_disks held found) e (state between) t
 
--- Its record wasn't written anew.
+-- Its record wasn't written anew. Until it was read nothing was written.
 pub record IsNotRenewed {B : Type 0} (state : B → BayState) (name : Bytes) (n : ℕ) (held : List ℕ) (option : MountOption) (s t : BayState) (e : MountError) : Type 0 where
   pub was : WasQuorate state name n held option s
+  pub slots : was.found.slots ≡ n
+  pub reads : Runs (λ slot. slot < n) Same (state was.between) (state was.later)
+  pub later : (slot : ℕ) → (state was.later).faults slot ≤ t.faults slot
   pub cause : RecoverCause was.quorum e (state was.later) t
 
 -- Why a group isn't mounted, where calls lead from s to t.
 pub data IsMountCause {B : Type 0} (state : B → BayState) (name : Bytes) (n : ℕ) (held : List ℕ) (option : MountOption) (s t : BayState) (e : MountError) : Type 0 where
-  not_found : FindCause name n e s t → IsMountCause state name n held option s t e
-  of_others : e ≡ error.NoGroup → AreOthers name n held s t → IsMountCause state name n held option s t e
+  not_found : Runs (λ slot. slot < n) Same s t → FindCause name n e s t → IsMountCause state name n held option s t e
+  of_others : e ≡ error.NoGroup → Runs (λ slot. slot < n) Same s t → AreOthers name n held s t → IsMountCause state name n held option s t e
   not_quorate : IsNotQuorate state name n held option s t e → IsMountCause state name n held option s t e
   not_renewed : IsNotRenewed state name n held option s t e → IsMountCause state name n held option s t e
   -- its record stands, and what a stop left undone can't be ended

@@ -18,6 +18,8 @@ mod new_group;
 
 pub use create::create_group;
 pub use dropping::drop_group;
-pub use laws::{formed_is_held, forming_creates, nothing_is_mounted};
+pub use laws::{
+    formed_is_held, forming_creates, nothing_is_mounted, reads_named, refusals_have_causes,
+};
 pub use making::create_disk;
 pub use mount::mount_group;

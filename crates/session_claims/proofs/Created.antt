@@ -19,10 +19,11 @@ use Rattle.group_engine.specs.Mounts.{MountedGroup}
 use Rattle.group_engine.proofs.Elsewhere.{mounts_elsewhere, spared_is_held}
 use Rattle.session_claims.specs.Claims.{HoldsMembers, IsMountedAs, IsPaired, IsStanding, KeepsWorlds, StandsFor}
 use Rattle.session_claims.specs.Laws.{CreationKeeps, MountsGoOn, IsFreshId, ReplacesGroups}
-use Rattle.session_claims.proofs.Edited.{others_stay, replaced}
+use Rattle.session_claims.proofs.Carried.{others_stay, replaced}
 use Rattle.session_claims.proofs.Images.{all_stand, among-behind, among-front, has_slot, held_has, more_allows, slot_has}
 use Rattle.session_claims.proofs.Members.{HoldsMembersOf, disk_keeps, same_keeps}
 use Rattle.session_claims.proofs.Pairs.{mounted_pair, pair_mounted}
+use Rattle.session_claims.proofs.Turns.{few_turns}
 
 -- calls, with what is known of the images from which they lead
 with_left : {slots : ℕ → Type 0} {step : Image → Image → Type 0} {a b : BayState} → IsSound a → Runs slots step a b → Runs slots (λ x y. a.leaves a.calls x × step x y) a b
@@ -106,6 +107,7 @@ module _ (old new : BayState) (sound : IsSound old) (n : ℕ) (known : ℕ → B
       kept = k.kept;
       mounts = mounts_elsewhere n m old new k.group k.kept sound k.mounts attached (with_left sound creation.moments) own_spares;
       turns = k.turns;
+      still = k.still;
     }
 
     stands_still : (mo : ℕ) (image : Image) → old.calls ≤ mo → mo ≤ new.calls → new.leaves mo image → IsStanding n e.id image
@@ -166,7 +168,8 @@ module _ (old new : BayState) (sound : IsSound old) (n : ℕ) (known : ℕ → B
         only = refl;
         kept = is.kept;
         mounts = is.mounts;
-        turns = omega (arith, mounts.turns);
+        turns = few_turns m 2 is.mounts.whole (omega (arith, mounts.turns)) (omega arith);
+        still = mounts.still;
       }
 
   keeps : (command : Command) → KeepsWorlds n known command given' old new w w' groups'

@@ -1,6 +1,5 @@
 -- An edit of one mounted group.
-use Rattle.std.proofs.Common.{◌≡◌, ◌≢◌, inl, inr, ⊎_elim, ℕ, ◌≤◌, Bool, true, List, [], ◌∷◌, Result, Ok, Err, refl, sym, ◌∙◌, ap, subst, arith, if◌then◌else◌}
-use Rattle.std.proofs.lemmas.Bool.{cases_eq, eq-eqb, ne_eqb}
+use Rattle.std.proofs.Common.{◌≡◌, inl, inr, ⊎_elim, ℕ, Bool, true, List, [], ◌∷◌, Result, Ok, Err, refl, sym, ◌∙◌, ap, subst, arith}
 use Rattle.bay.specs.Image.{Image, Same}
 use Rattle.bay.specs.State.{BayState, IsSound}
 use Rattle.bay.specs.Moments.{Runs}
@@ -16,21 +15,20 @@ use Rattle.asm_world.specs.Command.{Command}
 use Rattle.asm_world.specs.World.{SessionEntry, World, groups_of, is_mounted}
 use Rattle.edit_laws.specs.Edits.{EditCall, IsHeldOver, edited_by}
 use Rattle.edit_laws.proofs.Leading.{edit_is_held}
-use Rattle.edit_laws.proofs.WithAll.{stands_with_all}
 use Rattle.group_mount.specs.Mounting.{Allows}
-use Rattle.group_mount.specs.Recovered.{ChangesMembers}
+use Rattle.group_disks.proofs.BroughtMounts.{still_later}
 use Rattle.group_engine.specs.Commits.{IsIdle, IsIdleBut, StatusCause}
 use Rattle.group_engine.specs.Frames.{StaysAttached}
-use Rattle.group_engine.specs.Mounts.{IsMounted, IsOwn, MountedGroup}
+use Rattle.group_engine.specs.Mounts.{IsMounted, MountedGroup}
 use Rattle.group_engine.proofs.Causes.{not_mounted}
 use Rattle.group_engine.proofs.Elsewhere.{stays_attached}
 use Rattle.group_files.specs.declared.edit.GroupEdit.{GroupEdit}
-use Rattle.session_claims.specs.Claims.{IsMountedAs, IsPaired, IsStanding, KeepsWorlds, StandsFor}
+use Rattle.session_claims.specs.Claims.{IsMountedAs, IsPaired, KeepsWorlds, StandsFor}
 use Rattle.session_claims.specs.Laws.{CommitsEdit, EditKeeps, EditsTo, MountsGoOn, RefusalKeeps, ReplacesGroups, TearingKeeps}
-use Rattle.session_claims.proofs.Images.{among-behind, among-front, held_allows, more_allows}
+use Rattle.session_claims.proofs.Carried.{allows_then, replaced, work_keeps}
+use Rattle.session_claims.proofs.Images.{after_between, before_between, held_allows}
 use Rattle.session_claims.proofs.Looks.{allows_now, members_now as members_stay, mounted_now, origin_now as origin_stays}
-use Rattle.session_claims.proofs.Members.{kept_change}
-use Rattle.session_claims.proofs.Others.{members_now, origin_now, other_allows, other_mounted, other_stands}
+use Rattle.session_claims.proofs.Turns.{turns_later}
 
 abbrev done_as : Group → Result Group r.Refusal
 done_as g = Ok g
@@ -38,22 +36,11 @@ done_as g = Ok g
 ok_is : (x y : Group) → done_as x ≡ done_as y → x ≡ y
 ok_is x y same = cc
 
--- ---- lists of groups
-
-pub replaced : (w : World) (id : ℕ) (groups : List Group) (w' : World) → ReplacesGroups w id groups w' → groups_of w' id ≡ groups
-replaced w id groups w' is = is id ∙ ap (λ (b : Bool). if b then groups else groups_of w id) (eq-eqb id id refl)
-
-pub others_stay : (w : World) (id : ℕ) (groups : List Group) (w' : World) → ReplacesGroups w id groups w' → (i : ℕ) → i ≢ id → groups_of w' i ≡ groups_of w i
-others_stay w id groups w' is i differ = is i ∙ ap (λ (b : Bool). if b then groups else groups_of w i) (ne_eqb i id differ)
-
 module _ (s t : BayState) (sound : IsSound s) (later : IsSound t) (n : ℕ) (known : ℕ → Bool) (given : ℕ) (w w' : World) (groups groups' : List MountedGroup) (e : SessionEntry) (edit : GroupEdit) (old new : MountedGroup)
     (answer : Result (Unit {0}) Refusal) (g h : Group) (stands : StandsFor n known given s w groups) (pair : IsPaired w.session groups e old) (is : is_mounted e ≡ true) (work : CommitsEdit edit old answer new s t)
     (to : EditsTo w e.id edit g h) where
-  k : IsMountedAs n e.id old (groups_of w e.id) s
+  abbrev k : IsMountedAs n e.id old (groups_of w e.id) s
   k = stands.mounted e old pair is
-
-  abbrev own : ℕ
-  own = old.register.id
 
   abbrev c : EditCall
   c = record { n = n; old = old; new = new; answer = answer; g = k.group; kept = k.kept }
@@ -73,83 +60,30 @@ module _ (s t : BayState) (sound : IsSound s) (later : IsSound t) (n : ℕ) (kno
   over : IsHeldOver c h s t
   over = subst (λ (x : Group). IsHeldOver c x s t) after_is led.2
 
-  changes : Runs (IsOwn old) (ChangesMembers own) s t
-  changes = kept_change s t sound later n old new (k.group ∷ h ∷ []) k.group k.kept k.mounts work.keeps over.moments
+  -- ---- each moment
 
-  attached : StaysAttached s t
-  attached = stays_attached work.keeps.attached
+  abbrev pair_of : List Group
+  pair_of = k.group ∷ h ∷ []
 
-  -- ---- at each moment
+  -- both groups are among those between, where the world has the one after
+  between : (command : Command) (list : List Group) → IsAmong list h → ReplacesGroups w e.id list w' → (x : Group) → IsAmong pair_of x → IsAmong (groups_between w command w' e.id) x
+  between command list has replaces x among = ⊎_elim
+      (λ (first : x ≡ k.group). before_between w w' command e.id x (subst (λ (l : List Group). IsAmong l x) (sym k.only) (inl first)))
+      (λ rest. ⊎_elim
+      (λ (after : x ≡ h). after_between w w' command e.id x (subst (λ (l : List Group). IsAmong l x) (sym (replaced w e.id list w' replaces)) (subst (λ (y : Group). IsAmong list y) (sym after) has)))
+      (λ none. absurd none) rest) among
 
-  own_allows : (m : ℕ) (image : Image) → s.calls ≤ m → m ≤ t.calls → t.leaves m image → Allows own (g ∷ h ∷ []) image
-  own_allows m image from until left =
-      let at = over.moments.each m image from until left in
-      subst (λ (x : Group). Allows own (x ∷ h ∷ []) image) group_is (held_allows n own (k.group ∷ h ∷ []) at.by image at.is)
-
-  own_stands : (m : ℕ) (image : Image) → s.calls ≤ m → m ≤ t.calls → t.leaves m image → IsStanding n own image
-  own_stands m image from until left = (stands_with_all s t c h over).each m image from until left
-
-  -- what stands under other ids does so still
-  others_allow : (i m : ℕ) (image : Image) → i ≢ own → s.calls ≤ m → m ≤ t.calls → t.leaves m image → Allows i (groups_of w i) image
-  others_allow = other_allows s t sound n known given w groups stands own (IsOwn old) changes attached
-
-  others_mounted : (f : SessionEntry) (m : MountedGroup) → f.id ≢ own → IsPaired w.session groups f m → is_mounted f ≡ true → IsMountedAs n f.id m (groups_of w f.id) t
-  others_mounted = other_mounted s t sound n known given w groups stands own (IsOwn old) changes attached
-
-  -- ---- all of it
-
-  module _ (command : Command) (list : List Group) (has_after : IsAmong list h) (replaces : ReplacesGroups w e.id list w') (IsNew : MountedGroup → Type 0) (goes : MountsGoOn e.id IsNew w w' groups groups')
-      (own_now : (image : Image) → t.leaves t.calls image → Allows own list image) (own_mounted : (m : MountedGroup) → IsNew m → IsMountedAs n e.id m list t) where
-    own_list : groups_of w' own ≡ list
-    own_list = ap (λ (i : ℕ). groups_of w' i) k.same ∙ replaced w e.id list w' replaces
-
-    other_list : (i : ℕ) → i ≢ own → groups_of w' i ≡ groups_of w i
-    other_list i differ = others_stay w e.id list w' replaces i (λ same. differ (same ∙ sym k.same))
-
-    edit_keeps : KeepsWorlds n known command given s t w w' groups'
-    edit_keeps = record {
-      held = λ m image id from until left. ⊎_elim
-          (λ (here : id ≡ own).
-          more_allows id (g ∷ h ∷ []) (groups_between w command w' id) image
-          (λ x among. ⊎_elim
-          (λ (e : x ≡ g). among-front (groups_of w id) _ x (subst (λ (l : List Group). IsAmong l x) (sym (ap (λ (i : ℕ). groups_of w i) (here ∙ k.same) ∙ to.before)) (inl e)))
-          (λ rest. ⊎_elim
-          (λ (e : x ≡ h). among-behind (groups_of w id) _ x (among-front (groups_of w' id) _ x (subst (λ (l : List Group). IsAmong l x) (sym (ap (λ (i : ℕ). groups_of w' i) here ∙ own_list)) (subst (λ (y : Group). IsAmong list y) (sym e) has_after))))
-          (λ none. absurd none) rest) among)
-          (subst (λ (i : ℕ). Allows i (g ∷ h ∷ []) image) (sym here) (own_allows m image from (omega arith) left)))
-          (λ differ.
-          more_allows id (groups_of w id) (groups_between w command w' id) image (λ x among. among-front (groups_of w id) _ x among)
-          (others_allow id m image differ from (omega arith) left))
-          (cases_eq id own);
-      there = λ m image id from until left was still. ⊎_elim
-          (λ (here : id ≡ own). subst (λ (i : ℕ). IsStanding n i image) (sym here) (own_stands m image from (omega arith) left))
-          (λ differ. other_stands s t sound n known given w groups stands own (IsOwn old) changes attached id m image differ was from (omega arith) left)
-          (cases_eq id own);
-      now = record {
-        tells = changes.tells stands.tells;
-        entries = goes.entries;
-        ids = goes.ids;
-        allows = λ image id left. ⊎_elim
-            (λ (here : id ≡ own). subst (λ (l : List Group). Allows id l image) (sym (ap (λ (i : ℕ). groups_of w' i) here ∙ own_list)) (subst (λ (i : ℕ). Allows i list image) (sym here) (own_now image left)))
-            (λ differ. subst (λ (l : List Group). Allows id l image) (sym (other_list id differ)) (others_allow id t.calls image differ changes.later (omega arith) left))
-            (cases_eq id own);
-        mounted = λ f m at yes. ⊎_elim
-            (λ mine.
-            let list_is : groups_of w' f.id ≡ list = ap (λ (i : ℕ). groups_of w' i) (mine.0 ∙ sym k.same) ∙ own_list in
-            subst (λ (l : List Group). IsMountedAs n f.id m l t) (sym list_is) (subst (λ (i : ℕ). IsMountedAs n i m list t) (sym mine.0) (own_mounted m mine.1)))
-            (λ other.
-            let differ : f.id ≢ own = λ same. other.0 (same ∙ k.same) in
-            subst (λ (l : List Group). IsMountedAs n f.id m l t) (sym (other_list f.id differ)) (others_mounted f m differ other.1 yes))
-            (goes.pairs f m at yes);
-        members = members_now s t sound n known given w groups stands own (IsOwn old) changes attached;
-        origin = origin_now s t sound n known given w groups stands own (IsOwn old) changes attached;
-      };
-    }
+  edit_keeps : (command : Command) (list : List Group) → IsAmong list h → ReplacesGroups w e.id list w' → (IsNew : MountedGroup → Type 0) → MountsGoOn e.id IsNew w w' groups groups'
+      → ((image : Image) → t.leaves t.calls image → Allows old.register.id list image) → ((m : MountedGroup) → IsNew m → IsMountedAs n e.id m list t) → KeepsWorlds n known command given s t w w' groups'
+  edit_keeps command list has replaces IsNew goes own_now own_mounted =
+      work_keeps s t sound later n known given w w' groups groups' e old new stands pair is work.keeps pair_of over.moments command (between command list has replaces) list replaces IsNew goes own_now own_mounted
 
   -- its commit dismounted the group
   torn_keeps : (command : Command) → ReplacesGroups w e.id (g ∷ h ∷ []) w' → MountsGoOn e.id (λ m. ⊥) w w' groups groups' → KeepsWorlds n known command given s t w w' groups'
-  torn_keeps command replaces goes =
-      edit_keeps command (g ∷ h ∷ []) (inr (inl refl)) replaces (λ m. ⊥) goes (λ image left. own_allows t.calls image changes.later (omega arith) left) (λ m none. absurd none)
+  torn_keeps command replaces goes = edit_keeps command (g ∷ h ∷ []) (inr (inl refl)) replaces (λ m. ⊥) goes
+      (λ image left. subst (λ (x : Group). Allows old.register.id (x ∷ h ∷ []) image) group_is
+      (allows_then s t sound later n known given w w' groups groups' e old new stands pair is work.keeps pair_of over.moments image left))
+      (λ m none. absurd none)
 
 -- it was done
 module _ (s t : BayState) (sound : IsSound s) (later : IsSound t) where
@@ -157,6 +91,7 @@ module _ (s t : BayState) (sound : IsSound s) (later : IsSound t) where
   edits_keep n known given w w' groups groups' e edit old new g h command stands pair is work to replaces goes =
       let o = over s t sound later n known given w w' groups groups' e edit old new (Ok tt) g h stands pair is work to in
       let k = stands.mounted e old pair is in
+      let commit = work.committed.commits.held work.mounted in
       let id_same : new.register.id ≡ e.id = work.keeps.same.id ∙ k.same in
       let held : (image : Image) → t.leaves t.calls image → IsHeld n new.register.id (h ∷ []) o.done.0 image = λ image left. o.done.2.now.now image left in
       edit_keeps s t sound later n known given w w' groups groups' e edit old new (Ok tt) g h stands pair is work to command (h ∷ []) (inl refl) replaces (λ m. m ≡ new) goes
@@ -167,7 +102,8 @@ module _ (s t : BayState) (sound : IsSound s) (later : IsSound t) where
         only = refl;
         kept = o.done.0;
         mounts = o.done.2;
-        turns = omega (arith, k.turns, (work.committed.commits.held work.mounted).turns);
+        turns = turns_later old new commit.status commit.turns k.turns;
+        still = still_later old new work.keeps.same k.still;
       }))
 
   pub tearing_keeps : TearingKeeps s t
@@ -206,7 +142,8 @@ module _ (s t : BayState) (sound : IsSound s) where
                 only = k.only;
                 kept = k.kept;
                 mounts = led.2.refused mounted;
-                turns = omega (arith, k.turns, held.turns);
+                turns = turns_later old new held.status held.turns k.turns;
+                still = still_later old new work.keeps.same k.still;
               })))
               (λ other. mounted_now s t sound n known given (λ (slot : ℕ). ⊥) w groups runs attached stands f m other.1 yes)
               (goes.pairs f m at yes));

@@ -1,5 +1,5 @@
 -- What a mount found is on the disks, and isn't mounted.
-use Rattle.std.proofs.Common.{◌≡◌, inl, inr, ⊎_elim, ℕ, ◌<◌, Bool, IsSome, true, List, [], ◌∷◌, Option, Some, None, refl, sym, ◌∙◌, ap, subst}
+use Rattle.std.proofs.Common.{◌≡◌, inl, inr, ⊎_elim, ℕ, ◌<◌, Bool, IsSome, true, false, List, [], ◌∷◌, Option, Some, None, refl, sym, ◌∙◌, ap, subst}
 use Rattle.std.proofs.lemmas.Bool.{cases_Bool, false≢true}
 use Rattle.std.proofs.lemmas.Option.{same_Some}
 use Rattle.bay.specs.Image.{Image}
@@ -24,7 +24,7 @@ use Rattle.group_mount.specs.declared.quorum.MountOption.{MountOption}
 use Rattle.status_register.specs.Surveys.{disk_in}
 use Rattle.session_claims.specs.Claims.{IsPaired, StandsFor}
 use Rattle.session_claims.specs.Found.{FoundIsKnown, FoundIsMember, FoundIsUnmounted, HasNamed, HaveNames, IsNameFree}
-use Rattle.session_claims.proofs.FoundIds.{IsNamedIn, taken_is_named}
+use Rattle.group_disks.proofs.FoundIds.{IsNamedIn, taken_is_named}
 use Rattle.session_claims.proofs.Pairs.{mounted_pair}
 
 some_of : (o : Option Image) → IsSome o → (x : Image) × (o ≡ Some x)
@@ -88,7 +88,7 @@ member_name n id g kept x is rests slot h below at member =
     let disk = describes.disks (record { slot = slot; header = h; disk = disk_in x slot }) (member_there id n slot x h below at member) in
     disk.name ∙ ap (λ (l : Group). l.name) (⊎_elim (λ (same : k ≡ g). same) (λ none. absurd none) among)
 
-pair_among : (session : List SessionEntry) (groups : List MountedGroup) (e : SessionEntry) (m : MountedGroup) → IsPaired session groups e m → IsAmong session e
+pub pair_among : (session : List SessionEntry) (groups : List MountedGroup) (e : SessionEntry) (m : MountedGroup) → IsPaired session groups e m → IsAmong session e
 pair_among [] groups e m pair = absurd pair
 pair_among (x ∷ es) [] e m pair = absurd pair
 pair_among (x ∷ es) (y ∷ ms) e m pair = ⊎_elim (λ here. inl here.0) (λ later. inr (pair_among es ms e m later)) pair
@@ -106,10 +106,12 @@ clash n known given s w groups name id sound stands have free each is =
     (has.member ∙ sym same ∙ sym k.same) in
     free e among mounted (ap (λ (b : Bytes). is_same_name b name) (sym (its ∙ have e k.group among mounted k.only)) ∙ has.named)
 
+pub named_is_unmounted : (n : ℕ) (known : ℕ → Bool) (given : ℕ) (s : BayState) (w : World) (groups : List MountedGroup) (name : Bytes) (id : ℕ) → IsSound s → StandsFor n known given s w groups → HaveNames w
+    → IsNameFree w name → ((x : Image) → s.holds ≡ Some x → HasNamed n id name x) → has_mounted w id ≡ false
+named_is_unmounted n known given s w groups name id sound stands have free each =
+    ⊎_elim (λ is. absurd (clash n known given s w groups name id sound stands have free each is)) (λ no. no) (cases_Bool (has_mounted w id))
+
 module _ {B : Type 0} (state : B → BayState) (sound : (b : B) → IsSound (state b)) (s : BayState) (sound_s : IsSound s) where
   pub found_is_unmounted : FoundIsUnmounted state s
   found_is_unmounted n known given w groups name held option stands have free was =
-      ⊎_elim
-      (λ is. absurd (clash n known given s w groups name was.quorum.id sound_s stands have free (is_there state sound s name n held option was) is))
-      (λ no. no)
-      (cases_Bool (has_mounted w was.quorum.id))
+      named_is_unmounted n known given s w groups name was.quorum.id sound_s stands have free (is_there state sound s name n held option was)

@@ -1,5 +1,6 @@
 -- Images that stay, as far as what they stand for goes.
-use Rattle.std.proofs.Common.{inl, inr, ℕ, suc, true, List, [], ◌∷◌, ◌++◌, Option, refl, sym, subst, arith}
+use Rattle.std.proofs.Common.{◌≡◌, inl, inr, ℕ, suc, true, List, [], ◌∷◌, ◌++◌, Option, Some, refl, sym, subst, arith}
+use Rattle.std.specs.List.{flat_map}
 use Rattle.bay.specs.Image.{Image, Same}
 use Rattle.bay.specs.State.{BayState}
 use Rattle.asm_group.specs.Group.{Group}
@@ -13,6 +14,9 @@ use Rattle.asm_images.proofs.Bridges.{same_is_same}
 use Rattle.asm_images.proofs.Held.{held_stands}
 use Rattle.asm_images.proofs.Membership.{among_within}
 use Rattle.asm_images.proofs.OneContent.{found_is_held}
+use Rattle.asm_world.specs.Between.{also, groups_between, with_span_free}
+use Rattle.asm_world.specs.Command.{Command}
+use Rattle.asm_world.specs.World.{World, groups_of}
 use Rattle.group_disks.specs.Creating.{HasMember}
 use Rattle.group_mount.specs.Mounting.{Allows}
 use Rattle.group_disks.proofs.Outsiders.{widened}
@@ -45,6 +49,21 @@ among-front (h ∷ groups) more g (inr is) = inr (among-front groups more g is)
 pub among-behind : (groups more : List Group) (g : Group) → IsAmong more g → IsAmong (groups ++ more) g
 among-behind [] more g is = is
 among-behind (h ∷ groups) more g is = inr (among-behind groups more g is)
+
+-- ---- groups of the worlds between
+
+pub before_between : (w w' : World) (command : Command) (id : ℕ) (g : Group) → IsAmong (groups_of w id) g → IsAmong (groups_between w command w' id) g
+before_between w w' command id g is = among-front (groups_of w id) _ g is
+
+pub after_between : (w w' : World) (command : Command) (id : ℕ) (g : Group) → IsAmong (groups_of w' id) g → IsAmong (groups_between w command w' id) g
+after_between w w' command id g is = among-behind (groups_of w id) _ g (among-front (groups_of w' id) _ g is)
+
+-- of a write the world with the span Free is one of them
+pub free_between : (w w' v : World) (command : Command) (id : ℕ) (g : Group) → with_span_free w command ≡ Some v → IsAmong (groups_of v id) g → IsAmong (groups_between w command w' id) g
+free_between w w' v command id g free is =
+    among-behind (groups_of w id) _ g
+    (among-behind (groups_of w' id) _ g
+    (subst (λ (x : Option World). IsAmong (flat_map (λ y. groups_of y id) (also x)) g) (sym free) (among-front (groups_of v id) [] g is)))
 
 -- ---- members by their slots
 

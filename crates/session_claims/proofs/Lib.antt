@@ -2,9 +2,11 @@ pub mod Pairs
 pub mod Images
 pub mod Members
 pub mod Others
+pub mod Turns
 pub mod Looks
+pub mod Carried
 pub mod Edited
+pub mod Written
 pub mod Created
-pub mod FoundIds
 pub mod FoundMembers
 pub mod Mounted

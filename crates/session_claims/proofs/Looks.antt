@@ -44,6 +44,7 @@ module _ (old new : BayState) (sound : IsSound old) (n : ℕ) (known : ℕ → B
         kept = k.kept;
         mounts = mounts_elsewhere n m old new k.group k.kept sound k.mounts attached runs (λ x y same slot. inl (record { size = same.size slot; byte = same.byte slot }));
         turns = k.turns;
+        still = k.still;
       }
 
   pub allows_now : (image : Image) (id : ℕ) → new.leaves new.calls image → Allows id (groups_of w id) image

@@ -11,10 +11,11 @@ use Rattle.group_engine.specs.Mounts.{MountedGroup}
 use Rattle.group_mount.specs.Mounting.{Allows}
 use Rattle.session_claims.specs.Claims.{IsMountedAs, IsPaired, KeepsWorlds, StandsFor}
 use Rattle.session_claims.specs.Laws.{MountKeeps, RefusedMountKeeps, WorksUnder}
-use Rattle.session_claims.proofs.Edited.{others_stay, replaced}
+use Rattle.session_claims.proofs.Carried.{others_stay, replaced}
 use Rattle.session_claims.proofs.Images.{among-front, held_allows, more_allows}
 use Rattle.session_claims.proofs.Others.{members_now, origin_now, other_allows, other_mounted, other_stands}
 use Rattle.session_claims.proofs.Pairs.{pair_mounted}
+use Rattle.session_claims.proofs.Turns.{few_turns}
 
 module _ (s t : BayState) (sound : IsSound s) (n : ℕ) (known : ℕ → Bool) (given : ℕ) (w : World) (groups : List MountedGroup) (id : ℕ) (stands : StandsFor n known given s w groups) (out : has_mounted w id ≡ false)
     (works : WorksUnder n id (groups_of w id) s t) where
@@ -47,7 +48,15 @@ pub mounts_keep : (s t : BayState) → IsSound s → MountKeeps s t
 mounts_keep s t sound n known given w w' groups groups' id g m command stands mount replaces goes =
     let works = mount.works in
     let here_is : groups_of w' id ≡ g ∷ [] = replaced w id (g ∷ []) w' replaces in
-    let mounted : IsMountedAs n id m (g ∷ []) t = record { same = mount.same; group = g; only = refl; kept = mount.is.kept; mounts = mount.is.mounts; turns = omega (arith, mount.is.turns, mount.few) } in
+    let mounted : IsMountedAs n id m (g ∷ []) t = record {
+      same = mount.same;
+      group = g;
+      only = refl;
+      kept = mount.is.kept;
+      mounts = mount.is.mounts;
+      turns = few_turns m mount.most mount.is.mounts.whole mount.is.turns mount.few;
+      still = mount.is.still;
+    } in
     works_keep s t sound n known given w groups id stands mount.out works command w' groups' (record {
       tells = works.members.tells stands.tells;
       entries = goes.entries;

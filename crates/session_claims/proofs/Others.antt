@@ -47,6 +47,7 @@ module _ (s t : BayState) (sound : IsSound s) (n : ℕ) (known : ℕ → Bool) (
       kept = k.kept;
       mounts = mounts_elsewhere n m s t k.group k.kept sound k.mounts attached runs (λ x y changes. changed_spares own m.register.id x y apart changes);
       turns = k.turns;
+      still = k.still;
     }
 
     there : (mo : ℕ) (image : Image) → s.calls ≤ mo → mo ≤ t.calls → t.leaves mo image → IsStanding n e.id image

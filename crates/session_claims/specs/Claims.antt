@@ -1,5 +1,5 @@
 -- What a stop may leave between two commands, against the world and the groups that are mounted.
-use Rattle.std.specs.Prelude.{◌≡◌, ◌⊎◌, ℕ, ◌+◌, ◌<◌, ◌≤◌, ◌^◌, Bool, IsSome, true, List, [], ◌∷◌, length, Option, Some}
+use Rattle.std.specs.Prelude.{◌≡◌, ◌⊎◌, ℕ, ◌<◌, ◌≤◌, Bool, IsSome, true, List, [], ◌∷◌, length, Option, None, Some}
 use Rattle.bay.specs.Image.{Image}
 use Rattle.bay.specs.State.{BayState}
 use Rattle.asm_group.specs.Group.{Group}
@@ -13,8 +13,8 @@ use Rattle.asm_world.specs.Command.{Command}
 use Rattle.asm_world.specs.World.{SessionEntry, World, groups_of, has_mounted, is_mounted}
 use Rattle.group_disks.specs.Creating.{HasMember}
 use Rattle.group_mount.specs.Mounting.{Allows}
-use Rattle.group_engine.specs.Commits.{turns_at_most}
 use Rattle.group_engine.specs.Mounts.{MountedGroup, Mounts}
+use Rattle.group_engine.specs.Pending.{OutlastsFaults}
 use Rattle.world_steps.specs.Told.{AreIdsApart}
 
 -- ---- a group and its entry
@@ -32,15 +32,17 @@ abbrev pub IsStanding : ℕ → ℕ → Image → Type 0
 IsStanding n id image = Standing id (disks_in n image) (λ any. true)
 
 -- A mounted group: it is the only one of its id's list, and it is mounted on the disks as they are, by one history of all images that a
--- stop now may leave. It rests: no record is begun behind the completed one. Disks that aren't attached to it may be members of its id.
+-- stop now may leave. It rests: no record is begun behind the completed one, and no move is on its way. Disks that aren't attached to it may
+-- be members of its id.
 pub record IsMountedAs (n id : ℕ) (m : MountedGroup) (groups : List Group) (bay : BayState) : Type 0 where
   pub same : m.register.id ≡ id
   pub group : Group
   pub only : groups ≡ group ∷ []
   pub kept : Kept
   pub mounts : Mounts n m bay group kept
-  -- commits don't use up its turns
-  pub turns : turns_at_most m + 1 < 2 ^ 64
+  -- its turns don't run out, whatever fails
+  pub turns : OutlastsFaults m
+  pub still : m.flight ≡ None
 
 -- the image stands for these groups under the id by this history, however many of its slots are looked at
 abbrev pub IsSoundBy : ℕ → List Group → Option Status → List Status → Image → Type 0

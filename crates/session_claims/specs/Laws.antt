@@ -1,19 +1,24 @@
 -- How commands keep what a stop may leave.
-use Rattle.std.specs.Prelude.{◌≡◌, ◌≢◌, ◌⊎◌, ℕ, ◌+◌, ◌^◌, ◌<◌, ◌≤◌, ◌==◌, Bool, true, false, List, [], ◌∷◌, length, Result, Ok, Err, if◌then◌else◌}
+use Rattle.std.specs.Prelude.{◌≡◌, ◌≢◌, ◌⊎◌, ℕ, ◌+◌, ◌^◌, ◌<◌, ◌≤◌, ◌==◌, Bool, true, false, List, [], ◌∷◌, length, None, Result, Ok, Err, if◌then◌else◌}
 use Rattle.bay.specs.Image.{Same}
 use Rattle.bay.specs.Moments.{LeavesOnly, Runs}
 use Rattle.bay.specs.State.{BayState}
 use Rattle.asm_base.specs.declared.refusal.Refusal.{Refusal}
 use Rattle.asm_group.specs.Group.{Group}
+use Rattle.asm_formats.specs.Among.{IsAmong}
+use Rattle.asm_images.specs.Kept.{Kept}
+use Rattle.asm_world.specs.Between.{groups_between}
 use Rattle.asm_world.specs.Command.{Command}
 use Rattle.asm_world.specs.World.{SessionEntry, World, groups_of, has_mounted, is_mounted}
 use Rattle.edit_laws.specs.Edits.{edited_by}
 use Rattle.group_disks.specs.Creating.{HasCreated}
 use Rattle.group_disks.specs.FirstParts.{MountsNew}
 use Rattle.group_disks.specs.Leaving.{IsMountedOn}
+use Rattle.group_engine.specs.Commits.{StandsIn}
 use Rattle.group_engine.specs.Frames.{StaysAttached}
-use Rattle.group_engine.specs.Mounts.{IsMounted, MountedGroup}
+use Rattle.group_engine.specs.Mounts.{IsMounted, MountedGroup, Mounts}
 use Rattle.group_engine.specs.Own.{KeepsGroup}
+use Rattle.group_engine.specs.Pending.{OutlastsFaults}
 use Rattle.group_files.specs.Edits.{IsCommitted}
 use Rattle.group_files.specs.GroupEdits.{IsEditPlan}
 use Rattle.group_files.specs.declared.edit.GroupEdit.{GroupEdit}
@@ -82,6 +87,44 @@ RefusalKeeps s t =
     → StandsFor n known given s w groups → IsPaired w.session groups e old → is_mounted e ≡ true → CommitsEdit edit old (Err refusal) new s t → IsMounted new → ((i : ℕ) → groups_of w' i ≡ groups_of w i)
     → MountsGoOn e.id (λ m. m ≡ new) w w' groups groups' → KeepsWorlds n known command given s t w w' groups'
 
+-- ---- a write of users' bytes
+
+-- Each image of each moment is held for the group with the cells of the span Free. In the end, where it takes calls, this one is mounted.
+pub record HoldsWrite (n : ℕ) (old new : MountedGroup) (free h : Group) (kept : Kept) (s t : BayState) : Type 0 where
+  pub moments : LeavesOnly s t (StandsIn n old.register.id (free ∷ []) kept)
+  pub after : IsMounted new → (later : Kept) × (later.slots ≡ kept.slots) × Mounts n new t h later
+  pub turns : IsMounted new → OutlastsFaults new
+
+-- Users' bytes of a mounted group g were written, or a part of them: while they are the group is `free`, with the cells of the span Free,
+-- and then it is h. It is so however it is mounted, with no move on its way and turns enough.
+pub record WritesGroup (n : ℕ) (old new : MountedGroup) (g free h : Group) (s t : BayState) : Type 0 where
+  pub mounted : IsMounted old
+  pub keeps : KeepsGroup old new s t
+  pub holds : (kept : Kept) → Mounts n old s g kept → old.flight ≡ None → OutlastsFaults old → HoldsWrite n old new free h kept s t
+
+-- The entry of a mounted group that is alone under its id, and the group that it is with the cells of the span Free: one of the worlds
+-- between has it.
+pub record IsWrittenIn (w w' : World) (groups : List MountedGroup) (command : Command) (e : SessionEntry) (old : MountedGroup) (g free : Group) : Type 0 where
+  pub pair : IsPaired w.session groups e old
+  pub is : is_mounted e ≡ true
+  pub alone : groups_of w e.id ≡ g ∷ []
+  pub between : IsAmong (groups_between w command w' e.id) free
+
+-- Over a write after which the group takes calls, the disks hold the group with the span Free, and then the one after: with the bytes where
+-- it was done, with the span Free where it was refused.
+abbrev pub WriteKeeps : BayState → BayState → Type 0
+WriteKeeps s t =
+    (n : ℕ) (known : ℕ → Bool) (given : ℕ) (w w' : World) (groups groups' : List MountedGroup) (e : SessionEntry) (old new : MountedGroup) (g free h : Group) (command : Command)
+    → StandsFor n known given s w groups → IsWrittenIn w w' groups command e old g free → WritesGroup n old new g free h s t → IsMounted new → ReplacesGroups w e.id (h ∷ []) w'
+    → MountsGoOn e.id (λ m. m ≡ new) w w' groups groups' → KeepsWorlds n known command given s t w w' groups'
+
+-- Where it dismounted the group, the disks hold the one with the span Free.
+abbrev pub WriteTears : BayState → BayState → Type 0
+WriteTears s t =
+    (n : ℕ) (known : ℕ → Bool) (given : ℕ) (w w' : World) (groups groups' : List MountedGroup) (e : SessionEntry) (old new : MountedGroup) (g free h : Group) (command : Command)
+    → StandsFor n known given s w groups → IsWrittenIn w w' groups command e old g free → WritesGroup n old new g free h s t → ReplacesGroups w e.id (free ∷ []) w'
+    → MountsGoOn e.id (λ m. ⊥) w w' groups groups' → KeepsWorlds n known command given s t w w' groups'
+
 -- ---- a creation
 
 -- The premises on the id of a new group: it is above those that were given, and no disk of an id that was known has it.
@@ -110,9 +153,9 @@ pub record MountsUnder (n id : ℕ) (w : World) (g : Group) (m : MountedGroup) (
   pub out : has_mounted w id ≡ false
   pub works : WorksUnder n id (groups_of w id) old new
   pub same : m.register.id ≡ id
-  -- commits don't use up its turns
+  -- its turns don't run out, whatever fails: at most 64 disks may
   pub most : ℕ
-  pub few : most + 1 < 2 ^ 64
+  pub few : most + 65 < 2 ^ 64
   pub is : IsMountedOn most n g m new
 
 -- Over a mount the disks hold the groups of its id, and then the one that is mounted.

@@ -2,7 +2,7 @@
 //! does nothing; its contract is the law.
 #![tactic(auto)]
 
-ghost use Rattle.session_claims.specs.Laws.{CreationKeeps, EditKeeps, LooksKeep, MountKeeps, RefusalKeeps, RefusedMountKeeps, TearingKeeps};
+ghost use Rattle.session_claims.specs.Laws.{CreationKeeps, EditKeeps, LooksKeep, MountKeeps, RefusalKeeps, RefusedMountKeeps, TearingKeeps, WriteKeeps, WriteTears};
 
 mod found;
 
@@ -21,6 +21,14 @@ pub fn edits_keep<B: Bay>(start: &B, end: &B)
     ensures done { EditKeeps (B.state start.now) (B.state end.now) }
     ensures torn { TearingKeeps (B.state start.now) (B.state end.now) }
     ensures refused { RefusalKeeps (B.state start.now) (B.state end.now) }
+{}
+
+/// Over a write of users' bytes of a mounted group each image stands for the group with the cells of the span Free, and all other ids
+/// for what they stood for. Where the group takes calls afterwards, it is mounted as the world has it then; where the write
+/// dismounted it, each image stands for it with the span Free.
+pub fn writes_keep<B: Bay>(start: &B, end: &B)
+    ensures done { WriteKeeps (B.state start.now) (B.state end.now) }
+    ensures torn { WriteTears (B.state start.now) (B.state end.now) }
 {}
 
 /// Over the creation of a group on one disk all other ids stand for what they stood for, and once it is done the new group is

@@ -65,7 +65,7 @@ returns-in-Ok-clause-mounts g c =
       moments = λ k is. on_through group new n k u t is c.finish.ensures.moments;
       members = members_over g.B.Bay.state name n c.args.held.now c.args.option group new (g.B.Bay.state c.args.bay.now) at t (g.met.B.Bay.sound at) (g.met.B.Bay.sound c.finish.new.bay)
           c.in_ok-taken.ensures.mounts c.in_ok-taken.ensures.inside c.finish.ensures.keeps c.finish.ensures.moments;
-      now = λ k is. on_later group new n k u t is (c.finish.ensures.mounts c.in-Ok.ensures.mounted) c.finish.ensures.turns;
+      now = λ k is. on_later group new n k u t is (c.finish.ensures.mounts c.in-Ok.ensures.mounted) c.finish.ensures.turns c.finish.ensures.keeps.same;
     }
 
 pub returns-in-Err-clause-refused : goal.returns-in-Err-clause-refused

@@ -6,7 +6,7 @@ use Rattle.status_register.specs.declared.member.Member.{Member}
 use Rattle.group_disks.specs.Bringing.{is_named_in}
 use Rattle.group_disks.specs.Mounting.{IsMountedBy, not_found}
 use Rattle.group_disks.proofs.Held.{there_left}
-use Rattle.group_disks.proofs.LeftMounted.{claim_refused, looks_refused, looks_two, mounts_one, not_read, not_renewed_leaves}
+use Rattle.group_disks.proofs.LeftMounted.{claim_refused, looks_refused, looks_two, mounts_one, not_read, not_renewed_leaves, reads_two}
 use Rattle.group_disks.proofs.MountedParts.{parts_mounted, parts_small, parts_whole}
 use Rattle.group_disks.proofs.Spared.{looks_held}
 use Rattle.group_disks.proofs.Staying.{stays_keeps, stays_trans}
@@ -34,7 +34,7 @@ mounted_of-requires-clause-whole g c = parts_whole c.in_ok-quorate.quorate c.arg
 pub returns-in_err-searched-clause-cause : goal.returns-in_err-searched-clause-cause
 returns-in_err-searched-clause-cause g c =
     let p = err_from_is_err_and c.from_residual.result c.from_residual.ensures.1 in
-    rw (p.1, p.2) (not_found c.in_err-searched.ensures.answer)
+    rw (p.1, p.2) (not_found c.find.ensures.runs c.in_err-searched.ensures.answer)
 
 pub returns-then-not-is_named-clause-cause : goal.returns-then-not-is_named-clause-cause
 returns-then-not-is_named-clause-cause g c =
@@ -44,7 +44,7 @@ returns-then-not-is_named-clause-cause g c =
     let n = length c.args.paths.now in
     let held = c.args.held.now in
     let slots = c.in_ok-searched.ensures.slots in
-    others_cause name n held c.args.option found f c.without-found.ensures slots g.B.Bay.state (g.B.Bay.state c.args.bay.now) (g.B.Bay.state c.find.new.bay) c.in_ok-searched.ensures.answer
+    others_cause name n held c.args.option found f c.without-found.ensures slots g.B.Bay.state (g.B.Bay.state c.args.bay.now) (g.B.Bay.state c.find.new.bay) c.find.ensures.runs c.in_ok-searched.ensures.answer
     (was_named name n held c.args.option found f c.without-found.ensures slots c.is_named.result false c.is_named.ensures c.if-not-is_named.true)
 
 pub returns-in_err-quorate-clause-cause : goal.returns-in_err-quorate-clause-cause
@@ -52,7 +52,10 @@ returns-in_err-quorate-clause-cause g c =
     let found = c.in_ok-searched.searched in
     let p = err_from_is_err_and c.from_residual-in_err-quorate.result c.from_residual-in_err-quorate.ensures.1 in
     rw (p.1, p.2) (quorum_cause c.args.name.now (length c.args.paths.now) c.args.held.now c.args.option found c.without-found.result c.without-found.ensures c.in_ok-searched.ensures.slots
-    g.B.Bay.state (g.B.Bay.state c.args.bay.now) c.find.new.bay (g.B.Bay.state c.quorate.new.bay) c.in_err-quorate.field-0.0 c.in_ok-searched.ensures.answer c.in_err-quorate.ensures.answer)
+    g.B.Bay.state (g.B.Bay.state c.args.bay.now) c.find.new.bay (g.B.Bay.state c.quorate.new.bay) c.in_err-quorate.field-0.0 c.in_ok-searched.ensures.answer c.find.ensures.runs
+    (reads_two c.args.name.now (length c.args.paths.now) c.args.held.now c.args.option c.in_ok-searched.searched c.without-found.result c.without-found.ensures c.in_ok-searched.ensures.slots
+    g.B.Bay.state (g.B.Bay.state c.args.bay.now) c.find.new.bay c.quorate.new.bay (g.B.Bay.state c.quorate.new.bay) c.in_ok-searched.ensures.there c.find.ensures.runs c.quorate.ensures.runs)
+    c.in_err-quorate.ensures.answer)
 
 pub returns-in_err-parts-clause-cause : goal.returns-in_err-parts-clause-cause
 returns-in_err-parts-clause-cause g c =
@@ -60,7 +63,10 @@ returns-in_err-parts-clause-cause g c =
     let p = err_from_is_err_and c.from_residual-in_err-parts.result c.from_residual-in_err-parts.ensures.1 in
     rw (p.1, p.2) (renewed_cause c.args.name.now (length c.args.paths.now) c.args.held.now c.args.option found c.without-found.result c.without-found.ensures c.in_ok-searched.ensures.slots
     g.B.Bay.state (g.B.Bay.state c.args.bay.now) c.find.new.bay c.quorate.new.bay c.in_ok-quorate.quorate (g.B.Bay.state c.recover.new.bay) c.in_err-parts.field-0.0
-    c.in_ok-searched.ensures.answer c.find.ensures.runs c.in_ok-quorate.ensures.answer c.in_err-parts.ensures.cause)
+    c.in_ok-searched.ensures.answer c.find.ensures.runs c.in_ok-quorate.ensures.answer
+    (reads_two c.args.name.now (length c.args.paths.now) c.args.held.now c.args.option c.in_ok-searched.searched c.without-found.result c.without-found.ensures c.in_ok-searched.ensures.slots
+    g.B.Bay.state (g.B.Bay.state c.args.bay.now) c.find.new.bay c.quorate.new.bay (g.B.Bay.state c.recover.new.bay) c.in_ok-searched.ensures.there c.find.ensures.runs c.quorate.ensures.runs)
+    c.recover.ensures.runs.faults c.in_err-parts.ensures.cause)
 
 -- ---- what is attached stays so
 
