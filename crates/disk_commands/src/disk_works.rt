@@ -349,7 +349,7 @@ pub struct ChangeDisks<'a> {
 impl GroupWork for ChangeDisks<'_> {
     type Given = ();
 
-    ghost does = { λ work old given new. ⊤ };
+    ghost does = { λ work old result new s t. ⊤ };
 
     #[tactic(auto, using(session::proofs::Keeping::lets_none))]
     fn run<B: Bay>(self, m: &mut Mounted, alloc: Global, bay: &mut B) -> Result<(), Refusal> {

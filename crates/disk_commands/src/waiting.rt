@@ -106,7 +106,7 @@ pub struct RebalanceAll {
 impl GroupWork for RebalanceAll {
     type Given = Waited;
 
-    ghost does = { λ work old given new. ⊤ };
+    ghost does = { λ work old result new s t. ⊤ };
 
     fn run<B: Bay>(self, m: &mut Mounted, alloc: Global, bay: &mut B) -> Result<Waited, Refusal> {
         let (end, steps) = run_to_end(m, alloc, bay, self.power);
@@ -184,7 +184,7 @@ pub struct ResyncDisk {
 impl GroupWork for ResyncDisk {
     type Given = Waited;
 
-    ghost does = { λ work old given new. ⊤ };
+    ghost does = { λ work old result new s t. ⊤ };
 
     #[tactic(auto, using(session::proofs::Keeping::lets_go))]
     fn run<B: Bay>(self, m: &mut Mounted, alloc: Global, bay: &mut B) -> Result<Waited, Refusal> {

@@ -53,16 +53,17 @@ use Rattle.session.specs.Counts.{ReplyCause}
 use Rattle.session.specs.declared.reply.Reply as code
 use Rattle.session.specs.declared.reply.Reply.TheVariants as replies
 use Rattle.name_commands.specs.Asking.{AsksFor}
-use Rattle.session.specs.Editing.{AreNamesApart, EditsGroup, IsSpelt, with_state}
+use Rattle.session.specs.Editing.{EditsGroup}
 use Rattle.session.specs.Effects.{IsServed, Past, below_with}
 use Rattle.session.specs.Entries.{by_disk, disk_name, state_view}
 use Rattle.session.specs.Meaning.{meaning}
 use Rattle.session.specs.Naming as session
-use Rattle.session.specs.Naming.{CarriesOn, group_among}
+use Rattle.session.specs.Naming.{AreNamesApart, CarriesOn, group_among}
 use Rattle.session.specs.OnDisks.{DiskWork, IsWorkDone, ReplyWork, work_of}
 use Rattle.session.specs.Proved.{HasOwnGroups}
 use Rattle.session.specs.Sessions.{AreToldBy, IsToldBy, Knows, Roster, SessionView, groups_below, roster_of}
 use Rattle.session.specs.Views.{reply_view}
+use Rattle.session.specs.Works.{IsSpelt, with_state}
 use Rattle.name_commands.proofs.AskedEdits.{edit_alone}
 use Rattle.session.proofs.Creation.{groups_after, same_some}
 use Rattle.name_commands.proofs.EditPlans.{IsRefusedBy, as_is, planned, planned_after, refused_by}
@@ -450,5 +451,5 @@ edited_session paths text name edit allowed old new asks s t sound later apart p
     let on : done.entry.state ≡ Mounted = done.state ∙ ap (λ (a : Access). by_disk done.before (dismounted_by a)) done.is.mounted in
     let asks_there = subst (λ (p : List Bytes). AsksFor p (meaning text) name edit) (sym knows.place_is) asks in
     let x = ends paths text name edit allowed w below asks_there (roster_of old) (roster_of new) carries.given new.entries s t sound later carries.calls carries.past
-    (knows.told (paired ∙ ap (λ (l : List SessionEntry). length l) (sym knows.entries_are))) done.before done.after done.entry edited on done.is.mounted done.keeps done.answer result done.spelt done.edits in
+    (knows.told (paired ∙ ap (λ (l : List SessionEntry). length l) (sym knows.entries_are))) done.before done.after done.entry edited on done.is.mounted done.does.0 done.answer result done.spelt done.does.1 in
     (x.0, groups_below new.entries new.groups, record { entries_are = x.1; place_is = x.2 ∙ knows.place_is ∙ sym carries.place; below_is = refl; told = λ lengths. x.3 }, x.4)

@@ -26,7 +26,7 @@ use Rattle.session.specs.declared.reply.Reply.TheVariants as code
 use Rattle.session.specs.Desks.{IsAnswered, paths_on}
 use Rattle.name_commands.specs.Asking.{AsksChange, AsksInVain}
 use Rattle.session.specs.Effects.{IsServed, Past, below_with}
-use Rattle.session.specs.Families.{is_edit}
+use Rattle.session.specs.Families.{changes_group}
 use Rattle.session.specs.Leading.{IsNoTarget}
 use Rattle.session.specs.Meaning.{meaning}
 use Rattle.session.specs.Naming.{IsOutCause, in_state, of_entry}
@@ -34,7 +34,7 @@ use Rattle.session.specs.Proved.{HasOwnGroups}
 use Rattle.session.specs.Sessions.{AreReady, Knows, Roster, SessionView, roster_of}
 use Rattle.session.specs.Views.{found_view, nothing_found}
 use Rattle.name_commands.proofs.AskedEdits.{edit_alone}
-use Rattle.session.proofs.Languages.{short_is_no_edit}
+use Rattle.session.proofs.Languages.{edit_changes, short_is_no_change}
 use Rattle.session.proofs.Outcomes as outcomes
 use Rattle.session.proofs.Outcomes.{unread}
 
@@ -44,14 +44,14 @@ module _ (paths : List Bytes) (text : Bytes) (asks : asks_edit (meaning text) �
   no_counts r.NoMemory s t = tt
   no_counts other s t = (edit_alone (meaning text) asks).counts paths other s t
 
-  pub edits : is_edit (meaning text) ≡ true
-  edits = (edit_alone (meaning text) asks).edits
+  pub edits : changes_group (meaning text) ≡ true
+  edits = edit_changes (meaning text) (edit_alone (meaning text) asks).edits
 
   -- nothing more is said of it
   module _ (was now : Roster) (s t : BayState) (calls : s.calls ≤ t.calls) (past : Past s t) (below : ℕ → GroupBelow) (w : World) where
     -- memory was short
     pub short : (w' : World) → IsServed paths unread text (Refused [] r.NoMemory) was now s t below w w'
-    short w' = record { calls = calls; past = past; effect = λ proved met. absurd (true≢false (sym edits ∙ short_is_no_edit paths was s w (meaning text) proved)) }
+    short w' = record { calls = calls; past = past; effect = λ proved met. absurd (true≢false (sym edits ∙ short_is_no_change paths was s w (meaning text) proved)) }
 
     -- the mounted groups aren't alone under their ids
     pub unmet : (reply : Reply) (w' : World) → (HasOwnGroups w → ⊥) → IsServed paths unread text reply was now s t below w w'

@@ -26,7 +26,7 @@ use Rattle.report_laws.specs.Lists.{LacksName, matching_name, names_before}
 use Rattle.report_laws.proofs.InOrder.{names_are_inserted}
 use Rattle.session.specs.declared.entry.Entry.{Entry}
 use Rattle.session.specs.declared.group_name.GroupName.{GroupName}
-use Rattle.session.specs.Editing.{AreNamesApart}
+use Rattle.session.specs.Naming.{AreNamesApart}
 use Rattle.session.specs.Entries.{by_disk, entry_view}
 use Rattle.session.specs.Naming.{IsGroupOf, IsOutCause, group_among}
 use Rattle.session.specs.Sessions.{SessionView}

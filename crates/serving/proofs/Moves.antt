@@ -23,7 +23,7 @@ use Rattle.asm_world.specs.Waits.{HasLines}
 use Rattle.group_disks.specs.Found.{Counts, counts_of}
 use Rattle.session.specs.Meaning.{meaning}
 use Rattle.session.specs.Effects.{HasEffect, IsProvedOn, IsServed, anywhere, below_with, on_disks}
-use Rattle.session.specs.Families.{is_edit}
+use Rattle.session.specs.Families.{changes_group}
 use Rattle.serving.specs.Manners.{after_reply, reply_style}
 use Rattle.session.specs.Desks.{paths_on}
 use Rattle.serving.specs.Programs.{scene_of, AnswersOne, RunsOne, TellsEvents}
@@ -35,7 +35,7 @@ use Rattle.serving.specs.declared.program.Program.{Program}
 use Rattle.serving.specs.declared.stop.Stop.{Stop}
 use Rattle.serving.proofs.Chains.{acts-none, acts-one, acts-then, acts-cut, or-false}
 use Rattle.session.proofs.Below.{IsStill, still_below}
-use Rattle.session.proofs.Languages.{short_is_no_edit, short_is_proved}
+use Rattle.session.proofs.Languages.{short_is_no_change, short_is_proved}
 use Rattle.serving.proofs.Pieces.{at-paths, at-phase}
 use Rattle.asm_world.proofs.Memory.{no_lines}
 
@@ -143,7 +143,7 @@ acts-answers gives paths whole found text reply sent w w' below below' time was 
     })
 
 -- want of memory in place of a refusal
-short-effect : (paths : List Bytes) (found : Found) (text : Bytes) (reply : Reply) (was now : Roster) (old new : BayState) {below : ℕ → GroupBelow} (w w' : World) → is_refusal reply ≡ true → is_edit (meaning text) ≡ false
+short-effect : (paths : List Bytes) (found : Found) (text : Bytes) (reply : Reply) (was now : Roster) (old new : BayState) {below : ℕ → GroupBelow} (w w' : World) → is_refusal reply ≡ true → changes_group (meaning text) ≡ false
     → HasEffect paths found text reply was now old new below w w' → HasEffect paths found text (Refused [] r.NoMemory) was now old new below w w'
 short-effect paths found text reply was now old new {below = below} w w' refuses other effect = record {
   step = effect.no_memory refuses other;
@@ -168,7 +168,7 @@ effect-printed paths found text reply printed was now old new w w' (inr (refuses
   past = served.past;
   effect = λ proved met.
       let short = subst (λ (p : Reply). IsProvedOn paths was old w (meaning text) p) e proved in
-      rw e (short-effect paths found text reply was now old new w w' refuses (short_is_no_edit paths was old w (meaning text) short) (served.effect (short_is_proved paths was old w (meaning text) reply short) met));
+      rw e (short-effect paths found text reply was now old new w w' refuses (short_is_no_change paths was old w (meaning text) short) (served.effect (short_is_proved paths was old w (meaning text) reply short) met));
 }
 
 -- ---- a whole command

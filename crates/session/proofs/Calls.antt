@@ -1,5 +1,5 @@
 -- The session over calls one after another, over calls that leave its groups as they are, and what a call on a group did.
-use Rattle.std.proofs.Common.{◌≡◌, ℕ, true, false, Bool, List, [], ◌∷◌, map, Option, Some, refl, ◌∙◌, ap, arith}
+use Rattle.std.proofs.Common.{Ok, ◌≡◌, ℕ, true, false, Bool, List, [], ◌∷◌, map, Option, Some, refl, ◌∙◌, ap, arith}
 use Rattle.std.specs.Prelude.{if◌then◌else◌}
 use Rattle.bay.specs.State.{BayState}
 use Rattle.asm_group.specs.Names.{Bytes, is_same_name}
@@ -14,7 +14,8 @@ use Rattle.file_directory.specs.Files.{head_at}
 use Rattle.group_reports.specs.Listing.{path_to}
 use Rattle.session.specs.FileLines.{IsNewLine, line_of_head, system_lines}
 use Rattle.session.specs.Listing.{IsInGroup}
-use Rattle.session.specs.Naming.{CarriesOn, DoesOn, IsGroupOf, group_among, key_of, with_group}
+use Rattle.session.specs.Naming.{CarriesOn, IsGroupOf, group_among, key_of, with_group}
+use Rattle.session.specs.Works.{DoesOn, Doing}
 use Rattle.session.specs.Sessions.{AreReady, SessionView}
 use Rattle.session.proofs.Keeping.{lets_go}
 use Rattle.session.proofs.Ready.{read_ready}
@@ -78,8 +79,8 @@ one_of : (m b : MountedGroup) (o : Option MountedGroup) → o ≡ Some m → o �
 one_of m b o is other = cc
 
 -- The line of a new file is told of the group that the call left.
-pub new_line : (new : NewFile) (old session : SessionView) (s t : BayState) (Does : MountedGroup → ℕ → MountedGroup → Type 0) (file : ℕ) (lines : List Bytes)
-    → ((x y : MountedGroup) → Does x file y → (before : MountedGroup) × NamesFile before new file y) → CarriesOn old session s t
+pub new_line : (new : NewFile) (old session : SessionView) (s t : BayState) (Does : Doing ℕ) (file : ℕ) (lines : List Bytes)
+    → ((x y : MountedGroup) → Does x (Ok file) y s t → (before : MountedGroup) × NamesFile before new file y) → CarriesOn old session s t
     → DoesOn new.path.group Does old session s t file → IsInGroup session new.path.group (λ m. lines ≡ system_lines m file) → IsNewLine new session lines
 new_line new old session s t Does file lines names carries done told =
     let changes = done.0 in

@@ -13,9 +13,9 @@ use Rattle.group_engine.specs.Mounts.{MountedGroup}
 use Rattle.session_claims.specs.Claims.{IsPaired}
 use Rattle.session.specs.declared.entry.Entry.{Entry}
 use Rattle.session.specs.declared.group_name.GroupName.{GroupName}
-use Rattle.session.specs.Editing.{AreNamesApart, with_state}
 use Rattle.session.specs.Entries.{entry_view, group_view, state_view}
-use Rattle.session.specs.Naming.{group_among, with_group}
+use Rattle.session.specs.Naming.{AreNamesApart, group_among, with_group}
+use Rattle.session.specs.Works.{with_state}
 use Rattle.session.proofs.Entries.{flip, same_key, sought}
 use Rattle.session.proofs.Grouped.{Pairs}
 use Rattle.session.proofs.Knowing.{paired_among}

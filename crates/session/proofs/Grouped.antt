@@ -1,5 +1,5 @@
 -- The groups of the session under their names: those that are found, that come, that leave, and that are changed.
-use Rattle.std.proofs.Common.{◌≡◌, ℕ, zero, suc, ◌<◌, ◌≤◌, Bool, true, false, cond, List, [], ◌∷◌, ◌++◌, map, length, Option, Some, None, is_some, refl, sym, ◌∙◌, ap, arith}
+use Rattle.std.proofs.Common.{◌≡◌, ⊎_elim, ℕ, zero, suc, ◌<◌, ◌≤◌, Bool, true, false, cond, List, [], ◌∷◌, ◌++◌, map, length, Option, Some, None, is_some, refl, sym, ◌∙◌, ap, arith}
 use Rattle.std.specs.Prelude.{if◌then◌else◌, is_none, nat_le}
 use Rattle.std.specs.List.{cons_option, filter_map}
 use Rattle.std.specs.Map.{lookup, set_value}
@@ -17,7 +17,7 @@ use Rattle.group_engine.specs.Mounts.{IsMounted, MountedGroup}
 use Rattle.group_engine.specs.declared.access.Access.{Access}
 use Rattle.session.specs.declared.entry.Entry.{Entry}
 use Rattle.session.specs.declared.group_name.GroupName.{GroupName}
-use Rattle.session.specs.Entries.{by_disk, entry_view, group_view, state_view}
+use Rattle.session.specs.Entries.{AreAlike, by_disk, entry_view, group_view, state_view}
 use Rattle.session.specs.Naming.{IsOn, group_among, key_of, with_group}
 use Rattle.session.specs.Sessions.{AreGiven, without_groups}
 use Rattle.session.proofs.Entries.{absent_by_name, added, all-cons, found_by_name, flip, same_key, sought}
@@ -28,6 +28,14 @@ Pairs = List (GroupName × Entry)
 -- the two lists of the session go together
 pub paired : (es : Pairs) → length (map group_view es) ≡ length (map entry_view es)
 paired es = length-map es group_view ∙ sym (length-map es entry_view)
+
+-- each entry says whether its group is mounted
+pub alike : (es : Pairs) → AreAlike (map entry_view es) (map group_view es)
+alike [] e m pair = absurd pair
+alike (p ∷ es) e m pair = ⊎_elim
+    (λ (here : (e ≡ entry_view p) × (m ≡ group_view p)). ap (λ (x : SessionEntry). x.state) here.0 ∙ ap state_view (sym here.1))
+    (λ later. alike es e m later)
+    pair
 
 -- ---- those that are found
 

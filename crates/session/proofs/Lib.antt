@@ -7,7 +7,6 @@ pub mod Causes
 pub mod Creation
 pub mod Desks
 pub mod EditedEntries
-pub mod EditedSession
 pub mod Entries
 pub mod Giving
 pub mod Grouped
@@ -21,3 +20,4 @@ pub mod Slots
 pub mod Spellings
 pub mod Telling
 pub mod Turning
+pub mod Working

@@ -14,9 +14,9 @@ use Rattle.group_engine.specs.Mounts.{MountedGroup}
 use Rattle.group_engine.specs.declared.access.Access.{Access}
 use Rattle.group_engine.specs.declared.access.Access.TheVariants as access
 use Rattle.session.specs.declared.entry.Entry.{Entry}
-use Rattle.session.specs.Editing.{Spells}
 use Rattle.session.specs.Entries.{by_disk, disk_name, entry_view}
 use Rattle.session.specs.Naming.{IsOutCause, in_state, of_entry}
+use Rattle.session.specs.Works.{Spells}
 use Rattle.session.proofs.Entries.{sought}
 use Rattle.session.proofs.Grouped.{Pairs, entry_found, none_found}
 

@@ -146,9 +146,13 @@ edits_in other = false
 abbrev pub is_edit : Command → Bool
 is_edit c = edits_in (family_of c)
 
--- an edit or a mount: where memory was short for it, its reply doesn't tell what it left of its group
+-- whether it writes on a mounted group: an edit, or a write of bytes
+abbrev pub changes_group : Command → Bool
+changes_group c = is_edit c || files.writes_bytes c
+
+-- such a command or a mount: where memory was short for it, its reply doesn't tell what it left of its group
 abbrev pub may_stop_torn : Command → Bool
-may_stop_torn c = is_edit c || groups.mounts c
+may_stop_torn c = changes_group c || groups.mounts c
 
 abbrev shown_in : Family → Command → Bool
 shown_in Groups c = groups.shows_group c

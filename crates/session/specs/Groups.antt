@@ -12,6 +12,7 @@ use Rattle.asm_world.specs.Statement.{Statement, CreateDisk, CreateGroup, DropGr
 use Rattle.asm_world.specs.World.{World}
 use Rattle.group_disks.specs.Creating.{made_group}
 use Rattle.group_disks.specs.Found.{Counts, RefusalCause}
+use Rattle.group_disks.specs.MountCauses.{MountRefusal}
 
 -- ---- the creation of which it is proved what it does
 
@@ -70,6 +71,11 @@ abbrev pub mounts : Command → Bool
 mounts (Said (Alter name (Mount force))) = true
 mounts other = false
 
+-- the name of that group
+abbrev pub name_mounted : Command → Bytes
+name_mounted (Said (Alter name (Mount force))) = name
+name_mounted other = []
+
 -- Which tell of a group as it is mounted, or mount one: a name finds at most one group only where each mounted group has its entry's name.
 abbrev pub shows_group : Command → Bool
 shows_group (Said (Alter name Check)) = true
@@ -91,6 +97,7 @@ causes paths (Some v) (r.TooMany kind limit) s t = ⊤
 causes paths (Some v) r.GroupExists s t = ⊤
 causes paths (Some (name, path)) cause s t = RefusalCause paths path cause s t
 
--- A creation on one disk is refused by its path. The other causes are the session's.
+-- A creation on one disk is refused by its path, and a mount by what the disks held. The other causes are the session's.
 abbrev pub IsRefused : List Bytes → Command → r.Refusal → Counts → Counts → Type 0
+IsRefused paths (Said (Alter name (Mount force))) cause s t = MountRefusal paths name force cause s t
 IsRefused paths c cause s t = causes paths (creation_asked c) cause s t

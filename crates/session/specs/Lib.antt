@@ -24,3 +24,4 @@ pub mod Reports
 pub mod Sessions
 pub mod Settings
 pub mod Views
+pub mod Works

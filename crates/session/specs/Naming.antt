@@ -1,8 +1,9 @@
 -- Groups of the session by their names, and what is done to one of them.
-use Rattle.std.specs.Prelude.{◌≡◌, ◌⊎◌, ℕ, ◌≤◌, List, [], ◌∷◌, length, map, Option, Some, None, IfErr, IfOk, OnOk, Result, if◌then◌else◌}
+use Rattle.std.specs.Prelude.{◌≡◌, ◌⊎◌, ⊤, false, ℕ, ◌≤◌, List, [], ◌∷◌, length, map, Option, Some, None, if◌then◌else◌}
 use Rattle.asm_group.specs.Names.{Bytes, is_same_name}
 use Rattle.asm_group.specs.Refusal as r
 use Rattle.asm_base.specs.Refusals.{said}
+use Rattle.asm_formats.specs.Among.{IsAmong}
 use Rattle.asm_base.specs.declared.refusal.Refusal.{Refusal}
 use Rattle.asm_world.specs.World.{SessionEntry, SessionState, Mounted, DismountedBy, entry_among}
 use Rattle.bay.specs.State.{BayState}
@@ -22,6 +23,11 @@ of_entry (Some entry) refusal = in_state entry.state refusal
 -- The name isn't in the session, or its group is dismounted by this disk. Want of memory is free.
 abbrev pub IsOutCause : List SessionEntry → Bytes → Refusal → Type 0
 IsOutCause entries name refusal = of_entry (entry_among entries name) (said (λ _. []) refusal) ⊎ (said (λ _. []) refusal ≡ r.NoMemory)
+
+-- no two entries have one name
+abbrev pub AreNamesApart : List SessionEntry → Type 0
+AreNamesApart [] = ⊤
+AreNamesApart (e ∷ entries) = ((f : SessionEntry) → IsAmong entries f → is_same_name e.name f.name ≡ false) × AreNamesApart entries
 
 -- the group of a name
 abbrev pub group_among : List SessionEntry → List MountedGroup → Bytes → Option MountedGroup
@@ -72,16 +78,3 @@ pub record CarriesOn (old new : SessionView) (s t : BayState) : Type 0 where
   pub ready : AreReady new.groups t
   pub calls : s.calls ≤ t.calls
   pub past : Past s t
-
--- a piece of work changed the mounted group of the name, and did this where it gave that
-abbrev pub DoesOn : {T : Type 0} → Bytes → (MountedGroup → T → MountedGroup → Type 0) → SessionView → SessionView → BayState → BayState → T → Type 0
-DoesOn name Does old new s t given = (changes : ChangesGroup name old new s t) × Does changes.before given changes.after
-
--- At most the mounted group of a name is worked on.
-pub record WorksOn {T : Type 0} (name : Bytes) (Does : MountedGroup → T → MountedGroup → Type 0) (result : Result T Refusal) (old new : SessionView) (s t : BayState) : Type 0 where
-  -- ok comes of a mounted group alone, and of any other name the refusal that it has
-  pub found : OnOk result (IsFound old name)
-  pub out : IfErr result (λ refusal. IsFound old name ⊎ IsOutCause old.entries name refusal)
-  pub groups : (new.groups ≡ old.groups) ⊎ ChangesGroup name old new s t
-  pub done : IfOk result (DoesOn name Does old new s t)
-  pub carries : CarriesOn old new s t

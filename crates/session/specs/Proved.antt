@@ -1,17 +1,18 @@
 -- Moves of which it is proved what they do to the world and to the disks. What is said of all others are the bytes: what was read and
 -- printed, the marks and the statuses. Of a stop for want of memory it isn't proved that something was due, nor what it left: it ends the
 -- run, so nothing comes behind it.
-use Rattle.std.specs.Prelude.{◌≡◌, ◌⊎◌, ◌&&◌, ◌≤◌, ⊤, ℕ, ◌∷◌, [], length, Bool, true, false, if◌then◌else◌}
+use Rattle.std.specs.Prelude.{◌≡◌, ◌⊎◌, ◌&&◌, ⊤, ℕ, ◌∷◌, [], Bool, true, false, if◌then◌else◌}
 use Rattle.asm_group.specs.Group.{Group}
+use Rattle.asm_group.specs.Names.{Bytes, is_same_name}
 use Rattle.asm_group.specs.Refusal as r
 use Rattle.asm_formats.specs.Among.{IsAmong}
 use Rattle.asm_world.specs.Command.{Command}
 use Rattle.asm_world.specs.Reply.{Reply, Refused}
 use Rattle.asm_world.specs.Run.{State, Move, Starts, Expires, Answers, Slices, Rests, Stops}
-use Rattle.asm_world.specs.World.{SessionEntry, World, groups_of, is_mounted}
+use Rattle.asm_world.specs.World.{SessionEntry, World, groups_of, has_mounted, is_mounted}
 use Rattle.group_disks.specs.Found.{Counts}
-use Rattle.session.specs.Families.{is_edit, is_proved, is_proved_on_disks, may_stop_torn, shows_group}
-use Rattle.session.specs.Groups.{mounts}
+use Rattle.session.specs.Families.{changes_group, is_proved, is_proved_on_disks, may_stop_torn, shows_group}
+use Rattle.session.specs.Groups.{mounts, name_mounted}
 use Rattle.session.specs.Meaning.{meaning}
 use Rattle.world_steps.specs.Told.{HasGroups}
 
@@ -20,8 +21,8 @@ abbrev pub is_short : Reply → Bool
 is_short (Refused lines r.NoMemory) = true
 is_short other = false
 
--- Whether it is proved what a command does that gets this reply. Of an edit or a mount for which memory was short it isn't: that ends the
--- run, and the command may have dismounted its group before there was no memory to tell by which disk.
+-- Whether it is proved what a command does that gets this reply. Of an edit, a write of bytes or a mount for which memory was short it
+-- isn't: that ends the run, and the command may have dismounted its group before there was no memory to tell by which disk.
 abbrev pub is_proved_as : Command → Reply → Bool
 is_proved_as c reply = if may_stop_torn c && is_short reply then false else is_proved c
 
@@ -56,9 +57,9 @@ pub record HasOwnGroups (w : World) : Type 0 where
   pub alone : HasGroups w
   pub named : (e : SessionEntry) (g : Group) → IsAmong w.session e → is_mounted e ≡ true → groups_of w e.id ≡ g ∷ [] → g.name ≡ e.name
 
--- the premise of an edit, and of what shows or mounts a group, on the world before it
+-- the premise of an edit and of a write of bytes, and of what shows or mounts a group, on the world before it
 abbrev pub IsMet : Command → World → Type 0
-IsMet c w = (is_edit c ≡ true) ⊎ (shows_group c ≡ true) → HasOwnGroups w
+IsMet c w = (changes_group c ≡ true) ⊎ (shows_group c ≡ true) → HasOwnGroups w
 
 abbrev pub IsMetIn : World → Move → Type 0
 IsMetIn w (Answers found text reply) = IsMet (meaning text) w
@@ -68,13 +69,13 @@ IsMetIn w (Slices event) = ⊤
 IsMetIn w Rests = ⊤
 IsMetIn w Stops = ⊤
 
--- Each id has at most one group: of a list of several it isn't proved which one a mount takes.
-abbrev pub HasOneEach : World → Type 0
-HasOneEach w = (id : ℕ) → length (groups_of w id) ≤ 1
+-- A group of the name that isn't mounted is alone under its id: of a list of several it isn't proved which one a mount takes.
+abbrev pub IsAloneByName : World → Bytes → Type 0
+IsAloneByName w name = (id : ℕ) (g : Group) → has_mounted w id ≡ false → IsAmong (groups_of w id) g → is_same_name g.name name ≡ true → groups_of w id ≡ g ∷ []
 
 -- the premise of a mount on the world before it, where the disks stand for that world
 abbrev pub IsOneFor : Command → World → Type 0
-IsOneFor c w = mounts c ≡ true → HasOneEach w
+IsOneFor c w = mounts c ≡ true → IsAloneByName w (name_mounted c)
 
 abbrev pub IsOneForIn : World → Move → Type 0
 IsOneForIn w (Answers found text reply) = IsOneFor (meaning text) w

@@ -1,48 +1,41 @@
 // One edit of a group of the session.
-ghost use Rattle.std.specs.Prelude.{◌≡◌, ◌⊎◌, length, IfErr, OnOk};
-ghost use Rattle.group_engine.specs.Making.{IsShut};
-ghost use Rattle.group_engine.specs.Mounts.{IsMounted, Takes};
-ghost use Rattle.group_engine.specs.Own.{KeepsGroup};
-ghost use Rattle.group_files.specs.Edits.{Edits};
-ghost use Rattle.group_files.specs.GroupEdits.{IsEditPlan, IsEditRefusal};
-ghost use Rattle.session.specs.Editing.{AreNamesApart, EditsGroup};
-ghost use Rattle.session.specs.Naming.{CarriesOn, IsFound};
+ghost use Rattle.std.specs.Prelude.{◌≡◌, length};
+ghost use Rattle.session.specs.Editing.{EditDoes, EditsGroup};
+ghost use Rattle.session.specs.Entries.{AreAlike};
+ghost use Rattle.session.specs.Naming.{AreNamesApart, CarriesOn, IsFound};
 ghost use Rattle.session.specs.Sessions.{AreReady};
 
-use crate::group_name::SoughtName;
+use crate::naming::GroupWork;
 use crate::session::Session;
-use crate::spelling::spelt;
 use asm_base::{Name, Refusal};
 use bay::Bay;
 use group_engine::Mounted;
 use group_files::{GroupEdit, edit_group};
 use std::alloc::Global;
 
-/// Edits any group. One that takes no calls stays as it is, and the disks are not asked.
-fn edit_any<B: Bay>(
-    m: &mut Mounted,
-    alloc: Global,
-    bay: &mut B,
-    edit: &GroupEdit,
-) -> Result<(), Refusal>
-    requires takes { Takes m.old (B.state bay.old) }
-    ensures keeps { IsMounted m.old → KeepsGroup m.old m.new (B.state bay.old) (B.state bay.new) }
-    ensures edits { IsMounted m.old → Edits (IsEditPlan m.old.catalog edit.now) (IsEditRefusal m.old.catalog edit.now) m.old result m.new (B.state bay.old) (B.state bay.new) }
-    ensures idle { (IsMounted m.old → ⊥) → (m.new ≡ m.old) × (bay.new ≡ bay.old) }
-    ensures found { OnOk result (IsMounted m.old) }
-    ensures shut { IfErr result (λ refusal. IsMounted m.old ⊎ IsShut m.old.access refusal) }
-{
-    match m.takes_calls() {
-        Ok(()) => edit_group(m, alloc, bay, edit),
-        Err(refusal) => Err(refusal),
+/// A group's names or settings are edited.
+#[derive(Clone, Copy)]
+struct MakeEdit<'a> {
+    edit: &'a GroupEdit,
+}
+
+impl GroupWork for MakeEdit<'_> {
+    type Given = ();
+
+    ghost does = { λ work. EditDoes work.edit.now };
+
+    #[tactic(auto, using(crate::proofs::Keeping::lets_go))]
+    fn run<B: Bay>(self, m: &mut Mounted, alloc: Global, bay: &mut B) -> Result<(), Refusal> {
+        edit_group(m, alloc, bay, self.edit)
     }
 }
 
 impl Session {
-    /// No two groups have one name, and each entry has its group.
+    /// No two groups have one name, and each entry has its group and says whether it is mounted.
     pub(crate) fn shows_names(&self)
         ensures apart { AreNamesApart self.now.entries }
         ensures paired { length self.now.groups ≡ length self.now.entries }
+        ensures alike { AreAlike self.now.entries self.now.groups }
     {
         let _count = self.groups.len();
     }
@@ -63,12 +56,6 @@ impl Session {
         ensures paired { length self.old.groups ≡ length self.old.entries }
     {
         self.shows_names();
-        let Some(entry) = self.groups.get_mut(SoughtName { name }) else {
-            return Err(Refusal::NoGroup);
-        };
-        match edit_any(&mut entry.group, alloc, bay, edit) {
-            Ok(()) => Ok(()),
-            Err(refusal) => Err(spelt(alloc, &entry.group, refusal)),
-        }
+        self.work(alloc, bay, name, MakeEdit { edit })
     }
 }

@@ -3,10 +3,11 @@ ghost use Rattle.std.specs.Prelude.{◌≡◌, ◌⊎◌, true, IfErr, IfOk, OnO
 ghost use Rattle.asm_world.specs.Causes.{is_mounted_as};
 ghost use Rattle.asm_world.specs.World.{entry_among};
 ghost use Rattle.group_engine.specs.Making.{IsShut};
-ghost use Rattle.group_engine.specs.Mounts.{IsMounted, MountedGroup, Takes};
+ghost use Rattle.group_engine.specs.Mounts.{IsMounted, Takes};
 ghost use Rattle.group_engine.specs.Members.{LetsGo};
-ghost use Rattle.session.specs.Naming.{IsGroupOf, IsOutCause, WorksOn};
+ghost use Rattle.session.specs.Naming.{IsGroupOf, IsOutCause};
 ghost use Rattle.session.specs.Sessions.{AreReady};
+ghost use Rattle.session.specs.Works.{Doing, WorksOn};
 
 use crate::group_name::SoughtName;
 use crate::session::Session;
@@ -21,8 +22,8 @@ pub trait GroupWork {
     /// What it gives.
     type Given;
 
-    // what it did where it gave that: to the group as it was, which is then so
-    ghost does: { Self → MountedGroup → Self.Given → MountedGroup → Type 0 };
+    // what it did, by its answer: to the group as it was, which is then so, and to the disks
+    ghost does: { Self → Doing Self.Given };
 
     /// Does it, on a group that takes calls.
     fn run<B: Bay>(
@@ -33,7 +34,7 @@ pub trait GroupWork {
     ) -> Result<Self::Given, Refusal>
         requires takes { Takes m.old (B.state bay.old) }
         ensures keeps { LetsGo m.old m.new (B.state bay.old) (B.state bay.new) }
-        ensures done { IfOk result (λ given. does self m.old given m.new) };
+        ensures does { IsMounted m.old → does self m.old result m.new (B.state bay.old) (B.state bay.new) };
 }
 
 /// Does a piece of work on any group. One that takes no calls stays as it is, and the disks are not asked.
@@ -47,7 +48,7 @@ fn work_on<B: Bay, W: GroupWork + Drop>(
     ensures keeps { IsMounted m.old → LetsGo m.old m.new (B.state bay.old) (B.state bay.new) }
     ensures idle { (IsMounted m.old → ⊥) → (m.new ≡ m.old) × (bay.new ≡ bay.old) }
     ensures found { OnOk result (IsMounted m.old) }
-    ensures done { IfOk result (λ given. W.does work m.old given m.new) }
+    ensures does { IsMounted m.old → W.does work m.old result m.new (B.state bay.old) (B.state bay.new) }
     ensures shut { IfErr result (λ refusal. IsMounted m.old ⊎ IsShut m.old.access refusal) }
 {
     match m.takes_calls() {
@@ -83,6 +84,7 @@ impl Session {
         requires ready { AreReady self.old.groups (B.state bay.old) }
         ensures { WorksOn name.now (W.does work) result self.old self.new (B.state bay.old) (B.state bay.new) }
     {
+        self.shows_names();
         let Some(entry) = self.groups.get_mut(SoughtName { name }) else {
             return Err(Refusal::NoGroup);
         };

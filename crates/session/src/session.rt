@@ -5,8 +5,8 @@ ghost use Rattle.bay.specs.Counts.{last_count};
 ghost use Rattle.asm_world.specs.Causes.{mounted_count, is_mounted_as};
 ghost use Rattle.asm_world.specs.World.{World, entry_among, mounted_entry, without_entry};
 ghost use Rattle.group_engine.specs.Mounts.{IsMounted};
-ghost use Rattle.session.specs.Editing.{AreNamesApart};
-ghost use Rattle.session.specs.Entries.{entry_view, group_view};
+ghost use Rattle.session.specs.Entries.{AreAlike, entry_view, group_view};
+ghost use Rattle.session.specs.Naming.{AreNamesApart};
 ghost use Rattle.session.specs.Sessions.{AreGiven, given_after, entries_of, groups_of, without_groups};
 
 use crate::entry::Entry;
@@ -126,11 +126,12 @@ impl Session {
         false
     }
 
-    /// Whether a group of the name is mounted. No two groups have one name, and each entry has its group.
+    /// Whether a group of the name is mounted. No two groups have one name, and each entry has its group and says whether it is mounted.
     pub fn has_mounted(&self, name: &Name) -> bool
         ensures mounted { result ≡ is_mounted_as (entry_among self.now.entries name.now) }
         ensures apart { AreNamesApart self.now.entries }
         ensures paired { length self.now.groups ≡ length self.now.entries }
+        ensures alike { AreAlike self.now.entries self.now.groups }
     {
         self.shows_names();
         match self.groups.get(SoughtName { name }) {

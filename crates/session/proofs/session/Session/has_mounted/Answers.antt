@@ -8,3 +8,9 @@ returns-in-Some-clause-mounted c = rw (← c.self.view_is) (c.is_mounted.ensures
 
 pub returns-in-None-clause-mounted : goal.returns-in-None-clause-mounted
 returns-in-None-clause-mounted c = rw (← c.self.view_is) (sym (ap is_mounted_as (none_found c.args.name.now c.self.inside.groups.entries (sym c.in-None.ensures.value))))
+
+pub returns-in-Some-clause-alike : goal.returns-in-Some-clause-alike
+returns-in-Some-clause-alike c = c.shows_names.ensures.alike
+
+pub returns-in-None-clause-alike : goal.returns-in-None-clause-alike
+returns-in-None-clause-alike c = c.shows_names.ensures.alike
