@@ -84,7 +84,7 @@ pub record Transcript {C : Type 0} (gives : C → ℕ → C → Type 0) (paths :
   -- shows a group or goes into one, counts as proved in a state in which each mounted group is alone under its id.
   pub run : IsRunFrom (outside paths new.leaves) IsProvedIn (first_state w old) history
   -- The same where the images at the start stand for the world, also of what asks the disks, up to the first move that isn't proved so. A
-  -- mount counts as proved so in a state in which each mounted group is alone under its id, and each id has at most one group. In the moments
+  -- mount counts as proved so in a state in which each mounted group is alone under its id, and so is each group of the name. In the moments
   -- that end in these moves each image stands for groups between.
   pub on_disks : (known : ℕ → Bool) → StartsAs known old w → IsRunFrom (held_outside paths new.leaves) (IsProvedApartIn known) (first_state w old) history
   pub ends : end_of (first_state w old) history ≡ end

@@ -4,6 +4,7 @@ pub mod Formed
 pub mod Leaving
 pub mod MountAnswers
 pub mod MountDesks
+pub mod MountCauses
 pub mod MountDisks
 pub mod MountWorld
 pub mod Named

@@ -2,6 +2,7 @@
 use Rattle.std.proofs.Common.{◌≡◌, ⊎_elim, inl, inr, ℕ, ◌+◌, ◌*◌, ◌≤◌, Bool, true, false, List, [], ◌∷◌, ◌++◌, length, Option, Some, None, is_some, refl, sym, ◌∙◌, ap, subst, if◌then◌else◌}
 use Rattle.std.specs.Prelude.{nat_le}
 use Rattle.std.proofs.lemmas.Bool.{false≢true}
+use Rattle.bay.specs.Image.{Image}
 use Rattle.bay.specs.State.{BayState, IsSound}
 use Rattle.asm_formats.specs.Among.{IsAmong}
 use Rattle.asm_group.specs.Group.{Group}
@@ -16,9 +17,11 @@ use Rattle.asm_world.specs.Step.{Mounts, Step}
 use Rattle.asm_world.specs.Waits.{HasLines}
 use Rattle.asm_world.specs.World.{SessionEntry, World, entry_among, entry_in, groups_of, has_mounted, is_mounted, mounted_entry, with_group, without_entry}
 use Rattle.asm_world.proofs.Memory.{stays}
-use Rattle.group_disks.specs.Found.{Counts, counts_of}
+use Rattle.group_disks.specs.Found.{counts_of}
 use Rattle.group_disks.specs.Leaving.{IsMountedOn, LeavesRefused, WasMounted}
-use Rattle.group_disks.specs.Mounting.{IsMountedBy}
+use Rattle.group_disks.specs.MountCauses.{AreElsewhere, ErrorCause, look}
+use Rattle.group_disks.specs.Mounting.{IsMountCause, IsMountedBy}
+use Rattle.group_disks.proofs.MountRefusals.{refusals_have_causes}
 use Rattle.group_engine.specs.Frames.{StaysAttached}
 use Rattle.group_engine.specs.Mounts.{MountedGroup}
 use Rattle.group_mount.specs.declared.error.MountError.{MountError}
@@ -28,16 +31,18 @@ use Rattle.session_claims.specs.Claims.{KeepsWorlds, StandsFor}
 use Rattle.session_claims.specs.Found.{IsNameFree}
 use Rattle.session_claims.specs.Laws.{MountsGoOn, ReplacesGroups}
 use Rattle.session.specs.Counts.{ReplyCause}
-use Rattle.session.specs.Editing.{AreNamesApart}
+use Rattle.session.specs.Entries.{AreAlike}
+use Rattle.session.specs.Naming.{AreNamesApart}
 use Rattle.session.specs.Effects.{HasEffect, IsProvedOn, IsServed, Past, anywhere, below_with, on_disks}
 use Rattle.session.specs.Families.{shows_group}
-use Rattle.session.specs.Groups.{mounts}
+use Rattle.session.specs.Groups.{mounts, name_mounted}
 use Rattle.session.specs.Meaning.{meaning}
-use Rattle.session.specs.Proved.{HasOneEach, HasOwnGroups, IsMet, is_proved_as}
-use Rattle.session.specs.Sessions.{Knows, Roster, SessionView, roster_of, without_groups}
+use Rattle.session.specs.Proved.{HasOwnGroups, IsAloneByName, IsMet, is_proved_as}
+use Rattle.session.specs.Sessions.{Knows, Roster, SessionView, held_by, roster_of, without_groups}
 use Rattle.session.proofs.EditedEntries.{one_named}
 use Rattle.session.proofs.Outcomes.{none_read, still, unread}
-use Rattle.group_commands.specs.Mounting.{mount_said}
+use Rattle.group_commands.specs.Mounting.{mount_said, option_of}
+use Rattle.group_commands.proofs.MountCauses.{elsewhere, said_cause}
 use Rattle.group_commands.proofs.MountDisks as disks
 use Rattle.group_commands.proofs.MountWorld.{goes_on, mounted_world, replaces, without_same}
 use Rattle.group_commands.proofs.ToldGroup.{told_as_it_is, told_group}
@@ -77,11 +82,11 @@ module _ (paths : List Bytes) (text name : Bytes) (force : Bool) (says : meaning
   -- ---- before any call
 
   pub already_served : (s : BayState) → is_mounted_as (entry_in w name) ≡ true → IsServed paths unread text (Refused [] r.AlreadyMounted) was was s s below w w
-  already_served s is = still paths text r.AlreadyMounted was s w (rw says (inl refl)) (rw (says, is) refl) (rw says refl) (rw says tt)
+  already_served s is = still paths text r.AlreadyMounted was s w (rw says (inl refl)) (rw (says, is) refl) (rw says refl) (rw says (λ now held_now x holds. tt))
 
   pub too_many_served : (s : BayState) → is_mounted_as (entry_in w name) ≡ false → nat_le 8 (mounted_count w) ≡ true
       → IsServed paths unread text (Refused [] (r.TooMany r.Groups 8)) was was s s below w w
-  too_many_served s off many = still paths text (r.TooMany r.Groups 8) was s w (rw says (inl refl)) (rw (says, off, many) refl) (rw says refl) (rw says tt)
+  too_many_served s off many = still paths text (r.TooMany r.Groups 8) was s w (rw says (inl refl)) (rw (says, off, many) refl) (rw says refl) (rw says (λ now held_now x holds. tt))
 
   -- ---- with calls
 
@@ -91,20 +96,16 @@ module _ (paths : List Bytes) (text name : Bytes) (force : Bool) (says : meaning
     free : IsNameFree w name
     free = free_name w name (subst AreNamesApart (sym knows.entries_are) apart) off
 
-    counts : (c : r.Refusal) (before after : Counts) → ReplyCause paths text (Refused [] c) before after
-    counts r.NoMemory before after = tt
-    counts other before after = rw says tt
-
-    -- It is proved where the disks stand for the world, which has one group an id.
+    -- It is proved where the disks stand for the world, in which the group is alone under its id.
     served_by : (reply : Reply) (now : Roster) (w' : World)
-        → ((known : ℕ → Bool) → StandsFor (length paths) known was.given s w was.groups → HasOwnGroups w → HasOneEach w → HasEffect paths unread text reply was now s t below w w')
+        → ((known : ℕ → Bool) → StandsFor (length paths) known was.given s w was.groups → HasOwnGroups w → IsAloneByName w name → HasEffect paths unread text reply was now s t below w w')
         → (is_proved_as command reply ≡ true → ⊥) → IsServed paths unread text reply was now s t below w w'
     served_by reply now w' did isnt = record { calls = calls; past = past; effect = on }
       where
         on : IsProvedOn paths was s w (meaning text) reply → IsMet (meaning text) w → HasEffect paths unread text reply was now s t below w w'
         on (anywhere is) met = absurd (isnt (subst (λ (c : Command). is_proved_as c reply ≡ true) says is))
         on (on_disks known is stands one) met =
-            did known stands (met (inr (subst (λ (c : Command). shows_group c ≡ true) (sym says) refl))) (one (subst (λ (c : Command). mounts c ≡ true) (sym says) refl))
+            did known stands (met (inr (subst (λ (c : Command). shows_group c ≡ true) (sym says) refl))) (subst (λ (c : Command). IsAloneByName w (name_mounted c)) says (one (subst (λ (c : Command). mounts c ≡ true) (sym says) refl)))
 
     -- ---- a refusal
 
@@ -118,8 +119,23 @@ module _ (paths : List Bytes) (text name : Bytes) (force : Bool) (says : meaning
     refusal_has (error.Dead slot disk) = rw (off, room) (inr (inr (inr (inr (inr (inr (inl refl)))))))
     refusal_has error.NoMemory = tt
 
-    pub refused_served : (e : MountError) → LeavesRefused state name (length paths) held option s t e → IsServed paths unread text (Refused [] (mount_said paths e)) was was s t below w w
-    refused_served e left = served_by (Refused [] (mount_said paths e)) was w
+    -- by its cause, which is told of the image before
+    counted_by : (e : MountError) → ((x : Image) → s.holds ≡ Some x → ErrorCause name (option_of force) e (look (length paths) s t x)) → ReplyCause paths text (Refused [] (mount_said paths e)) (counts_of s) (counts_of t)
+    counted_by error.NoMemory told = tt
+    counted_by e told = rw says (λ now held_now x holds. said_cause paths name force (look (length paths) s t x) e (told x holds))
+
+    module _ (option_is : option ≡ option_of force) (held_is : held ≡ held_by session.groups) (alike : AreAlike session.entries session.groups) (sound_t : IsSound t)
+        (known : ℕ → Bool) (stands : StandsFor (length paths) known was.given s w was.groups) (own : HasOwnGroups w) where
+      cause_of : (e : MountError) → IsMountCause state name (length paths) held option s t e → (x : Image) → s.holds ≡ Some x → ErrorCause name (option_of force) e (look (length paths) s t x)
+      cause_of e why x holds = subst (λ (o : MountOption). ErrorCause name o e (look (length paths) s t x)) option_is
+          (refusals_have_causes state sounds s t sound_t name (length paths) held option e x holds
+          (subst (λ (l : List ℕ). AreElsewhere (look (length paths) s t x) name l) (sym held_is)
+          (elsewhere (length paths) known was.given s t w session.groups name sound stands own.named free (subst (λ (es : List SessionEntry). AreAlike es session.groups) (sym knows.entries_are) alike) x holds))
+          why)
+
+    pub refused_served : (e : MountError) → option ≡ option_of force → held ≡ held_by session.groups → AreAlike session.entries session.groups → IsSound t → IsMountCause state name (length paths) held option s t e
+        → LeavesRefused state name (length paths) held option s t e → IsServed paths unread text (Refused [] (mount_said paths e)) was was s t below w w
+    refused_served e option_is held_is alike sound_t why left = served_by (Refused [] (mount_said paths e)) was w
         (λ known stands own few. record {
           step = subst (λ (c : Command). Step (below_with below unread) w c (Refused [] (mount_said paths e)) w) (sym says) (inl refl);
           no_memory = λ is other. stays (below_with below unread) w (meaning text);
@@ -127,7 +143,7 @@ module _ (paths : List Bytes) (text name : Bytes) (force : Bool) (says : meaning
           lines = subst (λ (c : Command). HasLines (below_with below unread) w c (Refused [] (mount_said paths e))) (sym says) refl;
           ids_read = none_read (counts_of s) (counts_of t);
           made = tt;
-          counted = counts (mount_said paths e) (counts_of s) (counts_of t);
+          counted = counted_by e (cause_of option_is held_is alike sound_t known stands own e why);
           worked = tt;
           calls = calls;
           past = past;
@@ -155,7 +171,7 @@ module _ (paths : List Bytes) (text name : Bytes) (force : Bool) (says : meaning
       told_is : (g : Group) → groups_of w id ≡ g ∷ [] → IsMountedOn (65 + 2 * 64) (length paths) g m t → told_group m (groups_of w id) ≡ g
       told_is g list is = ap (told_group m) list ∙ told_as_it_is m g mounted.whole is.mounts.represents
 
-      module _ (known : ℕ → Bool) (stands : StandsFor (length paths) known was.given s w was.groups) (own : HasOwnGroups w) (few : HasOneEach w) where
+      module _ (known : ℕ → Bool) (stands : StandsFor (length paths) known was.given s w was.groups) (own : HasOwnGroups w) (few : IsAloneByName w name) where
         abbrev it : Group
         it = disks.it state name (length paths) held option s t sounds sound attached known was.given w was.groups stands own few free m mount
 

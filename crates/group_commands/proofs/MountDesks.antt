@@ -21,12 +21,14 @@ use Rattle.asm_world.specs.Reply.{Reply, Refused}
 use Rattle.asm_world.specs.Statement.{Alter, Mount}
 use Rattle.asm_world.specs.World.{SessionEntry, World, entry_among, entry_in}
 use Rattle.group_disks.specs.Leaving.{LeavesRefused, WasMounted}
+use Rattle.group_disks.specs.Mounting.{IsMountCause}
 use Rattle.group_mount.specs.declared.quorum.MountOption.{MountOption}
 use Rattle.session.specs.declared.answer.Answer.{Answer}
 use Rattle.session.specs.declared.desk.Desk.{Desk}
 use Rattle.session.specs.declared.reply.Reply.TheVariants as replies
 use Rattle.session.specs.Desks.{IsAnswered, paths_on}
-use Rattle.session.specs.Editing.{AreNamesApart}
+use Rattle.session.specs.Entries.{AreAlike}
+use Rattle.session.specs.Naming.{AreNamesApart}
 use Rattle.session.specs.Effects.{IsProvedOn, IsServed, anywhere, on_disks}
 use Rattle.session.specs.Meaning.{meaning}
 use Rattle.session.specs.Proved.{is_proved_as, is_proved_on_disks_as}
@@ -34,7 +36,7 @@ use Rattle.session.specs.Sessions.{Knows, SessionView, groups_below, held_by, ro
 use Rattle.session.specs.Views.{found_view, nothing_found, reply_view}
 use Rattle.session.proofs.Knowing.{none_told}
 use Rattle.session.proofs.Languages.{meaning_is}
-use Rattle.group_commands.specs.Mounting.{Enters, IsMountRefusal, MountsInto}
+use Rattle.group_commands.specs.Mounting.{Enters, IsMountRefusal, MountsInto, option_of}
 use Rattle.group_commands.proofs.MountAnswers.{done_served, refused_served}
 use Rattle.group_commands.proofs.MountWorld.{knows_after, mounted_world}
 
@@ -43,7 +45,7 @@ unfolding said
 says_short = refl
 
 module _ {B H : Type 0} {bay : Bay.Ghosts B} {host : Host.Ghosts H} (text name : Bytes) (force : Bool) (asked : command_of text ≡ Said (Alter name (Mount force)))
-    (option : MountOption) (old new : Desk B H bay host) (answer : Answer) (found : found_view answer.found ≡ nothing_found) where
+    (option : MountOption) (option_is : option ≡ option_of force) (old new : Desk B H bay host) (answer : Answer) (found : found_view answer.found ≡ nothing_found) where
   abbrev s : BayState
   s = bay.state old.bay
 
@@ -78,7 +80,7 @@ module _ {B H : Type 0} {bay : Bay.Ghosts B} {host : Host.Ghosts H} (text name :
 
   -- ---- the others
 
-  module _ (apart : AreNamesApart old.session.entries) (paired : length old.session.groups ≡ length old.session.entries) (off : is_mounted_as (entry_among old.session.entries name) ≡ false)
+  module _ (apart : AreNamesApart old.session.entries) (alike : AreAlike old.session.entries old.session.groups) (paired : length old.session.groups ≡ length old.session.entries) (off : is_mounted_as (entry_among old.session.entries name) ≡ false)
       (room : (w : World) → w.session ≡ old.session.entries → nat_le 8 (mounted_count w) ≡ false) (sounds : (b : B) → IsSound (bay.state b)) where
     many : length (paths_on old) ≡ length old.paths.items
     many = length-map old.paths.items string_bytes
@@ -101,7 +103,8 @@ module _ {B H : Type 0} {bay : Bay.Ghosts B} {host : Host.Ghosts H} (text name :
             (subst (λ (a : Reply). IsServed (paths_on old) nothing_found text a (roster_of old.session) (roster_of old.session) s t below w w)
             (sym (ap reply_view reply ∙ ap (λ (c : r.Refusal). Refused [] c) why.says))
             (refused_served (paths_on old) text name force says old.session w below knows bay.state (held_by old.session.groups) option s t sounds (sounds old.bay)
-            into.attached into.calls into.past apart (isnt w below knows) (room w knows.entries_are) why.error_is
+            into.attached into.calls into.past apart (isnt w below knows) (room w knows.entries_are) why.error_is option_is refl alike (sounds new.bay)
+            (subst (λ (k : ℕ). IsMountCause bay.state name k (held_by old.session.groups) option s t why.error_is) (sym many) why.cause_is)
             (subst (λ (k : ℕ). LeavesRefused bay.state name k (held_by old.session.groups) option s t why.error_is) (sym many) why.leaves)))),
       );
     }

@@ -10,7 +10,7 @@ use Rattle.asm_world.specs.Command.{Command}
 use Rattle.asm_world.specs.World.{World, groups_of, has_mounted}
 use Rattle.group_disks.specs.Leaving.{IsMountedOn, LeavesClaimed, LeavesLost, LeavesRefused, MountsOne, WasMounted, before_record, behind_record, claimed, looked}
 use Rattle.group_disks.specs.Mounting.{WasQuorate}
-use Rattle.group_disks.proofs.Unmounted.{nothing_is_mounted}
+use Rattle.group_disks.proofs.ReadNames.{reads_named}
 use Rattle.group_engine.specs.Commits.{StandsIn}
 use Rattle.group_engine.specs.Frames.{StaysAttached}
 use Rattle.group_engine.specs.Mounts.{MountedGroup}
@@ -26,7 +26,7 @@ use Rattle.session_claims.proofs.Images.{held_allows}
 use Rattle.session_claims.proofs.Looks.{looks_keep}
 use Rattle.session_claims.proofs.Mounted.{mounts_keep, refused_mounts_keep}
 use Rattle.session_claims.proofs.FoundMembers.{found_is_unmounted}
-use Rattle.session.specs.Proved.{HasOneEach, HasOwnGroups}
+use Rattle.session.specs.Proved.{HasOwnGroups, IsAloneByName}
 use Rattle.session.proofs.Creation.{same_some}
 
 -- more ids were given
@@ -47,7 +47,7 @@ given_more n known given given' s t w w' groups' command more keeps = record {
 }
 
 module _ {B : Type 0} (state : B → BayState) (name : Bytes) (n : ℕ) (held : List ℕ) (option : MountOption) (s t : BayState)
-    (sounds : (b : B) → IsSound (state b)) (sound : IsSound s) (attached : StaysAttached s t) (known : ℕ → Bool) (given : ℕ) (w : World) (groups : List MountedGroup) (stands : StandsFor n known given s w groups) (own : HasOwnGroups w) (few : HasOneEach w) (free : IsNameFree w name) where
+    (sounds : (b : B) → IsSound (state b)) (sound : IsSound s) (attached : StaysAttached s t) (known : ℕ → Bool) (given : ℕ) (w : World) (groups : List MountedGroup) (stands : StandsFor n known given s w groups) (own : HasOwnGroups w) (few : IsAloneByName w name) (free : IsNameFree w name) where
   unmounted : (was : WasQuorate state name n held option s) → has_mounted w was.quorum.id ≡ false
   unmounted was = found_is_unmounted state sounds s sound n known given w groups name held option stands own.named free was
 
@@ -62,12 +62,9 @@ module _ {B : Type 0} (state : B → BayState) (name : Bytes) (n : ℕ) (held : 
 
     -- the id has one group
     pub single : (g : Group) × (groups_of w id ≡ g ∷ [])
-    single = by (groups_of w id) refl (few id)
-      where
-        by : (l : List Group) → groups_of w id ≡ l → length l ≤ 1 → (g : Group) × (groups_of w id ≡ g ∷ [])
-        by [] is small = absurd (nothing_is_mounted state s (state at) name n held option group one (subst (λ (l : List Group). StoodFor one.was.quorum l s) is (stood one.was)) stands.tells)
-        by (g ∷ []) is small = (g, is)
-        by (g ∷ h ∷ l) is small = absurd (omega (arith, small))
+    single =
+        let read = reads_named state sounds s sound name n held option one.was (groups_of w id) one.looks (stood one.was) stands.tells in
+        (read.0, few id read.0 (unmounted one.was) read.1 read.2)
 
     abbrev pub g : Group
     g = single.0

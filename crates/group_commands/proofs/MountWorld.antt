@@ -42,7 +42,7 @@ both_true true b is also = also
 both_true false b is also = absurd (false≢true is)
 
 -- the id of a mounted entry is mounted
-among_mounted : (es : List SessionEntry) (e : SessionEntry) → IsAmong es e → is_mounted e ≡ true → list_any (has_id e.id) es ≡ true
+pub among_mounted : (es : List SessionEntry) (e : SessionEntry) → IsAmong es e → is_mounted e ≡ true → list_any (has_id e.id) es ≡ true
 among_mounted [] e at on = absurd at
 among_mounted (x ∷ es) e at on = ⊎_elim
     (λ (here : e ≡ x). or_left (has_id e.id x) (list_any (has_id e.id) es) (subst (λ (y : SessionEntry). has_id e.id y ≡ true) here (both_true (is_mounted e) (e.id == e.id) on (eq-eqb e.id e.id refl))))

@@ -276,7 +276,7 @@ struct DropAll {
 impl GroupWork for DropAll {
     type Given = ();
 
-    ghost does = { λ work old given new. ⊤ };
+    ghost does = { λ work old result new s t. ⊤ };
 
     #[tactic(auto, using(session::proofs::Keeping::lets_go))]
     fn run<B: Bay>(self, m: &mut Mounted, _alloc: Global, bay: &mut B) -> Result<(), Refusal> {

@@ -55,8 +55,8 @@ returns-then-is_full g c =
 
 pub returns-in-Ok : goal.returns-in-Ok
 returns-in-Ok g c = record {
-  answers = done_answers c.args.text.now c.args.group c.args.force c.requires.asked (option_of c.args.force) c.args.desk.now _ _ c.plain.ensures.found
-      c.has_mounted.ensures.apart c.has_mounted.ensures.paired (sym c.has_mounted.ensures.mounted ∙ c.if-has_mounted.false) (λ w is. sym (c.is_full.ensures w is) ∙ c.if-is_full.false)
+  answers = done_answers c.args.text.now c.args.group c.args.force c.requires.asked (option_of c.args.force) refl c.args.desk.now _ _ c.plain.ensures.found
+      c.has_mounted.ensures.apart c.has_mounted.ensures.alike c.has_mounted.ensures.paired (sym c.has_mounted.ensures.mounted ∙ c.if-has_mounted.false) (λ w is. sym (c.is_full.ensures w is) ∙ c.if-is_full.false)
       g.met.B.Bay.sound (c.plain.ensures.reply ∙ ap (λ lines. replies.Done lines) c.new.ensures)
       (subst (λ (o : Result (Unit {0}) Refusal). MountsInto c.args.group (option_of c.args.force) o c.args.desk.now c.mount_named.new.desk)
       c.in-Ok.is (rw c.option_of.ensures at c.mount_named.ensures));
@@ -64,8 +64,8 @@ returns-in-Ok g c = record {
 
 pub returns : goal.returns
 returns g c = record {
-  answers = any_refused_answers c.args.text.now c.args.group c.args.force c.requires.asked (option_of c.args.force) c.args.desk.now _ _ c.refused-in-Err.ensures.found
-      c.has_mounted.ensures.apart c.has_mounted.ensures.paired (sym c.has_mounted.ensures.mounted ∙ c.if-has_mounted.false) (λ w is. sym (c.is_full.ensures w is) ∙ c.if-is_full.false)
+  answers = any_refused_answers c.args.text.now c.args.group c.args.force c.requires.asked (option_of c.args.force) refl c.args.desk.now _ _ c.refused-in-Err.ensures.found
+      c.has_mounted.ensures.apart c.has_mounted.ensures.alike c.has_mounted.ensures.paired (sym c.has_mounted.ensures.mounted ∙ c.if-has_mounted.false) (λ w is. sym (c.is_full.ensures w is) ∙ c.if-is_full.false)
       g.met.B.Bay.sound c.in-Err.refusal c.refused-in-Err.ensures.reply
       (subst (λ (o : Result (Unit {0}) Refusal). MountsInto c.args.group (option_of c.args.force) o c.args.desk.now c.mount_named.new.desk)
       c.in-Err.is (rw c.option_of.ensures at c.mount_named.ensures));
