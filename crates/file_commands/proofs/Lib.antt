@@ -2,6 +2,12 @@ pub mod Answering
 pub mod Named
 pub mod ReadFailures
 pub mod ReadsShown
+pub mod ReplacedGroups
 pub mod Sources
 pub mod SpanCauses
 pub mod Spans
+pub mod WriteRefusals
+pub mod Writes
+pub mod WrittenGroups
+pub mod WrittenSession
+pub mod WrittenTables

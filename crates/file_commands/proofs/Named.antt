@@ -70,7 +70,7 @@ module _ (name : Bytes) (s : Shape) (t : Tables) (cells : ℕ → List Cell) (pa
     abbrev pub the_file : File
     the_file = file_of_head opened.head (cells file.file)
 
-    number : e.file_at g path ≡ Some file.file
+    pub number : e.file_at g path ≡ Some file.file
     number = number_is ∙ opened.number
 
     pub has_file : maps.get g.files file.file ≡ Some the_file

@@ -17,6 +17,7 @@ use Rattle.asm_world.specs.Below.{GroupBelow}
 use Rattle.asm_world.specs.Causes.{Cause, HasCause, IsCaused, When, causes, decided, group_causes, in_group, state_causes}
 use Rattle.asm_world.specs.Command.{Command, Asked, DbRead}
 use Rattle.asm_world.specs.Files as f
+use Rattle.asm_world.specs.Numbers as code
 use Rattle.asm_world.specs.Paths.{target_from}
 use Rattle.asm_world.specs.Reply.{Reply, Done, Refused}
 use Rattle.asm_world.specs.Step.{Has, Reads, Step}
@@ -273,7 +274,7 @@ module _ (paths : List Bytes) (text path : Bytes) (at size : ℕ) (says : meanin
 
         cause_is : HasCause (below_with below unread) w command (Done lines)
         cause_is = ap decided causes_inside ∙ subst (λ (h : Group). decided (inside_causes h) ≡ None) (sym of_tables)
-            (spans.uncaused m shape_holds as_mounted.mounts.whole.are_tables g.name (cells_of g) inside at size file opens.opened has_cells opens.span)
+            (spans.uncaused code.read_fault m shape_holds as_mounted.mounts.whole.are_tables g.name (cells_of g) inside at size file opens.opened has_cells opens.span)
 
         did : Does (Done lines)
         did = record {
@@ -295,12 +296,12 @@ module _ (paths : List Bytes) (text path : Bytes) (at size : ℕ) (says : meanin
 
       module _ (file : OpenFile) (opened : IsOpened m.catalog.tables inside file) where
         fails_so : IsSpan m at size file → (c : r.Refusal) → FailsRead c → (c ≡ r.NoMemory → ⊥) → Caused c
-        fails_so span c fails other = caused c (spans.failed m shape_holds as_mounted.mounts.whole.are_tables g.name (cells_of g) inside at size file opened has_cells span c fails other)
+        fails_so span c fails other = caused c (spans.failed code.read_fault m shape_holds as_mounted.mounts.whole.are_tables g.name (cells_of g) inside at size file opened has_cells span c (spans.fails_read c fails other))
 
         spans_so : (refusal : Refusal) → SpanCause m at size file refusal → Answers (said (λ _. []) refusal)
         unfolding said
-        spans_so cause.NotSectors why = (refl, caused r.NotSectors (spans.not_sectors m shape_holds as_mounted.mounts.whole.are_tables g.name (cells_of g) inside at size file opened why))
-        spans_so cause.OutOfFile why = (refl, caused r.OutOfFile (spans.out_of_file m shape_holds as_mounted.mounts.whole.are_tables g.name (cells_of g) inside at size file opened has_cells why.0 why.1))
+        spans_so cause.NotSectors why = (refl, caused r.NotSectors (spans.not_sectors code.read_fault m shape_holds as_mounted.mounts.whole.are_tables g.name (cells_of g) inside at size file opened why))
+        spans_so cause.OutOfFile why = (refl, caused r.OutOfFile (spans.out_of_file code.read_fault m shape_holds as_mounted.mounts.whole.are_tables g.name (cells_of g) inside at size file opened has_cells why.0 why.1))
         spans_so (cause.Lost x) why = (refl, fails_so why.0 (r.Lost x.file x.index) tt (λ other. absurd cc))
         spans_so _ why = absurd why
 
@@ -312,7 +313,7 @@ module _ (paths : List Bytes) (text path : Bytes) (at size : ℕ) (says : meanin
 
       no_file_so : KeepsRules m.catalog.shape m.catalog.tables → (refusal : Refusal) → OpenCause m inside refusal → Answers (said (λ _. []) refusal)
       unfolding said
-      no_file_so rules cause.NoName why = (refl, caused r.NoName (spans.no_name m shape_holds as_mounted.mounts.whole.are_tables g.name (cells_of g) inside at size rules why))
+      no_file_so rules cause.NoName why = (refl, caused r.NoName (spans.no_name code.read_fault m shape_holds as_mounted.mounts.whole.are_tables g.name (cells_of g) inside at size rules why))
       no_file_so rules _ why = absurd why
 
       none_so : (refusal : Refusal) → IsNoSpan m inside at size refusal → Answers (said (λ _. []) refusal)

@@ -2,6 +2,7 @@
 use Rattle.std.proofs.Common.{◌≡◌, ⊎_elim, inl, inr, ℕ, ◌+◌, ◌*◌, ◌<◌, ◌%◌, Bool, true, false, List, [], ◌∷◌, ◌++◌, None, refl, ap, ◌∙◌, arith, IsTrue}
 use Rattle.std.specs.Prelude.{◌&&◌, ◌||◌, ◌==◌, not, nat_le}
 use Rattle.std.proofs.lemmas.Bool.{and_parts, eqb-true, false≢true, le-leb, leb-true, ne_eqb, or_cases, true≢false}
+use Rattle.asm_group.specs.Causes.{first_cause}
 use Rattle.asm_group.specs.Group.{Cell, Group}
 use Rattle.asm_group.specs.Names.{Bytes, Path}
 use Rattle.asm_group.specs.Refusal as r
@@ -77,11 +78,29 @@ sectors_are true x y is = absurd (true≢false is)
 
 -- ---- of a mounted group
 
+-- what may refuse a call on a span of a file, of which faults have this number
+abbrev pub causes_of_span : ℕ → ℕ → ℕ → Path → Group → List Cause
+causes_of_span fault at len path g = tests (f.span_causes g path at len) ++ may (code.lost ∷ fault ∷ code.dismounted ∷ [])
+
 -- the causes of a read
 abbrev pub read_causes : Path → ℕ → ℕ → Group → List Cause
-read_causes path at len g = tests (f.span_causes g path at len) ++ may (code.lost ∷ code.read_fault ∷ code.dismounted ∷ [])
+read_causes path at len g = causes_of_span code.read_fault at len path g
 
-module _ (m : MountedGroup) (shape : IsTrue (is_shape m.catalog.shape)) (tables : AreTables m.catalog.tables) (name : Bytes) (cells : ℕ → List Cell) (path : Path) (at len : ℕ) where
+-- no test of a span is true
+no_first : (a b c : Bool) → a ≡ false → b ≡ false → c ≡ false → first_cause ((a, r.NoName) ∷ (b, r.NotSectors) ∷ (c, r.OutOfFile) ∷ []) ≡ None
+no_first false false false isnt nor neither = refl
+no_first false false true isnt nor neither = absurd (true≢false neither)
+no_first false true c isnt nor neither = absurd (true≢false nor)
+no_first true b c isnt nor neither = absurd (true≢false isnt)
+
+-- why the bytes of a span aren't read
+pub fails_read : (c : r.Refusal) → FailsRead c → (c ≡ r.NoMemory → ⊥) → IsCaused (may (code.lost ∷ code.read_fault ∷ code.dismounted ∷ [])) c
+fails_read (r.Lost k i) fails other = inl refl
+fails_read (r.ReadFault disk) fails other = inr (inl refl)
+fails_read r.NoMemory fails other = absurd (other refl)
+fails_read c fails other = absurd fails
+
+module _ (fault : ℕ) (m : MountedGroup) (shape : IsTrue (is_shape m.catalog.shape)) (tables : AreTables m.catalog.tables) (name : Bytes) (cells : ℕ → List Cell) (path : Path) (at len : ℕ) where
   abbrev g : Group
   g = group_of name m.catalog.shape m.catalog.tables cells
 
@@ -95,21 +114,21 @@ module _ (m : MountedGroup) (shape : IsTrue (is_shape m.catalog.shape)) (tables 
   too_long = not (nat_le (at + len) (f.size_of_file (f.named_file g path)))
 
   abbrev rest : List Cause
-  rest = may (code.lost ∷ code.read_fault ∷ code.dismounted ∷ [])
+  rest = may (code.lost ∷ fault ∷ code.dismounted ∷ [])
 
   whole : no_sectors ≡ not (are_sectors m.catalog.shape at && are_sectors m.catalog.shape len)
   whole = ap (λ (s : Shape). not (at % s.sector == 0) || not (len % s.sector == 0)) (named.shape_is name m.catalog.shape m.catalog.tables cells path tables)
       ∙ sectors_are (m.catalog.shape.sector == 0) (at % m.catalog.shape.sector == 0) (len % m.catalog.shape.sector == 0) (some_sector m.catalog.shape shape)
 
   -- there is none
-  pub no_name : KeepsRules m.catalog.shape m.catalog.tables → head_named m.catalog.tables path ≡ None → IsCaused (read_causes path at len g) r.NoName
+  pub no_name : KeepsRules m.catalog.shape m.catalog.tables → head_named m.catalog.tables path ≡ None → IsCaused (causes_of_span fault at len path g) r.NoName
   no_name rules none = first no_file no_sectors too_long rest (ap not (named.not_file name m.catalog.shape m.catalog.tables cells path tables rules none))
 
   module _ (file : OpenFile) (opened : IsOpened m.catalog.tables path file) where
     found : no_file ≡ false
     found = ap not (named.is_file name m.catalog.shape m.catalog.tables cells path tables file opened)
 
-    pub not_sectors : (are_sectors m.catalog.shape at && are_sectors m.catalog.shape len) ≡ false → IsCaused (read_causes path at len g) r.NotSectors
+    pub not_sectors : (are_sectors m.catalog.shape at && are_sectors m.catalog.shape len) ≡ false → IsCaused (causes_of_span fault at len path g) r.NotSectors
     not_sectors isnt = second no_file no_sectors too_long rest found (whole ∙ ap not isnt)
 
     sectors : (are_sectors m.catalog.shape at && are_sectors m.catalog.shape len) ≡ true → no_sectors ≡ false
@@ -118,7 +137,7 @@ module _ (m : MountedGroup) (shape : IsTrue (is_shape m.catalog.shape)) (tables 
     size_is : HasCells m.catalog.tables cells → f.size_of_file (f.named_file g path) ≡ file.size
     size_is has = ap f.size_of_file (named.there name m.catalog.shape m.catalog.tables cells path tables file opened) ∙ named.has_size name m.catalog.shape m.catalog.tables cells path tables file opened has
 
-    pub out_of_file : HasCells m.catalog.tables cells → (are_sectors m.catalog.shape at && are_sectors m.catalog.shape len) ≡ true → file.size < at + len → IsCaused (read_causes path at len g) r.OutOfFile
+    pub out_of_file : HasCells m.catalog.tables cells → (are_sectors m.catalog.shape at && are_sectors m.catalog.shape len) ≡ true → file.size < at + len → IsCaused (causes_of_span fault at len path g) r.OutOfFile
     out_of_file has is far = third no_file no_sectors too_long rest found (sectors is) (ap not (long (nat_le (at + len) (f.size_of_file (f.named_file g path))) refl))
       where
         long : (b : Bool) → nat_le (at + len) (f.size_of_file (f.named_file g path)) ≡ b → b ≡ false
@@ -130,14 +149,13 @@ module _ (m : MountedGroup) (shape : IsTrue (is_shape m.catalog.shape)) (tables 
       fits : too_long ≡ false
       fits = ap not (le-leb (at + len) (f.size_of_file (f.named_file g path)) (omega (arith, size_is has, span.within)))
 
-      pub uncaused : decided (read_causes path at len g) ≡ None
+      pub uncaused : decided (causes_of_span fault at len path g) ≡ None
       uncaused = none_due no_file no_sectors too_long rest found (sectors span.sectors) fits refl
 
-      may_fail : (c : r.Refusal) → FailsRead c → (c ≡ r.NoMemory → ⊥) → IsCaused rest c
-      may_fail (r.Lost k i) fails other = inl refl
-      may_fail (r.ReadFault disk) fails other = inr (inl refl)
-      may_fail r.NoMemory fails other = absurd (other refl)
-      may_fail c fails other = absurd fails
+      -- no test refuses it
+      pub untested : first_cause (f.span_causes g path at len) ≡ None
+      untested = no_first no_file no_sectors too_long found (sectors span.sectors) fits
 
-      pub failed : (c : r.Refusal) → FailsRead c → (c ≡ r.NoMemory → ⊥) → IsCaused (read_causes path at len g) c
-      failed c fails other = behind no_file no_sectors too_long rest c found (sectors span.sectors) fits (may_fail c fails other)
+      -- what may refuse it behind the tests
+      pub failed : (c : r.Refusal) → IsCaused rest c → IsCaused (causes_of_span fault at len path g) c
+      failed c is = behind no_file no_sectors too_long rest c found (sectors span.sectors) fits is

@@ -9,6 +9,7 @@ ghost use Rattle.session.specs.FileLines.{IsNewLine, system_lines};
 ghost use Rattle.session.specs.Listing.{IsInGroup};
 ghost use Rattle.session.specs.Naming.{CarriesOn};
 ghost use Rattle.session.specs.Sessions.{AreReady};
+ghost use Rattle.file_commands.specs.Writing.{AsksWrite};
 ghost use Rattle.file_commands.specs.Reading.{AsksRead, HasRead, IsLinesCause, IsNoSpan, IsReadCause, OpensSpan, PutsRead, ReadsLines, ReadsOnly, ShowsBytes};
 
 use crate::works::{Create, OnFile};
@@ -30,8 +31,6 @@ use std::alloc::Global;
 /// What a verb asks of what is at its path.
 #[derive(Drop)]
 enum AtFile {
-    Write { at: u64, bytes: Text },
-    Fill { at: u64, len: u64, byte: u8 },
     Resize { size: u64 },
     /// A file goes, or an empty directory.
     Remove,
@@ -39,13 +38,6 @@ enum AtFile {
 
 fn work_at(work: AtFile, path: Path) -> FileWork {
     match work {
-        AtFile::Write { at, bytes } => FileWork::Write { path, at, bytes },
-        AtFile::Fill { at, len, byte } => FileWork::Fill {
-            path,
-            at,
-            len,
-            byte,
-        },
         AtFile::Resize { size } => FileWork::Resize { path, size },
         AtFile::Remove => FileWork::Remove { path },
     }
@@ -104,6 +96,32 @@ fn work_at_path<B: Bay, H: Host>(
     }
 }
 
+// ---- dbwrite and dbfill
+
+/// Writes bytes of a file of the group of a name. Its refusals in order: NoGroup, Dismounted, and then those of the write.
+fn write_in<B: Bay, H: Host>(
+    desk: &mut Desk<B, H>,
+    text: &[u8],
+    group: &Name,
+    work: &FileWork,
+) -> Answer
+    requires asks { AsksWrite text.now desk.old.session.place group.now work.now }
+    requires ready { AreReady desk.old.session.groups (B.state desk.old.bay) }
+    ensures answers { IsAnswered text.now result desk.old desk.new }
+{
+    let m = match desk.session.mounted(desk.alloc, group) {
+        Ok(m) => m,
+        Err(refusal) => return refused(desk.alloc, refusal),
+    };
+    // Its clause shows that the rules hold.
+    let _group = m.catalog().shape();
+    let now = desk.session.time();
+    let done = desk
+        .session
+        .work(desk.alloc, &mut desk.bay, group, OnFile { work, now });
+    answer_of(desk.alloc, done)
+}
+
 /// dbwrite.
 pub fn write_file<B: Bay, H: Host>(
     desk: &mut Desk<B, H>,
@@ -116,7 +134,14 @@ pub fn write_file<B: Bay, H: Host>(
     requires ready { AreReady desk.old.session.groups (B.state desk.old.bay) }
     ensures answers { IsAnswered text.now result desk.old desk.new }
 {
-    work_by_verb(desk, text, path.as_slice(), AtFile::Write { at, bytes })
+    let path = match path_of_verb(desk.alloc, desk.session.place(), path.as_slice()) {
+        Ok(path) => path,
+        Err(refusal) => return refused(desk.alloc, refusal),
+    };
+    let Ok(group) = path.group.copy() else {
+        return no_memory(desk, text);
+    };
+    write_in(desk, text, &group, &FileWork::Write { path, at, bytes })
 }
 
 /// dbfill.
@@ -132,13 +157,23 @@ pub fn fill_file<B: Bay, H: Host>(
     requires ready { AreReady desk.old.session.groups (B.state desk.old.bay) }
     ensures answers { IsAnswered text.now result desk.old desk.new }
 {
-    let work = AtFile::Fill {
+    let path = match path_of_verb(desk.alloc, desk.session.place(), path.as_slice()) {
+        Ok(path) => path,
+        Err(refusal) => return refused(desk.alloc, refusal),
+    };
+    let Ok(group) = path.group.copy() else {
+        return no_memory(desk, text);
+    };
+    let work = FileWork::Fill {
+        path,
         at,
         len: size,
         byte,
     };
-    work_by_verb(desk, text, path.as_slice(), work)
+    write_in(desk, text, &group, &work)
 }
+
+// ---- dbresize and DROP FILE
 
 /// dbresize.
 pub fn resize_file<B: Bay, H: Host>(

@@ -1,8 +1,9 @@
 // What commands do to the files of one group.
-ghost use Rattle.std.specs.Prelude.{◌≡◌};
+ghost use Rattle.std.specs.Prelude.{◌≡◌, IfOk};
 ghost use Rattle.group_engine.specs.Mounts.{MountedGroup};
+ghost use Rattle.group_engine.specs.Own.{KeepsGroup};
 ghost use Rattle.group_contents.specs.Creating.{NamesFile};
-ghost use Rattle.group_contents.specs.Works.{WorkDone};
+ghost use Rattle.group_contents.specs.Works.{WorkDoes};
 
 use asm_base::Refusal;
 use bay::Bay;
@@ -23,14 +24,11 @@ pub struct OnFile<'a> {
 impl GroupWork for OnFile<'_> {
     type Given = ();
 
-    ghost does = { λ work old given new. WorkDone old work.work.now new };
+    ghost does = { λ work old result new s t. KeepsGroup old new s t × WorkDoes old work.work.now result new s t };
 
     #[tactic(auto, using(session::proofs::Keeping::lets_go))]
     fn run<B: Bay>(self, m: &mut Mounted, alloc: Global, bay: &mut B) -> Result<(), Refusal> {
-        match work_on_file(m, alloc, bay, self.work, self.now) {
-            Ok(()) => Ok(()),
-            Err(refusal) => Err(refusal),
-        }
+        work_on_file(m, alloc, bay, self.work, self.now)
     }
 }
 
@@ -43,7 +41,7 @@ pub struct Create<'a> {
 impl GroupWork for Create<'_> {
     type Given = u32;
 
-    ghost does = { λ work old file new. (before : MountedGroup) × NamesFile before work.new.now file new };
+    ghost does = { λ work old result new s t. IfOk result (λ file. (before : MountedGroup) × NamesFile before work.new.now file new) };
 
     #[tactic(auto, using(session::proofs::Keeping::lets_go))]
     fn run<B: Bay>(self, m: &mut Mounted, alloc: Global, bay: &mut B) -> Result<u32, Refusal> {
@@ -60,7 +58,7 @@ pub struct Begin<'a> {
 impl GroupWork for Begin<'_> {
     type Given = Filling;
 
-    ghost does = { λ work old filling new. filling.end ≡ work.new.now.size };
+    ghost does = { λ work old result new s t. IfOk result (λ filling. filling.end ≡ work.new.now.size) };
 
     #[tactic(auto, using(session::proofs::Keeping::lets_go))]
     fn run<B: Bay>(self, m: &mut Mounted, alloc: Global, bay: &mut B) -> Result<Filling, Refusal> {
@@ -78,7 +76,7 @@ pub struct Put<'a> {
 impl GroupWork for Put<'_> {
     type Given = Filling;
 
-    ghost does = { λ work old filling new. filling.end ≡ work.filling.end };
+    ghost does = { λ work old result new s t. IfOk result (λ filling. filling.end ≡ work.filling.end) };
 
     #[tactic(auto, using(session::proofs::Keeping::lets_go))]
     fn run<B: Bay>(self, m: &mut Mounted, alloc: Global, bay: &mut B) -> Result<Filling, Refusal> {
@@ -103,7 +101,7 @@ pub struct Finish<'a> {
 impl GroupWork for Finish<'_> {
     type Given = u32;
 
-    ghost does = { λ work old file new. NamesFile old work.new.now file new };
+    ghost does = { λ work old result new s t. IfOk result (λ file. NamesFile old work.new.now file new) };
 
     #[tactic(auto, using(session::proofs::Keeping::lets_go))]
     fn run<B: Bay>(self, m: &mut Mounted, alloc: Global, bay: &mut B) -> Result<u32, Refusal> {
@@ -121,7 +119,7 @@ pub struct GiveUp {
 impl GroupWork for GiveUp {
     type Given = ();
 
-    ghost does = { λ work old given new. ⊥ };
+    ghost does = { λ work old result new s t. IfOk result (λ given. ⊥) };
 
     #[tactic(auto, using(session::proofs::Keeping::lets_go))]
     fn run<B: Bay>(self, m: &mut Mounted, alloc: Global, bay: &mut B) -> Result<(), Refusal> {

@@ -1,3 +1,4 @@
+use Rattle.std.specs.Prelude.{IfOk}
 use Rattle.std.proofs.lemmas.Result.{IfOk-weaker}
 use Rattle.group_contents.specs.Creating.{NamesFile}
 use Rattle.session.proofs.Calls.{new_line}
@@ -5,4 +6,4 @@ use Rattle.file_commands.proofs.copying.finish.Goals as goal
 
 pub returns-in-Ok-clause-line : goal.returns-in-Ok-clause-line
 returns-in-Ok-clause-line g c = IfOk-weaker c.system_line.result _ _
-    (λ lines told. new_line c.args.new.now c.args.session.now c.work.new.self _ _ (λ old file new. NamesFile old c.args.new.now file new) c.in-Ok.file lines (λ x y does. (x, does)) c.work.ensures.carries c.in-Ok.ensures.done told) c.system_line.ensures.lines
+    (λ lines told. new_line c.args.new.now c.args.session.now c.work.new.self _ _ (λ old result new s t. IfOk result (λ file. NamesFile old c.args.new.now file new)) c.in-Ok.file lines (λ x y does. (x, does)) c.work.ensures.carries c.in-Ok.ensures.done told) c.system_line.ensures.lines
