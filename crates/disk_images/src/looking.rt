@@ -12,13 +12,10 @@ ghost use Rattle.disk_images.specs.Looks.{Looks, IsAllowed, HeaderIs, IsLooked, 
 
 use asm_base::{Block, NoMemory};
 use bay::{Bay, BayError, Fault};
-use disk_forming::header_slot;
+use disk_forming::{BLOCK, header_slot};
 use disk_header::{Header, decode};
 use gate_slot::is_open;
 use std::alloc::Global;
-
-/// The bytes of a block.
-const BLOCK: u64 = 4096;
 
 /// The bytes that a member has at least: up to its directory region.
 const LEAST_SIZE: u64 = 40_960;

@@ -17,3 +17,4 @@ pub use committing::{give_back, is_at_rest, or_shut};
 pub use filling::{Contents, Filling, prepare, put_next, put_zeros};
 pub use layout::{LONGEST_PIECE, Piece, bytes_before, first_piece, layout_of};
 pub use rows::{CHUNK, NewExtents};
+pub use sparing::is_run;

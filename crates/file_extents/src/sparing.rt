@@ -31,7 +31,7 @@ fn reserved_units(shape: &Shape) -> Option<u64>
 }
 
 /// Whether so many bytes from an inner byte of a copy at a home on lie on units of an attached disk.
-fn is_run(m: &Mounted, home: Home, units: u32, inner: u64, len: usize) -> bool
+pub fn is_run(m: &Mounted, home: Home, units: u32, inner: u64, len: usize) -> bool
     requires { units ≤ 16 }
     ensures { OnTrue result (IsRunOf m.now home units inner len) }
 {

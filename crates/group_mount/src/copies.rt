@@ -31,7 +31,7 @@ fn copy_of(headed: &Headed) -> DirCopy
 }
 
 /// Whether an image of so many bytes reaches to the end of the directory region.
-fn has_region(dir_blocks: u32, size: u64) -> bool
+pub fn has_region(dir_blocks: u32, size: u64) -> bool
     ensures { result ≡ has_region dir_blocks size }
 {
     (14 + 2 * dir_blocks as u64) * BLOCK <= size

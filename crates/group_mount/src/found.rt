@@ -49,7 +49,7 @@ fn has_name(headed: &[Headed], id: u64, name: &Name) -> bool
 }
 
 /// Whether a slot is one of these.
-fn is_held(held: &[u32], slot: u32) -> bool
+pub fn is_held(held: &[u32], slot: u32) -> bool
     ensures { result ≡ is_held held.now slot }
 {
     held.iter().any(|other| *other == slot)

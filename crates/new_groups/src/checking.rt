@@ -1,27 +1,15 @@
 //! What is written is tried before the first write: a draft whose parts don't agree isn't written.
 ghost use Rattle.std.specs.Prelude.{◌≡◌, Some, slice_get};
-ghost use Rattle.asm_formats.specs.Regions.{has_region};
 ghost use Rattle.new_groups.specs.Tests.{are_apart, are_fit, has_disk, have_disks, is_apart, is_right, is_there, may_form, shows_size};
 
 use crate::draft::Draft;
 use crate::lists::member_of;
-use crate::places::is_held;
 use asm_base::{DiskSet, Shape};
 use disk_header::is_header;
 use disk_images::Looked;
-use group_mount::Headed;
+use group_mount::{Headed, has_region, is_held};
 use status_register::is_of_entry;
 use status_table::{PstEntry, is_status};
-
-/// The bytes of a block.
-const BLOCK: u64 = 4096;
-
-/// Whether an image of so many bytes reaches to the end of the directory region.
-fn has_region(dir_blocks: u32, size: u64) -> bool
-    ensures { result ≡ has_region dir_blocks size }
-{
-    (14 + 2 * dir_blocks as u64) * BLOCK <= size
-}
 
 /// Whether the look has shown an image of this size.
 fn shows_size(looked: &Looked, size: u64) -> bool
@@ -95,7 +83,7 @@ fn is_apart(disk: &Headed, others: &[Headed]) -> bool
 }
 
 /// Whether no two of the disks have one slot or one number.
-fn are_apart(disks: &[Headed]) -> bool
+pub fn are_apart(disks: &[Headed]) -> bool
     ensures { result ≡ are_apart disks.now }
 {
     match disks {

@@ -15,11 +15,11 @@ ghost use Rattle.new_groups.specs.Forming.{AreDisks, AreHeadable, AreLong, FormC
 use crate::draft::Draft;
 use crate::lists::Lists;
 use crate::preparing::Ready;
-use crate::refusals::write_fault;
 use asm_base::{Refusal, Shape};
 use bay::{Bay, Fault};
 use directory_store::{Store, StoreError};
 use disk_images::{close_gates, write_header};
+use group_disks::write_fault;
 use group_mount::Headed;
 use status_register::{Dead, Register, claim_first};
 use std::alloc::Global;

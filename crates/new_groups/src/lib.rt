@@ -18,8 +18,8 @@ mod refusals;
 mod sizes;
 
 pub use asked::{GroupAsked, Known, Taken};
-pub use checking::is_there;
+pub use checking::{are_apart, is_there};
 pub use create::create_group;
-pub use places::{Place, Shown, check_all_free, find_places, is_held};
+pub use places::{Place, Shown, check_all_free, find_places};
 pub use planned::{Terms, disks_within, planned_disk};
 pub use sizes::all_units;

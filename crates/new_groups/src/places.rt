@@ -5,14 +5,14 @@ ghost use Rattle.std.specs.List.{list_any};
 ghost use Rattle.std.specs.String.{string_bytes};
 ghost use Rattle.asm_base.specs.Refusals.{said};
 ghost use Rattle.new_groups.specs.Causes.{IsFirst, candidate, candidates, first_refused, is_member_taken, is_same_disk, is_taken, is_unread, missing_refusal, place_at, place_in, places_at, shown_by, slot_from, taken_refusal};
-ghost use Rattle.group_mount.specs.Founds.{is_held};
 
 use crate::asked::{Known, Taken};
 use crate::planned::Terms;
-use crate::refusals::{disk_taken, no_disk, write_fault};
 use asm_base::{NoMemory, Refusal};
 use disk_header::Header;
 use disk_images::Looked;
+use group_disks::{disk_taken, no_disk, write_fault};
+use group_mount::is_held;
 use new_disks::PlannedDisk;
 use std::alloc::Global;
 
@@ -139,13 +139,6 @@ pub fn find_places(
         Ok(()) => Ok(places),
         Err(refusal) => Err(refusal),
     }
-}
-
-/// Whether a slot is one of these.
-pub fn is_held(held: &[u32], slot: u32) -> bool
-    ensures { result ≡ is_held held.now slot }
-{
-    held.iter().any(|other| *other == slot)
 }
 
 /// Whether both are one disk.

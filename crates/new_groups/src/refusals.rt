@@ -1,5 +1,5 @@
 //! Refusals of a creation. Each wants memory for the text that it names: where there is none, it is NoMemory.
-ghost use Rattle.asm_group.specs.Refusal.{BadAttribute, DiskTaken, NoDisk, TooSmall, WriteFault};
+ghost use Rattle.asm_group.specs.Refusal.{BadAttribute, TooSmall};
 ghost use Rattle.group_disks.specs.Probes.{Says};
 
 use asm_base::{DiskRef, Name, NoMemory, Refusal, Text};
@@ -15,28 +15,6 @@ pub fn bad_attribute(alloc: Global, name: &[u8]) -> Refusal
     }
 }
 
-/// The path isn't among the images, or its image can't be had.
-pub fn no_disk(alloc: Global, path: &[u8]) -> Refusal
-    ensures { Says (NoDisk path.now) result }
-{
-    match Text::from_slice(alloc, path) {
-        Ok(text) => Refusal::NoDisk {
-            text: DiskRef::Spelt(text),
-        },
-        Err(NoMemory) => Refusal::NoMemory,
-    }
-}
-
-/// The image at the path is a disk of a group.
-pub fn disk_taken(alloc: Global, path: &[u8]) -> Refusal
-    ensures { Says (DiskTaken path.now) result }
-{
-    match Text::from_slice(alloc, path) {
-        Ok(path) => Refusal::DiskTaken { path },
-        Err(NoMemory) => Refusal::NoMemory,
-    }
-}
-
 /// The disk has fewer units than it needs.
 pub fn too_small(alloc: Global, disk: &Name, need: u64) -> Refusal
     ensures { Says (TooSmall disk.now need) result }
@@ -45,18 +23,6 @@ pub fn too_small(alloc: Global, disk: &Name, need: u64) -> Refusal
         Ok(text) => Refusal::TooSmall {
             disk: DiskRef::Spelt(text),
             need,
-        },
-        Err(NoMemory) => Refusal::NoMemory,
-    }
-}
-
-/// The disk failed.
-pub fn write_fault(alloc: Global, disk: &Name) -> Refusal
-    ensures { Says (WriteFault disk.now) result }
-{
-    match Text::from_slice(alloc, disk.as_bytes()) {
-        Ok(text) => Refusal::WriteFault {
-            disk: DiskRef::Spelt(text),
         },
         Err(NoMemory) => Refusal::NoMemory,
     }

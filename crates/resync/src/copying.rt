@@ -5,10 +5,10 @@ ghost use Rattle.group_engine.specs.Own.{KeepsGroup};
 ghost use Rattle.group_pieces.specs.Usable.{FitsExtent};
 ghost use Rattle.resync.specs.Copying.{CopyCause, refusal_of, unread};
 
-use crate::runs::{extent_bytes, is_run, piece_len};
+use crate::runs::{extent_bytes, piece_len};
 use asm_base::{DiskRef, ExtentId, Home, NoMemory, Refusal};
 use bay::{Bay, Fault};
-use file_extents::LONGEST_PIECE;
+use file_extents::{LONGEST_PIECE, is_run};
 use group_engine::Mounted;
 use group_pieces::{ReadError, read_piece, write_spare};
 use std::alloc::Global;
