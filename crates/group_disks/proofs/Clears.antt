@@ -1,5 +1,5 @@
 -- What a mount ends of what a stop left undone, and by which faults it can't.
-use Rattle.std.proofs.Common.{◌≡◌, ⊎_elim, ℕ, ◌≤◌, List, sym, ap, subst, ◌∙◌, Option, arith}
+use Rattle.std.proofs.Common.{◌≡◌, ⊎_elim, ℕ, ◌≤◌, List, sym, ap, subst, ◌∙◌, Option, Some, arith}
 use Rattle.std.proofs.lemmas.Option.{same_Some}
 use Rattle.bay.specs.Counts.{Rose}
 use Rattle.bay.specs.State.{BayState}
@@ -13,8 +13,9 @@ use Rattle.group_engine.specs.Own.{KeepsGroup}
 use Rattle.group_engine.specs.declared.access.Access.{Access}
 use Rattle.group_engine.specs.declared.access.Access.TheVariants as access
 use Rattle.group_engine.specs.declared.attached.Attached.{Attached}
-use Rattle.group_disks.specs.Clearing.{HasFailed, IsClearCause, IsLostCause, IsRefusalOf}
+use Rattle.group_disks.specs.Clearing.{HasFailed, IsClearCause, IsFoundSlot, IsLostCause, IsRefusalOf}
 use Rattle.group_mount.specs.declared.error.MountError.{MountError}
+use Rattle.group_mount.specs.declared.quorum.Quorate.{Quorate}
 use Rattle.group_mount.specs.declared.error.MountError.TheVariants as error
 
 -- a group that takes calls isn't dismounted
@@ -46,11 +47,12 @@ clear_on a b s m t (refusal.Dismounted (disk.Spelt text)) keeps cause = absurd c
 clear_on a b s m t other keeps cause = tt
 
 -- the refusal of a mount has its cause
-pub lost_by : (old new : MountedGroup) (s m t : BayState) (given : Refusal) (e : MountError) → KeepsGroup old new m t → ((slot : ℕ) → s.faults slot ≤ m.faults slot)
-    → IsClearCause old m t given → IsRefusalOf new given e → IsLostCause s t e
-lost_by old new s m t given (error.Dead slot name) keeps later cause of =
+pub lost_by : (q : Quorate) (old new : MountedGroup) (s m t : BayState) (given : Refusal) (e : MountError) → ((d slot : ℕ) → slot_at old.disks d ≡ Some slot → IsFoundSlot q slot)
+    → KeepsGroup old new m t → ((slot : ℕ) → s.faults slot ≤ m.faults slot) → IsClearCause old m t given → IsRefusalOf new given e → IsLostCause q s t e
+lost_by q old new s m t given (error.Dead slot name) found keeps later cause of =
     let failed : HasFailed old of.0 m t = subst (IsClearCause old m t) of.1 cause in
-    let at : failed.0 ≡ slot = same_Some failed.0 slot (sym failed.1 ∙ (sym (ap (λ (l : List (Option Attached)). slot_at l of.0) keeps.same.disks) ∙ of.2)) in
-    subst (λ (k : ℕ). Rose (s.faults k) (t.faults k)) at (omega (arith, failed.2, later failed.0))
-lost_by old new s m t given error.NoMemory keeps later cause of = tt
-lost_by old new s m t given other keeps later cause of = absurd of
+    let is : slot_at old.disks of.0 ≡ Some slot = sym (ap (λ (l : List (Option Attached)). slot_at l of.0) keeps.same.disks) ∙ of.2 in
+    let at : failed.0 ≡ slot = same_Some failed.0 slot (sym failed.1 ∙ is) in
+    (subst (λ (k : ℕ). Rose (s.faults k) (t.faults k)) at (omega (arith, failed.2, later failed.0)), found of.0 slot is)
+lost_by q old new s m t given error.NoMemory found keeps later cause of = tt
+lost_by q old new s m t given other found keeps later cause of = absurd of

@@ -1,6 +1,6 @@
 -- The disks that no other group holds.
 use Rattle.std.proofs.Common.{◌≡◌, inl, inr, ⊎_elim, ℕ, ◌<◌, true, List, [], ◌∷◌, refl, sym, ap, subst, ◌∙◌, Option, Some, None, ◌==◌}
-use Rattle.std.proofs.lemmas.Bool.{cases_Bool, cond-true, cond-false, false≢true}
+use Rattle.std.proofs.lemmas.Bool.{cases_Bool, cond-true, cond-false, eqb-true, false≢true}
 use Rattle.std.proofs.lemmas.Option.{same_Some}
 use Rattle.bay.specs.State.{BayState}
 use Rattle.asm_group.specs.Names.{Bytes, is_same_name}
@@ -32,14 +32,19 @@ there_left held n found f state is same there =
 pub slots_inside : (n : ℕ) (headed : List Headed) (state : BayState) → AreThere n headed state → (slot : ℕ) → IsSlotIn headed slot → slot < n
 slots_inside n headed state there slot is = subst (λ (k : ℕ). k < n) (sym is.2) (there.inside is.0 is.1)
 
--- a member is one of the disks that were read
-pub member_found : (id : ℕ) (headed : List Headed) (m : Member) → IsAmong (members_with id headed) m → (h : Headed) × IsAmong headed h × (m.slot ≡ h.slot)
-member_found id [] m among = absurd among
-member_found id (x ∷ xs) m among = ⊎_elim
-    (λ yes. ⊎_elim (λ (e : m ≡ member_of x). (x, inl refl, ap (λ (k : Member). k.slot) e)) (λ rest. let f = member_found id xs m rest in (f.0, inr f.1, f.2))
+-- a member is one of the disks of its id that were read
+pub found_member : (id : ℕ) (headed : List Headed) (m : Member) → IsAmong (members_with id headed) m → (h : Headed) × IsAmong headed h × (h.header.id ≡ id) × (m.slot ≡ h.slot)
+found_member id [] m among = absurd among
+found_member id (x ∷ xs) m among = ⊎_elim
+    (λ yes. ⊎_elim (λ (e : m ≡ member_of x). (x, inl refl, eqb-true x.header.id id yes, ap (λ (k : Member). k.slot) e))
+    (λ rest. let f = found_member id xs m rest in (f.0, inr f.1, f.2, f.3))
     (subst (λ (l : List Member). IsAmong l m) (cond-true (x.header.id == id) (member_of x ∷ members_with id xs) (members_with id xs) yes) among))
-    (λ no. let f = member_found id xs m (subst (λ (l : List Member). IsAmong l m) (cond-false (x.header.id == id) (member_of x ∷ members_with id xs) (members_with id xs) no) among) in (f.0, inr f.1, f.2))
+    (λ no. let f = found_member id xs m (subst (λ (l : List Member). IsAmong l m) (cond-false (x.header.id == id) (member_of x ∷ members_with id xs) (members_with id xs) no) among) in
+    (f.0, inr f.1, f.2, f.3))
     (cases_Bool (x.header.id == id))
+
+pub member_found : (id : ℕ) (headed : List Headed) (m : Member) → IsAmong (members_with id headed) m → (h : Headed) × IsAmong headed h × (m.slot ≡ h.slot)
+member_found id headed m among = let f = found_member id headed m among in (f.0, f.1, f.3)
 
 -- the name that was tested
 pub name_is : (o : Option Bytes) (group name : Bytes) → o ≡ Some group → is_named o name ≡ true → is_same_name group name ≡ true

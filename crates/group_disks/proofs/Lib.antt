@@ -42,5 +42,6 @@ pub mod Unmounted
 pub mod FoundIds
 pub mod LookedDisks
 pub mod LookedIds
+pub mod TakenDisks
 pub mod MountRefusals
 pub mod ReadNames

@@ -1,6 +1,6 @@
 -- The disks that a mount found, as the image that the disks held before has them.
-use Rattle.std.proofs.Common.{◌≡◌, ◌⊎◌, inl, inr, ⊎_elim, ℕ, ◌<◌, ◌&&◌, Bool, IsSome, true, false, not, List, [], ◌∷◌, Option, Some, None, refl, sym, ◌∙◌, ap, subst, ◌==◌, if◌then◌else◌}
-use Rattle.std.proofs.lemmas.Bool.{and_parts, cases_Bool, cond_both, eq-eqb, eqb-true, false≢true}
+use Rattle.std.proofs.Common.{◌≡◌, inl, inr, ⊎_elim, ℕ, ◌<◌, Bool, IsSome, true, false, not, List, [], ◌∷◌, Option, Some, None, refl, sym, ◌∙◌, ap, subst, ◌==◌, if◌then◌else◌}
+use Rattle.std.proofs.lemmas.Bool.{cases_Bool, cond_both, false≢true}
 use Rattle.std.proofs.lemmas.Option.{same_Some}
 use Rattle.bay.specs.Counts.{Rose}
 use Rattle.bay.specs.Image.{Image, Same}
@@ -9,16 +9,14 @@ use Rattle.bay.specs.State.{BayState, IsSound}
 use Rattle.asm_formats.specs.Among.{IsAmong}
 use Rattle.asm_formats.specs.Header.{Header}
 use Rattle.asm_formats.specs.Status.{Entry, Status}
-use Rattle.asm_images.specs.Kept.{IsMemberIn, header_in}
-use Rattle.asm_placement.proofs.Membership.{among_filter}
+use Rattle.asm_images.specs.Kept.{header_in}
 use Rattle.change_directory.specs.declared.copy.DirCopy.{DirCopy}
 use Rattle.status_register.specs.Surveys.{AreRead}
-use Rattle.status_register.specs.Told.{Told}
 use Rattle.status_register.specs.declared.member.Member.{Member}
 use Rattle.status_register.proofs.Losing.{took_or_failed}
 use Rattle.status_register.proofs.Taking.{kept_among}
 use Rattle.group_mount.specs.Finding.{AreAllHeaded, AreThere, IsFoundIn}
-use Rattle.group_mount.specs.Founds.{FoundDisks, is_held, not_held}
+use Rattle.group_mount.specs.Founds.{is_held, not_held}
 use Rattle.group_mount.specs.NamedCopies.{copy_of, is_named_copy, named_copies}
 use Rattle.group_mount.specs.Recovering.{is_own, own_members}
 use Rattle.group_mount.specs.Verdicts.{member_of, members_with}

@@ -1,24 +1,14 @@
 -- The ids of a name, and what surveys told of them.
-use Rattle.std.proofs.Common.{◌≡◌, ◌≢◌, ◌⊎◌, inl, inr, ⊎_elim, ℕ, Bool, true, false, List, [], ◌∷◌, ◌++◌, Option, Some, None, Result, Ok, Err, refl, sym, ◌∙◌, ap, subst, ◌==◌, if◌then◌else◌}
+use Rattle.std.proofs.Common.{◌≡◌, ◌≢◌, ◌⊎◌, inl, inr, ⊎_elim, ℕ, Bool, true, false, List, [], ◌∷◌, ◌++◌, Option, Some, None, Result, Err, refl, sym, ◌∙◌, ap, subst, ◌==◌}
 use Rattle.std.specs.Prelude.{nat_lt}
 use Rattle.std.specs.List.{list_any}
-use Rattle.std.specs.Option.{option_map}
-use Rattle.std.proofs.lemmas.Bool.{cases_Bool, cond_both, eq-eqb, eqb-true, false≢true, or_cases}
+use Rattle.std.proofs.lemmas.Bool.{cond_both, eq-eqb, eqb-true, false≢true, or_cases}
 use Rattle.std.proofs.lemmas.Option.{none-some, same_Some}
-use Rattle.bay.specs.Counts.{Rose}
-use Rattle.bay.specs.Image.{Image}
 use Rattle.bay.specs.State.{BayState}
 use Rattle.asm_group.specs.Names.{Bytes, is_same_name}
 use Rattle.asm_formats.specs.Among.{IsAmong}
-use Rattle.asm_formats.specs.Status.{Status}
-use Rattle.asm_images.specs.Register.{greatest}
-use Rattle.status_register.specs.Answers.{Surveyed}
-use Rattle.status_register.specs.Surveys.{AreRead, first_damage, missing, records_on}
-use Rattle.status_register.specs.declared.error.SurveyError.{SurveyError}
-use Rattle.status_register.specs.declared.error.SurveyError.TheVariants as survey
-use Rattle.status_register.specs.declared.member.Member.{Member}
-use Rattle.group_mount.specs.Founds.{HasTwo, both, later, is_whole, short_refusal, taken, undamaged}
-use Rattle.group_mount.specs.Verdicts.{AreJudged, IsJudged, choice_of, greater_of, ids_named, members_with, verdict_of, with_id, with_verdict}
+use Rattle.group_mount.specs.Founds.{HasTwo, both, later, is_whole, taken, undamaged}
+use Rattle.group_mount.specs.Verdicts.{AreJudged, IsJudged, choice_of, greater_of, ids_named, members_with, with_id}
 use Rattle.group_mount.specs.declared.choosing.Choice.{Choice}
 use Rattle.group_mount.specs.declared.choosing.ShortId.{ShortId}
 use Rattle.group_mount.specs.declared.choosing.Verdict.{Verdict}

@@ -1,5 +1,5 @@
 -- Why a mount is refused, told of the image that the disks held before it.
-use Rattle.std.proofs.Common.{◌≡◌, ◌≢◌, ◌⊎◌, inl, inr, ⊎_elim, ℕ, ◌+◌, ◌^◌, ◌<◌, ◌≤◌, ◌&&◌, ◌||◌, not, Bool, true, false, List, [], ◌∷◌, ◌++◌, Option, Some, None, Result, Ok, Err, refl, sym, ◌∙◌, ap, subst, arith, ◌==◌, if◌then◌else◌}
+use Rattle.std.proofs.Common.{◌≡◌, ◌≢◌, ◌⊎◌, inl, inr, ⊎_elim, ℕ, ◌+◌, ◌<◌, ◌≤◌, ◌||◌, not, Bool, true, false, List, [], ◌∷◌, Option, Some, None, Result, Ok, Err, refl, sym, ◌∙◌, ap, subst, arith, ◌==◌, if◌then◌else◌}
 use Rattle.std.specs.Prelude.{find, max}
 use Rattle.std.specs.List.{list_any}
 use Rattle.std.specs.Option.{option_map, option_or}
@@ -7,17 +7,15 @@ use Rattle.std.proofs.lemmas.Bool.{and_parts, cases_Bool, cond_both, eq-eqb, eqb
 use Rattle.std.proofs.lemmas.Option.{none-some, same_Some}
 use Rattle.bay.specs.Counts.{Rose}
 use Rattle.bay.specs.Image.{Image, Same}
-use Rattle.bay.specs.Moments.{NowOnly, Runs}
+use Rattle.bay.specs.Moments.{Runs}
 use Rattle.bay.specs.State.{BayState, IsSound}
 use Rattle.bay.proofs.Calls.{goes_on, stops}
 use Rattle.bay.proofs.Images.{same-trans}
 use Rattle.asm_group.specs.Names.{Bytes, is_same_name}
 use Rattle.asm_group.specs.Shape.{Shape}
 use Rattle.asm_formats.specs.Among.{IsAmong}
-use Rattle.asm_formats.specs.Header.{Header}
 use Rattle.asm_formats.specs.Items.{DiskInfo}
 use Rattle.asm_formats.specs.Status.{Entry, Status}
-use Rattle.asm_images.specs.Kept.{IsMemberIn, header_in}
 use Rattle.asm_images.specs.Register.{greatest}
 use Rattle.asm_placement.specs.Modes.{serves}
 use Rattle.asm_placement.proofs.Membership.{among_right}
@@ -39,18 +37,17 @@ use Rattle.status_register.specs.declared.error.SurveyError.{SurveyError}
 use Rattle.status_register.specs.declared.error.SurveyError.TheVariants as survey
 use Rattle.status_register.specs.declared.member.Member.{Member}
 use Rattle.status_register.proofs.Losing.{took_or_failed}
-use Rattle.status_table.specs.Changes.{majority_of}
 use Rattle.group_mount.specs.Alike.{clashes, first_stranger, shape_in}
 use Rattle.group_mount.specs.Finding.{AreAllHeaded, AreApart, AreThere}
-use Rattle.group_mount.specs.Founds.{FindCause, FindsNone, FoundDisks, IsFound, NoneAreTaken, TwoAreTaken, is_whole, not_held}
-use Rattle.group_mount.specs.Loads.{copies_read, refusal_of_load}
+use Rattle.group_mount.specs.Founds.{FindCause, FindsNone, FoundDisks, IsFound, is_whole, not_held}
+use Rattle.group_mount.specs.Loads.{refusal_of_load}
 use Rattle.group_mount.specs.Missing.{first_missing, has_disk, is_disk_of, is_missing}
 use Rattle.group_mount.specs.NamedCopies.{copy_of, is_named_copy, named_copies}
-use Rattle.group_mount.specs.Quorum.{CatalogRefusal, IsCatalogIn, IsDamagedRefusal, IsForceRefusal, IsLastEpochRefusal, IsMissingRefusal, IsStrangerRefusal, IsLoaded, IsRefusedAfter, QuorumCause}
-use Rattle.group_mount.specs.Recovering.{AnewCause, RecoverCause, is_named, is_own, name_in, own_members}
+use Rattle.group_mount.specs.Quorum.{CatalogRefusal, IsCatalogIn, IsDamagedRefusal, IsForceRefusal, IsLastEpochRefusal, IsMissingRefusal, IsStrangerRefusal, IsRefusedAfter}
+use Rattle.group_mount.specs.Recovering.{RecoverCause, is_named, is_own, name_in, own_members}
 use Rattle.group_mount.specs.Surveying.{IsGoneOn, IsSurveyedNow, MembersCause}
 use Rattle.group_mount.specs.Syncing.{IsSurveyOn}
-use Rattle.group_mount.specs.Verdicts.{AreJudged, IsJudged, choice_of, ids_named, member_of, members_with, verdict_of}
+use Rattle.group_mount.specs.Verdicts.{AreJudged, choice_of, ids_named, members_with, verdict_of}
 use Rattle.group_mount.specs.declared.choosing.Choice.{Choice}
 use Rattle.group_mount.specs.declared.choosing.Verdict.{Verdict}
 use Rattle.group_mount.specs.declared.choosing.Verdict.TheVariants.{Gone, Short, Whole}
@@ -58,17 +55,15 @@ use Rattle.group_mount.specs.declared.error.MountError.{MountError}
 use Rattle.group_mount.specs.declared.error.MountError.TheVariants as error
 use Rattle.group_mount.specs.declared.finding.Headed.{Headed}
 use Rattle.group_mount.specs.declared.quorum.MountOption.{MountOption}
-use Rattle.group_mount.specs.declared.quorum.MountOption.TheVariants.{NoForce}
 use Rattle.group_mount.specs.declared.quorum.Quorate.{Quorate}
 use Rattle.group_mount.proofs.Looks.{left_there}
 use Rattle.group_mount.proofs.Searches.{none_are_taken, two_are_taken}
 use Rattle.group_mount.proofs.Told.{rose_before, rose_later}
 use Rattle.group_disks.specs.Clearing.{IsLostCause}
-use Rattle.group_disks.specs.Holding.{IsHeldSlot}
-use Rattle.group_disks.specs.MountCauses.{AreDirectories, AreDisksWith, AreElsewhere, DamagedCause, DirectoriesLostCause, ErrorCause, HasNamedDisk, IsDisk, IsDiskName, IsDiskThere, IsIdRead, IsRecordRead, Look, MissingDisksCause, NoGroupCause, NoMajorityCause, RefusalsHaveCauses, SlotFailed, TwoGroupsCause, all_gone, at_record, behind_record, body, copy, fault, few_read, few_took, few_whole, has_id, last_epoch, look, none_there, one_gone, other_name, stranger}
-use Rattle.group_disks.specs.Mounting.{AreOthers, IsMountCause, IsNotQuorate, IsNotRenewed, WasQuorate, free_disks, has_name, not_cleared, not_found, not_quorate, not_renewed, of_others}
-use Rattle.group_disks.proofs.FoundIds.{IsNamedIn, has_name as named_in, taken_is_named}
-use Rattle.group_disks.proofs.LookedDisks.{among_free, before, copies_picked, free_among, holds_there, is_among, is_disk, members_picked, of_picked, of_read, own_picked, picked_all, picked_from}
+use Rattle.group_disks.specs.MountCauses.{AreDirectories, AreDisksWith, AreElsewhere, DamagedCause, DirectoriesLostCause, ErrorCause, HasNamedDisk, IsDisk, IsDiskThere, IsIdRead, IsRecordRead, Look, NoGroupCause, NoMajorityCause, RefusalsHaveCauses, SlotFailed, all_gone, at_record, behind_record, body, copy, fault, few_read, few_took, few_whole, has_id, last_epoch, look, none_there, one_gone, other_name, stranger}
+use Rattle.group_disks.specs.Mounting.{AreOthers, IsMountCause, IsNotQuorate, IsNotRenewed, WasQuorate, free_disks, not_cleared, not_found, not_quorate, not_renewed, of_others}
+use Rattle.group_disks.proofs.FoundIds.{has_name as named_in, taken_is_named}
+use Rattle.group_disks.proofs.LookedDisks.{before, copies_picked, free_among, holds_there, is_among, is_disk, members_picked, of_picked, of_read, own_picked, picked_all, picked_from}
 use Rattle.group_disks.proofs.LookedIds.{NotTaken, WasJudged, has_verdict, id_of_named, not_taken, short_among, two_judged, was_judged, whole_among}
 
 -- ---- what a survey told
@@ -266,12 +261,17 @@ module _ (name : Bytes) (option : MountOption) (n : ℕ) (s t : BayState) (x : I
         let k = taken_is_named name is.headed is.choice is.unread s u found.id is.finds.judged is.taken_is in
         record { disk = k.headed; is = is_disk n s t x holds u sound looks is.headed is.finds.there k.headed k.among; member = k.member; named = k.named }
 
+    disk_of : (found : FoundDisks) → IsFound name n found s u → (h : Headed) → IsAmong (not_held held found.headed) h → IsDisk at h
+    disk_of found is h among =
+        let there : AreThere n found.headed u = subst (λ (l : List Headed). AreThere n l u) (sym is.left) (left_there n is.unread is.headed u is.finds.there) in
+        is_disk n s t x holds u sound looks (not_held held found.headed) (left_there n held found.headed u there) h among
+
     free_of : (found : FoundDisks) → IsFound name n found s u → ((slot : ℕ) → u.faults slot ≤ t.faults slot) → AreAllOf at found.id (not_held held found.headed)
     free_of found is on =
         let there : AreThere n found.headed u = subst (λ (l : List Headed). AreThere n l u) (sym is.left) (left_there n is.unread is.headed u is.finds.there) in
         let free = left_there n held found.headed u there in
         record {
-          are = λ h among. is_disk n s t x holds u sound looks (not_held held found.headed) free h among;
+          are = disk_of found is;
           all = λ d at_there own. free_among held found.headed d (is_among n s t x holds u sound looks found.headed s there is.all (longer u on) d at_there)
               (λ held_is. elsewhere found.id d.slot (named_of found is) held_is (d.header, at_there.is.header, own));
           apart = free.apart;
@@ -641,9 +641,14 @@ module _ (name : Bytes) (option : MountOption) (n : ℕ) (s t : BayState) (x : I
         by error.DirectoriesLost cause = absurd cause
         by (error.MissingDisk number disk) cause = absurd cause
 
-    cleared_cause : (e : MountError) → WasQuorate state name n held option s → IsLostCause s t e → ErrorCause name option e at
-    cleared_cause (error.Dead slot disk) was rose =
-        (was.found.id, named_of held elsewhere (state was.between) (sounds was.between) was.searched was.found was.is, behind_record slot rose)
+    cleared_cause : (e : MountError) (was : WasQuorate state name n held option s) → IsLostCause was.quorum s t e → ErrorCause name option e at
+    cleared_cause (error.Dead slot disk) was (rose, (h, among, own, at_slot)) =
+        let u = state was.between in
+        let there = subst (λ (l : List Headed). IsAmong l h) was.quorate.headed_are among in (
+          was.quorum.id,
+          subst (λ (k : ℕ). HasNamedDisk at name k) (sym was.quorate.id_is) (named_of held elsewhere u (sounds was.between) was.searched was.found was.is),
+          behind_record h (disk_of held elsewhere u (sounds was.between) was.searched was.found was.is h there) own (subst (λ (k : ℕ). SlotFailed at k) (sym at_slot) rose),
+        )
     cleared_cause error.NoMemory was cause = tt
     cleared_cause error.NoGroup was cause = absurd cause
     cleared_cause error.TwoGroups was cause = absurd cause

@@ -1,6 +1,5 @@
 -- The group that a mount read is one of those that the disks stood for, and has the name that was asked for.
-use Rattle.std.proofs.Common.{◌≡◌, inl, ℕ, ◌+◌, ◌<◌, ◌≤◌, true, List, [], ◌∷◌, map, length, Option, Some, None, refl, sym, ◌∙◌, ap, subst, arith}
-use Rattle.std.specs.List.{range_with_len}
+use Rattle.std.proofs.Common.{◌≡◌, inl, ℕ, ◌+◌, ◌<◌, List, [], ◌∷◌, length, Option, Some, refl, sym, ◌∙◌, ap, subst, arith}
 use Rattle.std.proofs.lemmas.Option.{same_Some}
 use Rattle.bay.specs.Image.{Image, Same}
 use Rattle.bay.specs.Moments.{NowOnly, Runs}
@@ -13,7 +12,6 @@ use Rattle.asm_formats.specs.Header.{Header}
 use Rattle.asm_formats.specs.Metadata.{Metadata, metadata}
 use Rattle.asm_formats.specs.Metadata.{content_of as said_content}
 use Rattle.asm_formats.specs.Pages.{copy_content}
-use Rattle.asm_formats.specs.Sets.{elements}
 use Rattle.asm_formats.specs.Status.{Status}
 use Rattle.asm_images.specs.Bridge.{disk_bytes, disks_in}
 use Rattle.asm_images.specs.Kept.{header_in}
@@ -25,15 +23,12 @@ use Rattle.status_register.specs.SurveyLaws.{IsMemberOn}
 use Rattle.status_register.specs.Surveys.{disk_in, records_on}
 use Rattle.status_register.specs.declared.member.Member.{Member}
 use Rattle.status_register.proofs.Meeting.{surveyed_record_counts}
-use Rattle.group_mount.specs.Finding.{AreThere}
 use Rattle.group_mount.specs.Mounting.{Allows, Names}
 use Rattle.group_mount.specs.NamedCopies.{copy_of}
 use Rattle.group_mount.specs.Quorum.{IsQuorum}
-use Rattle.group_mount.specs.Recovered.{StoodFor}
 use Rattle.group_mount.specs.Syncing.{IsSurveyOn}
 use Rattle.group_mount.specs.Verdicts.{member_of}
 use Rattle.group_mount.specs.declared.finding.Headed.{Headed}
-use Rattle.group_mount.specs.declared.quorum.MountOption.{MountOption}
 use Rattle.group_mount.specs.declared.quorum.Quorate.{Quorate}
 use Rattle.group_mount.proofs.CopyLoads.{IsFrom}
 use Rattle.group_mount.proofs.Mounting.{is_named, is_there}
@@ -41,7 +36,6 @@ use Rattle.group_mount.proofs.NextRecords.{from, in_elements}
 use Rattle.group_mount.proofs.Surveyed.{header_number}
 use Rattle.group_mount.proofs.Taking.{at_slot, found_alone}
 use Rattle.group_disks.specs.Leaving.{ReadsNamed}
-use Rattle.group_disks.specs.Mounting.{WasQuorate}
 use Rattle.group_disks.proofs.FoundIds.{taken_is_named}
 use Rattle.group_disks.proofs.LookedDisks.{before, is_disk, some_of}
 

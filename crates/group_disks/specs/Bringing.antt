@@ -1,17 +1,20 @@
 -- The directory copies that a mount brings up.
-use Rattle.std.specs.Prelude.{◌≡◌, ◌⊎◌, ℕ, ◌+◌, ◌*◌, ◌^◌, ◌<◌, ◌==◌, ◌&&◌, ◌||◌, Bool, true, false, List, [], ◌∷◌, get_or, if◌then◌else◌, Some, None}
+use Rattle.std.specs.Prelude.{◌≡◌, ◌⊎◌, ℕ, ◌+◌, ◌*◌, ◌^◌, ◌<◌, ◌≤◌, ◌==◌, ◌&&◌, ◌||◌, Bool, true, false, List, [], ◌∷◌, get_or, if◌then◌else◌, OnOk, Result, Some, None}
 use Rattle.bay.specs.Counts.{Rose}
 use Rattle.bay.specs.Moments.{LeavesOnly}
 use Rattle.bay.specs.State.{BayState}
 use Rattle.asm_group.specs.Group.{Group}
+use Rattle.asm_base.specs.declared.refusal.Refusal.{Refusal}
 use Rattle.asm_formats.specs.Regions.{has_region}
 use Rattle.asm_formats.specs.Sets.{has_bit}
 use Rattle.asm_formats.specs.Status.{Status}
 use Rattle.asm_images.specs.Kept.{Kept}
 use Rattle.group_engine.specs.Commits.{StandsIn, turns_at_most}
-use Rattle.group_engine.specs.Mounts.{IsReady, IsWhole, MountedGroup, Mounts}
+use Rattle.group_engine.specs.Copying.{MountsLater, StandThrough}
+use Rattle.group_engine.specs.Mounts.{IsMounted, IsReady, IsWhole, MountedGroup, Mounts}
 use Rattle.group_engine.specs.Own.{KeepsGroup}
 use Rattle.group_engine.specs.declared.attached.Attached.{Attached}
+use Rattle.group_disks.specs.Clearing.{WorksOnGroup}
 use Rattle.status_register.specs.Holders.{is_of}
 use Rattle.status_register.specs.declared.member.Member.{Member}
 
@@ -59,3 +62,25 @@ StandWhile calls old s t = TurnsLast calls old → (n : ℕ) (g : Group) (kept :
 -- it is mounted afterwards, with the same disks
 abbrev pub MountsBehind : ℕ → MountedGroup → MountedGroup → BayState → BayState → Type 0
 MountsBehind calls old new s t = TurnsLast calls old → (n : ℕ) (g : Group) (kept : Kept) → Mounts n old s g kept → (later : Kept) × (later.slots ≡ kept.slots) × Mounts n new t g later
+
+-- ---- what the calls do
+
+-- The directory copy of a disk is brought up.
+pub record BringsCopyUp {B : Type 0} (state : B → BayState) (d : ℕ) (old : MountedGroup) (answer : Result (Unit {0}) Refusal) (new : MountedGroup) (s t : BayState) : Type 0 where
+  pub works : WorksOnGroup old answer new s t
+  pub brought : OnOk answer (IsBrought state old d new s t)
+  -- at each moment each image stands for the group, and while it isn't dismounted it is mounted, with the same disks
+  pub moments : StandThrough old s t
+  pub mounts : IsMounted new → MountsLater old new s t
+  -- the copy takes a turn, and costs another if it fails
+  pub turns : turns_at_most new ≤ turns_at_most old + 2
+
+-- The copies of the first disks in the set are brought up, where turns are left for so many calls.
+pub record BringsCopiesUp {B : Type 0} (state : B → BayState) (set front calls : ℕ) (old : MountedGroup) (answer : Result (Unit {0}) Refusal) (new : MountedGroup) (s t : BayState) : Type 0 where
+  pub works : WorksOnGroup old answer new s t
+  pub brought : OnOk answer (AreBrought state old set front new s t)
+  -- at each moment each image stands for the group, and while it isn't dismounted it is mounted, with the same disks
+  pub moments : StandWhile calls old s t
+  pub mounts : IsMounted new → MountsBehind calls old new s t
+  -- each disk takes a turn at most, and its copy may cost another once it fails
+  pub turns : turns_at_most new ≤ turns_at_most old + 2 * front

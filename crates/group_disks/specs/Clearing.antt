@@ -1,18 +1,23 @@
 -- What a mount ends of what a stop left undone, and why the group is lost at that.
-use Rattle.std.specs.Prelude.{◌≡◌, ◌<◌, ⊤, ℕ, Bool, false, not, if◌then◌else◌, List, Option, Some, None}
+use Rattle.std.specs.Prelude.{◌≡◌, ◌<◌, ⊤, ℕ, Bool, false, not, if◌then◌else◌, IfErr, List, OnOk, Option, Some, None, Result}
 use Rattle.std.specs.Option.{option_map}
 use Rattle.bay.specs.Counts.{Rose}
 use Rattle.bay.specs.State.{BayState}
 use Rattle.asm_base.specs.declared.refusal.DiskRef.TheVariants as disk
 use Rattle.asm_base.specs.declared.refusal.Refusal.{Refusal}
 use Rattle.asm_base.specs.declared.refusal.Refusal.TheVariants as refusal
+use Rattle.asm_formats.specs.Among.{IsAmong}
 use Rattle.asm_formats.specs.Items.{DiskInfo}
 use Rattle.asm_formats.specs.Status.{Entry, entry_of}
 use Rattle.catalog_tables.specs.Disks.{Disk, info_at, without_disk}
 use Rattle.catalog_tables.specs.Tables.{Tables}
 use Rattle.status_register.specs.Registered.{is_birth}
-use Rattle.group_engine.specs.Mounts.{MountedGroup, slot_at}
+use Rattle.group_engine.specs.Mounts.{IsMounted, MountedGroup, slot_at}
+use Rattle.group_engine.specs.Own.{KeepsGroup}
+use Rattle.group_engine.specs.Pending.{EndsOn}
 use Rattle.group_mount.specs.declared.error.MountError.{MountError}
+use Rattle.group_mount.specs.declared.finding.Headed.{Headed}
+use Rattle.group_mount.specs.declared.quorum.Quorate.{Quorate}
 use Rattle.group_mount.specs.declared.error.MountError.TheVariants as error
 
 -- the entries have none of this number and of the birth that the record says
@@ -44,11 +49,27 @@ IsClearCause m s t (refusal.Dismounted (disk.Number d)) = HasFailed m d s t
 IsClearCause m s t (refusal.Dismounted (disk.Spelt text)) = ⊥
 IsClearCause m s t other = ⊤
 
--- the disk that is named failed, by which the group is dismounted
-abbrev pub IsLostCause : BayState → BayState → MountError → Type 0
-IsLostCause s t (error.Dead slot name) = Rose (s.faults slot) (t.faults slot)
-IsLostCause s t error.NoMemory = ⊤
-IsLostCause s t other = ⊥
+-- Calls on a mounted group, which dismount it only where one of its disks fails. At Ok it takes calls.
+pub record WorksOnGroup (old : MountedGroup) (answer : Result (Unit {0}) Refusal) (new : MountedGroup) (s t : BayState) : Type 0 where
+  pub keeps : KeepsGroup old new s t
+  pub mounted : OnOk answer (IsMounted new)
+  pub cause : IfErr answer (IsClearCause old s t)
+
+-- What a stop left undone is ended: no operation is pending.
+pub record CleansUp (old : MountedGroup) (answer : Result (Unit {0}) Refusal) (new : MountedGroup) (s t : BayState) : Type 0 where
+  pub ends : EndsOn old answer new s t
+  pub ended : OnOk answer (new.catalog.tables.operations.pending ≡ None)
+  pub cause : IfErr answer (IsClearCause old s t)
+
+-- one of the disks of its id that were found for the group is in this slot
+abbrev pub IsFoundSlot : Quorate → ℕ → Type 0
+IsFoundSlot q slot = (h : Headed) × IsAmong q.headed.items h × (h.header.id ≡ q.id) × (h.slot ≡ slot)
+
+-- the disk that is named failed, which is one of the group's, and by which it is dismounted
+abbrev pub IsLostCause : Quorate → BayState → BayState → MountError → Type 0
+IsLostCause q s t (error.Dead slot name) = Rose (s.faults slot) (t.faults slot) × IsFoundSlot q slot
+IsLostCause q s t error.NoMemory = ⊤
+IsLostCause q s t other = ⊥
 
 -- the slot is that of the disk of this number
 abbrev pub IsDead : MountedGroup → ℕ → MountError → Type 0

@@ -14,7 +14,7 @@ use Rattle.asm_images.specs.Members.{Member, all_members}
 use Rattle.asm_images.specs.Bridge.{disks_in, ChangesSlot}
 use Rattle.asm_images.specs.Kept.{Kept, header_in, IsMemberIn, IsHeld}
 use Rattle.asm_formats.specs.Status.{Status}
-use Rattle.asm_images.specs.Sound.{SoundBy, Sound}
+use Rattle.asm_images.specs.Sound.{SoundBy}
 use Rattle.group_mount.specs.Mounting.{Allows}
 
 -- a disk of the image is a member of the id

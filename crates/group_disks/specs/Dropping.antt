@@ -2,8 +2,8 @@
 use Rattle.std.specs.Prelude.{◌≡◌, ◌⊎◌, ◌<◌, ℕ, Bool, false, Some, None, IsTrue}
 use Rattle.bay.specs.Counts.{Rose}
 use Rattle.bay.specs.Image.{Image, ChangesOnly}
-use Rattle.bay.specs.Moments.{NowOnly}
-use Rattle.bay.specs.State.{BayState}
+use Rattle.bay.specs.Moments.{NowOnly, Runs}
+use Rattle.bay.specs.State.{BayState, KeepsAttached}
 use Rattle.asm_base.specs.declared.refusal.Refusal.{Refusal}
 use Rattle.asm_base.specs.declared.refusal.Refusal.TheVariants as refusal
 use Rattle.asm_images.specs.Kept.{header_in}
@@ -11,6 +11,7 @@ use Rattle.disk_images.specs.Headers.{HasHeaderSlot}
 use Rattle.file_directory.specs.Files.{is_file}
 use Rattle.group_engine.specs.Commits.{DismountCause}
 use Rattle.group_engine.specs.Mounts.{IsOwn, MountedGroup, slot_at}
+use Rattle.group_engine.specs.Own.{OnOwnDisks}
 use Rattle.group_engine.specs.declared.access.Access.TheVariants as access
 
 -- ---- whether it may go
@@ -48,3 +49,15 @@ IsOut slot s t = Rose (s.faults slot) (t.faults slot) ⊎ NowOnly t (λ image. h
 -- the attached disks with numbers below n have none
 abbrev pub AreOut : MountedGroup → ℕ → BayState → BayState → Type 0
 AreOut m n s t = (d slot : ℕ) → d < n → slot_at m.disks d ≡ Some slot → IsOut slot s t
+
+-- The header of the disk of a number is closed, where it is attached: no other disk changes.
+pub record ClosesHeaderAt (m : MountedGroup) (number : ℕ) (s t : BayState) : Type 0 where
+  pub attached : KeepsAttached s t
+  pub runs : Runs (λ slot. slot_at m.disks number ≡ Some slot) (OnDisk m number) s t
+  pub out : (slot : ℕ) → slot_at m.disks number ≡ Some slot → IsOut slot s t
+
+-- The headers of the attached disks with numbers below n are closed: the group's own disks alone change.
+pub record ClosesHeaders (m : MountedGroup) (n : ℕ) (s t : BayState) : Type 0 where
+  pub attached : KeepsAttached s t
+  pub runs : Runs (IsOwn m) (OnOwnDisks m) s t
+  pub out : AreOut m n s t

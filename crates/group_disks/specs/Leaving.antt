@@ -1,6 +1,6 @@
 -- What a mount leaves on the disks until its group's record is written anew, and once it is.
-use Rattle.std.specs.Prelude.{◌≡◌, ◌≢◌, ℕ, ◌+◌, ◌*◌, ◌<◌, ◌≤◌, IsSome, true, List, None, [], ◌∷◌}
-use Rattle.bay.specs.Image.{Image, Same}
+use Rattle.std.specs.Prelude.{◌≡◌, ℕ, ◌+◌, ◌*◌, ◌<◌, ◌≤◌, IsSome, true, List, None, [], ◌∷◌}
+use Rattle.bay.specs.Image.{Same}
 use Rattle.bay.specs.Moments.{LeavesOnly, NowOnly, Runs}
 use Rattle.bay.specs.State.{BayState}
 use Rattle.asm_group.specs.Group.{Group}

@@ -12,5 +12,9 @@ pub mod Stages
 pub mod CreateLaws
 pub mod Probes
 pub mod Ready
+pub mod Looks
+pub mod Gives
+pub mod Prepares
+pub mod Taking
 pub mod Leaving
 pub mod MountCauses

@@ -176,10 +176,11 @@ pub record MissingDisksCause (l : Look) (id : ℕ) (name : Bytes) : Type 0 where
   pub absent : (d : Headed) → IsDiskThere l d → is_disk_of id entry d ≡ false
   pub named : IsDiskName l id value entry.number name
 
--- Dismounted: the disk of the name failed while the record was written anew, or one did while what a stop left undone was ended.
-pub data DismountedCause (l : Look) (name : Bytes) : Type 0 where
-  at_record : (d : Headed) → IsDisk l d → d.header.disk ≡ name → SlotFailed l d.slot → DismountedCause l name
-  behind_record : (slot : ℕ) → SlotFailed l slot → DismountedCause l name
+-- Dismounted: the disk of the name failed while the record was written anew, or one of the id did while lagging copies were brought up or
+-- what a stop left undone was ended.
+pub data DismountedCause (l : Look) (id : ℕ) (name : Bytes) : Type 0 where
+  at_record : (d : Headed) → IsDisk l d → d.header.disk ≡ name → SlotFailed l d.slot → DismountedCause l id name
+  behind_record : (d : Headed) → IsDisk l d → d.header.id ≡ id → SlotFailed l d.slot → DismountedCause l id name
 
 -- of an id of the name
 abbrev pub OfNamed : Look → Bytes → (ℕ → Type 0) → Type 0
@@ -196,7 +197,7 @@ IsMountRefused paths name force (r.NoMajority seen need) l = OfNamed l name (λ 
 IsMountRefused paths name force (r.Damaged path block) l = (slot : ℕ) × (path ≡ get_or paths slot []) × OfNamed l name (λ id. DamagedCause l id slot block)
 IsMountRefused paths name force r.DirectoriesLost l = OfNamed l name (λ id. DirectoriesLostCause l id)
 IsMountRefused paths name force (r.MissingDisks disk) l = (force ≡ false) × OfNamed l name (λ id. MissingDisksCause l id disk)
-IsMountRefused paths name force (r.Dismounted disk) l = OfNamed l name (λ id. DismountedCause l disk)
+IsMountRefused paths name force (r.Dismounted disk) l = OfNamed l name (λ id. DismountedCause l id disk)
 IsMountRefused paths name force r.NoMemory l = ⊤
 IsMountRefused paths name force other l = ⊥
 
@@ -218,7 +219,7 @@ ErrorCause name option (error.NoMajority seen need) l = OfNamed l name (λ id. N
 ErrorCause name option (error.Damaged slot block) l = OfNamed l name (λ id. DamagedCause l id slot block)
 ErrorCause name option error.DirectoriesLost l = OfNamed l name (λ id. DirectoriesLostCause l id)
 ErrorCause name option (error.MissingDisk number disk) l = (option ≡ NoForce) × OfNamed l name (λ id. MissingDisksCause l id disk)
-ErrorCause name option (error.Dead slot disk) l = OfNamed l name (λ id. DismountedCause l disk)
+ErrorCause name option (error.Dead slot disk) l = OfNamed l name (λ id. DismountedCause l id disk)
 ErrorCause name option error.NoMemory l = ⊤
 
 -- no disk in these slots is of an id of the name

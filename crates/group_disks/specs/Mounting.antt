@@ -127,4 +127,4 @@ pub data IsMountCause {B : Type 0} (state : B → BayState) (name : Bytes) (n : 
   not_quorate : IsNotQuorate state name n held option s t e → IsMountCause state name n held option s t e
   not_renewed : IsNotRenewed state name n held option s t e → IsMountCause state name n held option s t e
   -- its record stands, and what a stop left undone can't be ended
-  not_cleared : WasQuorate state name n held option s → IsLostCause s t e → IsMountCause state name n held option s t e
+  not_cleared : (was : WasQuorate state name n held option s) → IsLostCause was.quorum s t e → IsMountCause state name n held option s t e

@@ -1,14 +1,12 @@
 -- What a creation writes on its one disk.
 use Rattle.std.specs.Prelude.{◌≡◌, ◌==◌, ℕ, ◌^◌, ◌<◌, ◌≤◌, true, false, List, [], ◌∷◌, Some}
-use Rattle.asm_group.specs.declared.GroupKind.TheVariants.{External}
 use Rattle.asm_group.specs.declared.Mode.TheVariants.{Online}
 use Rattle.asm_group.specs.Names.{Bytes, is_name}
-use Rattle.asm_group.specs.NewGroup.{system_templates, usual_attributes}
 use Rattle.asm_base.specs.Records.{Entry as Keyed}
 use Rattle.asm_formats.specs.Header.{Header, header_spelling}
 use Rattle.asm_formats.specs.Claim.{Claim, claim_spelling}
 use Rattle.asm_formats.specs.Status.{Status, Entry, status_spelling}
-use Rattle.asm_formats.specs.Items.{Item, key, disk_item, templates_item, settings_item}
+use Rattle.asm_formats.specs.Items.{Item, key, disk_item}
 use Rattle.asm_formats.specs.Values.{value}
 use Rattle.asm_formats.specs.Content.{Content}
 use Rattle.asm_formats.specs.Metadata.{Metadata}

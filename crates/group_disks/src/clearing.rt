@@ -1,11 +1,8 @@
 // What a stop left undone of a group is ended by the mount: records of disks without an entry, and the pending operation.
-ghost use Rattle.std.specs.Prelude.{◌≡◌, ◌≤◌, None, IfErr, OnOk};
-ghost use Rattle.group_disks.specs.Clearing.{HaveDropped, IsClearCause, IsDead, IsRefusalOf, is_left_over, without_left_over};
-ghost use Rattle.group_of.specs.Describing.{KeepsNames};
-ghost use Rattle.group_engine.specs.Commits.{KeepsRecord, turns_at_most};
+ghost use Rattle.std.specs.Prelude.{◌≡◌, OnOk};
+ghost use Rattle.group_disks.specs.Clearing.{CleansUp, HaveDropped, IsDead, IsRefusalOf, is_left_over, without_left_over};
 ghost use Rattle.group_engine.specs.Mounts.{IsMounted, Takes};
-ghost use Rattle.group_engine.specs.Own.{KeepsGroup};
-ghost use Rattle.group_engine.specs.Pending.{EndsOn, StandsThrough, StaysMounted};
+ghost use Rattle.group_engine.specs.Pending.{EndsOn};
 
 use asm_base::{DiskRef, Refusal};
 use bay::Bay;
@@ -71,20 +68,7 @@ fn drop_records<B: Bay>(alloc: Global, bay: &mut B, m: &mut Mounted) -> Result<(
 pub fn clean_up<B: Bay>(alloc: Global, bay: &mut B, m: &mut Mounted) -> Result<(), Refusal>
     requires mounted { IsMounted m.old }
     requires takes { Takes m.old (B.state bay.old) }
-    ensures keeps { KeepsGroup m.old m.new (B.state bay.old) (B.state bay.new) }
-    ensures mounted { OnOk result (IsMounted m.new) }
-    ensures ended { OnOk result (m.new.catalog.tables.operations.pending ≡ None) }
-    ensures cause { IfErr result (IsClearCause m.old (B.state bay.old) (B.state bay.new)) }
-    // Whatever it answers, the record that holds has the entries and the sets of the one before, and no directory copy more.
-    ensures status { KeepsRecord m.old.register.value m.new.register.value }
-    // Once it is done, heads, names, templates and settings are as before.
-    ensures names { OnOk result (KeepsNames m.old.catalog.tables m.new.catalog.tables) }
-    // The group stays the one that it is: each image of each moment is held for it alone, whatever comes, and while it takes
-    // calls it is mounted.
-    ensures moments { StandsThrough m.old (B.state bay.old) (B.state bay.new) }
-    ensures stays { IsMounted m.new → StaysMounted m.old m.new (B.state bay.old) (B.state bay.new) }
-    // Each turn that it takes costs a copy.
-    ensures turns { turns_at_most m.new ≤ turns_at_most m.old }
+    ensures { CleansUp m.old result m.new (B.state bay.old) (B.state bay.new) }
 {
     drop_records(alloc, bay, m)?;
     m.end_pending(alloc, bay)

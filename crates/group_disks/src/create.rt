@@ -1,22 +1,22 @@
 // A group is created on one disk.
-ghost use Rattle.std.specs.Prelude.{◌≡◌, ◌≤◌, ◌<◌, ◌+◌, ◌*◌, [], All, None, Some, IsTrue, IsSome, is_ok, map, length, IfErr, IfOk, IfSome, OnOk, MatchOption};
+ghost use Rattle.std.specs.Prelude.{◌≡◌, ◌≤◌, ◌<◌, [], All, None, IsTrue, IsSome, is_ok, map, length, IfErr, IfOk, IfSome, OnOk, MatchOption};
 ghost use Rattle.asm_group.specs.Names.{is_name};
 ghost use Rattle.std.specs.String.{string_bytes};
 ghost use Rattle.bay.specs.Image.{Same};
-ghost use Rattle.bay.specs.State.{IsSlot, KeepsAttached};
-ghost use Rattle.bay.specs.Moments.{Runs, Ends, NowOnly};
+ghost use Rattle.bay.specs.Moments.{Runs};
 ghost use Rattle.bay.specs.Counts.{last_count};
 ghost use Rattle.asm_base.specs.Refusals.{said};
 ghost use Rattle.asm_group.specs.Refusal.{NoMemory};
 ghost use Rattle.asm_formats.specs.Regions.{most_units};
-ghost use Rattle.group_disks.specs.Found.{counts_of, Told, AreIdsRead, AreAllRead, IsAboveAll, IsSlotOf, RefusalCause, IsEarly};
-ghost use Rattle.asm_images.specs.Kept.{header_in};
-ghost use Rattle.group_disks.specs.Creating.{Creates, Founds, HasCreated, made_group};
-ghost use Rattle.group_disks.specs.FirstParts.{IsFirstStore, IsNewlyMounted, MountsNew, SaysAll};
+ghost use Rattle.group_disks.specs.Found.{counts_of, AreIdsRead, IsAboveAll, RefusalCause, IsEarly};
+ghost use Rattle.group_disks.specs.Creating.{HasCreated, made_group};
+ghost use Rattle.group_disks.specs.FirstParts.{IsNewlyMounted, MountsNew};
+ghost use Rattle.group_disks.specs.Gives.{FormsGroup};
 ghost use Rattle.group_disks.specs.Holding.{SparesHeld};
 ghost use Rattle.group_engine.specs.Frames.{StaysAttached};
-ghost use Rattle.group_disks.specs.Planned.{IsPlan, kept_of_plan};
-ghost use Rattle.group_disks.specs.Ready.{AreBodies, HasRoom, IsFormFault};
+ghost use Rattle.group_disks.specs.Planned.{IsPlan};
+ghost use Rattle.group_disks.specs.Prepares.{IsMadeReady, Prepares};
+ghost use Rattle.group_disks.specs.Ready.{AreBodies, HasRoom};
 
 use crate::choose::{
     first_disk_name, is_held, next_id, no_disk, shown_size, usable_units, write_fault,
@@ -116,22 +116,8 @@ fn prepare<B: Bay>(
     requires few { length paths.now ≤ 512 }
     requires name { IsTrue (is_name name.now) }
     requires none { ids.old.items ≡ [] }
-    ensures calls { (B.state bay.new).calls ≤ (B.state bay.old).calls + 3 * length paths.now }
-    ensures runs { Runs (λ slot. slot < length paths.now) Same (B.state bay.old) (B.state bay.new) }
-    ensures ids { AreIdsRead ids.new.items (counts_of (B.state bay.old)) (counts_of (B.state bay.new)) }
-    ensures cause { IfErr result (λ refusal. RefusalCause (map string_bytes paths.now) path.now (said (λ _. []) refusal) (counts_of (B.state bay.old)) (counts_of (B.state bay.new))) }
-    ensures all { IfOk result (λ _. AreAllRead (length paths.now) ids.new.items (counts_of (B.state bay.old)) (counts_of (B.state bay.new))) }
-    ensures floor { IfOk result (λ ready. floor ≤ ready.group.id) }
-    ensures above { IfOk result (λ ready. ready.group.id < last_count → All (λ other. other < ready.group.id) ids.new.items) }
-    ensures name { IfOk result (λ ready. ready.group.name ≡ name.now) }
-    ensures slot { IfOk result (λ ready. ready.slot < length paths.now) }
-    ensures plan { IfOk result (λ ready. IsPlan ready.group) }
-    ensures bodies { IfOk result (λ ready. AreBodies ready.bodies ready.group) }
-    ensures room { IfOk result (λ ready. HasRoom ready.slot ready.group.units (B.state bay.new)) }
-    ensures size { IfOk result (λ ready. (B.state bay.new).attached ready.slot ≡ Some ready.size) }
-    ensures at { IfOk result (λ ready. IsSlotOf (map string_bytes paths.now) path.now ready.slot) }
-    ensures attached { StaysAttached (B.state bay.old) (B.state bay.new) }
-    ensures free { IfOk result (λ ready. Told (counts_of (B.state bay.old)) (counts_of (B.state bay.new)) (λ image. header_in image ready.slot ≡ None)) }
+    ensures { Prepares (record { slots = length paths.now; paths = map string_bytes paths.now; path = path.now; name = name.now; floor = floor }) result ids.new.items
+        (B.state bay.old) (B.state bay.new) }
 {
     let Some(slot) = slot_of(paths, path) else {
         return Err(no_disk(alloc, path));
@@ -167,13 +153,7 @@ fn make_ready(
     requires disk { IsTrue (is_name disk) }
     requires least { 25 ≤ units }
     requires most { units ≤ most_units }
-    ensures slot { IfOk result (λ ready. ready.slot ≡ place.slot) }
-    ensures size { IfOk result (λ ready. ready.size ≡ place.size) }
-    ensures id { IfOk result (λ ready. ready.group.id ≡ id) }
-    ensures name { IfOk result (λ ready. ready.group.name ≡ name.now) }
-    ensures units { IfOk result (λ ready. ready.group.units ≡ units) }
-    ensures plan { IfOk result (λ ready. IsPlan ready.group) }
-    ensures bodies { IfOk result (λ ready. AreBodies ready.bodies ready.group) }
+    ensures ready { IfOk result (λ ready. IsMadeReady place name.now units id ready) }
     ensures err { IfErr result (λ refusal. said (λ _. []) refusal ≡ NoMemory) }
 {
     let Ok(name) = name.copy() else {
@@ -209,12 +189,7 @@ fn form<B: Bay>(
     requires bodies { AreBodies bodies.now group.now }
     requires room { HasRoom slot group.now.units (B.state bay.old) }
     requires among { slot < slots }
-    ensures attached { KeepsAttached (B.state bay.old) (B.state bay.new) }
-    ensures runs { Runs (IsSlot slot) (Creates slot group.now.id (made_group group.now.name)) (B.state bay.old) (B.state bay.new) }
-    ensures done { OnOk result (Ends (Founds slots group.now.id (made_group group.now.name) (kept_of_plan slot group.now)) (B.state bay.old) (B.state bay.new)) }
-    ensures says { OnOk result (NowOnly (B.state bay.new) (SaysAll slot group.now)) }
-    ensures store { IfOk result (λ store. IsFirstStore slot group.now store (B.state bay.new)) }
-    ensures cause { IfErr result (λ refusal. IsFormFault slot group.now.disk (said (λ _. []) refusal) (counts_of (B.state bay.old)) (counts_of (B.state bay.new))) }
+    ensures { FormsGroup slot slots group.now result (B.state bay.old) (B.state bay.new) }
 {
     match give_parts(alloc, bay, slot, group, bodies) {
         Ok(store) => Ok(store),

@@ -1,16 +1,10 @@
 // The directory copy of a new group.
-ghost use Rattle.std.specs.Prelude.{IfOk, OnOk, IsErrOf};
-ghost use Rattle.bay.specs.Image.{ChangesOnly};
-ghost use Rattle.bay.specs.State.{IsSlot, KeepsAttached};
-ghost use Rattle.bay.specs.Counts.{Rose};
-ghost use Rattle.bay.specs.Moments.{Runs, NowOnly, LeavesOnly};
-ghost use Rattle.bay.specs.declared.fault.BayError.TheVariants.{Fault};
+ghost use Rattle.bay.specs.Moments.{NowOnly};
 ghost use Rattle.change_directory.specs.Places.{IsCopy};
 ghost use Rattle.change_directory.specs.Formatting.{AreShut};
-ghost use Rattle.change_directory.specs.StoreLaws.{RegionOf};
+ghost use Rattle.group_disks.specs.Gives.{GivesStage, directory_stage};
 ghost use Rattle.group_disks.specs.Planned.{IsPlan};
-ghost use Rattle.group_disks.specs.FirstParts.{IsFirstStore};
-ghost use Rattle.group_disks.specs.Stages.{first_copy, HasFirst, HasNoneOrFirst};
+ghost use Rattle.group_disks.specs.Stages.{first_copy};
 
 use crate::first_change::first_change;
 use crate::new_group::NewGroup;
@@ -30,13 +24,7 @@ pub fn give_directory<B: Bay>(
     requires plan { IsPlan group.now }
     requires copy { IsCopy (B.state bay.old) (first_copy slot) }
     requires shut { NowOnly (B.state bay.old) (AreShut (first_copy slot)) }
-    ensures attached { KeepsAttached (B.state bay.old) (B.state bay.new) }
-    ensures runs { Runs (IsSlot slot) (ChangesOnly (RegionOf (first_copy slot))) (B.state bay.old) (B.state bay.new) }
-    ensures moments { LeavesOnly (B.state bay.old) (B.state bay.new) (HasNoneOrFirst slot group.now) }
-    ensures done { OnOk result (NowOnly (B.state bay.new) (HasFirst slot group.now)) }
-    // The store has the new group's records on this copy, and takes commits.
-    ensures store { IfOk result (λ store. IsFirstStore slot group.now store (B.state bay.new)) }
-    ensures cause { IsErrOf result BayError.Fault → Rose ((B.state bay.old).faults slot) ((B.state bay.new).faults slot) }
+    ensures { GivesStage slot group.now (directory_stage slot group.now) result (B.state bay.old) (B.state bay.new) }
 {
     let Ok(first) = first_change(alloc, group) else {
         return Err(BayError::NoMemory);

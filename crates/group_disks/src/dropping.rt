@@ -1,10 +1,8 @@
 //! A group is dropped: its record is marked gone, and its disks lose their headers.
-ghost use Rattle.std.specs.Prelude.{◌≡◌, ◌⊎◌, ◌<◌, ℕ, Some, false, true, IfErr, IsTrue, OnOk};
-ghost use Rattle.bay.specs.Moments.{Runs};
-ghost use Rattle.bay.specs.State.{KeepsAttached};
-ghost use Rattle.group_disks.specs.Dropping.{AreOut, DropCause, HasFile, HasNoFile, HaveHeaders, IsOut, OnDisk};
-ghost use Rattle.group_engine.specs.Mounts.{IsMounted, IsOwn, Takes, slot_at};
-ghost use Rattle.group_engine.specs.Own.{KeepsGroup, OnOwnDisks};
+ghost use Rattle.std.specs.Prelude.{◌≡◌, ◌⊎◌, ◌<◌, false, true, IfErr, IsTrue, OnOk};
+ghost use Rattle.group_disks.specs.Dropping.{AreOut, ClosesHeaders, ClosesHeaderAt, DropCause, HasFile, HasNoFile, HaveHeaders};
+ghost use Rattle.group_engine.specs.Mounts.{IsMounted, Takes};
+ghost use Rattle.group_engine.specs.Own.{KeepsGroup};
 
 use asm_base::Refusal;
 use bay::Bay;
@@ -27,9 +25,7 @@ fn has_file(m: &Mounted) -> bool
 fn close_at<B: Bay>(m: &Mounted, bay: &mut B, number: u8)
     requires small { number < 64 }
     requires headers { HaveHeaders m.now (B.state bay.old) }
-    ensures attached { KeepsAttached (B.state bay.old) (B.state bay.new) }
-    ensures runs { Runs (λ slot. slot_at m.now.disks number ≡ Some slot) (OnDisk m.now number) (B.state bay.old) (B.state bay.new) }
-    ensures out { (slot : ℕ) → slot_at m.now.disks number ≡ Some slot → IsOut slot (B.state bay.old) (B.state bay.new) }
+    ensures { ClosesHeaderAt m.now number (B.state bay.old) (B.state bay.new) }
 {
     match m.slot(number) {
         Some(slot) => {
@@ -42,9 +38,7 @@ fn close_at<B: Bay>(m: &Mounted, bay: &mut B, number: u8)
 /// Closes the headers of all attached disks, past faults.
 fn close_all<B: Bay>(m: &Mounted, bay: &mut B)
     requires headers { HaveHeaders m.now (B.state bay.old) }
-    ensures attached { KeepsAttached (B.state bay.old) (B.state bay.new) }
-    ensures runs { Runs (IsOwn m.now) (OnOwnDisks m.now) (B.state bay.old) (B.state bay.new) }
-    ensures out { AreOut m.now 64 (B.state bay.old) (B.state bay.new) }
+    ensures { ClosesHeaders m.now 64 (B.state bay.old) (B.state bay.new) }
 {
     for number in 0..64u8 {
         close_at(m, bay, number);

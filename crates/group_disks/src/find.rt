@@ -1,27 +1,17 @@
 // What the images hold: the headers of all that can be had.
-ghost use Rattle.std.specs.Prelude.{◌≡◌, ◌≤◌, ◌<◌, ◌+◌, ◌*◌, ◌++◌, [], ℕ, Some, None, length, map, IfOk, IfSome, OnOk, OnErr, IsSome, IsErrOf, MatchOption};
-ghost use Rattle.std.specs.Option.{ForSome};
+ghost use Rattle.std.specs.Prelude.{◌≡◌, ◌≤◌, ◌<◌, [], ℕ, Some, length, map, IfOk, IsSome, MatchOption};
 ghost use Rattle.std.specs.String.{string_bytes};
-ghost use Rattle.bay.specs.Image.{Same, window};
-ghost use Rattle.bay.specs.State.{IsSlot, KeepsAttached, AttachesOnly, size_of};
-ghost use Rattle.bay.specs.Counts.{Rose};
-ghost use Rattle.bay.specs.Moments.{Runs};
-ghost use Rattle.bay.specs.declared.fault.BayError.TheVariants.{Fault};
-ghost use Rattle.asm_formats.specs.Header.{decoded_header};
-ghost use Rattle.asm_images.specs.Kept.{header_in};
-ghost use Rattle.group_disks.specs.Found.{counts_of, Told, AreIdsRead, AreAllRead, IsSlotOf};
-ghost use Rattle.group_disks.specs.Probes.{IsShown, ids_of};
-ghost use Rattle.group_engine.specs.Frames.{StaysAttached};
+ghost use Rattle.bay.specs.State.{size_of};
+ghost use Rattle.group_disks.specs.Found.{counts_of, IsSlotOf};
+ghost use Rattle.group_disks.specs.Looks.{IsDecoded, IsHeaderTold, LooksAt, LooksAtAll, Notes, ReadsDisk};
+ghost use Rattle.group_disks.specs.Probes.{IsShown};
 
 use asm_base::{Block, NoMemory};
 use bay::{Bay, BayError, Fault};
-use disk_forming::header_slot;
+use disk_forming::{BLOCK, header_slot};
 use disk_header::{Header, decode};
 use gate_slot::is_open;
 use std::alloc::Global;
-
-/// The bytes of a block.
-const BLOCK: u64 = 4096;
 
 /// The bytes that a member has at least: up to its directory region.
 const LEAST_SIZE: u64 = 40_960;
@@ -63,12 +53,8 @@ pub fn look_at_all<B: Bay>(
     requires few { length paths.now ≤ 512 }
     requires wanted { wanted < length paths.now }
     requires none { ids.old.items ≡ [] }
-    ensures calls { (B.state bay.new).calls ≤ (B.state bay.old).calls + 3 * length paths.now }
-    ensures runs { Runs (λ slot. slot < length paths.now) Same (B.state bay.old) (B.state bay.new) }
-    ensures ids { AreIdsRead ids.new.items (counts_of (B.state bay.old)) (counts_of (B.state bay.new)) }
-    ensures all { IfOk result (λ _. AreAllRead (length paths.now) ids.new.items (counts_of (B.state bay.old)) (counts_of (B.state bay.new))) }
+    ensures looks { LooksAtAll (length paths.now) result ids.new.items (B.state bay.old) (B.state bay.new) }
     ensures shown { IfOk result (λ probe. IsShown wanted probe (counts_of (B.state bay.old)) (counts_of (B.state bay.new))) }
-    ensures stays { StaysAttached (B.state bay.old) (B.state bay.new) }
 {
     let mut found = Probe::Absent;
     for (slot, path) in paths.iter().enumerate() {
@@ -88,13 +74,8 @@ fn look_and_note<B: Bay>(
     path: &str,
     ids: &mut Vec<u64>,
 ) -> Result<Probe, NoMemory>
-    ensures others { AttachesOnly slot (B.state bay.old) (B.state bay.new) }
-    ensures stays { StaysAttached (B.state bay.old) (B.state bay.new) }
-    ensures calls { (B.state bay.new).calls ≤ (B.state bay.old).calls + 3 }
-    ensures runs { Runs (IsSlot slot) Same (B.state bay.old) (B.state bay.new) }
-    ensures shown { IfOk result (λ probe. IsShown slot probe (counts_of (B.state bay.old)) (counts_of (B.state bay.new))) }
-    ensures ids { IfOk result (λ probe. ids.new.items ≡ ids.old.items ++ ids_of probe) }
-    ensures err { OnErr result (ids.new.items ≡ ids.old.items) }
+    ensures look { LooksAt slot result (B.state bay.old) (B.state bay.new) }
+    ensures notes { Notes result ids.old.items ids.new.items }
 {
     let probe = look(alloc, bay, slot, path)?;
     if let Probe::Read { id: Some(id), .. } = probe {
@@ -105,11 +86,7 @@ fn look_and_note<B: Bay>(
 
 /// Attaches an image, and reads its header.
 fn look<B: Bay>(alloc: Global, bay: &mut B, slot: u32, path: &str) -> Result<Probe, NoMemory>
-    ensures others { AttachesOnly slot (B.state bay.old) (B.state bay.new) }
-    ensures stays { StaysAttached (B.state bay.old) (B.state bay.new) }
-    ensures calls { (B.state bay.new).calls ≤ (B.state bay.old).calls + 3 }
-    ensures runs { Runs (IsSlot slot) Same (B.state bay.old) (B.state bay.new) }
-    ensures shown { IfOk result (λ probe. IsShown slot probe (counts_of (B.state bay.old)) (counts_of (B.state bay.new))) }
+    ensures { LooksAt slot result (B.state bay.old) (B.state bay.new) }
 {
     let size = match bay.attach(slot, path) {
         Ok(size) => size,
@@ -135,11 +112,7 @@ pub fn read_header<B: Bay>(
     size: u64,
 ) -> Result<Option<Header>, BayError>
     requires attached { (B.state bay.old).attached slot ≡ Some size }
-    ensures attached { KeepsAttached (B.state bay.old) (B.state bay.new) }
-    ensures calls { (B.state bay.new).calls ≤ (B.state bay.old).calls + 2 }
-    ensures runs { Runs (IsSlot slot) Same (B.state bay.old) (B.state bay.new) }
-    ensures header { IfOk result (λ header. Told (counts_of (B.state bay.old)) (counts_of (B.state bay.new)) (λ image. header_in image slot ≡ header)) }
-    ensures cause { IsErrOf result BayError.Fault → Rose ((B.state bay.old).faults slot) ((B.state bay.new).faults slot) }
+    ensures { ReadsDisk slot 2 (IsHeaderTold slot) result (B.state bay.old) (B.state bay.new) }
 {
     if size < LEAST_SIZE {
         return Ok(None);
@@ -155,11 +128,7 @@ pub fn read_header<B: Bay>(
 fn read_body<B: Bay>(alloc: Global, bay: &mut B, slot: u32) -> Result<Option<Header>, BayError>
     requires attached { IsSome ((B.state bay.old).attached slot) }
     requires long { 8192 ≤ size_of (B.state bay.old) slot }
-    ensures attached { KeepsAttached (B.state bay.old) (B.state bay.new) }
-    ensures calls { (B.state bay.new).calls ≤ (B.state bay.old).calls + 1 }
-    ensures runs { Runs (IsSlot slot) Same (B.state bay.old) (B.state bay.new) }
-    ensures header { IfOk result (λ header. ForSome (B.state bay.old).holds (λ image. header ≡ decoded_header (window (image.byte slot) 4096 4096))) }
-    ensures cause { IsErrOf result BayError.Fault → Rose ((B.state bay.old).faults slot) ((B.state bay.new).faults slot) }
+    ensures { ReadsDisk slot 1 (IsDecoded slot) result (B.state bay.old) (B.state bay.new) }
 {
     let mut block = Block::zeros();
     if bay.read(slot, BLOCK, &mut block.bytes[..]).is_err() {

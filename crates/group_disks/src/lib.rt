@@ -16,6 +16,7 @@ mod mount;
 mod mount_new;
 mod new_group;
 
+pub use choose::{disk_taken, no_disk, write_fault};
 pub use create::create_group;
 pub use dropping::drop_group;
 pub use laws::{

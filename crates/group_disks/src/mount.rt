@@ -1,14 +1,12 @@
 //! A group is found by its name and mounted: its record is claimed and written anew, and what a stop left undone is ended.
-ghost use Rattle.std.specs.Prelude.{◌≡◌, ◌+◌, ◌*◌, ◌<◌, ◌≤◌, ℕ, None, length, IfErr, IfOk, OnOk};
-ghost use Rattle.group_engine.specs.Commits.{turns_at_most};
+ghost use Rattle.std.specs.Prelude.{◌≡◌, ◌≤◌, None, length, IfErr, IfOk, OnOk};
 ghost use Rattle.group_engine.specs.Frames.{StaysAttached};
-ghost use Rattle.group_engine.specs.Mounts.{IsMounted, IsOwn, IsWhole, Takes};
-ghost use Rattle.group_engine.specs.Own.{KeepsGroup};
-ghost use Rattle.group_disks.specs.Bringing.{AreBrought, MountsBehind, StandWhile};
-ghost use Rattle.group_disks.specs.Clearing.{IsClearCause};
+ghost use Rattle.group_engine.specs.Mounts.{IsMounted, IsWhole, Takes};
+ghost use Rattle.group_disks.specs.Bringing.{BringsCopiesUp};
 ghost use Rattle.group_disks.specs.Holding.{SparesHeld};
-ghost use Rattle.group_disks.specs.Leaving.{LeavesClaimed, LeavesRefused, MountsOne, WasMounted};
-ghost use Rattle.group_disks.specs.Mounting.{AreSmall, IsMountedBy, IsMountCause, IsRecovered, IsTakenOver, WasQuorate, by_number, mounted_of};
+ghost use Rattle.group_disks.specs.Leaving.{LeavesRefused, WasMounted};
+ghost use Rattle.group_disks.specs.Mounting.{AreSmall, IsMountedBy, IsMountCause, IsRecovered, by_number, mounted_of};
+ghost use Rattle.group_disks.specs.Taking.{TakesOver};
 
 use crate::bringing::{bring_all, named_disks};
 use crate::clearing::{clean_up, refusal_of_commit};
@@ -71,18 +69,7 @@ fn take_over<B: Bay>(
     held: &[u32],
 ) -> Result<Taken, MountError>
     requires few { length paths.now ≤ 512 }
-    ensures mounted { IfOk result (λ taken. IsMountedBy name.now held.now taken.group (B.state bay.new)) }
-    ensures cause { IfErr result (IsMountCause B.state name.now (length paths.now) held.now option (B.state bay.old) (B.state bay.new)) }
-    ensures inside { IfOk result (λ taken. (slot : ℕ) → IsOwn taken.group slot → slot < length paths.now) }
-    ensures taken { IfOk result (λ taken. IsTakenOver B.state name.now (length paths.now) held.now option now taken.group taken.named (B.state bay.old) (B.state bay.new)) }
-    ensures was { IfOk result (λ _. WasQuorate B.state name.now (length paths.now) held.now option (B.state bay.old)) }
-    ensures attached { StaysAttached (B.state bay.old) (B.state bay.new) }
-    ensures spares { SparesHeld held.now (length paths.now) (B.state bay.old) (B.state bay.new) }
-    // Refused, each image of each moment stands for groups that it might stand for before.
-    ensures leaves { IfErr result (λ _. LeavesClaimed B.state name.now (length paths.now) held.now option (B.state bay.old) (B.state bay.new)) }
-    ensures refused { IfErr result (LeavesRefused B.state name.now (length paths.now) held.now option (B.state bay.old) (B.state bay.new)) }
-    // Once it is done, one of these groups is mounted on the disks as they are.
-    ensures mounts { IfOk result (λ taken. MountsOne B.state name.now (length paths.now) held.now option taken.group (B.state bay.old) (B.state bay.new)) }
+    ensures { TakesOver B.state name.now (length paths.now) held.now option now result (B.state bay.old) (B.state bay.new) }
 {
     let searched = Found::find(alloc, bay, paths, name)?;
     let found = searched.without(held);
@@ -107,16 +94,9 @@ fn finish<B: Bay>(
 ) -> Result<(), Refusal>
     requires mounted { IsMounted m.old }
     requires takes { Takes m.old (B.state bay.old) }
-    ensures keeps { KeepsGroup m.old m.new (B.state bay.old) (B.state bay.new) }
-    ensures mounted { OnOk result (IsMounted m.new) }
-    ensures brought { OnOk result (AreBrought B.state m.old named 64 m.new (B.state bay.old) (B.state bay.new)) }
+    // Turns must be left for 64 copies, and for what a stop left undone.
+    ensures brings { BringsCopiesUp B.state named 64 65 m.old result m.new (B.state bay.old) (B.state bay.new) }
     ensures ended { OnOk result (m.new.catalog.tables.operations.pending ≡ None) }
-    ensures cause { IfErr result (IsClearCause m.old (B.state bay.old) (B.state bay.new)) }
-    // At each moment each image is held for the group that was mounted, whatever comes. While it takes calls it is mounted, with
-    // the same disks. Turns must be left for 64 copies, and for what a stop left undone.
-    ensures moments { StandWhile 65 m.old (B.state bay.old) (B.state bay.new) }
-    ensures mounts { IsMounted m.new → MountsBehind 65 m.old m.new (B.state bay.old) (B.state bay.new) }
-    ensures turns { turns_at_most m.new ≤ turns_at_most m.old + 2 * 64 }
 {
     bring_all(alloc, bay, m, named)?;
     clean_up(alloc, bay, m)

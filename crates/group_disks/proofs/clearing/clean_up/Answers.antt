@@ -16,15 +16,9 @@ returns-in_err-drop_records g c =
     let p = err_from_is_err_and c.from_residual.result c.from_residual.ensures.1 in
     let ends = c.in_err-drop_records.ensures.ends in
     rw (p.1, p.2) (record {
-      keeps = ends.goes.keeps;
-      mounted = tt;
+      ends = ends;
       ended = tt;
       cause = status_clear c.args.m.now c.drop_records.new.m (g.B.Bay.state c.args.bay.now) (g.B.Bay.state c.drop_records.new.bay) c.in_err-drop_records.field-0.0 c.requires.mounted ends.goes.cause;
-      status = ends.status;
-      names = tt;
-      moments = ends.moments;
-      stays = ends.stays;
-      turns = ends.turns;
     })
 
 pub returns : goal.returns
@@ -44,13 +38,7 @@ returns g c =
     } in
     let ends : EndsOn a c.end_pending.result b s t = ends_on c.end_pending.result c.in_ok-drop_records.ensures.ends last in
     record {
-      keeps = ends.goes.keeps;
-      mounted = ends.goes.mounted;
+      ends = ends;
       ended = is.ended;
       cause = IfErr-weaker c.end_pending.result _ _ (λ given why. status_clear a b s t given c.requires.mounted why) ends.goes.cause;
-      status = ends.status;
-      names = ends.names;
-      moments = ends.moments;
-      stays = ends.stays;
-      turns = ends.turns;
     }

@@ -27,5 +27,9 @@ loop-number-preserved g c =
       out = one_more_out m n s u t c.requires.headers.apart before.runs.faults before.out c.close_at.ensures.runs c.close_at.ensures.out;
     }
 
-pub returns-clause-out : goal.returns-clause-out
-returns-clause-out g c = λ d slot below at. c.loop-number.invariant.out d slot (omega (arith, below, c.loop-number-test.false)) at
+pub returns : goal.returns
+returns g c = record {
+  attached = c.loop-number.invariant.attached;
+  runs = c.loop-number.invariant.runs;
+  out = λ d slot below at. c.loop-number.invariant.out d slot (omega (arith, below, c.loop-number-test.false)) at;
+}

@@ -1,3 +1,5 @@
+use Rattle.std.proofs.Common.{rules, arith}
+use Rattle.std.proofs.lemmas.Grind.{common_steps}
 use Rattle.bay.proofs.Calls.{leaves_on}
 use Rattle.group_disks.proofs.FirstCopy.{both_run}
 use Rattle.group_disks.proofs.FirstStore.{store_stays}
@@ -12,43 +14,44 @@ give_directory-requires-clause-shut g c = record { now = λ x left. (c.requires.
 
 pub give_record-requires-clause-region : goal.give_record-requires-clause-region
 give_record-requires-clause-region g c =
-    has_region c.args.slot c.args.group.now.units c.requires.plan.least (still_room c.args.slot c.args.group.now.units c.requires.plan.least c.requires.room c.give_directory.ensures.attached)
+    has_region c.args.slot c.args.group.now.units c.requires.plan.least (still_room c.args.slot c.args.group.now.units c.requires.plan.least c.requires.room c.give_directory.ensures.gives.attached)
 
-pub returns-in_err-store-clause-runs : goal.returns-in_err-store-clause-runs
-returns-in_err-store-clause-runs g c = directory_run c.args.slot c.args.group.now c.give_directory.ensures.runs
+pub returns-in_err-store : goal.returns-in_err-store
+returns-in_err-store g c =
+    let runs = directory_run c.args.slot c.args.group.now c.give_directory.ensures.gives.runs in
+    let moments = directory_moments c.args.slot c.args.group.now c.requires.headed c.give_directory.ensures.gives.runs c.give_directory.ensures.moments in
+    record { gives = record { attached = first_of (search rules, grind (arith, common_steps)); runs = runs; store = first_of (search rules, grind (arith, common_steps)); cause = first_of (search rules, grind (arith, common_steps)) }; moments = moments; done = first_of (search rules, grind (arith, common_steps)) }
 
-pub returns-in_err-store-clause-moments : goal.returns-in_err-store-clause-moments
-returns-in_err-store-clause-moments g c =
-    directory_moments c.args.slot c.args.group.now c.requires.headed c.give_directory.ensures.runs c.give_directory.ensures.moments
+pub returns-in-Ok : goal.returns-in-Ok
+returns-in-Ok g c =
+    let slot = c.args.slot in
+    let plan = c.args.group.now in
+    let filled = filled_now slot plan c.requires.headed c.give_directory.ensures.gives.runs c.in_ok-store.ensures.done in
+    let last = rw c.requires.bodies.claim at (rw c.requires.bodies.status at c.give_record.ensures.calls.runs) in
+    record {
+      gives = record {
+        attached = first_of (search rules, grind (arith, common_steps));
+        runs = both_run (directory_run slot plan c.give_directory.ensures.gives.runs) (record_run slot plan last);
+        store = store_stays slot plan c.requires.plan c.in_ok-store.store (λ x y step. step.elsewhere) c.give_record.ensures.calls.attached last c.in_ok-store.ensures.gives.store;
+        cause = first_of (search rules, grind (arith, common_steps));
+      };
+      moments = leaves_on (directory_moments slot plan c.requires.headed c.give_directory.ensures.gives.runs c.give_directory.ensures.moments) (record_moments slot plan filled last);
+      done = record_now slot plan filled (rw c.requires.bodies.claim at (rw c.requires.bodies.status at c.in-Ok.ensures.done));
+    }
 
-pub returns-in-Ok-clause-runs : goal.returns-in-Ok-clause-runs
-returns-in-Ok-clause-runs g c =
-    both_run (directory_run c.args.slot c.args.group.now c.give_directory.ensures.runs)
-    (record_run c.args.slot c.args.group.now (rw c.requires.bodies.claim at (rw c.requires.bodies.status at c.give_record.ensures.calls.runs)))
-
-pub returns-in-Err-clause-runs : goal.returns-in-Err-clause-runs
-returns-in-Err-clause-runs g c =
-    both_run (directory_run c.args.slot c.args.group.now c.give_directory.ensures.runs)
-    (record_run c.args.slot c.args.group.now (rw c.requires.bodies.claim at (rw c.requires.bodies.status at c.give_record.ensures.calls.runs)))
-
-pub returns-in-Ok-clause-moments : goal.returns-in-Ok-clause-moments
-returns-in-Ok-clause-moments g c =
-    let filled = filled_now c.args.slot c.args.group.now c.requires.headed c.give_directory.ensures.runs c.in_ok-store.ensures.done in
-    leaves_on (directory_moments c.args.slot c.args.group.now c.requires.headed c.give_directory.ensures.runs c.give_directory.ensures.moments)
-    (record_moments c.args.slot c.args.group.now filled (rw c.requires.bodies.claim at (rw c.requires.bodies.status at c.give_record.ensures.calls.runs)))
-
-pub returns-in-Err-clause-moments : goal.returns-in-Err-clause-moments
-returns-in-Err-clause-moments g c =
-    let filled = filled_now c.args.slot c.args.group.now c.requires.headed c.give_directory.ensures.runs c.in_ok-store.ensures.done in
-    leaves_on (directory_moments c.args.slot c.args.group.now c.requires.headed c.give_directory.ensures.runs c.give_directory.ensures.moments)
-    (record_moments c.args.slot c.args.group.now filled (rw c.requires.bodies.claim at (rw c.requires.bodies.status at c.give_record.ensures.calls.runs)))
-
-pub returns-in-Ok-clause-done : goal.returns-in-Ok-clause-done
-returns-in-Ok-clause-done g c =
-    let filled = filled_now c.args.slot c.args.group.now c.requires.headed c.give_directory.ensures.runs c.in_ok-store.ensures.done in
-    record_now c.args.slot c.args.group.now filled (rw c.requires.bodies.claim at (rw c.requires.bodies.status at c.in-Ok.ensures.done))
-
-pub returns-in-Ok-clause-store : goal.returns-in-Ok-clause-store
-returns-in-Ok-clause-store g c =
-    store_stays c.args.slot c.args.group.now c.requires.plan c.in_ok-store.store (λ x y step. step.elsewhere) c.give_record.ensures.calls.attached
-    (rw c.requires.bodies.claim at (rw c.requires.bodies.status at c.give_record.ensures.calls.runs)) c.in_ok-store.ensures.store
+pub returns-in-Err : goal.returns-in-Err
+returns-in-Err g c =
+    let slot = c.args.slot in
+    let plan = c.args.group.now in
+    let filled = filled_now slot plan c.requires.headed c.give_directory.ensures.gives.runs c.in_ok-store.ensures.done in
+    let last = rw c.requires.bodies.claim at (rw c.requires.bodies.status at c.give_record.ensures.calls.runs) in
+    record {
+      gives = record {
+        attached = first_of (search rules, grind (arith, common_steps));
+        runs = both_run (directory_run slot plan c.give_directory.ensures.gives.runs) (record_run slot plan last);
+        store = tt;
+        cause = first_of (search rules, grind (arith, common_steps));
+      };
+      moments = leaves_on (directory_moments slot plan c.requires.headed c.give_directory.ensures.gives.runs c.give_directory.ensures.moments) (record_moments slot plan filled last);
+      done = tt;
+    }

@@ -6,47 +6,45 @@ use Rattle.group_disks.proofs.BroughtMounts.{mounts_for_more, mounts_to_end, sta
 use Rattle.group_disks.proofs.Clears.{clear_on}
 use Rattle.group_disks.proofs.mount.finish.Goals as goal
 
+pub clean_up-requires-clause-mounted : goal.clean_up-requires-clause-mounted
+clean_up-requires-clause-mounted g c = c.in_ok-bring_all.ensures.works.mounted
+
 pub clean_up-requires-clause-takes : goal.clean_up-requires-clause-takes
-clean_up-requires-clause-takes g c = λ mounted. (c.bring_all.ensures.keeps.whole mounted, c.bring_all.ensures.keeps.ready mounted)
+clean_up-requires-clause-takes g c = λ mounted. (c.bring_all.ensures.works.keeps.whole mounted, c.bring_all.ensures.works.keeps.ready mounted)
 
-pub returns-in_err-bring_all-clause-cause : goal.returns-in_err-bring_all-clause-cause
-returns-in_err-bring_all-clause-cause g c =
+pub returns-in_err-bring_all-clause-brings : goal.returns-in_err-bring_all-clause-brings
+returns-in_err-bring_all-clause-brings g c =
+    let s = g.B.Bay.state c.args.bay.now in
+    let u = g.B.Bay.state c.bring_all.new.bay in
     let p = err_from_is_err_and c.from_residual.result c.from_residual.ensures.1 in
-    rw (p.1, p.2) c.in_err-bring_all.ensures.cause
+    rw (p.1, p.2) (record {
+      works = record { keeps = c.bring_all.ensures.works.keeps; mounted = tt; cause = c.in_err-bring_all.ensures.works.cause };
+      brought = tt;
+      moments = stands_for_more 64 65 c.args.m.now s u (omega arith) c.bring_all.ensures.moments;
+      mounts = λ mounted. mounts_for_more 64 65 c.args.m.now c.bring_all.new.m s u (omega arith) (c.bring_all.ensures.mounts mounted);
+      turns = c.bring_all.ensures.turns;
+    })
 
-pub returns-clause-keeps : goal.returns-clause-keeps
-returns-clause-keeps g c = calls_keep c.bring_all.ensures.keeps c.clean_up.ensures.keeps
-
-pub returns-clause-brought : goal.returns-clause-brought
-returns-clause-brought g c =
-    ok_of c.clean_up.result (λ d lt bit. brought_on g.B.Bay.state c.args.m.now d c.bring_all.new.m c.clean_up.new.m (g.B.Bay.state c.args.bay.now) (g.B.Bay.state c.bring_all.new.bay) (g.B.Bay.state c.clean_up.new.bay)
-    c.clean_up.ensures.keeps (c.in_ok-bring_all.ensures.brought d lt bit))
-
-pub returns-clause-cause : goal.returns-clause-cause
-returns-clause-cause g c =
-    IfErr-weaker c.clean_up.result _ _
-    (λ given cause. clear_on c.args.m.now c.bring_all.new.m (g.B.Bay.state c.args.bay.now) (g.B.Bay.state c.bring_all.new.bay) (g.B.Bay.state c.clean_up.new.bay) given c.bring_all.ensures.keeps cause)
-    c.clean_up.ensures.cause
-
--- ---- the group that was mounted
-
-pub returns-in_err-bring_all-clause-moments : goal.returns-in_err-bring_all-clause-moments
-returns-in_err-bring_all-clause-moments g c =
-    stands_for_more 64 65 c.args.m.now (g.B.Bay.state c.args.bay.now) (g.B.Bay.state c.bring_all.new.bay) (omega arith) c.bring_all.ensures.moments
-
-pub returns-in_err-bring_all-clause-mounts : goal.returns-in_err-bring_all-clause-mounts
-returns-in_err-bring_all-clause-mounts g c = λ mounted.
-    mounts_for_more 64 65 c.args.m.now c.bring_all.new.m (g.B.Bay.state c.args.bay.now) (g.B.Bay.state c.bring_all.new.bay) (omega arith) (c.bring_all.ensures.mounts mounted)
-
-pub returns-clause-moments : goal.returns-clause-moments
-returns-clause-moments g c =
-    stands_to_end 64 c.args.m.now c.bring_all.new.m (g.B.Bay.state c.args.bay.now) (g.B.Bay.state c.bring_all.new.bay) (g.B.Bay.state c.clean_up.new.bay)
-    c.bring_all.ensures.turns (c.bring_all.ensures.mounts c.in_ok-bring_all.ensures.mounted) c.bring_all.ensures.keeps.same.id c.bring_all.ensures.moments c.clean_up.ensures.moments
-
-pub returns-clause-mounts : goal.returns-clause-mounts
-returns-clause-mounts g c = λ mounted.
-    mounts_to_end 64 c.args.m.now c.bring_all.new.m (g.B.Bay.state c.args.bay.now) (g.B.Bay.state c.bring_all.new.bay) (g.B.Bay.state c.clean_up.new.bay)
-    c.bring_all.ensures.turns (c.bring_all.ensures.mounts c.in_ok-bring_all.ensures.mounted) c.clean_up.new.m (c.clean_up.ensures.stays mounted)
-
-pub returns-clause-turns : goal.returns-clause-turns
-returns-clause-turns g c = omega (arith, c.bring_all.ensures.turns, c.clean_up.ensures.turns)
+pub returns-clause-brings : goal.returns-clause-brings
+returns-clause-brings g c =
+    let old = c.args.m.now in
+    let mid = c.bring_all.new.m in
+    let new = c.clean_up.new.m in
+    let s = g.B.Bay.state c.args.bay.now in
+    let u = g.B.Bay.state c.bring_all.new.bay in
+    let t = g.B.Bay.state c.clean_up.new.bay in
+    let first = c.in_ok-bring_all.ensures in
+    let keeps = first.works.keeps in
+    let mounts = first.mounts first.works.mounted in
+    let ends = c.clean_up.ensures.ends in
+    record {
+      works = record {
+        keeps = calls_keep keeps ends.goes.keeps;
+        mounted = ends.goes.mounted;
+        cause = IfErr-weaker c.clean_up.result _ _ (λ given cause. clear_on old mid s u t given keeps cause) c.clean_up.ensures.cause;
+      };
+      brought = ok_of c.clean_up.result (λ d lt bit. brought_on g.B.Bay.state old d mid new s u t ends.goes.keeps (first.brought d lt bit));
+      moments = stands_to_end 64 old mid s u t first.turns mounts keeps.same.id first.moments ends.moments;
+      mounts = λ mounted. mounts_to_end 64 old mid s u t first.turns mounts new (ends.stays mounted);
+      turns = omega (arith, first.turns, ends.turns);
+    }

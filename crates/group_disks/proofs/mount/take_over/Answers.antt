@@ -1,4 +1,5 @@
-use Rattle.std.proofs.Common.{◌∙◌, List, length, true, false, sym, subst}
+use Rattle.std.proofs.Common.{rules, ◌∙◌, List, length, true, false, sym, subst, arith}
+use Rattle.std.proofs.lemmas.Grind.{common_steps}
 use Rattle.std.proofs.lemmas.Result.{err_from_is_err_and}
 use Rattle.group_engine.specs.Mounts.{IsOwn, MountedGroup}
 use Rattle.status_register.specs.Registered.{AreNumbered}
@@ -10,7 +11,7 @@ use Rattle.group_disks.proofs.LeftMounted.{claim_refused, looks_refused, looks_t
 use Rattle.group_disks.proofs.MountedParts.{parts_mounted, parts_small, parts_whole}
 use Rattle.group_disks.proofs.Spared.{looks_held}
 use Rattle.group_disks.proofs.Staying.{stays_keeps, stays_trans}
-use Rattle.group_disks.proofs.Takeovers.{found_stays, others_cause, parts_inside, quorate_left, quorum_cause, read_numbered, reads_spare, renewed_cause, taken_over, was_named, was_quorate, writes_spare}
+use Rattle.group_disks.proofs.Takeovers.{found_stays, others_cause, parts_inside, quorate_left, quorum_cause, read_numbered, reads_spare, renewed_cause, taken_over, was_named, writes_spare}
 use Rattle.group_disks.proofs.mount.take_over.Goals as goal
 
 pub quorate-requires : goal.quorate-requires
@@ -29,179 +30,155 @@ mounted_of-requires-clause-small g c = parts_small c.in_ok-quorate.quorate c.arg
 pub mounted_of-requires-clause-whole : goal.mounted_of-requires-clause-whole
 mounted_of-requires-clause-whole g c = parts_whole c.in_ok-quorate.quorate c.args.now c.in_ok-parts.parts (g.B.Bay.state c.recover.new.bay) c.in_ok-parts.ensures.parts
 
--- ---- causes
+pub returns-in_err-searched : goal.returns-in_err-searched
+returns-in_err-searched g c = record {
+  attached = found_stays c.find.ensures.stays;
+  spares = looks_held c.args.held.now (length c.args.paths.now) c.find.ensures.runs;
+  mounted = first_of (search rules, grind (arith, common_steps));
+  inside = first_of (search rules, grind (arith, common_steps));
+  taken = first_of (search rules, grind (arith, common_steps));
+  mounts = first_of (search rules, grind (arith, common_steps));
+  cause =
+      let p = err_from_is_err_and c.from_residual.result c.from_residual.ensures.1 in
+      rw (p.1, p.2) (not_found c.find.ensures.runs c.in_err-searched.ensures.answer);
+  leaves = first_of (search rules, grind (arith, common_steps));
+  refused =
+      let p = err_from_is_err_and c.from_residual.result c.from_residual.ensures.1 in
+      rw p.1 (looks_refused c.args.name.now (length c.args.paths.now) c.args.held.now c.args.option g.B.Bay.state (g.B.Bay.state c.args.bay.now) (g.B.Bay.state c.find.new.bay) p.0 c.find.ensures.runs);
+}
 
-pub returns-in_err-searched-clause-cause : goal.returns-in_err-searched-clause-cause
-returns-in_err-searched-clause-cause g c =
-    let p = err_from_is_err_and c.from_residual.result c.from_residual.ensures.1 in
-    rw (p.1, p.2) (not_found c.find.ensures.runs c.in_err-searched.ensures.answer)
+pub returns-then-not-is_named : goal.returns-then-not-is_named
+returns-then-not-is_named g c = record {
+  attached = found_stays c.find.ensures.stays;
+  spares = looks_held c.args.held.now (length c.args.paths.now) c.find.ensures.runs;
+  mounted = first_of (search rules, grind (arith, common_steps));
+  inside = first_of (search rules, grind (arith, common_steps));
+  taken = first_of (search rules, grind (arith, common_steps));
+  mounts = first_of (search rules, grind (arith, common_steps));
+  cause =
+      let found = c.in_ok-searched.searched in
+      let f = c.without-found.result in
+      let name = c.args.name.now in
+      let n = length c.args.paths.now in
+      let held = c.args.held.now in
+      let slots = c.in_ok-searched.ensures.slots in
+      others_cause name n held c.args.option found f c.without-found.ensures slots g.B.Bay.state (g.B.Bay.state c.args.bay.now) (g.B.Bay.state c.find.new.bay) c.find.ensures.runs c.in_ok-searched.ensures.answer
+      (was_named name n held c.args.option found f c.without-found.ensures slots c.is_named.result false c.is_named.ensures c.if-not-is_named.true);
+  leaves = first_of (search rules, grind (arith, common_steps));
+  refused = c.find.ensures.runs;
+}
 
-pub returns-then-not-is_named-clause-cause : goal.returns-then-not-is_named-clause-cause
-returns-then-not-is_named-clause-cause g c =
-    let found = c.in_ok-searched.searched in
-    let f = c.without-found.result in
-    let name = c.args.name.now in
-    let n = length c.args.paths.now in
-    let held = c.args.held.now in
-    let slots = c.in_ok-searched.ensures.slots in
-    others_cause name n held c.args.option found f c.without-found.ensures slots g.B.Bay.state (g.B.Bay.state c.args.bay.now) (g.B.Bay.state c.find.new.bay) c.find.ensures.runs c.in_ok-searched.ensures.answer
-    (was_named name n held c.args.option found f c.without-found.ensures slots c.is_named.result false c.is_named.ensures c.if-not-is_named.true)
+pub returns-in_err-quorate : goal.returns-in_err-quorate
+returns-in_err-quorate g c = record {
+  attached = stays_trans (found_stays c.find.ensures.stays) (stays_keeps c.quorate.ensures.attached);
+  spares =
+      reads_spare c.args.name.now (length c.args.paths.now) c.args.held.now c.args.option c.in_ok-searched.searched c.without-found.result c.without-found.ensures c.in_ok-searched.ensures.slots
+      (g.B.Bay.state c.find.new.bay) c.in_ok-searched.ensures.there (looks_held c.args.held.now (length c.args.paths.now) c.find.ensures.runs) c.quorate.ensures.runs;
+  mounted = first_of (search rules, grind (arith, common_steps));
+  inside = first_of (search rules, grind (arith, common_steps));
+  taken = first_of (search rules, grind (arith, common_steps));
+  mounts = first_of (search rules, grind (arith, common_steps));
+  cause =
+      let found = c.in_ok-searched.searched in
+      let p = err_from_is_err_and c.from_residual-in_err-quorate.result c.from_residual-in_err-quorate.ensures.1 in
+      rw (p.1, p.2) (quorum_cause c.args.name.now (length c.args.paths.now) c.args.held.now c.args.option found c.without-found.result c.without-found.ensures c.in_ok-searched.ensures.slots
+      g.B.Bay.state (g.B.Bay.state c.args.bay.now) c.find.new.bay (g.B.Bay.state c.quorate.new.bay) c.in_err-quorate.field-0.0 c.in_ok-searched.ensures.answer c.find.ensures.runs
+      (reads_two c.args.name.now (length c.args.paths.now) c.args.held.now c.args.option c.in_ok-searched.searched c.without-found.result c.without-found.ensures c.in_ok-searched.ensures.slots
+      g.B.Bay.state (g.B.Bay.state c.args.bay.now) c.find.new.bay c.quorate.new.bay (g.B.Bay.state c.quorate.new.bay) c.in_ok-searched.ensures.there c.find.ensures.runs c.quorate.ensures.runs)
+      c.in_err-quorate.ensures.answer);
+  leaves =
+      let p = err_from_is_err_and c.from_residual-in_err-quorate.result c.from_residual-in_err-quorate.ensures.1 in
+      rw p.1 (not_read c.args.name.now (length c.args.paths.now) c.args.held.now c.args.option c.in_ok-searched.searched c.without-found.result c.without-found.ensures c.in_ok-searched.ensures.slots
+      g.B.Bay.state (g.B.Bay.state c.args.bay.now) c.find.new.bay c.quorate.new.bay (g.B.Bay.state c.quorate.new.bay) c.in_ok-searched.ensures.there c.find.ensures.runs c.quorate.ensures.runs);
+  refused =
+      let p = err_from_is_err_and c.from_residual-in_err-quorate.result c.from_residual-in_err-quorate.ensures.1 in
+      rw p.1 (looks_refused c.args.name.now (length c.args.paths.now) c.args.held.now c.args.option g.B.Bay.state (g.B.Bay.state c.args.bay.now) (g.B.Bay.state c.quorate.new.bay) p.0
+      (looks_two c.args.name.now (length c.args.paths.now) c.args.held.now c.args.option c.in_ok-searched.searched c.without-found.result c.without-found.ensures c.in_ok-searched.ensures.slots
+      g.B.Bay.state (g.B.Bay.state c.args.bay.now) c.find.new.bay c.quorate.new.bay (g.B.Bay.state c.quorate.new.bay) c.in_ok-searched.ensures.there c.find.ensures.runs c.quorate.ensures.runs));
+}
 
-pub returns-in_err-quorate-clause-cause : goal.returns-in_err-quorate-clause-cause
-returns-in_err-quorate-clause-cause g c =
-    let found = c.in_ok-searched.searched in
-    let p = err_from_is_err_and c.from_residual-in_err-quorate.result c.from_residual-in_err-quorate.ensures.1 in
-    rw (p.1, p.2) (quorum_cause c.args.name.now (length c.args.paths.now) c.args.held.now c.args.option found c.without-found.result c.without-found.ensures c.in_ok-searched.ensures.slots
-    g.B.Bay.state (g.B.Bay.state c.args.bay.now) c.find.new.bay (g.B.Bay.state c.quorate.new.bay) c.in_err-quorate.field-0.0 c.in_ok-searched.ensures.answer c.find.ensures.runs
-    (reads_two c.args.name.now (length c.args.paths.now) c.args.held.now c.args.option c.in_ok-searched.searched c.without-found.result c.without-found.ensures c.in_ok-searched.ensures.slots
-    g.B.Bay.state (g.B.Bay.state c.args.bay.now) c.find.new.bay c.quorate.new.bay (g.B.Bay.state c.quorate.new.bay) c.in_ok-searched.ensures.there c.find.ensures.runs c.quorate.ensures.runs)
-    c.in_err-quorate.ensures.answer)
+pub returns-in_err-parts : goal.returns-in_err-parts
+returns-in_err-parts g c = record {
+  attached = stays_trans (stays_trans (found_stays c.find.ensures.stays) (stays_keeps c.quorate.ensures.attached)) (stays_keeps c.recover.ensures.attached);
+  spares =
+      let n = length c.args.paths.now in
+      let held = c.args.held.now in
+      let found = c.in_ok-searched.searched in
+      let f = c.without-found.result in
+      let u = g.B.Bay.state c.find.new.bay in
+      let reads = reads_spare c.args.name.now n held c.args.option found f c.without-found.ensures c.in_ok-searched.ensures.slots u c.in_ok-searched.ensures.there (looks_held held n c.find.ensures.runs) c.quorate.ensures.runs in
+      writes_spare c.args.name.now n held c.args.option found f c.without-found.ensures c.in_ok-searched.ensures.slots u c.in_ok-searched.ensures.there c.in_ok-quorate.quorate c.in_ok-quorate.ensures.answer.headed_are
+      reads c.recover.ensures.runs;
+  mounted = first_of (search rules, grind (arith, common_steps));
+  inside = first_of (search rules, grind (arith, common_steps));
+  taken = first_of (search rules, grind (arith, common_steps));
+  mounts = first_of (search rules, grind (arith, common_steps));
+  cause =
+      let found = c.in_ok-searched.searched in
+      let p = err_from_is_err_and c.from_residual-in_err-parts.result c.from_residual-in_err-parts.ensures.1 in
+      rw (p.1, p.2) (renewed_cause c.args.name.now (length c.args.paths.now) c.args.held.now c.args.option found c.without-found.result c.without-found.ensures c.in_ok-searched.ensures.slots
+      g.B.Bay.state (g.B.Bay.state c.args.bay.now) c.find.new.bay c.quorate.new.bay c.in_ok-quorate.quorate (g.B.Bay.state c.recover.new.bay) c.in_err-parts.field-0.0
+      c.in_ok-searched.ensures.answer c.find.ensures.runs c.in_ok-quorate.ensures.answer
+      (reads_two c.args.name.now (length c.args.paths.now) c.args.held.now c.args.option c.in_ok-searched.searched c.without-found.result c.without-found.ensures c.in_ok-searched.ensures.slots
+      g.B.Bay.state (g.B.Bay.state c.args.bay.now) c.find.new.bay c.quorate.new.bay (g.B.Bay.state c.recover.new.bay) c.in_ok-searched.ensures.there c.find.ensures.runs c.quorate.ensures.runs)
+      c.recover.ensures.runs.faults c.in_err-parts.ensures.cause);
+  leaves =
+      let p = err_from_is_err_and c.from_residual-in_err-parts.result c.from_residual-in_err-parts.ensures.1 in
+      rw p.1 (not_renewed_leaves c.args.name.now (length c.args.paths.now) c.args.held.now c.args.option c.in_ok-searched.searched c.without-found.result c.without-found.ensures c.in_ok-searched.ensures.slots
+      g.B.Bay.state (g.B.Bay.state c.args.bay.now) c.find.new.bay c.quorate.new.bay (g.B.Bay.state c.recover.new.bay) c.in_ok-searched.ensures.there c.find.ensures.runs c.quorate.ensures.runs
+      c.in_ok-quorate.quorate c.in_ok-searched.ensures.answer c.in_ok-quorate.ensures.answer c.recover.ensures.members c.recover.result c.recover.ensures.leaves);
+  refused =
+      let p = err_from_is_err_and c.from_residual-in_err-parts.result c.from_residual-in_err-parts.ensures.1 in
+      rw (p.1, p.2) (claim_refused c.args.name.now (length c.args.paths.now) c.args.held.now c.args.option g.B.Bay.state (g.B.Bay.state c.args.bay.now) (g.B.Bay.state c.recover.new.bay)
+      c.in_ok-quorate.quorate (g.B.Bay.state c.quorate.new.bay) c.in_err-parts.field-0.0 c.in_err-parts.ensures.cause
+      (not_renewed_leaves c.args.name.now (length c.args.paths.now) c.args.held.now c.args.option c.in_ok-searched.searched c.without-found.result c.without-found.ensures c.in_ok-searched.ensures.slots
+      g.B.Bay.state (g.B.Bay.state c.args.bay.now) c.find.new.bay c.quorate.new.bay (g.B.Bay.state c.recover.new.bay) c.in_ok-searched.ensures.there c.find.ensures.runs c.quorate.ensures.runs
+      c.in_ok-quorate.quorate c.in_ok-searched.ensures.answer c.in_ok-quorate.ensures.answer c.recover.ensures.members c.recover.result c.recover.ensures.leaves));
+}
 
-pub returns-in_err-parts-clause-cause : goal.returns-in_err-parts-clause-cause
-returns-in_err-parts-clause-cause g c =
-    let found = c.in_ok-searched.searched in
-    let p = err_from_is_err_and c.from_residual-in_err-parts.result c.from_residual-in_err-parts.ensures.1 in
-    rw (p.1, p.2) (renewed_cause c.args.name.now (length c.args.paths.now) c.args.held.now c.args.option found c.without-found.result c.without-found.ensures c.in_ok-searched.ensures.slots
-    g.B.Bay.state (g.B.Bay.state c.args.bay.now) c.find.new.bay c.quorate.new.bay c.in_ok-quorate.quorate (g.B.Bay.state c.recover.new.bay) c.in_err-parts.field-0.0
-    c.in_ok-searched.ensures.answer c.find.ensures.runs c.in_ok-quorate.ensures.answer
-    (reads_two c.args.name.now (length c.args.paths.now) c.args.held.now c.args.option c.in_ok-searched.searched c.without-found.result c.without-found.ensures c.in_ok-searched.ensures.slots
-    g.B.Bay.state (g.B.Bay.state c.args.bay.now) c.find.new.bay c.quorate.new.bay (g.B.Bay.state c.recover.new.bay) c.in_ok-searched.ensures.there c.find.ensures.runs c.quorate.ensures.runs)
-    c.recover.ensures.runs.faults c.in_err-parts.ensures.cause)
-
--- ---- what is attached stays so
-
-pub returns-in_err-searched-clause-attached : goal.returns-in_err-searched-clause-attached
-returns-in_err-searched-clause-attached g c = found_stays c.find.ensures.stays
-
-pub returns-then-not-is_named-clause-attached : goal.returns-then-not-is_named-clause-attached
-returns-then-not-is_named-clause-attached g c = found_stays c.find.ensures.stays
-
-pub returns-in_err-quorate-clause-attached : goal.returns-in_err-quorate-clause-attached
-returns-in_err-quorate-clause-attached g c = stays_trans (found_stays c.find.ensures.stays) (stays_keeps c.quorate.ensures.attached)
-
-pub returns-in_err-parts-clause-attached : goal.returns-in_err-parts-clause-attached
-returns-in_err-parts-clause-attached g c = stays_trans (stays_trans (found_stays c.find.ensures.stays) (stays_keeps c.quorate.ensures.attached)) (stays_keeps c.recover.ensures.attached)
-
-pub returns-clause-attached : goal.returns-clause-attached
-returns-clause-attached g c = stays_trans (stays_trans (found_stays c.find.ensures.stays) (stays_keeps c.quorate.ensures.attached)) (stays_keeps c.recover.ensures.attached)
-
--- ---- what others hold stays
-
-pub returns-in_err-searched-clause-spares : goal.returns-in_err-searched-clause-spares
-returns-in_err-searched-clause-spares g c = looks_held c.args.held.now (length c.args.paths.now) c.find.ensures.runs
-
-pub returns-then-not-is_named-clause-spares : goal.returns-then-not-is_named-clause-spares
-returns-then-not-is_named-clause-spares g c = looks_held c.args.held.now (length c.args.paths.now) c.find.ensures.runs
-
-pub returns-in_err-quorate-clause-spares : goal.returns-in_err-quorate-clause-spares
-returns-in_err-quorate-clause-spares g c =
-    reads_spare c.args.name.now (length c.args.paths.now) c.args.held.now c.args.option c.in_ok-searched.searched c.without-found.result c.without-found.ensures c.in_ok-searched.ensures.slots
-    (g.B.Bay.state c.find.new.bay) c.in_ok-searched.ensures.there (looks_held c.args.held.now (length c.args.paths.now) c.find.ensures.runs) c.quorate.ensures.runs
-
-pub returns-in_err-parts-clause-spares : goal.returns-in_err-parts-clause-spares
-returns-in_err-parts-clause-spares g c =
-    let n = length c.args.paths.now in
-    let held = c.args.held.now in
-    let found = c.in_ok-searched.searched in
-    let f = c.without-found.result in
-    let u = g.B.Bay.state c.find.new.bay in
-    let reads = reads_spare c.args.name.now n held c.args.option found f c.without-found.ensures c.in_ok-searched.ensures.slots u c.in_ok-searched.ensures.there (looks_held held n c.find.ensures.runs) c.quorate.ensures.runs in
-    writes_spare c.args.name.now n held c.args.option found f c.without-found.ensures c.in_ok-searched.ensures.slots u c.in_ok-searched.ensures.there c.in_ok-quorate.quorate c.in_ok-quorate.ensures.answer.headed_are
-    reads c.recover.ensures.runs
-
-pub returns-clause-spares : goal.returns-clause-spares
-returns-clause-spares g c =
-    let n = length c.args.paths.now in
-    let held = c.args.held.now in
-    let found = c.in_ok-searched.searched in
-    let f = c.without-found.result in
-    let u = g.B.Bay.state c.find.new.bay in
-    let reads = reads_spare c.args.name.now n held c.args.option found f c.without-found.ensures c.in_ok-searched.ensures.slots u c.in_ok-searched.ensures.there (looks_held held n c.find.ensures.runs) c.quorate.ensures.runs in
-    writes_spare c.args.name.now n held c.args.option found f c.without-found.ensures c.in_ok-searched.ensures.slots u c.in_ok-searched.ensures.there c.in_ok-quorate.quorate c.in_ok-quorate.ensures.answer.headed_are
-    reads c.recover.ensures.runs
-
--- ---- what is mounted
-
-pub returns-clause-mounted : goal.returns-clause-mounted
-returns-clause-mounted g c =
-    let name = c.args.name.now in
-    let n = length c.args.paths.now in
-    let held = c.args.held.now in
-    let found = c.in_ok-searched.searched in
-    let f = c.without-found.result in
-    let is = c.without-found.ensures in
-    let slots = c.in_ok-searched.ensures.slots in
-    let q = c.in_ok-quorate.quorate in
-    let m = g.B.Bay.state c.quorate.new.bay in
-    let t = g.B.Bay.state c.recover.new.bay in
-    subst (λ (k : MountedGroup). IsMountedBy name held k t) (sym c.mounted_of.ensures)
-    (parts_mounted q c.args.now c.in_ok-parts.parts t c.in_ok-parts.ensures.parts c.args.option found held m
-    (quorate_left name n held c.args.option found f is slots q m c.in_ok-quorate.ensures.answer) name
-    (was_named name n held c.args.option found f is slots c.is_named.result true c.is_named.ensures c.if-not-is_named.false))
-
-pub returns-clause-inside : goal.returns-clause-inside
-returns-clause-inside g c = λ slot own.
-    parts_inside c.args.name.now (length c.args.paths.now) c.args.held.now c.args.option c.in_ok-searched.searched c.without-found.result c.without-found.ensures c.in_ok-searched.ensures.slots
-    (g.B.Bay.state c.find.new.bay) c.in_ok-searched.ensures.there c.in_ok-quorate.quorate c.in_ok-quorate.ensures.answer.headed_are c.args.now c.in_ok-parts.parts
-    (g.B.Bay.state c.recover.new.bay) c.in_ok-parts.ensures.parts slot (subst (λ (k : MountedGroup). IsOwn k slot) c.mounted_of.ensures own)
-
-pub returns-clause-taken : goal.returns-clause-taken
-returns-clause-taken g c =
-    let q = c.in_ok-quorate.quorate in
-    taken_over c.args.name.now (length c.args.paths.now) c.args.held.now c.args.option c.in_ok-searched.searched c.without-found.result c.without-found.ensures c.in_ok-searched.ensures.slots
-    g.B.Bay.state (g.B.Bay.state c.args.bay.now) c.find.new.bay c.quorate.new.bay q c.args.now c.in_ok-parts.parts c.mounted_of.result c.named_disks-named.result (g.B.Bay.state c.recover.new.bay)
-    c.in_ok-searched.ensures.answer c.find.ensures.runs c.in_ok-quorate.ensures.answer c.in_ok-parts.ensures.parts c.mounted_of.ensures
-    (λ d lt. c.named_disks-named.ensures d lt ∙ (λ i. is_named_in (c.value.ensures i) (c.seen.ensures i) d))
-
-pub returns-clause-was : goal.returns-clause-was
-returns-clause-was g c =
-    was_quorate c.args.name.now (length c.args.paths.now) c.args.held.now c.args.option c.in_ok-searched.searched c.without-found.result c.without-found.ensures c.in_ok-searched.ensures.slots
-    g.B.Bay.state (g.B.Bay.state c.args.bay.now) c.find.new.bay c.quorate.new.bay c.in_ok-quorate.quorate c.in_ok-searched.ensures.answer c.find.ensures.runs c.in_ok-quorate.ensures.answer
-
--- ---- what is left on the disks
-
-pub returns-in_err-quorate-clause-leaves : goal.returns-in_err-quorate-clause-leaves
-returns-in_err-quorate-clause-leaves g c =
-    let p = err_from_is_err_and c.from_residual-in_err-quorate.result c.from_residual-in_err-quorate.ensures.1 in
-    rw p.1 (not_read c.args.name.now (length c.args.paths.now) c.args.held.now c.args.option c.in_ok-searched.searched c.without-found.result c.without-found.ensures c.in_ok-searched.ensures.slots
-    g.B.Bay.state (g.B.Bay.state c.args.bay.now) c.find.new.bay c.quorate.new.bay (g.B.Bay.state c.quorate.new.bay) c.in_ok-searched.ensures.there c.find.ensures.runs c.quorate.ensures.runs)
-
-pub returns-in_err-parts-clause-leaves : goal.returns-in_err-parts-clause-leaves
-returns-in_err-parts-clause-leaves g c =
-    let p = err_from_is_err_and c.from_residual-in_err-parts.result c.from_residual-in_err-parts.ensures.1 in
-    rw p.1 (not_renewed_leaves c.args.name.now (length c.args.paths.now) c.args.held.now c.args.option c.in_ok-searched.searched c.without-found.result c.without-found.ensures c.in_ok-searched.ensures.slots
-    g.B.Bay.state (g.B.Bay.state c.args.bay.now) c.find.new.bay c.quorate.new.bay (g.B.Bay.state c.recover.new.bay) c.in_ok-searched.ensures.there c.find.ensures.runs c.quorate.ensures.runs
-    c.in_ok-quorate.quorate c.in_ok-searched.ensures.answer c.in_ok-quorate.ensures.answer c.recover.ensures.members c.recover.result c.recover.ensures.leaves)
-
-pub returns-clause-mounts : goal.returns-clause-mounts
-returns-clause-mounts g c =
-    mounts_one c.args.name.now (length c.args.paths.now) c.args.held.now c.args.option c.in_ok-searched.searched c.without-found.result c.without-found.ensures c.in_ok-searched.ensures.slots
-    g.B.Bay.state (g.B.Bay.state c.args.bay.now) c.find.new.bay c.quorate.new.bay (g.B.Bay.state c.recover.new.bay) c.in_ok-searched.ensures.there c.find.ensures.runs c.quorate.ensures.runs
-    c.in_ok-quorate.quorate c.in_ok-searched.ensures.answer c.in_ok-quorate.ensures.answer c.args.now c.in_ok-parts.parts c.in_ok-parts.ensures.parts
-    c.recover.ensures.members c.in_ok-parts.ensures.leaves (g.met.B.Bay.sound c.quorate.new.bay) (g.met.B.Bay.sound c.recover.new.bay) c.mounted_of.result c.mounted_of.ensures
-
--- ---- the same by the refusal
-
-pub returns-in_err-searched-clause-refused : goal.returns-in_err-searched-clause-refused
-returns-in_err-searched-clause-refused g c =
-    let p = err_from_is_err_and c.from_residual.result c.from_residual.ensures.1 in
-    rw p.1 (looks_refused c.args.name.now (length c.args.paths.now) c.args.held.now c.args.option g.B.Bay.state (g.B.Bay.state c.args.bay.now) (g.B.Bay.state c.find.new.bay) p.0 c.find.ensures.runs)
-
-pub returns-then-not-is_named-clause-refused : goal.returns-then-not-is_named-clause-refused
-returns-then-not-is_named-clause-refused g c = c.find.ensures.runs
-
-pub returns-in_err-quorate-clause-refused : goal.returns-in_err-quorate-clause-refused
-returns-in_err-quorate-clause-refused g c =
-    let p = err_from_is_err_and c.from_residual-in_err-quorate.result c.from_residual-in_err-quorate.ensures.1 in
-    rw p.1 (looks_refused c.args.name.now (length c.args.paths.now) c.args.held.now c.args.option g.B.Bay.state (g.B.Bay.state c.args.bay.now) (g.B.Bay.state c.quorate.new.bay) p.0
-    (looks_two c.args.name.now (length c.args.paths.now) c.args.held.now c.args.option c.in_ok-searched.searched c.without-found.result c.without-found.ensures c.in_ok-searched.ensures.slots
-    g.B.Bay.state (g.B.Bay.state c.args.bay.now) c.find.new.bay c.quorate.new.bay (g.B.Bay.state c.quorate.new.bay) c.in_ok-searched.ensures.there c.find.ensures.runs c.quorate.ensures.runs))
-
-pub returns-in_err-parts-clause-refused : goal.returns-in_err-parts-clause-refused
-returns-in_err-parts-clause-refused g c =
-    let p = err_from_is_err_and c.from_residual-in_err-parts.result c.from_residual-in_err-parts.ensures.1 in
-    rw (p.1, p.2) (claim_refused c.args.name.now (length c.args.paths.now) c.args.held.now c.args.option g.B.Bay.state (g.B.Bay.state c.args.bay.now) (g.B.Bay.state c.recover.new.bay)
-    c.in_ok-quorate.quorate (g.B.Bay.state c.quorate.new.bay) c.in_err-parts.field-0.0 c.in_err-parts.ensures.cause
-    (not_renewed_leaves c.args.name.now (length c.args.paths.now) c.args.held.now c.args.option c.in_ok-searched.searched c.without-found.result c.without-found.ensures c.in_ok-searched.ensures.slots
-    g.B.Bay.state (g.B.Bay.state c.args.bay.now) c.find.new.bay c.quorate.new.bay (g.B.Bay.state c.recover.new.bay) c.in_ok-searched.ensures.there c.find.ensures.runs c.quorate.ensures.runs
-    c.in_ok-quorate.quorate c.in_ok-searched.ensures.answer c.in_ok-quorate.ensures.answer c.recover.ensures.members c.recover.result c.recover.ensures.leaves))
+pub returns : goal.returns
+returns g c = record {
+  attached = stays_trans (stays_trans (found_stays c.find.ensures.stays) (stays_keeps c.quorate.ensures.attached)) (stays_keeps c.recover.ensures.attached);
+  spares =
+      let n = length c.args.paths.now in
+      let held = c.args.held.now in
+      let found = c.in_ok-searched.searched in
+      let f = c.without-found.result in
+      let u = g.B.Bay.state c.find.new.bay in
+      let reads = reads_spare c.args.name.now n held c.args.option found f c.without-found.ensures c.in_ok-searched.ensures.slots u c.in_ok-searched.ensures.there (looks_held held n c.find.ensures.runs) c.quorate.ensures.runs in
+      writes_spare c.args.name.now n held c.args.option found f c.without-found.ensures c.in_ok-searched.ensures.slots u c.in_ok-searched.ensures.there c.in_ok-quorate.quorate c.in_ok-quorate.ensures.answer.headed_are
+      reads c.recover.ensures.runs;
+  mounted =
+      let name = c.args.name.now in
+      let n = length c.args.paths.now in
+      let held = c.args.held.now in
+      let found = c.in_ok-searched.searched in
+      let f = c.without-found.result in
+      let is = c.without-found.ensures in
+      let slots = c.in_ok-searched.ensures.slots in
+      let q = c.in_ok-quorate.quorate in
+      let m = g.B.Bay.state c.quorate.new.bay in
+      let t = g.B.Bay.state c.recover.new.bay in
+      subst (λ (k : MountedGroup). IsMountedBy name held k t) (sym c.mounted_of.ensures)
+      (parts_mounted q c.args.now c.in_ok-parts.parts t c.in_ok-parts.ensures.parts c.args.option found held m
+      (quorate_left name n held c.args.option found f is slots q m c.in_ok-quorate.ensures.answer) name
+      (was_named name n held c.args.option found f is slots c.is_named.result true c.is_named.ensures c.if-not-is_named.false));
+  inside = λ slot own.
+      parts_inside c.args.name.now (length c.args.paths.now) c.args.held.now c.args.option c.in_ok-searched.searched c.without-found.result c.without-found.ensures c.in_ok-searched.ensures.slots
+      (g.B.Bay.state c.find.new.bay) c.in_ok-searched.ensures.there c.in_ok-quorate.quorate c.in_ok-quorate.ensures.answer.headed_are c.args.now c.in_ok-parts.parts
+      (g.B.Bay.state c.recover.new.bay) c.in_ok-parts.ensures.parts slot (subst (λ (k : MountedGroup). IsOwn k slot) c.mounted_of.ensures own);
+  taken =
+      let q = c.in_ok-quorate.quorate in
+      taken_over c.args.name.now (length c.args.paths.now) c.args.held.now c.args.option c.in_ok-searched.searched c.without-found.result c.without-found.ensures c.in_ok-searched.ensures.slots
+      g.B.Bay.state (g.B.Bay.state c.args.bay.now) c.find.new.bay c.quorate.new.bay q c.args.now c.in_ok-parts.parts c.mounted_of.result c.named_disks-named.result (g.B.Bay.state c.recover.new.bay)
+      c.in_ok-searched.ensures.answer c.find.ensures.runs c.in_ok-quorate.ensures.answer c.in_ok-parts.ensures.parts c.mounted_of.ensures
+      (λ d lt. c.named_disks-named.ensures d lt ∙ (λ i. is_named_in (c.value.ensures i) (c.seen.ensures i) d));
+  mounts =
+      mounts_one c.args.name.now (length c.args.paths.now) c.args.held.now c.args.option c.in_ok-searched.searched c.without-found.result c.without-found.ensures c.in_ok-searched.ensures.slots
+      g.B.Bay.state (g.B.Bay.state c.args.bay.now) c.find.new.bay c.quorate.new.bay (g.B.Bay.state c.recover.new.bay) c.in_ok-searched.ensures.there c.find.ensures.runs c.quorate.ensures.runs
+      c.in_ok-quorate.quorate c.in_ok-searched.ensures.answer c.in_ok-quorate.ensures.answer c.args.now c.in_ok-parts.parts c.in_ok-parts.ensures.parts
+      c.recover.ensures.members c.in_ok-parts.ensures.leaves (g.met.B.Bay.sound c.quorate.new.bay) (g.met.B.Bay.sound c.recover.new.bay) c.mounted_of.result c.mounted_of.ensures;
+  cause = first_of (search rules, grind (arith, common_steps));
+  leaves = first_of (search rules, grind (arith, common_steps));
+  refused = first_of (search rules, grind (arith, common_steps));
+}
