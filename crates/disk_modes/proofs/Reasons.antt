@@ -13,7 +13,7 @@ use Rattle.disk_modes.specs.declared.losing.Counted.TheVariants as counted
 use Rattle.disk_modes.specs.declared.records.NewModes.{NewModes}
 use Rattle.disk_modes.specs.declared.records.NewModes.TheVariants as modes
 use Rattle.disk_modes.specs.declared.sizes.Asked.{Asked}
-use Rattle.disk_modes.specs.Causes.{IsStateOf, LeavesTooLittle, OfflineRefused, ResizeRefused, forced_hold_copies, forced_would_lose, hold_copies, not_online, not_serving, too_few, would_lose}
+use Rattle.disk_modes.specs.Causes.{IsFirstSmall, IsStateOf, LeavesTooLittle, OfflineRefused, ResizeRefused, forced_hold_copies, forced_would_lose, hold_copies, not_online, not_serving, too_few, too_small, would_lose}
 use Rattle.disk_modes.specs.Directories.{DirectoriesCause}
 use Rattle.disk_modes.specs.Finding.{AreAttached}
 use Rattle.disk_modes.specs.Losing.{LosingCause}
@@ -74,3 +74,6 @@ drop_groups_by m k r next to dropping forced res same held is changed = on_err (
 
 pub resize_state_by : (m : MountedGroup) (r : Status) (es : List Entry) (asked : Asked) (e : Refusal) → r ≡ m.register.value → es ≡ r.entries → StateCause statement.Resize asked.disks es e → ResizeRefused m asked e
 resize_state_by m r es asked e held is why = not_serving (subst (λ (x : List Entry). StateCause statement.Resize asked.disks x e) (of_record m r es held is) why)
+
+pub resize_size_by : (m : MountedGroup) (asked : Asked) (res : Result (Unit {0}) Refusal) → IfErr res (IsFirstSmall m asked) → IfErr res (ResizeRefused m asked)
+resize_size_by m asked res = on_err (IsFirstSmall m asked) (ResizeRefused m asked) res (λ e why. too_small why)

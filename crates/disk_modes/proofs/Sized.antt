@@ -1,5 +1,5 @@
 -- A mounted group may get the record in which disks have other units.
-use Rattle.std.proofs.Common.{◌≡◌, ◌⊎◌, ⊎_elim, inl, inr, ℕ, ◌+◌, ◌/◌, ◌^◌, ◌<◌, ◌≤◌, ◌==◌, Bool, true, false, cond, List, min, get_or, Option, Some, None, refl, sym, ap, subst, ◌∙◌, arith}
+use Rattle.std.proofs.Common.{◌≡◌, ◌⊎◌, ⊎_elim, inl, inr, ℕ, ◌+◌, ◌/◌, ◌^◌, ◌<◌, ◌≤◌, ◌==◌, Bool, true, false, cond, List, max, min, get_or, Option, Some, None, refl, sym, ap, subst, ◌∙◌, arith}
 use Rattle.std.specs.Option.{option_map}
 use Rattle.std.proofs.lemmas.Bool.{cases_eq, lt-ltb}
 use Rattle.bay.specs.State.{BayState, IsSound}
@@ -27,8 +27,11 @@ use Rattle.record_laws.proofs.Entries.{entries_may_be_got}
 use Rattle.record_laws.proofs.Modes.{mounted_has_partners}
 use Rattle.record_laws.proofs.Partners.{table_stays}
 use Rattle.disk_modes.specs.declared.sizes.Asked.{Asked}
+use Rattle.disk_modes.specs.Causes.{AreLargeEnough, IsLargeEnough, asked_of, image_of}
+use Rattle.disk_modes.specs.Ends.{IsUsedTo}
 use Rattle.disk_modes.specs.Sizes.{HasAsked, capped, entry_capped, image_units, most, units_asked, units_in, units_of_size}
 use Rattle.disk_modes.specs.Stops.{FitImages}
+use Rattle.disk_modes.proofs.Ends.{needs_same}
 use Rattle.disk_modes.proofs.Naming.{small}
 
 -- ---- the units of an image
@@ -100,24 +103,33 @@ module _ (m : MountedGroup) (asked : Asked) (fit : FitImages asked m) where
     pub units_got : IsSound s → IsNextOf m next → m.register.turn + 1 < 2 ^ 64 → MayGet n m next s g kept
     units_got sound is_next turns = entries_may_be_got s sound n m next g kept (record { mounts = mounts; may = is_next; turns = turns }) changes
 
--- ---- what fits
+-- ---- what is large enough
 
-pub none_fit : (asked : Asked) (m : MountedGroup) (d : ℕ) → d < 0 → has_bit asked.disks d ≡ true → units_asked m.catalog.shape m.disks asked.size d ≤ image_units m.catalog.shape m.disks d
-none_fit asked m d lt has = absurd (omega (arith, lt))
+pub large_enough : (m : MountedGroup) (asked : Asked) (d used units image need : ℕ) (s : Shape) → IsUsedTo m.catalog d used → units ≡ asked_of m asked d → image ≡ image_of m d → s ≡ m.catalog.shape
+    → need ≡ max (regions.reserved_units s + 16) used → units ≤ image → need ≤ units → IsLargeEnough m asked d
+large_enough m asked d used units image need s to is has same counted fits covers = record {
+  image = omega (arith, is, has, fits);
+  needed = λ other needs. omega (arith, is, covers, needs_same m.catalog d used need other to (counted ∙ ap (λ (x : Shape). max (regions.reserved_units x + 16) used) same) needs);
+}
 
--- the first disks fit
-abbrev pub FitSoFar : Asked → MountedGroup → ℕ → Type 0
-FitSoFar asked m i = (d : ℕ) → d < i → has_bit asked.disks d ≡ true → units_asked m.catalog.shape m.disks asked.size d ≤ image_units m.catalog.shape m.disks d
+-- the first disks are, where the statement has them
+abbrev pub LargeSoFar : Asked → MountedGroup → ℕ → Type 0
+LargeSoFar asked m i = (d : ℕ) → d < i → has_bit asked.disks d ≡ true → IsLargeEnough m asked d
 
-pub one_fits : (asked : Asked) (m : MountedGroup) (i : ℕ) → FitSoFar asked m i → (has_bit asked.disks i ≡ true → units_asked m.catalog.shape m.disks asked.size i ≤ image_units m.catalog.shape m.disks i)
-    → FitSoFar asked m (i + 1)
-one_fits asked m i so_far here d lt has = ⊎_elim
-    (λ same. subst (λ (k : ℕ). units_asked m.catalog.shape m.disks asked.size k ≤ image_units m.catalog.shape m.disks k) (sym same) (here (ap (has_bit asked.disks) (sym same) ∙ has)))
+pub none_large : (asked : Asked) (m : MountedGroup) → LargeSoFar asked m 0
+none_large asked m d lt has = absurd (omega (arith, lt))
+
+pub one_large : (asked : Asked) (m : MountedGroup) (i : ℕ) → LargeSoFar asked m i → (has_bit asked.disks i ≡ true → IsLargeEnough m asked i) → LargeSoFar asked m (i + 1)
+one_large asked m i so_far here d lt has = ⊎_elim
+    (λ same. subst (λ (k : ℕ). IsLargeEnough m asked k) (sym same) (here (ap (has_bit asked.disks) (sym same) ∙ has)))
     (λ differ. so_far d (omega (arith, lt, differ)) has)
     (cases_eq d i)
 
-pub all_fit : (asked : Asked) (m : MountedGroup) (i : ℕ) → 64 ≤ i → FitSoFar asked m i → FitImages asked m
-all_fit asked m i le fit d lt has = fit d (omega (arith, lt, le)) has
+pub all_large : (asked : Asked) (m : MountedGroup) (i : ℕ) → 64 ≤ i → LargeSoFar asked m i → AreLargeEnough m asked
+all_large asked m i le large d lt has = large d (omega (arith, lt, le)) has
+
+pub large_fit : (asked : Asked) (m : MountedGroup) → AreLargeEnough m asked → FitImages asked m
+large_fit asked m large d lt has = (large d lt has).image
 
 -- with the same disks the same fits
 pub same_fit : (asked : Asked) (a b : MountedGroup) → IsSameGroup a b → FitImages asked a → FitImages asked b

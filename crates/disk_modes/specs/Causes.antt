@@ -1,16 +1,10 @@
 -- Why statements on disks of a mounted group are refused by their rules, before anything changes.
-use Rattle.std.specs.Prelude.{◌≡◌, ◌⊎◌, ℕ, ◌+◌, ◌*◌, ◌<◌, ◌==◌, Bool, true, false, List, [], length, get_or, map, take, Option, Some, None}
-use Rattle.asm_base.specs.Chunks.{Chunk}
+use Rattle.std.specs.Prelude.{◌≡◌, ◌⊎◌, ℕ, ◌<◌, ◌≤◌, ◌==◌, true, List, length, get_or, map, take}
 use Rattle.asm_base.specs.declared.refusal.DiskRef.TheVariants as disk
 use Rattle.asm_base.specs.declared.refusal.Refusal.{Refusal}
 use Rattle.asm_base.specs.declared.refusal.Refusal.TheVariants as cause
-use Rattle.asm_formats.specs.Among.{IsAmong}
-use Rattle.asm_formats.specs.Items.{Home, Homes}
-use Rattle.asm_formats.specs.Regions.{reserved_units}
 use Rattle.asm_formats.specs.Sets.{has_bit}
 use Rattle.asm_formats.specs.Status.{Entry}
-use Rattle.asm_placement.specs.Layout.{units_of}
-use Rattle.catalog_tables.specs.Tables.{Catalogued}
 use Rattle.group_engine.specs.Mounts.{MountedGroup}
 use Rattle.disk_modes.specs.declared.checking.Statement.{Statement}
 use Rattle.disk_modes.specs.declared.checking.Statement.TheVariants as statement
@@ -20,6 +14,7 @@ use Rattle.disk_modes.specs.declared.records.NewModes.TheVariants as modes
 use Rattle.disk_modes.specs.declared.sizes.Asked.{Asked}
 use Rattle.disk_modes.specs.Directories.{DirectoriesCause}
 use Rattle.disk_modes.specs.Effects.{AreNamed}
+use Rattle.disk_modes.specs.Ends.{NeedsUnits}
 use Rattle.disk_modes.specs.Finding.{AreAttached}
 use Rattle.disk_modes.specs.Losing.{LosingCause}
 use Rattle.disk_modes.specs.Modes.{GroupsCause, StateCause, drop_as}
@@ -77,46 +72,43 @@ DropRefused m disks refusal = (dropping : ℕ) × (forced : ℕ) × AreNamed dis
 
 -- ---- RESIZE
 
--- The extent of some file with this index has these homes.
-pub record IsExtentAt (c : Catalogued) (index : ℕ) (homes : Homes) : Type 0 where
-  pub at : Chunk
-  pub chunk : List Homes
-  pub there : IsAmong c.tables.extents (at, chunk)
-  pub place : ℕ
-  pub is : homes ≡ get_or chunk place []
-  pub number : index ≡ at.1 * 256 + place
+-- the disk is to have so many units
+abbrev pub asked_of : MountedGroup → Asked → ℕ → ℕ
+asked_of m asked d = units_asked m.catalog.shape m.disks asked.size d
 
--- A copy of an extent on this disk ends there.
-pub record IsHomeEnd (c : Catalogued) (d end : ℕ) : Type 0 where
-  pub index : ℕ
-  pub homes : Homes
-  pub extent : IsExtentAt c index homes
-  pub copy : ℕ
-  pub home : Home
-  pub is : get_or homes copy None ≡ Some home
-  pub on : home.disk ≡ d
-  pub ends : end ≡ home.unit + units_of c.shape.step index
+-- its image has so many
+abbrev pub image_of : MountedGroup → ℕ → ℕ
+image_of m d = image_units m.catalog.shape m.disks d
 
--- it is none, or such an end
-abbrev pub IsEnd : Catalogued → ℕ → ℕ → Type 0
-IsEnd c d end = (end ≡ 0) ⊎ IsHomeEnd c d end
-
--- of each disk one of these
-abbrev pub AreEnds : Catalogued → List ℕ → Type 0
-AreEnds c ends = (d : ℕ) → IsEnd c d (get_or ends d 0)
-
--- The disk needs so many units: those of its directory region with 16 for users, or those up to the end of a copy.
-pub data NeedsUnits (c : Catalogued) (d need : ℕ) : Type 0 where
-  for_users : need ≡ reserved_units c.shape + 16 → NeedsUnits c d need
-  up_to_end : IsHomeEnd c d need → NeedsUnits c d need
-
--- A disk of the statement is too small: its image has fewer units than it is to have, or it needs more than it is to have.
+-- A disk is too small: its image has fewer units than it is to have, or else it needs more than these.
 pub data IsTooSmall (m : MountedGroup) (asked : Asked) (d need : ℕ) : Type 0 where
-  small_image : need ≡ units_asked m.catalog.shape m.disks asked.size d → image_units m.catalog.shape m.disks d < need → IsTooSmall m asked d need
-  small_size : NeedsUnits m.catalog d need → units_asked m.catalog.shape m.disks asked.size d < need → IsTooSmall m asked d need
+  small_image : need ≡ asked_of m asked d → image_of m d < need → IsTooSmall m asked d need
+  small_size : asked_of m asked d ≤ image_of m d → NeedsUnits m.catalog d need → asked_of m asked d < need → IsTooSmall m asked d need
+
+-- refused, since this disk is too small
+abbrev pub SizeCause : MountedGroup → Asked → ℕ → Refusal → Type 0
+SizeCause m asked d (cause.TooSmall by need) = (by ≡ disk.Number d) × IsTooSmall m asked d need
+SizeCause m asked d _ = ⊥
+
+-- A disk isn't too small: its image has the units that it is to have, and it needs no more.
+pub record IsLargeEnough (m : MountedGroup) (asked : Asked) (d : ℕ) : Type 0 where
+  pub image : asked_of m asked d ≤ image_of m d
+  pub needed : (need : ℕ) → NeedsUnits m.catalog d need → need ≤ asked_of m asked d
+
+-- each disk of the statement is large enough
+abbrev pub AreLargeEnough : MountedGroup → Asked → Type 0
+AreLargeEnough m asked = (d : ℕ) → d < 64 → has_bit asked.disks d ≡ true → IsLargeEnough m asked d
+
+-- Refused by the least disk of the statement that is too small.
+pub record IsFirstSmall (m : MountedGroup) (asked : Asked) (refusal : Refusal) : Type 0 where
+  pub least : ℕ
+  pub named : has_bit asked.disks least ≡ true
+  pub earlier : (d : ℕ) → d < least → has_bit asked.disks d ≡ true → IsLargeEnough m asked d
+  pub cause : SizeCause m asked least refusal
 
 -- RESIZE is refused.
 pub data ResizeRefused (m : MountedGroup) (asked : Asked) (refusal : Refusal) : Type 0 where
   -- by the least of the disks that doesn't serve
   not_serving : StateCause statement.Resize asked.disks m.register.value.entries refusal → ResizeRefused m asked refusal
-  too_small : (d need : ℕ) → refusal ≡ cause.TooSmall (disk.Number d) need → has_bit asked.disks d ≡ true → IsTooSmall m asked d need → ResizeRefused m asked refusal
+  -- by the least of the disks that is too small
+  too_small : IsFirstSmall m asked refusal → ResizeRefused m asked refusal

@@ -4,6 +4,7 @@ pub mod Directories
 pub mod Records
 pub mod Causes
 pub mod Effects
+pub mod Ends
 pub mod Finding
 pub mod Sizes
 pub mod Stops

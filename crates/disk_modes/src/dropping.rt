@@ -1,11 +1,11 @@
 //! DROP and UNDROP.
-ghost use Rattle.std.specs.Prelude.{◌≡◌, ◌⊎◌, ◌<◌, ◌≤◌, ◌+◌, ◌==◌, ℕ, IfErr, OnOk, if◌then◌else◌, not};
+ghost use Rattle.std.specs.Prelude.{◌≡◌, ◌⊎◌, ◌<◌, ◌==◌, ℕ, IfErr, OnOk, if◌then◌else◌, not};
 ghost use Rattle.asm_formats.specs.Sets.{has_bit};
 ghost use Rattle.asm_placement.specs.Modes.{is_dropping};
-ghost use Rattle.group_engine.specs.Commits.{StatusCause, turns_at_most};
+ghost use Rattle.group_engine.specs.Commits.{StatusCause};
 ghost use Rattle.group_engine.specs.Mounts.{IsMounted, IsWhole, Takes};
 ghost use Rattle.group_engine.specs.Own.{KeepsGroup};
-ghost use Rattle.group_engine.specs.Pending.{GoesOn, StandsThrough, StaysMounted};
+ghost use Rattle.group_engine.specs.Pending.{GoesOn};
 ghost use Rattle.disk_modes.specs.declared.records.NewModes.TheVariants as modes;
 ghost use Rattle.disk_modes.specs.Causes.{DropCause, DropRefused, IsFirstState, IsStateOf, LeavesTooLittle};
 ghost use Rattle.disk_modes.specs.Directories.{LeavesCopy};
@@ -61,9 +61,7 @@ pub fn drop_disks<B: Bay>(
     ensures cause { IfErr result (λ refusal. DropRefused m.old disks.now refusal ⊎ StatusCause m.old m.new (B.state bay.old) (B.state bay.new) refusal) }
     // The group stays the one that it is, where turns don't run out: at each moment each image is held for it alone, whatever the
     // answer, and while it takes calls it is mounted. The record takes a turn; that of the commit costs a copy.
-    ensures moments { HasTwoTurns m.old → StandsThrough m.old (B.state bay.old) (B.state bay.new) }
-    ensures stays { HasTwoTurns m.old → IsMounted m.new → StaysMounted m.old m.new (B.state bay.old) (B.state bay.new) }
-    ensures turns { HasTwoTurns m.old → turns_at_most m.new ≤ turns_at_most m.old + 1 }
+    ensures held { HasTwoTurns m.old → StaysHeld m.old m.new (B.state bay.old) (B.state bay.new) }
 {
     m.takes_calls()?;
     let named = named_by(disks);
@@ -250,9 +248,7 @@ pub fn undrop_disks<B: Bay>(m: &mut Mounted, alloc: Global, bay: &mut B) -> Resu
     ensures cause { IfErr result (StatusCause m.old m.new (B.state bay.old) (B.state bay.new)) }
     // The group stays the one that it is: at each moment each image is held for it alone, whatever the answer, and while it takes
     // calls it is mounted. The record takes a turn; that of the commit costs a copy.
-    ensures moments { StandsThrough m.old (B.state bay.old) (B.state bay.new) }
-    ensures stays { IsMounted m.new → StaysMounted m.old m.new (B.state bay.old) (B.state bay.new) }
-    ensures turns { turns_at_most m.new ≤ turns_at_most m.old + 1 }
+    ensures held { StaysHeld m.old m.new (B.state bay.old) (B.state bay.new) }
 {
     m.takes_calls()?;
     let changes = undropping(m.status().entries());

@@ -1,12 +1,12 @@
 //! Expiry of disks, and REBALANCE.
-ghost use Rattle.std.specs.Prelude.{◌≡◌, ◌≤◌, ◌+◌, IfErr, IfOk, OnOk, Some, true};
-ghost use Rattle.group_engine.specs.Commits.{StatusCause, turns_at_most};
+ghost use Rattle.std.specs.Prelude.{◌≡◌, IfErr, IfOk, OnOk, true};
+ghost use Rattle.group_engine.specs.Commits.{StatusCause};
 ghost use Rattle.group_engine.specs.Mounts.{IsMounted, Takes};
 ghost use Rattle.group_engine.specs.Own.{KeepsGroup};
-ghost use Rattle.group_engine.specs.Pending.{StandsThrough, StaysMounted};
+ghost use Rattle.group_engine.specs.Pending.{GoesOn};
 ghost use Rattle.group_reports.specs.Disks.{may_go};
 ghost use Rattle.disk_modes.specs.Effects.{DropsByForce, Expires, PutsRebalance};
-ghost use Rattle.disk_modes.specs.Stops.{HasTwoTurns, StaysHeld};
+ghost use Rattle.disk_modes.specs.Stops.{CommitsRebalance, HasTwoTurns, StaysHeld};
 
 use crate::changing::{Changes, change_disks, put_rebalance};
 use crate::finding::with_number;
@@ -34,46 +34,32 @@ pub fn expire<B: Bay>(
     ensures cause { IfErr result (StatusCause m.old m.new (B.state bay.old) (B.state bay.new)) }
     // The group stays the one that it is, where turns don't run out: at each moment each image is held for it alone, whatever the
     // answer, and while it takes calls it is mounted. The record takes a turn; that of the commit costs a copy.
-    ensures moments { HasTwoTurns m.old → StandsThrough m.old (B.state bay.old) (B.state bay.new) }
-    ensures stays { HasTwoTurns m.old → IsMounted m.new → StaysMounted m.old m.new (B.state bay.old) (B.state bay.new) }
-    ensures turns { HasTwoTurns m.old → turns_at_most m.new ≤ turns_at_most m.old + 1 }
+    ensures held { HasTwoTurns m.old → StaysHeld m.old m.new (B.state bay.old) (B.state bay.new) }
 {
     m.takes_calls()?;
     match expiring(m.catalog(), m.status(), now) {
-        Some(disk) => expire_disk(m, alloc, bay, disk),
+        Some(disk) => match expire_disk(m, alloc, bay, disk) {
+            Ok(()) => Ok(Some(disk)),
+            Err(refusal) => Err(refusal),
+        },
         None => Ok(None),
     }
 }
 
 /// Drops the disk by force.
-fn expire_disk<B: Bay>(
-    m: &mut Mounted,
-    alloc: Global,
-    bay: &mut B,
-    disk: u8,
-) -> Result<Option<u8>, Refusal>
+fn expire_disk<B: Bay>(m: &mut Mounted, alloc: Global, bay: &mut B, disk: u8) -> Result<(), Refusal>
     requires mounted { IsMounted m.old }
     requires takes { Takes m.old (B.state bay.old) }
-    ensures keeps { KeepsGroup m.old m.new (B.state bay.old) (B.state bay.new) }
-    ensures mounted { IfOk result (λ disk. IsMounted m.new) }
-    ensures done { IfOk result (λ said. (said ≡ Some disk) × DropsByForce disk m.old m.new) }
-    ensures cause { IfErr result (StatusCause m.old m.new (B.state bay.old) (B.state bay.new)) }
+    ensures goes { GoesOn m.old result m.new (B.state bay.old) (B.state bay.new) }
+    ensures done { OnOk result (DropsByForce disk m.old m.new) }
     ensures held { may_go m.old.catalog m.old.register.value disk ≡ true → HasTwoTurns m.old → StaysHeld m.old m.new (B.state bay.old) (B.state bay.new) }
 {
     let new = NewModes::Dropped {
         dropping: DiskSet::empty(),
         forced: with_number(DiskSet::empty(), disk),
     };
-    match change_disks(
-        m,
-        alloc,
-        bay,
-        &new,
-        &Changes::ModesThenRebalance { power: 1 },
-    ) {
-        Ok(()) => Ok(Some(disk)),
-        Err(refusal) => Err(refusal),
-    }
+    let changes = Changes::ModesThenRebalance { power: 1 };
+    change_disks(m, alloc, bay, &new, &changes)
 }
 
 /// A rebalance of this power is active, or none is. The move that is on its way stays. Refusals: Dismounted, NoMemory.
@@ -89,9 +75,7 @@ pub fn set_rebalance<B: Bay>(
     ensures done { OnOk result (PutsRebalance power m.old m.new) }
     // The group stays the one that it is: at each moment each image is held for it alone, whatever the answer, and while it takes
     // calls it is mounted. Each turn that it takes costs a copy.
-    ensures moments { StandsThrough m.old (B.state bay.old) (B.state bay.new) }
-    ensures stays { IsMounted m.new → StaysMounted m.old m.new (B.state bay.old) (B.state bay.new) }
-    ensures turns { turns_at_most m.new ≤ turns_at_most m.old }
+    ensures commits { CommitsRebalance m.old result m.new (B.state bay.old) (B.state bay.new) }
     ensures cause { IfErr result (StatusCause m.old m.new (B.state bay.old) (B.state bay.new)) }
 {
     m.takes_calls()?;

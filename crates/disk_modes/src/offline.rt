@@ -1,9 +1,9 @@
 //! OFFLINE.
-ghost use Rattle.std.specs.Prelude.{◌≡◌, ◌⊎◌, ◌≤◌, ◌+◌, IfErr, OnOk, unwrap_or};
-ghost use Rattle.group_engine.specs.Commits.{StatusCause, turns_at_most};
+ghost use Rattle.std.specs.Prelude.{◌≡◌, ◌⊎◌, IfErr, OnOk, unwrap_or};
+ghost use Rattle.group_engine.specs.Commits.{StatusCause};
 ghost use Rattle.group_engine.specs.Mounts.{IsMounted, Takes};
 ghost use Rattle.group_engine.specs.Own.{KeepsGroup};
-ghost use Rattle.group_engine.specs.Pending.{GoesOn, StandsThrough, StaysMounted};
+ghost use Rattle.group_engine.specs.Pending.{GoesOn};
 ghost use Rattle.disk_modes.specs.Causes.{OfflineRefused};
 ghost use Rattle.disk_modes.specs.Directories.{LeavesCopy};
 ghost use Rattle.disk_modes.specs.Effects.{TakesOffline};
@@ -38,9 +38,7 @@ pub fn offline_disks<B: Bay>(
     ensures cause { IfErr result (λ refusal. OfflineRefused m.old disks refusal ⊎ StatusCause m.old m.new (B.state bay.old) (B.state bay.new) refusal) }
     // The group stays the one that it is: at each moment each image is held for it alone, whatever the answer, and while it takes
     // calls it is mounted. The record takes a turn.
-    ensures moments { StandsThrough m.old (B.state bay.old) (B.state bay.new) }
-    ensures stays { IsMounted m.new → StaysMounted m.old m.new (B.state bay.old) (B.state bay.new) }
-    ensures turns { turns_at_most m.new ≤ turns_at_most m.old + 1 }
+    ensures held { StaysHeld m.old m.new (B.state bay.old) (B.state bay.new) }
 {
     m.takes_calls()?;
     match check_offline(m, disks) {

@@ -1,15 +1,15 @@
 //! RESIZE.
 ghost use Rattle.std.specs.Bool.{OnTrue};
 ghost use Rattle.std.specs.List.{list_any};
-ghost use Rattle.std.specs.Prelude.{◌≡◌, ◌⊎◌, ◌≤◌, ◌+◌, IfErr, IsTrue, OnOk, map};
+ghost use Rattle.std.specs.Prelude.{◌≡◌, ◌⊎◌, IfErr, IsTrue, OnOk, map};
 ghost use Rattle.asm_formats.specs.Status.{is_status};
 ghost use Rattle.catalog_tables.specs.Rules.{KeepsRules};
-ghost use Rattle.group_engine.specs.Commits.{StatusCause, turns_at_most};
+ghost use Rattle.group_engine.specs.Commits.{StatusCause};
 ghost use Rattle.group_engine.specs.Mounts.{IsMounted, Takes};
 ghost use Rattle.group_engine.specs.Own.{KeepsGroup};
-ghost use Rattle.group_engine.specs.Pending.{GoesOn, StandsThrough, StaysMounted};
+ghost use Rattle.group_engine.specs.Pending.{GoesOn};
 ghost use Rattle.group_engine.specs.Statuses.{IsNextOf};
-ghost use Rattle.disk_modes.specs.Causes.{ResizeRefused};
+ghost use Rattle.disk_modes.specs.Causes.{AreLargeEnough, ResizeRefused};
 ghost use Rattle.disk_modes.specs.Sizes.{HasAsked, PutsUnits, Resizes, entry_capped, is_other, status_resized};
 ghost use Rattle.disk_modes.specs.Stops.{FitImages, StaysHeld};
 
@@ -38,12 +38,11 @@ pub fn resize_disks<B: Bay>(
     ensures mounted { OnOk result (IsMounted m.new) }
     // The disks have the units of the size, or of their images, and a rebalance is active.
     ensures done { OnOk result (Resizes disks size power m.old m.new) }
+    ensures large { OnOk result (AreLargeEnough m.old (record { disks = disks; size = size })) }
     ensures cause { IfErr result (λ refusal. ResizeRefused m.old (record { disks = disks; size = size }) refusal ⊎ StatusCause m.old m.new (B.state bay.old) (B.state bay.new) refusal) }
     // The group stays the one that it is: at each moment each image is held for it alone, whatever the answer, and while it takes
     // calls it is mounted. The record takes a turn; that of the commit costs a copy.
-    ensures moments { StandsThrough m.old (B.state bay.old) (B.state bay.new) }
-    ensures stays { IsMounted m.new → StaysMounted m.old m.new (B.state bay.old) (B.state bay.new) }
-    ensures turns { turns_at_most m.new ≤ turns_at_most m.old + 1 }
+    ensures held { StaysHeld m.old m.new (B.state bay.old) (B.state bay.new) }
 {
     m.takes_calls()?;
     let asked = Asked { disks, size };
@@ -54,10 +53,10 @@ pub fn resize_disks<B: Bay>(
 }
 
 /// Tries the refusals of a RESIZE.
-#[tactic(auto, using(crate::proofs::Reasons::resize_state_by))]
+#[tactic(auto, using(crate::proofs::Reasons::resize_state_by, crate::proofs::Reasons::resize_size_by))]
 fn check_resize(m: &Mounted, asked: &Asked) -> Result<(), Refusal>
     ensures cause { IfErr result (ResizeRefused m.now asked.now) }
-    ensures fit { OnOk result (FitImages asked.now m.now) }
+    ensures large { OnOk result (AreLargeEnough m.now asked.now) }
 {
     match check_modes(m.status().entries(), asked.disks, Statement::Resize) {
         Ok(()) => check_sizes(m, asked),

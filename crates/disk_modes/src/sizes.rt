@@ -1,12 +1,11 @@
 // The units that disks have, need and are to have.
-ghost use Rattle.std.specs.Prelude.{◌≡◌, ◌⊎◌, ℕ, ◌+◌, ◌*◌, ◌<◌, ◌≤◌, ◌^◌, IfErr, IfSome, OnOk, Some, get_or, length, true};
-ghost use Rattle.asm_formats.specs.Among.{IsAmong};
+ghost use Rattle.std.specs.Prelude.{◌≡◌, ℕ, ◌+◌, ◌*◌, ◌<◌, ◌≤◌, ◌^◌, IfErr, OnOk, Some, length, max, true};
 ghost use Rattle.asm_formats.specs.Regions.{reserved_units};
 ghost use Rattle.asm_formats.specs.Sets.{has_bit};
 ghost use Rattle.asm_placement.specs.Layout.{units_of};
-ghost use Rattle.disk_modes.specs.Causes.{AreEnds, IsEnd, IsExtentAt, IsHomeEnd, IsTooSmall, ResizeRefused};
+ghost use Rattle.disk_modes.specs.Causes.{AreLargeEnough, IsFirstSmall, IsLargeEnough, IsTooSmall, SizeCause};
+ghost use Rattle.disk_modes.specs.Ends.{AreUsedTo, HasEnds, IsChunkEnd, IsCopyEnd, IsHomeEnd, IsUsedTo};
 ghost use Rattle.disk_modes.specs.Sizes.{image_units, units_asked, units_in};
-ghost use Rattle.disk_modes.specs.Stops.{FitImages};
 
 use asm_base::{DiskRef, DiskSet, Home, Homes, Refusal, Shape};
 use catalog::Catalog;
@@ -59,13 +58,13 @@ fn units_in(shape: &Shape, bytes: u64) -> u64
     bytes / shape.au as u64
 }
 
-/// The units that a disk needs: those of its directory region with 16 for users, and those up to its last used one.
+/// The units that a disk needs: those of its directory region with 16 for users, or those up to its last used one where these are more.
 fn least_units(shape: &Shape, used: u64) -> u64
-    ensures { (result ≡ reserved_units shape.now + 16) ⊎ (result ≡ used) }
+    ensures { result ≡ max (reserved_units shape.now + 16) used }
 {
     let au = shape.au as u64;
     if au == 0 {
-        return used;
+        return LEAST_USER_UNITS.max(used);
     }
     let blocks = 14 + 2 * shape.dir_blocks as u64;
     let reserved = (blocks * 4096 + (au - 1)) / au;
@@ -74,8 +73,8 @@ fn least_units(shape: &Shape, used: u64) -> u64
 
 /// Refused as TooSmall by the least of the disks whose image has fewer units than it is to have, or that needs more.
 pub(crate) fn check_sizes(m: &Mounted, asked: &Asked) -> Result<(), Refusal>
-    ensures cause { IfErr result (ResizeRefused m.now asked.now) }
-    ensures fit { OnOk result (FitImages asked.now m.now) }
+    ensures cause { IfErr result (IsFirstSmall m.now asked.now) }
+    ensures large { OnOk result (AreLargeEnough m.now asked.now) }
 {
     let ends = used_ends(m.catalog());
     for disk in 0..64u8 {
@@ -89,9 +88,10 @@ pub(crate) fn check_sizes(m: &Mounted, asked: &Asked) -> Result<(), Refusal>
 
 /// The same of one disk, with the units up to its last used one.
 fn check_size(m: &Mounted, asked: &Asked, disk: u8, used: u64) -> Result<(), Refusal>
-    requires { IsEnd m.now.catalog disk used }
-    ensures cause { IfErr result (ResizeRefused m.now asked.now) }
-    ensures fits { OnOk result (has_bit asked.now.disks disk ≡ true → units_asked m.now.catalog.shape m.now.disks asked.now.size disk ≤ image_units m.now.catalog.shape m.now.disks disk) }
+    requires { IsUsedTo m.now.catalog disk used }
+    ensures named { IfErr result (λ refusal. has_bit asked.now.disks disk ≡ true) }
+    ensures cause { IfErr result (SizeCause m.now asked.now disk) }
+    ensures large { OnOk result (has_bit asked.now.disks disk ≡ true → IsLargeEnough m.now asked.now disk) }
 {
     if !asked.disks.has(disk) {
         return Ok(());
@@ -108,9 +108,8 @@ fn check_size(m: &Mounted, asked: &Asked, disk: u8, used: u64) -> Result<(), Ref
 }
 
 fn too_small(m: &Mounted, asked: &Asked, disk: u8, need: u64) -> Result<(), Refusal>
-    requires named { has_bit asked.now.disks disk ≡ true }
-    requires small { IsTooSmall m.now asked.now disk need }
-    ensures cause { IfErr result (ResizeRefused m.now asked.now) }
+    requires { IsTooSmall m.now asked.now disk need }
+    ensures cause { IfErr result (SizeCause m.now asked.now disk) }
     ensures refused { OnOk result ⊥ }
 {
     let _group = m.status();
@@ -123,7 +122,7 @@ fn too_small(m: &Mounted, asked: &Asked, disk: u8, need: u64) -> Result<(), Refu
 
 /// Of each disk the units up to its last used one. It goes over the extents once.
 fn used_ends(catalog: &Catalog) -> [u64; 64]
-    ensures { AreEnds catalog.now result }
+    ensures { AreUsedTo catalog.now result }
 {
     let mut ends = [0u64; 64];
     for (at, chunk) in catalog.chunks() {
@@ -132,12 +131,10 @@ fn used_ends(catalog: &Catalog) -> [u64; 64]
     ends
 }
 
-/// The same with the extents of a chunk.
+/// The last ends with those of a chunk's extents.
 fn end_behind(ends: &mut [u64], catalog: &Catalog, at: (u32, u32), extents: &[Homes])
-    requires ends { AreEnds catalog.now ends.old }
-    requires there { IsAmong catalog.now.tables.extents (at, extents.now) }
     requires few { length extents.now ≤ 256 }
-    ensures { AreEnds catalog.now ends.new }
+    ensures { HasEnds (IsChunkEnd catalog.now.shape.step (at, extents.now)) ends.old ends.new }
 {
     let mut index = at.1 as u64 * 256;
     for homes in extents {
@@ -146,27 +143,22 @@ fn end_behind(ends: &mut [u64], catalog: &Catalog, at: (u32, u32), extents: &[Ho
     }
 }
 
-/// The same with the copies of an extent.
+/// The same with those of an extent's copies.
 fn end_behind_homes(ends: &mut [u64], catalog: &Catalog, index: u64, homes: &Homes)
-    requires ends { AreEnds catalog.now ends.old }
-    requires there { IsExtentAt catalog.now index homes.now }
-    ensures { AreEnds catalog.now ends.new }
+    ensures { HasEnds (IsCopyEnd (units_of catalog.now.shape.step index) homes.now) ends.old ends.new }
 {
     let units = units_of(catalog.shape().step, index) as u64;
     let homes = *homes;
-    end_behind_home(ends, catalog, units, homes.first);
-    end_behind_home(ends, catalog, units, homes.second);
-    end_behind_home(ends, catalog, units, homes.third);
+    end_behind_home(ends, units, homes.first);
+    end_behind_home(ends, units, homes.second);
+    end_behind_home(ends, units, homes.third);
 }
 
-/// The same with one copy.
-fn end_behind_home(ends: &mut [u64], catalog: &Catalog, units: u64, home: Option<Home>)
-    requires ends { AreEnds catalog.now ends.old }
+/// The same with that of one copy.
+fn end_behind_home(ends: &mut [u64], units: u64, home: Option<Home>)
     requires few { units ≤ 16 }
-    requires there { IfSome home (λ h. IsHomeEnd catalog.now h.disk (h.unit + units)) }
-    ensures { AreEnds catalog.now ends.new }
+    ensures { HasEnds (IsHomeEnd units home) ends.old ends.new }
 {
-    let _catalog = catalog.shape();
     let Some(home) = home else {
         return;
     };

@@ -1,4 +1,4 @@
-use Rattle.std.proofs.Common.{false, get_or, refl, subst, sym, Bool}
+use Rattle.std.proofs.Common.{false, get_or, refl, subst, Bool}
 use Rattle.std.proofs.lemmas.List.{get_or_default}
 use Rattle.disk_modes.specs.declared.dropping.DropDisk.{DropDisk}
 use Rattle.disk_modes.specs.Causes.{IsStateOf}

@@ -38,29 +38,11 @@ returns-in-Ok-clause-done g c =
     drops_done c.args.disks.now named.dropping named.forced c.args.power c.args.m.now c.drop_named.new.m c.drop_named.result c.named_by-named.ensures
     (c.requires.takes c.in_ok-takes_calls.ensures.ok).0.status c.drop_named.ensures.done
 
-pub returns-in_err-takes_calls-clause-moments : goal.returns-in_err-takes_calls-clause-moments
-returns-in_err-takes_calls-clause-moments g c = λ turns. (held_here c.args.m.now (g.B.Bay.state c.args.bay.now)).moments
+pub returns-in_err-takes_calls-clause-held : goal.returns-in_err-takes_calls-clause-held
+returns-in_err-takes_calls-clause-held g c = λ turns. held_here c.args.m.now (g.B.Bay.state c.args.bay.now)
 
-pub returns-in-Err-clause-moments : goal.returns-in-Err-clause-moments
-returns-in-Err-clause-moments g c = λ turns. (held_here c.args.m.now (g.B.Bay.state c.args.bay.now)).moments
+pub returns-in-Err-clause-held : goal.returns-in-Err-clause-held
+returns-in-Err-clause-held g c = λ turns. held_here c.args.m.now (g.B.Bay.state c.args.bay.now)
 
-pub returns-in-Ok-clause-moments : goal.returns-in-Ok-clause-moments
-returns-in-Ok-clause-moments g c = λ turns. (c.drop_named.ensures.held (c.in-Ok.ensures.may c.named_by-named.ensures) turns).moments
-
-pub returns-in_err-takes_calls-clause-stays : goal.returns-in_err-takes_calls-clause-stays
-returns-in_err-takes_calls-clause-stays g c = λ turns. (held_here c.args.m.now (g.B.Bay.state c.args.bay.now)).stays
-
-pub returns-in-Err-clause-stays : goal.returns-in-Err-clause-stays
-returns-in-Err-clause-stays g c = λ turns. (held_here c.args.m.now (g.B.Bay.state c.args.bay.now)).stays
-
-pub returns-in-Ok-clause-stays : goal.returns-in-Ok-clause-stays
-returns-in-Ok-clause-stays g c = λ turns. (c.drop_named.ensures.held (c.in-Ok.ensures.may c.named_by-named.ensures) turns).stays
-
-pub returns-in_err-takes_calls-clause-turns : goal.returns-in_err-takes_calls-clause-turns
-returns-in_err-takes_calls-clause-turns g c = λ turns. (held_here c.args.m.now (g.B.Bay.state c.args.bay.now)).turns
-
-pub returns-in-Err-clause-turns : goal.returns-in-Err-clause-turns
-returns-in-Err-clause-turns g c = λ turns. (held_here c.args.m.now (g.B.Bay.state c.args.bay.now)).turns
-
-pub returns-in-Ok-clause-turns : goal.returns-in-Ok-clause-turns
-returns-in-Ok-clause-turns g c = λ turns. (c.drop_named.ensures.held (c.in-Ok.ensures.may c.named_by-named.ensures) turns).turns
+pub returns-in-Ok-clause-held : goal.returns-in-Ok-clause-held
+returns-in-Ok-clause-held g c = λ turns. c.drop_named.ensures.held (c.in-Ok.ensures.may c.named_by-named.ensures) turns

@@ -17,20 +17,8 @@ pub returns-clause-done : goal.returns-clause-done
 returns-clause-done g c =
     undrops_done c.args.m.now c.change_disks.new.m c.status.result.now c.entries.result.now c.undropping-changes.result c.change_disks.result c.status.ensures c.entries.ensures.entries c.undropping-changes.ensures c.change_disks.ensures.done
 
-pub returns-in_err-takes_calls-clause-moments : goal.returns-in_err-takes_calls-clause-moments
-returns-in_err-takes_calls-clause-moments g c = (held_here c.args.m.now (g.B.Bay.state c.args.bay.now)).moments
+pub returns-in_err-takes_calls-clause-held : goal.returns-in_err-takes_calls-clause-held
+returns-in_err-takes_calls-clause-held g c = held_here c.args.m.now (g.B.Bay.state c.args.bay.now)
 
-pub returns-clause-moments : goal.returns-clause-moments
-returns-clause-moments g c = (c.change_disks.ensures.held (may_undrop c.args.m.now c.entries.result.now c.undropping-changes.result c.undropping-changes.ensures)).moments
-
-pub returns-in_err-takes_calls-clause-stays : goal.returns-in_err-takes_calls-clause-stays
-returns-in_err-takes_calls-clause-stays g c = (held_here c.args.m.now (g.B.Bay.state c.args.bay.now)).stays
-
-pub returns-clause-stays : goal.returns-clause-stays
-returns-clause-stays g c = (c.change_disks.ensures.held (may_undrop c.args.m.now c.entries.result.now c.undropping-changes.result c.undropping-changes.ensures)).stays
-
-pub returns-in_err-takes_calls-clause-turns : goal.returns-in_err-takes_calls-clause-turns
-returns-in_err-takes_calls-clause-turns g c = (held_here c.args.m.now (g.B.Bay.state c.args.bay.now)).turns
-
-pub returns-clause-turns : goal.returns-clause-turns
-returns-clause-turns g c = (c.change_disks.ensures.held (may_undrop c.args.m.now c.entries.result.now c.undropping-changes.result c.undropping-changes.ensures)).turns
+pub returns-clause-held : goal.returns-clause-held
+returns-clause-held g c = c.change_disks.ensures.held (may_undrop c.args.m.now c.entries.result.now c.undropping-changes.result c.undropping-changes.ensures)

@@ -15,32 +15,16 @@ returns-in_err-takes_calls-clause-cause g c =
 pub returns-in-None-clause-keeps : goal.returns-in-None-clause-keeps
 returns-in-None-clause-keeps g c = kept c.args.m.now (g.B.Bay.state c.args.bay.now) c.requires.takes
 
-pub returns-in_err-takes_calls-clause-moments : goal.returns-in_err-takes_calls-clause-moments
-returns-in_err-takes_calls-clause-moments g c = λ turns. (held_here c.args.m.now (g.B.Bay.state c.args.bay.now)).moments
+pub returns-in_err-takes_calls-clause-held : goal.returns-in_err-takes_calls-clause-held
+returns-in_err-takes_calls-clause-held g c = λ turns. held_here c.args.m.now (g.B.Bay.state c.args.bay.now)
 
-pub returns-in-None-clause-moments : goal.returns-in-None-clause-moments
-returns-in-None-clause-moments g c = λ turns. (held_here c.args.m.now (g.B.Bay.state c.args.bay.now)).moments
+pub returns-in-None-clause-held : goal.returns-in-None-clause-held
+returns-in-None-clause-held g c = λ turns. held_here c.args.m.now (g.B.Bay.state c.args.bay.now)
 
-pub returns-in-Some-clause-moments : goal.returns-in-Some-clause-moments
-returns-in-Some-clause-moments g c = λ turns.
-    (c.expire_disk.ensures.held (expiring_of c.args.m.now c.catalog.result.now c.status.result.now c.args.now c.in-Some.disk c.catalog.ensures c.status.ensures c.in-Some.ensures) turns).moments
+pub returns-in-Ok-clause-held : goal.returns-in-Ok-clause-held
+returns-in-Ok-clause-held g c = λ turns.
+    c.in-Ok.ensures.held (expiring_of c.args.m.now c.catalog.result.now c.status.result.now c.args.now c.in-Some.disk c.catalog.ensures c.status.ensures c.in-Some.ensures) turns
 
-pub returns-in_err-takes_calls-clause-stays : goal.returns-in_err-takes_calls-clause-stays
-returns-in_err-takes_calls-clause-stays g c = λ turns. (held_here c.args.m.now (g.B.Bay.state c.args.bay.now)).stays
-
-pub returns-in-None-clause-stays : goal.returns-in-None-clause-stays
-returns-in-None-clause-stays g c = λ turns. (held_here c.args.m.now (g.B.Bay.state c.args.bay.now)).stays
-
-pub returns-in-Some-clause-stays : goal.returns-in-Some-clause-stays
-returns-in-Some-clause-stays g c = λ turns.
-    (c.expire_disk.ensures.held (expiring_of c.args.m.now c.catalog.result.now c.status.result.now c.args.now c.in-Some.disk c.catalog.ensures c.status.ensures c.in-Some.ensures) turns).stays
-
-pub returns-in_err-takes_calls-clause-turns : goal.returns-in_err-takes_calls-clause-turns
-returns-in_err-takes_calls-clause-turns g c = λ turns. (held_here c.args.m.now (g.B.Bay.state c.args.bay.now)).turns
-
-pub returns-in-None-clause-turns : goal.returns-in-None-clause-turns
-returns-in-None-clause-turns g c = λ turns. (held_here c.args.m.now (g.B.Bay.state c.args.bay.now)).turns
-
-pub returns-in-Some-clause-turns : goal.returns-in-Some-clause-turns
-returns-in-Some-clause-turns g c = λ turns.
-    (c.expire_disk.ensures.held (expiring_of c.args.m.now c.catalog.result.now c.status.result.now c.args.now c.in-Some.disk c.catalog.ensures c.status.ensures c.in-Some.ensures) turns).turns
+pub returns-in-Err-clause-held : goal.returns-in-Err-clause-held
+returns-in-Err-clause-held g c = λ turns.
+    c.in-Err.ensures.held (expiring_of c.args.m.now c.catalog.result.now c.status.result.now c.args.now c.in-Some.disk c.catalog.ensures c.status.ensures c.in-Some.ensures) turns

@@ -1,5 +1,5 @@
 use Rattle.std.proofs.lemmas.Result.{err_from_is_err_and}
-use Rattle.disk_modes.proofs.Held.{held_here}
+use Rattle.disk_modes.proofs.Held.{rebalance_short}
 use Rattle.disk_modes.proofs.Steps.{kept, shut_cause}
 use Rattle.disk_modes.proofs.ending.set_rebalance.Goals as goal
 
@@ -11,8 +11,7 @@ returns-in_err-takes_calls-clause-cause g c =
     let f = err_from_is_err_and c.from_residual.result c.from_residual.ensures.1 in
     rw (f.1, f.2) (shut_cause c.args.m.now (g.B.Bay.state c.args.bay.now) c.in_err-takes_calls.field-0.0 c.in_err-takes_calls.ensures.cause)
 
-pub returns-in_err-takes_calls-clause-moments : goal.returns-in_err-takes_calls-clause-moments
-returns-in_err-takes_calls-clause-moments g c = (held_here c.args.m.now (g.B.Bay.state c.args.bay.now)).moments
-
-pub returns-in_err-takes_calls-clause-stays : goal.returns-in_err-takes_calls-clause-stays
-returns-in_err-takes_calls-clause-stays g c = (held_here c.args.m.now (g.B.Bay.state c.args.bay.now)).stays
+pub returns-in_err-takes_calls-clause-commits : goal.returns-in_err-takes_calls-clause-commits
+returns-in_err-takes_calls-clause-commits g c =
+    let f = err_from_is_err_and c.from_residual.result c.from_residual.ensures.1 in
+    rw f.1 (rebalance_short c.args.m.now (g.B.Bay.state c.args.bay.now) f.0)

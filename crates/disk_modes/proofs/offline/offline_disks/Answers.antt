@@ -28,29 +28,11 @@ returns-in-Err-clause-keeps g c = kept c.args.m.now (g.B.Bay.state c.args.bay.no
 pub returns-in-Err-clause-cause : goal.returns-in-Err-clause-cause
 returns-in-Err-clause-cause g c = inl c.in-Err.ensures.cause
 
-pub returns-in_err-takes_calls-clause-moments : goal.returns-in_err-takes_calls-clause-moments
-returns-in_err-takes_calls-clause-moments g c = (held_here c.args.m.now (g.B.Bay.state c.args.bay.now)).moments
+pub returns-in_err-takes_calls-clause-held : goal.returns-in_err-takes_calls-clause-held
+returns-in_err-takes_calls-clause-held g c = held_here c.args.m.now (g.B.Bay.state c.args.bay.now)
 
-pub returns-in-Err-clause-moments : goal.returns-in-Err-clause-moments
-returns-in-Err-clause-moments g c = (held_here c.args.m.now (g.B.Bay.state c.args.bay.now)).moments
+pub returns-in-Err-clause-held : goal.returns-in-Err-clause-held
+returns-in-Err-clause-held g c = held_here c.args.m.now (g.B.Bay.state c.args.bay.now)
 
-pub returns-in-Ok-clause-moments : goal.returns-in-Ok-clause-moments
-returns-in-Ok-clause-moments g c = (c.put_offline.ensures.held c.in-Ok.ensures.may).moments
-
-pub returns-in_err-takes_calls-clause-stays : goal.returns-in_err-takes_calls-clause-stays
-returns-in_err-takes_calls-clause-stays g c = (held_here c.args.m.now (g.B.Bay.state c.args.bay.now)).stays
-
-pub returns-in-Err-clause-stays : goal.returns-in-Err-clause-stays
-returns-in-Err-clause-stays g c = (held_here c.args.m.now (g.B.Bay.state c.args.bay.now)).stays
-
-pub returns-in-Ok-clause-stays : goal.returns-in-Ok-clause-stays
-returns-in-Ok-clause-stays g c = (c.put_offline.ensures.held c.in-Ok.ensures.may).stays
-
-pub returns-in_err-takes_calls-clause-turns : goal.returns-in_err-takes_calls-clause-turns
-returns-in_err-takes_calls-clause-turns g c = (held_here c.args.m.now (g.B.Bay.state c.args.bay.now)).turns
-
-pub returns-in-Err-clause-turns : goal.returns-in-Err-clause-turns
-returns-in-Err-clause-turns g c = (held_here c.args.m.now (g.B.Bay.state c.args.bay.now)).turns
-
-pub returns-in-Ok-clause-turns : goal.returns-in-Ok-clause-turns
-returns-in-Ok-clause-turns g c = (c.put_offline.ensures.held c.in-Ok.ensures.may).turns
+pub returns-in-Ok-clause-held : goal.returns-in-Ok-clause-held
+returns-in-Ok-clause-held g c = c.put_offline.ensures.held c.in-Ok.ensures.may

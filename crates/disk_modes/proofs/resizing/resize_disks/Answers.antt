@@ -3,8 +3,12 @@ use Rattle.std.specs.Prelude.{◌⊎◌}
 use Rattle.std.proofs.lemmas.Result.{err_from_is_err_and}
 use Rattle.asm_base.specs.declared.refusal.Refusal.{Refusal}
 use Rattle.group_engine.specs.Commits.{StatusCause}
-use Rattle.disk_modes.specs.Causes.{ResizeRefused}
+use Rattle.disk_modes.specs.declared.sizes.Asked.{Asked}
+use Rattle.disk_modes.specs.Causes.{AreLargeEnough, ResizeRefused}
+use Rattle.disk_modes.specs.Sizes.{Resizes}
+use Rattle.disk_modes.proofs.Checked.{on_both}
 use Rattle.disk_modes.proofs.Held.{held_here}
+use Rattle.disk_modes.proofs.Sized.{large_fit}
 use Rattle.disk_modes.proofs.Steps.{kept, on_err, shut_cause}
 use Rattle.disk_modes.proofs.resizing.resize_disks.Goals as goal
 
@@ -28,29 +32,16 @@ returns-in-Err-clause-keeps g c = kept c.args.m.now (g.B.Bay.state c.args.bay.no
 pub returns-in-Err-clause-cause : goal.returns-in-Err-clause-cause
 returns-in-Err-clause-cause g c = inl c.in-Err.ensures.cause
 
-pub returns-in_err-takes_calls-clause-moments : goal.returns-in_err-takes_calls-clause-moments
-returns-in_err-takes_calls-clause-moments g c = (held_here c.args.m.now (g.B.Bay.state c.args.bay.now)).moments
+pub returns-in_err-takes_calls-clause-held : goal.returns-in_err-takes_calls-clause-held
+returns-in_err-takes_calls-clause-held g c = held_here c.args.m.now (g.B.Bay.state c.args.bay.now)
 
-pub returns-in-Err-clause-moments : goal.returns-in-Err-clause-moments
-returns-in-Err-clause-moments g c = (held_here c.args.m.now (g.B.Bay.state c.args.bay.now)).moments
+pub returns-in-Err-clause-held : goal.returns-in-Err-clause-held
+returns-in-Err-clause-held g c = held_here c.args.m.now (g.B.Bay.state c.args.bay.now)
 
-pub returns-in-Ok-clause-moments : goal.returns-in-Ok-clause-moments
-returns-in-Ok-clause-moments g c = (c.resize.ensures.held c.in-Ok.ensures.fit).moments
+pub returns-in-Ok-clause-held : goal.returns-in-Ok-clause-held
+returns-in-Ok-clause-held g c = c.resize.ensures.held (large_fit (record { disks = c.args.disks; size = c.args.size }) c.args.m.now c.in-Ok.ensures.large)
 
-pub returns-in_err-takes_calls-clause-stays : goal.returns-in_err-takes_calls-clause-stays
-returns-in_err-takes_calls-clause-stays g c = (held_here c.args.m.now (g.B.Bay.state c.args.bay.now)).stays
-
-pub returns-in-Err-clause-stays : goal.returns-in-Err-clause-stays
-returns-in-Err-clause-stays g c = (held_here c.args.m.now (g.B.Bay.state c.args.bay.now)).stays
-
-pub returns-in-Ok-clause-stays : goal.returns-in-Ok-clause-stays
-returns-in-Ok-clause-stays g c = (c.resize.ensures.held c.in-Ok.ensures.fit).stays
-
-pub returns-in_err-takes_calls-clause-turns : goal.returns-in_err-takes_calls-clause-turns
-returns-in_err-takes_calls-clause-turns g c = (held_here c.args.m.now (g.B.Bay.state c.args.bay.now)).turns
-
-pub returns-in-Err-clause-turns : goal.returns-in-Err-clause-turns
-returns-in-Err-clause-turns g c = (held_here c.args.m.now (g.B.Bay.state c.args.bay.now)).turns
-
-pub returns-in-Ok-clause-turns : goal.returns-in-Ok-clause-turns
-returns-in-Ok-clause-turns g c = (c.resize.ensures.held c.in-Ok.ensures.fit).turns
+pub returns-in-Ok-clause-large : goal.returns-in-Ok-clause-large
+returns-in-Ok-clause-large g c =
+    let asked : Asked = record { disks = c.args.disks; size = c.args.size } in
+    on_both (AreLargeEnough c.args.m.now asked) (Resizes c.args.disks c.args.size c.args.power c.args.m.now c.resize.new.m) (AreLargeEnough c.args.m.now asked) c.resize.result (λ large done. large) c.in-Ok.ensures.large c.resize.ensures.done

@@ -1,12 +1,9 @@
-use Rattle.std.proofs.Common.{◌≡◌, ◌≤◌, true}
-use Rattle.asm_formats.specs.Sets.{has_bit}
-use Rattle.disk_modes.specs.Sizes.{image_units, units_asked}
-use Rattle.disk_modes.proofs.Effects.{on_ok}
+use Rattle.std.proofs.Common.{ap, ◌∙◌}
+use Rattle.catalog_tables.specs.Tables.{Catalogued}
+use Rattle.disk_modes.proofs.Sized.{large_enough}
 use Rattle.disk_modes.proofs.sizes.check_size.Goals as goal
 
-pub returns-then-image_units-units-clause-fits : goal.returns-then-image_units-units-clause-fits
-returns-then-image_units-units-clause-fits c =
-    let m = c.args.m.now in
-    let asked = c.args.asked.now in
-    let d = c.args.disk in
-    on_ok ⊥ (has_bit asked.disks d ≡ true → units_asked m.catalog.shape m.disks asked.size d ≤ image_units m.catalog.shape m.disks d) c.too_small.result (λ none. absurd none) c.too_small.ensures.refused
+pub returns-clause-large : goal.returns-clause-large
+returns-clause-large c = λ has.
+    large_enough c.args.m.now c.args.asked.now c.args.disk c.args.used c.units_asked-units.result c.image_units.result c.least_units-need.result c.shape.result c.requires c.units_asked-units.ensures c.image_units.ensures
+    (c.shape.ensures.shape ∙ ap (λ (k : Catalogued). k.shape) c.catalog.ensures) c.least_units-need.ensures c.if-image_units-units.false c.if-units-need.false
