@@ -1,6 +1,7 @@
 pub mod Takings
 pub mod Attached
 pub mod Onlines
+pub mod Passing
 pub mod Numbers
 pub mod Unfit
 pub mod Shutting

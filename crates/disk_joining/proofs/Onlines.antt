@@ -22,7 +22,7 @@ use Rattle.group_engine.specs.declared.access.Access.{Access}
 use Rattle.group_engine.specs.declared.access.Access.TheVariants as access
 use Rattle.disk_joining.specs.Causes.{IsLostBy, OnlineCause, StepCause}
 use Rattle.disk_joining.specs.Causes.IsLostBy.{has_failed, was_lost}
-use Rattle.disk_joining.specs.Causes.OnlineCause.{by_disk, by_record}
+use Rattle.disk_joining.specs.Causes.OnlineCause.{by_record}
 use Rattle.disk_joining.specs.Returning.{AreShown}
 use Rattle.disk_joining.specs.Taking.{TakesIn}
 use Rattle.disk_joining.proofs.Takings.{keeps_taken, step_cause, taken_on}
@@ -50,11 +50,6 @@ step_before old new {s} {m} t run (refusal.Dismounted (disk.Spelt text)) why = a
 step_before old new {s} {m} t run refusal.NoMemory why = tt
 step_before old new {s} {m} t run other why = absurd why
 
-pub online_before : (old new : MountedGroup) {s m : BayState} (disks : ℕ) (t : BayState) {slots : ℕ → Type 0} {step : Image → Image → Type 0} → Runs slots step s m → (e : Refusal) → OnlineCause old disks new m t e
-    → OnlineCause old disks new s t e
-online_before old new {s} {m} disks t run e (by_disk why) = by_disk why
-online_before old new {s} {m} disks t run e (by_record why) = by_record (step_before old new t run e why)
-
 shut_by : (a : Access) (m n : MountedGroup) (s t : BayState) (e : Refusal) → m.access ≡ a → IsShut a e → StepCause m n s t e
 shut_by access.Mounted m n s t e is why = absurd why
 shut_by (access.Dismounted d) m n s t e is why = subst (StepCause m n s t) (sym why) (was_lost is)
@@ -68,15 +63,15 @@ shut_cause m n s t e why = shut_by m.access m n s t e refl why
 pub recorded : (held : List ℕ) {a b c : MountedGroup} {s m t : BayState} {r : Result (Unit {0}) Refusal} → TakesIn held a b s m → GoesOn b r c m t → TakesIn held a c s t
 recorded held {a} {b} {c} {s} {m} {t} {r} before goes = taken_on held before (keeps_taken held before.own goes.keeps)
 
-pub record_causes : (held : List ℕ) {a b c : MountedGroup} {s m t : BayState} (disks : ℕ) (r : Result (Unit {0}) Refusal) → TakesIn held a b s m → IsMounted b → GoesOn b r c m t → IfErr r (OnlineCause a disks c s t)
-record_causes held {a} {b} {c} {s} {m} {t} disks r before mounted goes = each r goes.cause
+pub record_causes : (held : List ℕ) {a b c : MountedGroup} {s m t : BayState} (r : Result (Unit {0}) Refusal) → TakesIn held a b s m → IsMounted b → GoesOn b r c m t → IfErr r (StepCause a c s t)
+record_causes held {a} {b} {c} {s} {m} {t} r before mounted goes = each r goes.cause
   where
-    each : (x : Result (Unit {0}) Refusal) → IfErr x (StatusCause b c m t) → IfErr x (OnlineCause a disks c s t)
+    each : (x : Result (Unit {0}) Refusal) → IfErr x (StatusCause b c m t) → IfErr x (StepCause a c s t)
     each (Ok done) why = tt
-    each (Err e) why = by_record (step_cause held before mounted goes.keeps e why)
+    each (Err e) why = step_cause held before mounted goes.keeps e why
 
--- the same where the call comes after others
-pub causes_later : (old new : MountedGroup) {s m : BayState} (disks : ℕ) (t : BayState) {slots : ℕ → Type 0} {step : Image → Image → Type 0} (r : Result (Unit {0}) Refusal) → Runs slots step s m
-    → IfErr r (OnlineCause old disks new m t) → IfErr r (OnlineCause old disks new s t)
-causes_later old new {s} {m} disks t (Ok done) run why = tt
-causes_later old new {s} {m} disks t (Err e) run why = online_before old new disks t run e why
+-- the disks come back after looks
+pub causes_later : (slots : ℕ) (held : List ℕ) (old new : MountedGroup) {s m : BayState} (disks : ℕ) (t : BayState) {on : ℕ → Type 0} {step : Image → Image → Type 0} (r : Result (Unit {0}) Refusal) → Runs on step s m
+    → IfErr r (StepCause old new m t) → IfErr r (OnlineCause slots held old disks new s t)
+causes_later slots held old new {s} {m} disks t (Ok done) run why = tt
+causes_later slots held old new {s} {m} disks t (Err e) run why = by_record (step_before old new t run e why)

@@ -1,5 +1,5 @@
 -- Why disks don't come to a group.
-use Rattle.std.specs.Prelude.{◌≡◌, ◌≢◌, ⊤, ℕ, true, Some, None}
+use Rattle.std.specs.Prelude.{◌≡◌, ⊤, ℕ, ◌<◌, Bool, true, false, List, length, Some, None}
 use Rattle.bay.specs.Counts.{Rose}
 use Rattle.bay.specs.State.{BayState}
 use Rattle.asm_base.specs.declared.refusal.DiskRef.{DiskRef}
@@ -8,9 +8,12 @@ use Rattle.asm_base.specs.declared.refusal.Refusal.{Refusal}
 use Rattle.asm_base.specs.declared.refusal.Refusal.TheVariants as refusal
 use Rattle.asm_formats.specs.Sets.{has_bit}
 use Rattle.asm_formats.specs.Status.{Entry, entry_of}
-use Rattle.asm_group.specs.declared.Mode.TheVariants as mode
+use Rattle.asm_world.specs.Causes.{is_offline}
+use Rattle.disk_images.specs.Looks.{AreLooked}
+use Rattle.disk_images.specs.declared.looking.Looked.{Looked}
 use Rattle.group_engine.specs.Mounts.{MountedGroup, slot_at}
 use Rattle.group_engine.specs.declared.access.Access.TheVariants as access
+use Rattle.disk_joining.specs.Returning.{is_present}
 
 -- The group was dismounted by the disk before the call, or the disk is attached to it and failed in the call.
 pub data IsLostBy (old new : MountedGroup) (s t : BayState) (d : ℕ) : Type 0 where
@@ -27,15 +30,53 @@ StepCause old new s t (refusal.Dismounted by) = LostCause old new s t by
 StepCause old new s t refusal.NoMemory = ⊤
 StepCause old new s t other = ⊥
 
--- Why a disk, one of the set, doesn't come back: it isn't Offline, there is no image of it, or it has no entry.
-abbrev pub IsNoneOf : MountedGroup → ℕ → Refusal → Type 0
-IsNoneOf m disks (refusal.DiskState (disk.Number d) is) =
-    (e : Entry) × (entry_of m.register.value.entries d ≡ Some e) × (has_bit disks d ≡ true) × (e.mode ≡ is) × (is ≢ mode.Offline)
-IsNoneOf m disks (refusal.NoDisk (disk.Number d)) = has_bit disks d ≡ true
-IsNoneOf m disks refusal.NoName = (d : ℕ) × (has_bit disks d ≡ true) × (entry_of m.register.value.entries d ≡ None)
-IsNoneOf m disks other = ⊥
+-- ---- why disks don't come back
 
--- Why disks of a set don't come back: by one of them, or since a record is refused.
-pub data OnlineCause (old : MountedGroup) (disks : ℕ) (new : MountedGroup) (s t : BayState) (given : Refusal) : Type 0 where
-  by_disk : IsNoneOf old disks given → OnlineCause old disks new s t given
-  by_record : StepCause old new s t given → OnlineCause old disks new s t given
+-- the disk has an entry that passes the test
+abbrev pub Passes : List Entry → (Entry → Bool) → ℕ → Type 0
+Passes entries test d = (e : Entry) × (entry_of entries d ≡ Some e) × (test e ≡ true)
+
+-- each disk of a set below a number passes
+pub record PassBelow (entries : List Entry) (disks : ℕ) (test : Entry → Bool) (n : ℕ) : Type 0 where
+  pub each : (d : ℕ) → d < n → has_bit disks d ≡ true → Passes entries test d
+
+-- The least disk of a set that doesn't pass a test: it has an entry, which fails, and all lesser disks of the set pass.
+pub record IsLeast (entries : List Entry) (disks : ℕ) (test : Entry → Bool) (d : ℕ) : Type 0 where
+  pub among : has_bit disks d ≡ true
+  pub entry : Entry
+  pub there : entry_of entries d ≡ Some entry
+  pub fails : test entry ≡ false
+  pub lesser : PassBelow entries disks test d
+
+-- a disk of the set has no entry
+abbrev pub HasUnknown : List Entry → ℕ → Type 0
+HasUnknown entries disks = (d : ℕ) × (has_bit disks d ≡ true) × (entry_of entries d ≡ None)
+
+-- a disk may come back that is Offline
+abbrev pub may_return : Entry → Bool
+may_return e = is_offline e.mode
+
+-- By the modes of the disks: the least that isn't Offline is in that mode, or one has no entry.
+abbrev pub StateCause : MountedGroup → ℕ → Refusal → Type 0
+StateCause m disks (refusal.DiskState (disk.Number d) is) = (least : IsLeast m.register.value.entries disks may_return d) × (least.entry.mode ≡ is)
+StateCause m disks refusal.NoName = HasUnknown m.register.value.entries disks
+StateCause m disks other = ⊥
+
+-- By what was looked at: it is the least disk that isn't there, or one has no entry.
+abbrev pub ImageCause : List Looked → List ℕ → MountedGroup → ℕ → Refusal → Type 0
+ImageCause looked held m disks (refusal.NoDisk (disk.Number d)) = IsLeast m.register.value.entries disks (is_present looked held m) d
+ImageCause looked held m disks refusal.NoName = HasUnknown m.register.value.entries disks
+ImageCause looked held m disks other = ⊥
+
+-- Looks at this many slots show what their images have then, and stand against the disks.
+pub record IsMissed (slots : ℕ) (held : List ℕ) (m : MountedGroup) (disks : ℕ) (s t : BayState) (given : Refusal) : Type 0 where
+  pub looked : List Looked
+  pub are_looked : AreLooked looked s t
+  pub count : length looked ≡ slots
+  pub cause : ImageCause looked held m disks given
+
+-- Why disks of a set don't come back: by the modes of the disks, since one isn't there, or since a record is refused.
+pub data OnlineCause (slots : ℕ) (held : List ℕ) (old : MountedGroup) (disks : ℕ) (new : MountedGroup) (s t : BayState) (given : Refusal) : Type 0 where
+  by_state : StateCause old disks given → OnlineCause slots held old disks new s t given
+  by_look : IsMissed slots held old disks s t given → OnlineCause slots held old disks new s t given
+  by_record : StepCause old new s t given → OnlineCause slots held old disks new s t given

@@ -1,7 +1,7 @@
 //! What new disks become is tried before the first write.
 ghost use Rattle.std.specs.Prelude.{◌≡◌, ◌&&◌, is_some, not};
 ghost use Rattle.catalog_tables.specs.Disks.{info_at};
-ghost use Rattle.new_groups.specs.Tests.{are_apart, is_apart, is_there};
+ghost use Rattle.new_groups.specs.Tests.{is_there};
 ghost use Rattle.disk_joining.specs.Attaching.{has_slot};
 ghost use Rattle.disk_joining.specs.Joiners.{are_free, are_asked, are_unrecorded, is_entered, records_disk, are_entered, fits_shape, may_join};
 
@@ -16,7 +16,7 @@ use disk_images::Looked;
 use group_engine::Mounted;
 use group_mount::Headed;
 use new_disks::PlannedDisk;
-use new_groups::is_there;
+use new_groups::{are_apart, is_there};
 use status_table::PstRecord;
 
 /// Whether the header is one of a group of this shape.
@@ -83,29 +83,6 @@ fn are_unrecorded(catalog: &Catalog, records: &[(u8, DiskInfo)]) -> bool
                 && (is_new(catalog, first.0)
                     && (!records_disk(rest, first.0) && are_unrecorded(catalog, rest)))
         }
-    }
-}
-
-/// Whether none of the others has the disk's slot or number.
-fn is_apart(disk: &Headed, others: &[Headed]) -> bool
-    ensures { result ≡ is_apart disk.now others.now }
-{
-    match others {
-        [] => true,
-        [first, rest @ ..] => {
-            first.slot != disk.slot
-                && (first.header.number != disk.header.number && is_apart(disk, rest))
-        }
-    }
-}
-
-/// Whether no two of the disks have one slot or one number.
-fn are_apart(disks: &[Headed]) -> bool
-    ensures { result ≡ are_apart disks.now }
-{
-    match disks {
-        [] => true,
-        [first, rest @ ..] => is_apart(first, rest) && are_apart(rest),
     }
 }
 

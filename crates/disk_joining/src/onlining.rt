@@ -1,9 +1,9 @@
 //! ONLINE: disks that were offline come back.
-ghost use Rattle.std.specs.Prelude.{◌≡◌, ◌≤◌, IfErr, IfSome, OnOk, length};
+ghost use Rattle.std.specs.Prelude.{◌≡◌, ◌+◌, ◌<◌, ◌≤◌, ◌&&◌, IfErr, IfSome, OnOk, is_some, length, slice_get};
 ghost use Rattle.asm_formats.specs.Status.{entry_of};
 ghost use Rattle.group_engine.specs.Mounts.{IsMounted, Takes};
-ghost use Rattle.disk_joining.specs.Causes.{IsNoneOf, OnlineCause};
-ghost use Rattle.disk_joining.specs.Returning.{AreShown, IsShownAs, IsSize};
+ghost use Rattle.disk_joining.specs.Causes.{ImageCause, OnlineCause, PassBelow, StateCause, StepCause, may_return};
+ghost use Rattle.disk_joining.specs.Returning.{AreShown, IsShownAs, IsShownFrom, IsSize, is_disk_of, is_free, is_present, shows_at, shows_disk, shows_in_free};
 ghost use Rattle.disk_joining.specs.Taking.{IsApart, TakesIn};
 
 use crate::attaching::{DiskImage, attach_image};
@@ -17,9 +17,11 @@ use group_engine::Mounted;
 use status_table::{PstEntry, PstRecord, with_mode};
 use std::alloc::Global;
 
-/// Whether the disk, where it is one of these, is Offline.
+/// Whether the disk, where it is one of these, is Offline. Those of lesser numbers are.
 fn check_state(m: &Mounted, disks: DiskSet, number: u8) -> Result<(), Refusal>
-    ensures cause { IfErr result (IsNoneOf m.now disks) }
+    requires lesser { PassBelow m.now.register.value.entries disks may_return number }
+    ensures cause { IfErr result (StateCause m.now disks) }
+    ensures passes { OnOk result (PassBelow m.now.register.value.entries disks may_return (number + 1)) }
 {
     if !disks.has(number) {
         return Ok(());
@@ -38,7 +40,7 @@ fn check_state(m: &Mounted, disks: DiskSet, number: u8) -> Result<(), Refusal>
 
 /// Whether all of the disks are Offline. Refused as DiskState by the one of the least number that isn't.
 fn check_states(m: &Mounted, disks: DiskSet) -> Result<(), Refusal>
-    ensures cause { IfErr result (IsNoneOf m.now disks) }
+    ensures cause { IfErr result (StateCause m.now disks) }
 {
     for number in 0..64u8 {
         match check_state(m, disks, number) {
@@ -51,7 +53,9 @@ fn check_states(m: &Mounted, disks: DiskSet) -> Result<(), Refusal>
 
 /// Whether a header on an image of so many bytes is that of an entry's disk: a member of the id with its number and birth,
 /// and at least its units.
-fn is_disk_of(id: u64, entry: PstEntry, header: &Header, size: u64) -> bool {
+fn is_disk_of(id: u64, entry: PstEntry, header: &Header, size: u64) -> bool
+    ensures { result ≡ is_disk_of id entry header.now size }
+{
     header.id == id
         && (header.number == entry.number
             && (header.birth == entry.birth && entry.units as u64 * header.au_size as u64 <= size))
@@ -59,7 +63,8 @@ fn is_disk_of(id: u64, entry: PstEntry, header: &Header, size: u64) -> bool {
 
 /// The size of the image that was looked at, where it is the disk of an entry.
 fn size_of(id: u64, entry: PstEntry, looked: &Looked) -> Option<u64>
-    ensures { IfSome result (IsSize looked.now) }
+    ensures size { IfSome result (IsSize looked.now) }
+    ensures shows { is_some result ≡ shows_disk id entry looked.now }
 {
     match looked {
         Looked::Absent => None,
@@ -78,48 +83,96 @@ fn size_of(id: u64, entry: PstEntry, looked: &Looked) -> Option<u64>
 }
 
 /// Whether the image in a slot is the disk of an entry.
-fn is_still(m: &Mounted, looked: &[Looked], entry: PstEntry, slot: u32) -> bool {
+fn is_still(m: &Mounted, looked: &[Looked], entry: PstEntry, slot: u32) -> bool
+    ensures { result ≡ shows_at m.now.register.value.id entry (slice_get looked.now slot) }
+{
     match looked.get(slot as usize) {
         Some(image) => size_of(m.status().id, entry, image).is_some(),
         None => false,
     }
 }
 
-/// The first image that is the disk of an entry, in a slot that neither this group nor another has.
-fn image_of(m: &Mounted, looked: &[Looked], held: &[u32], entry: PstEntry) -> Option<DiskImage>
-    ensures { IfSome result (IsShownAs looked.now) }
+/// Whether neither this group nor another has the slot.
+fn is_free(m: &Mounted, held: &[u32], slot: u32) -> bool
+    ensures { result ≡ is_free held.now m.now slot }
 {
-    for (i, image) in looked.iter().enumerate() {
-        if i < 512 {
-            let slot = i as u32;
-            if let Some(size) = size_of(m.status().id, entry, image) {
-                if !is_own(m, slot) && !is_held(held, slot) {
-                    return Some(DiskImage {
-                        slot,
-                        size,
-                        number: entry.number,
-                        birth: entry.birth,
-                    });
-                }
+    !is_own(m, slot) && !is_held(held, slot)
+}
+
+/// The image in a slot, where it is the disk of an entry, and neither this group nor another has it.
+fn image_in(
+    m: &Mounted,
+    looked: &Looked,
+    held: &[u32],
+    entry: PstEntry,
+    slot: u32,
+) -> Option<DiskImage>
+    ensures slot { IfSome result (λ image. image.slot ≡ slot) }
+    ensures size { IfSome result (λ image. IsSize looked.now image.size) }
+    ensures shows { is_some result ≡ (shows_disk m.now.register.value.id entry looked.now && is_free held.now m.now slot) }
+{
+    match size_of(m.status().id, entry, looked) {
+        Some(size) => {
+            if is_free(m, held, slot) {
+                Some(DiskImage {
+                    slot,
+                    size,
+                    number: entry.number,
+                    birth: entry.birth,
+                })
+            } else {
+                None
             }
         }
+        None => None,
     }
-    None
+}
+
+/// The first image that is the disk of an entry, in a slot that neither this group nor another has. These images are those of
+/// the slots from one on.
+fn image_from(
+    m: &Mounted,
+    looked: &[Looked],
+    held: &[u32],
+    entry: PstEntry,
+    slot: u32,
+) -> Option<DiskImage>
+    requires few { slot + length looked.now ≤ 512 }
+    ensures shown { IfSome result (IsShownFrom slot looked.now) }
+    ensures shows { is_some result ≡ shows_in_free held.now m.now entry looked.now slot }
+{
+    match looked {
+        [] => None,
+        [first, rest @ ..] => match image_in(m, first, held, entry, slot) {
+            Some(image) => Some(image),
+            None => image_from(m, rest, held, entry, slot + 1),
+        },
+    }
+}
+
+/// The first image that is the disk of an entry, in a slot that neither this group nor another has.
+fn image_of(m: &Mounted, looked: &[Looked], held: &[u32], entry: PstEntry) -> Option<DiskImage>
+    requires few { length looked.now ≤ 512 }
+    ensures shown { IfSome result (IsShownAs looked.now) }
+    ensures shows { is_some result ≡ shows_in_free held.now m.now entry looked.now 0 }
+{
+    image_from(m, looked, held, entry, 0)
 }
 
 /// Whether the disk of an entry is there: attached, and still that disk, or another image is it. Of a disk that is attached
 /// no other image is it, as no two images are one disk.
-fn is_there(m: &Mounted, looked: &[Looked], held: &[u32], entry: PstEntry) -> bool {
-    if entry.number >= 64 {
-        return false;
-    }
+fn is_there(m: &Mounted, looked: &[Looked], held: &[u32], entry: PstEntry) -> bool
+    requires few { length looked.now ≤ 512 }
+    requires small { entry.number < 64 }
+    ensures { result ≡ is_present looked.now held.now m.now entry }
+{
     match m.slot(entry.number) {
         Some(slot) => is_still(m, looked, entry, slot),
         None => image_of(m, looked, held, entry).is_some(),
     }
 }
 
-/// Whether the disk, where it is one of these, is there.
+/// Whether the disk, where it is one of these, is there. Those of lesser numbers are.
 fn check_image(
     m: &Mounted,
     looked: &[Looked],
@@ -127,7 +180,11 @@ fn check_image(
     disks: DiskSet,
     number: u8,
 ) -> Result<(), Refusal>
-    ensures cause { IfErr result (IsNoneOf m.now disks) }
+    requires few { length looked.now ≤ 512 }
+    requires small { number < 64 }
+    requires lesser { PassBelow m.now.register.value.entries disks (is_present looked.now held.now m.now) number }
+    ensures cause { IfErr result (ImageCause looked.now held.now m.now disks) }
+    ensures passes { OnOk result (PassBelow m.now.register.value.entries disks (is_present looked.now held.now m.now) (number + 1)) }
 {
     if !disks.has(number) {
         return Ok(());
@@ -148,7 +205,8 @@ fn check_image(
 
 /// Whether all of the disks are there. Refused as NoDisk by the one of the least number that isn't.
 fn check_images(m: &Mounted, looked: &[Looked], held: &[u32], disks: DiskSet) -> Result<(), Refusal>
-    ensures cause { IfErr result (IsNoneOf m.now disks) }
+    requires few { length looked.now ≤ 512 }
+    ensures cause { IfErr result (ImageCause looked.now held.now m.now disks) }
 {
     for number in 0..64u8 {
         match check_image(m, looked, held, disks, number) {
@@ -168,6 +226,7 @@ fn attach_found<B: Bay>(
     disks: DiskSet,
     number: u8,
 )
+    requires few { length looked.now ≤ 512 }
     requires takes { Takes m.old (B.state bay.now) }
     requires apart { IsApart held.now m.old }
     requires shown { AreShown looked.now (B.state bay.now) }
@@ -187,6 +246,7 @@ fn attach_found<B: Bay>(
 
 /// Attaches the images of the disks that aren't attached.
 fn attach_missing<B: Bay>(m: &mut Mounted, bay: &B, looked: &[Looked], held: &[u32], disks: DiskSet)
+    requires few { length looked.now ≤ 512 }
     requires takes { Takes m.old (B.state bay.now) }
     requires apart { IsApart held.now m.old }
     requires shown { AreShown looked.now (B.state bay.now) }
@@ -217,7 +277,7 @@ fn syncing(status: &PstRecord, disks: DiskSet) -> PstRecord {
     next
 }
 
-/// The disks, whose images were looked at, come back.
+/// The disks, whose images are there, come back.
 fn bring_back<B: Bay>(
     m: &mut Mounted,
     alloc: Global,
@@ -226,18 +286,15 @@ fn bring_back<B: Bay>(
     held: &[u32],
     disks: DiskSet,
 ) -> Result<(), Refusal>
+    requires few { length looked.now ≤ 512 }
     requires mounted { IsMounted m.old }
     requires takes { Takes m.old (B.state bay.old) }
     requires apart { IsApart held.now m.old }
     requires shown { AreShown looked.now (B.state bay.old) }
     ensures taken { TakesIn held.now m.old m.new (B.state bay.old) (B.state bay.new) }
     ensures mounted { OnOk result (IsMounted m.new) }
-    ensures cause { IfErr result (OnlineCause m.old disks m.new (B.state bay.old) (B.state bay.new)) }
+    ensures cause { IfErr result (StepCause m.old m.new (B.state bay.old) (B.state bay.new)) }
 {
-    match check_images(m, looked, held, disks) {
-        Ok(()) => {}
-        Err(refusal) => return Err(refusal),
-    }
     m.set_flight(None);
     attach_missing(m, bay, looked, held, disks);
     let next = syncing(m.status(), disks);
@@ -263,7 +320,7 @@ pub fn online_disks<B: Bay>(
     // The group's parts agree, it takes the next call, and the disks of others stay.
     ensures taken { TakesIn held.now m.old m.new (B.state bay.old) (B.state bay.new) }
     ensures mounted { OnOk result (IsMounted m.new) }
-    ensures cause { IfErr result (OnlineCause m.old disks m.new (B.state bay.old) (B.state bay.new)) }
+    ensures cause { IfErr result (OnlineCause (length paths.now) held.now m.old disks m.new (B.state bay.old) (B.state bay.new)) }
 {
     match m.takes_calls() {
         Ok(()) => {}
@@ -276,8 +333,12 @@ pub fn online_disks<B: Bay>(
         Ok(()) => {}
         Err(refusal) => return Err(refusal),
     }
-    match look_at_images(alloc, bay, paths) {
-        Ok(looked) => bring_back(m, alloc, bay, &looked, held, disks),
-        Err(NoMemory) => Err(Refusal::NoMemory),
+    let looked = match look_at_images(alloc, bay, paths) {
+        Ok(looked) => looked,
+        Err(NoMemory) => return Err(Refusal::NoMemory),
+    };
+    match check_images(m, &looked, held, disks) {
+        Ok(()) => bring_back(m, alloc, bay, &looked, held, disks),
+        Err(refusal) => Err(refusal),
     }
 }
