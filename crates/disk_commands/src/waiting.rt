@@ -1,7 +1,11 @@
 // Statements on disks, and what they wait for: rebalances and resyncs to their ends, with their lines.
-ghost use Rattle.std.specs.Prelude.{⊤, ◌≤◌, length};
+ghost use Rattle.std.specs.Prelude.{◌≡◌, ◌⊎◌, ⊤, ◌≤◌, [], length, IfErr, IfOk, IfSome, Some};
+ghost use Rattle.asm_base.specs.Refusals.{said};
+ghost use Rattle.asm_base.specs.declared.refusal.Refusal.TheVariants as cause;
+ghost use Rattle.disk_commands.specs.Waits.{HasShortCause, HasWaited, IsNoShortfall, ReplyWaited, WaitCause, WaitsFor, refusal_in, refused_after, shortfall};
 ghost use Rattle.group_engine.specs.Mounts.{Takes};
 ghost use Rattle.group_engine.specs.Own.{KeepsGroup};
+ghost use Rattle.relocation.specs.Shortfalls.{EndCause};
 ghost use Rattle.session.specs.Naming.{CarriesOn};
 ghost use Rattle.session.specs.Sessions.{AreReady};
 
@@ -38,7 +42,9 @@ fn line_of(alloc: Global, event: &Event<'_>) -> Result<Text, NoMemory> {
 }
 
 /// The line with its refusal, in which each disk is spelt.
-fn told(alloc: Global, m: &Mounted, line: Text, refusal: Option<Refusal>) -> Waited {
+fn told(alloc: Global, m: &Mounted, line: Text, refusal: Option<Refusal>) -> Waited
+    ensures { IfSome refusal (HasShortCause m.now) → HasWaited m.now result }
+{
     match refusal {
         Some(refusal) => Waited {
             line,
@@ -73,7 +79,9 @@ fn rebalance_line(
 }
 
 /// The refusal of a rebalance that ended so.
-fn rebalance_refusal(end: Result<Slice, Refusal>) -> Option<Refusal> {
+fn rebalance_refusal(end: Result<Slice, Refusal>) -> Option<Refusal>
+    ensures { result ≡ shortfall end }
+{
     match end {
         Ok(Slice::NoSpace(extent)) => Some(Refusal::NoSpace { extent }),
         Ok(Slice::Lost(extent)) => Some(Refusal::Lost { extent }),
@@ -87,7 +95,11 @@ fn rebalance_told(
     m: &Mounted,
     end: Result<Slice, Refusal>,
     steps: u64,
-) -> Result<Waited, Refusal> {
+) -> Result<Waited, Refusal>
+    requires why { IfOk end (EndCause m.now) }
+    requires fault { IfErr end IsNoShortfall }
+    ensures { WaitsFor result m.now }
+{
     match rebalance_line(alloc, m, &end, steps) {
         Ok(line) => Ok(told(alloc, m, line, rebalance_refusal(end))),
         Err(NoMemory) => {
@@ -106,8 +118,9 @@ pub struct RebalanceAll {
 impl GroupWork for RebalanceAll {
     type Given = Waited;
 
-    ghost does = { λ work old result new s t. ⊤ };
+    ghost does = { λ work old result new s t. WaitsFor result new };
 
+    #[tactic(auto, using(crate::proofs::Waits::faults_short))]
     fn run<B: Bay>(self, m: &mut Mounted, alloc: Global, bay: &mut B) -> Result<Waited, Refusal> {
         let (end, steps) = run_to_end(m, alloc, bay, self.power);
         rebalance_told(alloc, m, end, steps)
@@ -196,7 +209,9 @@ impl GroupWork for ResyncDisk {
 // ---- statements
 
 /// Puts the line of what waited behind others, and answers the refusal that it ended with.
-fn put_waited(lines: &mut List<Text>, waited: Waited) -> Result<(), Refusal> {
+fn put_waited(lines: &mut List<Text>, waited: Waited) -> Result<(), Refusal>
+    ensures { IfErr result (λ refusal. (waited.refusal ≡ Some refusal) ⊎ (refusal ≡ cause.NoMemory)) }
+{
     let Waited { line, refusal } = waited;
     match (lines.push(line), refusal) {
         (Ok(()), None) => Ok(()),
@@ -209,7 +224,9 @@ fn put_waited(lines: &mut List<Text>, waited: Waited) -> Result<(), Refusal> {
 }
 
 /// The reply with the lines of what waited, and how that ended.
-fn reply_of(lines: List<Text>, ended: Result<(), Refusal>) -> Reply {
+fn reply_of(lines: List<Text>, ended: Result<(), Refusal>) -> Reply
+    ensures { refused_after result ≡ refusal_in ended }
+{
     match ended {
         Ok(()) => Reply::Done(lines),
         Err(refusal) => Reply::RefusedAfter(lines, refusal),
@@ -239,6 +256,7 @@ fn rebalance_all<B: Bay>(
 ) -> Result<(), Refusal>
     requires ready { AreReady session.old.groups (B.state bay.old) }
     ensures carries { CarriesOn session.old session.new (B.state bay.old) (B.state bay.new) }
+    ensures why { IfErr result (λ refusal. WaitCause session.new name.now (said (λ _. []) refusal)) }
 {
     match session.work(alloc, bay, name, RebalanceAll { power }) {
         Ok(waited) => put_waited(lines, waited),
@@ -299,6 +317,7 @@ fn reply_after<B: Bay>(
 ) -> Reply
     requires ready { AreReady session.old.groups (B.state bay.old) }
     ensures carries { CarriesOn session.old session.new (B.state bay.old) (B.state bay.new) }
+    ensures waited { ReplyWaited session.new name.now result }
 {
     let mut lines = List::new(alloc);
     match waits(power, wait) {
@@ -344,6 +363,7 @@ pub fn change_and_wait<B: Bay>(
 ) -> Reply
     requires ready { AreReady session.old.groups (B.state bay.old) }
     ensures carries { CarriesOn session.old session.new (B.state bay.old) (B.state bay.new) }
+    ensures waited { ReplyWaited session.new name.now result }
 {
     match session.work(alloc, bay, name, ChangeDisks { change, power }) {
         Ok(()) => reply_after(session, alloc, bay, name, power, wait),
@@ -366,6 +386,7 @@ pub fn add_and_wait<B: Bay>(
     requires few { length paths.now ≤ 512 }
     requires ready { AreReady session.old.groups (B.state bay.old) }
     ensures carries { CarriesOn session.old session.new (B.state bay.old) (B.state bay.new) }
+    ensures waited { ReplyWaited session.new name.now result }
 {
     match session.join(alloc, bay, paths, name, Joining::Add { groups, power }) {
         Ok(_) => reply_after(session, alloc, bay, name, power, wait),

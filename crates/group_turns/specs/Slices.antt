@@ -1,5 +1,5 @@
 -- How expiries and slices end, in the words of the world.
-use Rattle.std.specs.Prelude.{ℕ, Option, Some, None, Result, Ok, Err}
+use Rattle.std.specs.Prelude.{◌≡◌, ⊤, ℕ, Option, Some, None, Result, Ok, Err}
 use Rattle.asm_formats.specs.Items.{DiskInfo}
 use Rattle.asm_group.specs.Names.{Bytes}
 use Rattle.asm_base.specs.declared.refusal.DiskRef.{DiskRef}
@@ -7,10 +7,12 @@ use Rattle.asm_base.specs.declared.refusal.DiskRef.TheVariants as disk
 use Rattle.asm_base.specs.declared.refusal.Refusal.{Refusal}
 use Rattle.asm_base.specs.declared.refusal.Refusal.TheVariants as cause
 use Rattle.asm_world.specs.Reply as w
+use Rattle.asm_world.specs.Text.{event_text}
 use Rattle.catalog_tables.specs.Disks.{info_at}
 use Rattle.group_engine.specs.Mounts.{MountedGroup}
 use Rattle.group_turns.specs.declared.failure.Failure.{Failure}
 use Rattle.group_turns.specs.declared.failure.Failure.TheVariants as failure
+use Rattle.relocation.specs.Shortfalls.{HasNoPlace, HasNoSource}
 use Rattle.relocation.specs.declared.asking.Slice.{Slice}
 use Rattle.relocation.specs.declared.asking.Slice.TheVariants as slice
 use Rattle.resync.specs.declared.slice.Resynced.{Resynced}
@@ -63,3 +65,16 @@ resynced_by m (Ok sync.More) steps = Some (w.MarksLeft steps)
 resynced_by m (Ok sync.Online) steps = Some (w.Back steps)
 resynced_by m (Ok (sync.Left extent)) steps = Some (w.LeftMarked extent.file extent.index)
 resynced_by m (Err refusal) steps = failed_resync m (failure_of refusal) steps
+
+-- where a slice of a rebalance ended before all was done: by the group's tables and record no disk can take a copy of the extent that is
+-- to be elsewhere, or no copy of it can be read
+abbrev pub RebalancedCause : MountedGroup → w.Rebalanced → Type 0
+RebalancedCause m (w.OutOfSpace steps file index) = HasNoPlace m (record { file = file; index = index })
+RebalancedCause m (w.LostExtent steps file index) = HasNoSource m (record { file = file; index = index })
+RebalancedCause m another = ⊤
+
+-- The line of a slice of the group's rebalance, which ended so for its cause.
+pub record IsMovedLine (m : MountedGroup) (line : Bytes) : Type 0 where
+  pub how : w.Rebalanced
+  pub text : line ≡ event_text (w.Moved m.name how)
+  pub cause : RebalancedCause m how

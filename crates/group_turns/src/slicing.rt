@@ -1,10 +1,11 @@
 // Slices of resync and rebalance, and how they ended.
-ghost use Rattle.std.specs.Prelude.{◌≡◌};
+ghost use Rattle.std.specs.Prelude.{◌≡◌, IfOk};
 ghost use Rattle.std.specs.Option.{option_map};
 ghost use Rattle.event_lines.specs.Said.{rebalanced_said, resynced_said};
 ghost use Rattle.group_engine.specs.Members.{LetsGo};
 ghost use Rattle.group_engine.specs.Mounts.{IsMounted, Takes};
-ghost use Rattle.group_turns.specs.Slices.{failed_rebalance, failed_resync, rebalanced_by, resynced_by};
+ghost use Rattle.relocation.specs.Shortfalls.{EndCause};
+ghost use Rattle.group_turns.specs.Slices.{IsMovedLine, failed_rebalance, failed_resync, rebalanced_by, resynced_by};
 ghost use Rattle.group_turns.specs.Turns.{AfterReply, IsLineOf, OnEvent, OnIdle, OnWork, IsWork};
 
 use crate::failure::{Failure, failure_of, shown_name};
@@ -96,8 +97,10 @@ fn write_rebalance(
     steps: u64,
     line: &mut LineBuffer,
 ) -> Turned
+    requires why { IfOk sliced (EndCause m.now) }
     ensures work { IsWork result }
     ensures line { OnEvent result (IsLineOf m.now.name AfterReply line.new) }
+    ensures moved { OnEvent result (IsMovedLine m.now line.new) }
 {
     let how = rebalanced(m, &sliced, steps);
     drop(sliced);
@@ -175,6 +178,7 @@ pub fn rebalance_slice<B: Bay>(
     ensures idle { OnIdle result ((m.new ≡ m.old) × (bay.new ≡ bay.old)) }
     ensures lets { OnWork result (IsMounted m.old × LetsGo m.old m.new (B.state bay.old) (B.state bay.new)) }
     ensures line { OnEvent result (IsLineOf m.old.name AfterReply line.new) }
+    ensures moved { OnEvent result (IsMovedLine m.new line.new) }
 {
     match m.catalog().rebalance() {
         Some(power) if power >= 1 => {

@@ -3,6 +3,8 @@ ghost use Rattle.std.specs.Prelude.{◌≡◌, IsTrue};
 ghost use Rattle.asm_group.specs.Shape.{is_shape};
 ghost use Rattle.group_engine.specs.Mounts.{IsMounted, IsWhole, Takes};
 ghost use Rattle.group_engine.specs.Members.{LetsGo};
+ghost use Rattle.group_engine.specs.Searches.{IsNextMove};
+ghost use Rattle.relocation.specs.Shortfalls.{EndCause, IsNoEnd, OnEnd};
 
 use crate::fitting::{can_go_on, home_of};
 use asm_base::{DiskSet, ExtentId, Home};
@@ -44,6 +46,7 @@ pub(crate) fn ask<B: Bay>(m: &mut Mounted, bay: &B) -> Asked
     requires takes { Takes m.old (B.state bay.now) }
     ensures lets { LetsGo m.old m.new (B.state bay.now) (B.state bay.now) }
     ensures mounted { IsMounted m.new }
+    ensures end { OnEnd result (EndCause m.new) }
 {
     match going_on(m) {
         Some(flight) => Asked::Copy { flight },
@@ -73,6 +76,7 @@ fn going_on(m: &Mounted) -> Option<Flight>
 fn next_asked(m: &mut Mounted) -> Asked
     requires whole { IsWhole m.old }
     ensures same { m.new ≡ m.old }
+    ensures end { OnEnd result (EndCause m.old) }
 {
     match m.next_move() {
         Some(next) => asked_of(m, next),
@@ -81,7 +85,10 @@ fn next_asked(m: &mut Mounted) -> Asked
 }
 
 /// The next move, or the end, as a slice asks it.
-fn asked_of(m: &Mounted, next: Next) -> Asked {
+fn asked_of(m: &Mounted, next: Next) -> Asked
+    requires next { IsNextMove m.now.catalog m.now.register.value next }
+    ensures end { OnEnd result (EndCause m.now) }
+{
     match next {
         Next::Move(next) => begun(m, next),
         Next::Done => Asked::End { end: Slice::Done },
@@ -95,7 +102,9 @@ fn asked_of(m: &Mounted, next: Next) -> Asked {
 }
 
 /// The beginning of a move.
-fn begun(m: &Mounted, next: Move) -> Asked {
+fn begun(m: &Mounted, next: Move) -> Asked
+    ensures { IsNoEnd result }
+{
     match next {
         Move::Recopy { x, copy } => match home_of(m.catalog(), x, copy) {
             Some(to) => copying(x, copy, to),
@@ -109,7 +118,9 @@ fn begun(m: &Mounted, next: Move) -> Asked {
 }
 
 /// The move of a copy, of which nothing is copied yet.
-fn copying(x: ExtentId, copy: u8, to: Home) -> Asked {
+fn copying(x: ExtentId, copy: u8, to: Home) -> Asked
+    ensures { IsNoEnd result }
+{
     Asked::Copy {
         flight: Flight {
             x,

@@ -1,10 +1,11 @@
 // The end of a rebalance.
 ghost use Rattle.std.specs.List.{list_any};
-ghost use Rattle.std.specs.Prelude.{◌≡◌, ◌<◌};
+ghost use Rattle.std.specs.Prelude.{◌≡◌, ◌<◌, OnOk};
 ghost use Rattle.disk_images.specs.Headers.{HasHeaderSlot};
 ghost use Rattle.group_engine.specs.Mounts.{IsMounted, Takes};
 ghost use Rattle.group_engine.specs.Pending.{GoesOn};
 ghost use Rattle.relocation.specs.Endings.{ClosesOn, Ends, has_slot};
+ghost use Rattle.relocation.specs.Shortfalls.{EndsActive, IsShort};
 
 use crate::asking::Slice;
 use asm_base::{Mode, Refusal};
@@ -112,7 +113,8 @@ fn take_all_out<B: Bay>(m: &mut Mounted, alloc: Global, bay: &mut B) -> Result<(
 fn end_active<B: Bay>(m: &mut Mounted, alloc: Global, bay: &mut B) -> Result<(), Refusal>
     requires mounted { IsMounted m.old }
     requires takes { Takes m.old (B.state bay.old) }
-    ensures { GoesOn m.old result m.new (B.state bay.old) (B.state bay.new) }
+    ensures goes { GoesOn m.old result m.new (B.state bay.old) (B.state bay.new) }
+    ensures ended { OnOk result (EndsActive m.old m.new) }
 {
     match m.catalog().plan_rebalance(alloc, None) {
         Ok(change) => m.commit_plan(alloc, bay, &change),
@@ -124,12 +126,13 @@ fn end_active<B: Bay>(m: &mut Mounted, alloc: Global, bay: &mut B) -> Result<(),
 fn empty_out<B: Bay>(m: &mut Mounted, alloc: Global, bay: &mut B, end: Slice) -> Result<(), Refusal>
     requires mounted { IsMounted m.old }
     requires takes { Takes m.old (B.state bay.old) }
-    ensures { Ends m.old result m.new (B.state bay.old) (B.state bay.new) }
+    ensures ends { Ends m.old result m.new (B.state bay.old) (B.state bay.new) }
+    ensures same { IsShort end → m.new ≡ m.old }
 {
-    if end != Slice::Done {
-        return Ok(());
+    match end {
+        Slice::Done => take_all_out(m, alloc, bay),
+        _ => Ok(()),
     }
-    take_all_out(m, alloc, bay)
 }
 
 /// Ends the rebalance. Where nothing is left to do the emptied disks leave before. Refusals: Dismounted; NoMemory.
@@ -141,7 +144,8 @@ pub(crate) fn end_with<B: Bay>(
 ) -> Result<(), Refusal>
     requires mounted { IsMounted m.old }
     requires takes { Takes m.old (B.state bay.old) }
-    ensures { Ends m.old result m.new (B.state bay.old) (B.state bay.new) }
+    ensures ends { Ends m.old result m.new (B.state bay.old) (B.state bay.new) }
+    ensures kept { IsShort end → OnOk result (EndsActive m.old m.new) }
 {
     match empty_out(m, alloc, bay, end) {
         Ok(()) => end_active(m, alloc, bay),

@@ -1,7 +1,8 @@
 // A slice of a rebalance, and slices to its end.
-ghost use Rattle.std.specs.Prelude.{◌≤◌, IfErr, OnOk};
+ghost use Rattle.std.specs.Prelude.{◌≤◌, IfErr, IfOk, IfSome, OnOk};
 ghost use Rattle.group_engine.specs.Members.{LetsGo};
 ghost use Rattle.group_engine.specs.Mounts.{IsMounted, Takes};
+ghost use Rattle.relocation.specs.Shortfalls.{EndCause};
 ghost use Rattle.relocation.specs.Slices.{Goes, SliceCause};
 
 use crate::asking::{Asked, Slice, ask};
@@ -9,6 +10,7 @@ use crate::ending::end_with;
 use crate::steps::{add_directory, copy_step, move_tables};
 use asm_base::{NoMemory, Refusal};
 use bay::Bay;
+use catalog_laws::{items_say_tables, tables_have_items};
 use group_engine::{Flight, Mounted};
 use resync::piece_buffer;
 use std::alloc::Global;
@@ -28,6 +30,7 @@ pub fn slice<B: Bay>(
     ensures lets { LetsGo m.old m.new (B.state bay.old) (B.state bay.new) }
     ensures mounted { OnOk result.0 (IsMounted m.new) }
     ensures cause { IfErr result.0 (SliceCause m.old m.new (B.state bay.old) (B.state bay.new)) }
+    ensures ends { IfOk result.0 (EndCause m.new) }
     ensures steps { result.1 ≤ power }
 {
     match m.takes_calls() {
@@ -48,6 +51,7 @@ fn slice_mounted<B: Bay>(
     ensures lets { LetsGo m.old m.new (B.state bay.old) (B.state bay.new) }
     ensures mounted { OnOk result.0 (IsMounted m.new) }
     ensures cause { IfErr result.0 (SliceCause m.old m.new (B.state bay.old) (B.state bay.new)) }
+    ensures ends { IfOk result.0 (EndCause m.new) }
     ensures steps { result.1 ≤ power }
 {
     let mut buffer = Vec::new(alloc);
@@ -67,6 +71,7 @@ fn do_steps<B: Bay>(
     ensures lets { LetsGo m.old m.new (B.state bay.old) (B.state bay.new) }
     ensures mounted { OnOk result.0 (IsMounted m.new) }
     ensures cause { IfErr result.0 (SliceCause m.old m.new (B.state bay.old) (B.state bay.new)) }
+    ensures ends { IfOk result.0 (EndCause m.new) }
     ensures steps { result.1 ≤ power }
 {
     for done in 0..power {
@@ -91,6 +96,7 @@ fn step<B: Bay>(
     ensures lets { LetsGo m.old m.new (B.state bay.old) (B.state bay.new) }
     ensures mounted { OnOk result (IsMounted m.new) }
     ensures cause { IfErr result (SliceCause m.old m.new (B.state bay.old) (B.state bay.new)) }
+    ensures ends { IfOk result (λ ended. IfSome ended (EndCause m.new)) }
 {
     match ask(m, bay) {
         Asked::End { end } => match ended(m, alloc, bay, end) {
@@ -111,6 +117,7 @@ fn last<B: Bay>(m: &mut Mounted, alloc: Global, bay: &mut B) -> Result<Slice, Re
     ensures lets { LetsGo m.old m.new (B.state bay.old) (B.state bay.new) }
     ensures mounted { OnOk result (IsMounted m.new) }
     ensures cause { IfErr result (SliceCause m.old m.new (B.state bay.old) (B.state bay.new)) }
+    ensures ends { IfOk result (EndCause m.new) }
 {
     match ask(m, bay) {
         Asked::End { end } => ended(m, alloc, bay, end),
@@ -122,10 +129,14 @@ fn last<B: Bay>(m: &mut Mounted, alloc: Global, bay: &mut B) -> Result<Slice, Re
 fn ended<B: Bay>(m: &mut Mounted, alloc: Global, bay: &mut B, end: Slice) -> Result<Slice, Refusal>
     requires mounted { IsMounted m.old }
     requires takes { Takes m.old (B.state bay.old) }
+    requires why { EndCause m.old end }
     ensures lets { LetsGo m.old m.new (B.state bay.old) (B.state bay.new) }
     ensures mounted { OnOk result (IsMounted m.new) }
     ensures cause { IfErr result (SliceCause m.old m.new (B.state bay.old) (B.state bay.new)) }
+    ensures ends { IfOk result (EndCause m.new) }
 {
+    tables_have_items();
+    items_say_tables();
     match end_with(m, alloc, bay, end) {
         Ok(()) => Ok(end),
         Err(refusal) => Err(refusal),
@@ -192,6 +203,7 @@ pub fn run_to_end<B: Bay>(
     ensures lets { LetsGo m.old m.new (B.state bay.old) (B.state bay.new) }
     ensures mounted { OnOk result.0 (IsMounted m.new) }
     ensures cause { IfErr result.0 (SliceCause m.old m.new (B.state bay.old) (B.state bay.new)) }
+    ensures ends { IfOk result.0 (EndCause m.new) }
 {
     match m.takes_calls() {
         Ok(()) => run_slices(m, alloc, bay, power),
@@ -211,6 +223,7 @@ fn run_slices<B: Bay>(
     ensures lets { LetsGo m.old m.new (B.state bay.old) (B.state bay.new) }
     ensures mounted { OnOk result.0 (IsMounted m.new) }
     ensures cause { IfErr result.0 (SliceCause m.old m.new (B.state bay.old) (B.state bay.new)) }
+    ensures ends { IfOk result.0 (EndCause m.new) }
 {
     if power == 0 {
         return (Ok(Slice::More), 0);

@@ -1,4 +1,6 @@
-use Rattle.std.proofs.Common.{◌∙◌, None}
+use Rattle.std.proofs.Common.{◌∙◌, sym, subst, None}
+use Rattle.group_engine.specs.Mounts.{MountedGroup}
+use Rattle.relocation.specs.Shortfalls.{EndCause, OnEnd}
 use Rattle.relocation.proofs.Chains.{flight_lets, flight_mounted, nothing_lets}
 use Rattle.relocation.proofs.asking.ask.Goals as goal
 
@@ -18,3 +20,6 @@ returns-in-None-clause-lets g c = flight_lets c.args.m.now c.next_asked.new.m No
 
 pub returns-in-None-clause-mounted : goal.returns-in-None-clause-mounted
 returns-in-None-clause-mounted g c = flight_mounted c.args.m.now c.next_asked.new.m None (c.next_asked.ensures.same ∙ c.set_flight.ensures) c.requires.mounted
+
+pub returns-in-None-clause-end : goal.returns-in-None-clause-end
+returns-in-None-clause-end g c = subst (λ (v : MountedGroup). OnEnd c.next_asked.result (EndCause v)) (sym c.next_asked.ensures.same) c.next_asked.ensures.end

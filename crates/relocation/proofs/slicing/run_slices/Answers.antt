@@ -1,8 +1,9 @@
 use Rattle.std.proofs.Common.{Result, subst}
-use Rattle.std.specs.Prelude.{IfErr, OnOk}
+use Rattle.std.specs.Prelude.{IfErr, IfOk, OnOk}
 use Rattle.asm_base.specs.declared.refusal.Refusal.{Refusal}
 use Rattle.group_engine.specs.Mounts.{IsMounted}
 use Rattle.group_engine.proofs.Members.{lets_join}
+use Rattle.relocation.specs.Shortfalls.{EndCause}
 use Rattle.relocation.specs.Slices.{SliceCause}
 use Rattle.relocation.specs.declared.asking.Slice.{Slice}
 use Rattle.relocation.proofs.Chains.{lets_takes, nothing_lets, slice_on}
@@ -22,6 +23,7 @@ returns-in-Ok g c = record {
   lets = lets_join c.loop.invariant.lets c.slice-answer.ensures.lets;
   mounted = subst (λ (r : Result Slice Refusal). OnOk r (IsMounted c.slice-answer.new.m)) c.in-Ok.is c.slice-answer.ensures.mounted;
   cause = tt;
+  ends = subst (λ (r : Result Slice Refusal). IfOk r (EndCause c.slice-answer.new.m)) c.in-Ok.is c.slice-answer.ensures.ends;
 }
 
 pub returns-in-Err-clause-lets : goal.returns-in-Err-clause-lets

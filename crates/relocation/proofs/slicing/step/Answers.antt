@@ -18,11 +18,12 @@ pub returns-in-Err-clause-cause : goal.returns-in-Err-clause-cause
 returns-in-Err-clause-cause g c = slice_on c.ask.ensures.lets c.ask.ensures.mounted c.ended.new.m (g.B.Bay.state c.ended.new.bay) c.in-Err.refusal c.in-Err.ensures.cause
 
 pub returns-in-Ok-do_step : goal.returns-in-Ok-do_step
-returns-in-Ok-do_step g c = record { lets = lets_join c.ask.ensures.lets c.do_step.ensures.lets; mounted = c.in-Ok-do_step.ensures.mounted; cause = tt }
+returns-in-Ok-do_step g c = record { lets = lets_join c.ask.ensures.lets c.do_step.ensures.lets; mounted = c.in-Ok-do_step.ensures.mounted; cause = tt; ends = tt }
 
 pub returns-in-Err-do_step : goal.returns-in-Err-do_step
 returns-in-Err-do_step g c = record {
   lets = lets_join c.ask.ensures.lets c.do_step.ensures.lets;
   mounted = tt;
+  ends = tt;
   cause = slice_on c.ask.ensures.lets c.ask.ensures.mounted c.do_step.new.m (g.B.Bay.state c.do_step.new.bay) c.in-Err-do_step.refusal c.in-Err-do_step.ensures.cause;
 }
