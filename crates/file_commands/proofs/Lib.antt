@@ -1,4 +1,5 @@
 pub mod Answering
+pub mod HostCauses
 pub mod Named
 pub mod ReadFailures
 pub mod ReadsShown

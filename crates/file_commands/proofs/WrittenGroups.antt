@@ -1,6 +1,6 @@
 -- What a write of bytes of a mounted group was, as the world's.
-use Rattle.std.proofs.Common.{◌≡◌, ⊎_elim, inl, inr, ℕ, ◌+◌, ◌≤◌, Bool, true, false, List, [], ◌∷◌, length, Option, Some, None, Result, Ok, Err, refl, sym, ◌∙◌, ap, subst, arith, IsTrue}
-use Rattle.std.specs.Prelude.{OnOk, IfErr, unwrap_or}
+use Rattle.std.proofs.Common.{◌≡◌, ⊎_elim, inl, inr, ℕ, ◌≤◌, Bool, true, false, List, [], ◌∷◌, length, Option, Some, None, Result, Ok, Err, refl, sym, ◌∙◌, ap, subst, arith, IsTrue}
+use Rattle.std.specs.Prelude.{unwrap_or}
 use Rattle.std.specs.FinMap as maps
 use Rattle.std.specs.Str.{bytes_eq}
 use Rattle.std.specs.Cmp.Lexicographic.{bytes_decides}
@@ -31,7 +31,7 @@ use Rattle.group_contents.specs.declared.opening.OpenFile.{OpenFile}
 use Rattle.group_disks.specs.Found.{counts_of}
 use Rattle.group_engine.proofs.Elsewhere.{stays_attached}
 use Rattle.group_engine.specs.Making.{dismounted_by}
-use Rattle.group_engine.specs.Mounts.{IsMounted, MountedGroup, Mounts}
+use Rattle.group_engine.specs.Mounts.{IsMounted, MountedGroup}
 use Rattle.group_engine.specs.Own.{KeepsGroup}
 use Rattle.group_engine.specs.declared.access.Access.{Access}
 use Rattle.group_engine.specs.declared.access.Access.TheVariants as access

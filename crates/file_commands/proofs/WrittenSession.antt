@@ -1,5 +1,5 @@
 -- A write of bytes on the session and on the desk.
-use Rattle.std.proofs.Common.{◌≡◌, ℕ, ◌≤◌, List, [], length, Some, Result, Ok, Err, refl, sym, ◌∙◌, ap, subst}
+use Rattle.std.proofs.Common.{◌≡◌, ℕ, List, [], length, Some, Result, Ok, Err, refl, sym, ◌∙◌, ap, subst}
 use Rattle.std.specs.Prelude.{IfErr, OnOk, replicate}
 use Rattle.std.proofs.lemmas.Option.{same_Some}
 use Rattle.bay.specs.State.{BayState, IsSound}
@@ -30,7 +30,6 @@ use Rattle.session.specs.declared.reply.Reply.TheVariants as replies
 use Rattle.session.specs.Desks.{IsAnswered, paths_on}
 use Rattle.session.specs.Effects.{IsServed}
 use Rattle.session.specs.Entries.{by_disk}
-use Rattle.session.specs.Leading.{IsLedTo, IsNoTarget}
 use Rattle.session.specs.Meaning.{meaning}
 use Rattle.session.specs.Naming.{CarriesOn, IsGroupOf, IsOutCause}
 use Rattle.session.specs.Sessions.{AreReady, Knows, SessionView, groups_below, roster_of}

@@ -1,5 +1,5 @@
 -- The world's group in whose file bytes are put, by the tables.
-use Rattle.std.proofs.Common.{◌≡◌, ⊎_elim, ℕ, ◌+◌, ◌≤◌, ◌==◌, Bool, true, false, cond, List, ◌∷◌, ◌++◌, length, take, drop, Option, Some, None, Result, Ok, refl, sym, ◌∙◌, ap, subst, arith, if◌then◌else◌, IsTrue}
+use Rattle.std.proofs.Common.{◌≡◌, ⊎_elim, ℕ, ◌+◌, ◌≤◌, ◌==◌, Bool, cond, List, length, Option, Some, None, Ok, refl, sym, ◌∙◌, ap, subst, arith, if◌then◌else◌, IsTrue}
 use Rattle.std.specs.Prelude.{replicate}
 use Rattle.std.specs.FinMap as maps
 use Rattle.std.specs.Option.{option_map}

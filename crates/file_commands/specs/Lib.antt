@@ -1,3 +1,4 @@
 pub mod Copying
+pub mod HostCauses
 pub mod Reading
 pub mod Writing

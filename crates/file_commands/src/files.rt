@@ -7,7 +7,7 @@ ghost use Rattle.session.specs.Desks.{IsAnswered};
 ghost use Rattle.session.specs.Families.{is_proved_on_disks};
 ghost use Rattle.session.specs.FileLines.{IsNewLine, system_lines};
 ghost use Rattle.session.specs.Listing.{IsInGroup};
-ghost use Rattle.session.specs.Naming.{CarriesOn};
+ghost use Rattle.session.specs.Naming.{CarriesOn, IsOutCause};
 ghost use Rattle.session.specs.Sessions.{AreReady};
 ghost use Rattle.file_commands.specs.Writing.{AsksWrite};
 ghost use Rattle.file_commands.specs.Reading.{AsksRead, HasRead, IsLinesCause, IsNoSpan, IsReadCause, OpensSpan, PutsRead, ReadsLines, ReadsOnly, ShowsBytes};
@@ -256,6 +256,7 @@ pub fn system_line(
     file: u32,
 ) -> Result<List<Text>, Refusal>
     ensures lines { IfOk result (λ lines. IsInGroup session.now name.now (λ m. lines ≡ system_lines m file)) }
+    ensures cause { IfErr result (IsOutCause session.now.entries name.now) }
 {
     let m = session.mounted(alloc, name)?;
     match system_lines(alloc, m, file) {

@@ -1,8 +1,10 @@
 // What commands do to the files of one group.
-ghost use Rattle.std.specs.Prelude.{◌≡◌, IfOk};
+ghost use Rattle.std.specs.Prelude.{◌≡◌, ◌⊎◌, IfErr, IfOk};
+ghost use Rattle.group_engine.specs.Commits.{StatusCause};
 ghost use Rattle.group_engine.specs.Mounts.{MountedGroup};
 ghost use Rattle.group_engine.specs.Own.{KeepsGroup};
-ghost use Rattle.group_contents.specs.Creating.{NamesFile};
+ghost use Rattle.file_extents.specs.Filling.{PutCause};
+ghost use Rattle.group_contents.specs.Creating.{BeginCause, NamesFile};
 ghost use Rattle.group_contents.specs.Works.{WorkDoes};
 
 use asm_base::Refusal;
@@ -58,7 +60,7 @@ pub struct Begin<'a> {
 impl GroupWork for Begin<'_> {
     type Given = Filling;
 
-    ghost does = { λ work old result new s t. IfOk result (λ filling. filling.end ≡ work.new.now.size) };
+    ghost does = { λ work old result new s t. IfOk result (λ filling. filling.end ≡ work.new.now.size) × IfErr result (BeginCause old work.new.now new s t) };
 
     #[tactic(auto, using(session::proofs::Keeping::lets_go))]
     fn run<B: Bay>(self, m: &mut Mounted, alloc: Global, bay: &mut B) -> Result<Filling, Refusal> {
@@ -76,7 +78,7 @@ pub struct Put<'a> {
 impl GroupWork for Put<'_> {
     type Given = Filling;
 
-    ghost does = { λ work old result new s t. IfOk result (λ filling. filling.end ≡ work.filling.end) };
+    ghost does = { λ work old result new s t. IfOk result (λ filling. filling.end ≡ work.filling.end) × IfErr result (PutCause old work.filling.failed new s t) };
 
     #[tactic(auto, using(session::proofs::Keeping::lets_go))]
     fn run<B: Bay>(self, m: &mut Mounted, alloc: Global, bay: &mut B) -> Result<Filling, Refusal> {
@@ -101,7 +103,7 @@ pub struct Finish<'a> {
 impl GroupWork for Finish<'_> {
     type Given = u32;
 
-    ghost does = { λ work old result new s t. IfOk result (λ file. NamesFile old work.new.now file new) };
+    ghost does = { λ work old result new s t. IfOk result (λ file. NamesFile old work.new.now file new) × IfErr result (StatusCause old new s t) };
 
     #[tactic(auto, using(session::proofs::Keeping::lets_go))]
     fn run<B: Bay>(self, m: &mut Mounted, alloc: Global, bay: &mut B) -> Result<u32, Refusal> {
@@ -119,7 +121,7 @@ pub struct GiveUp {
 impl GroupWork for GiveUp {
     type Given = ();
 
-    ghost does = { λ work old result new s t. IfOk result (λ given. ⊥) };
+    ghost does = { λ work old result new s t. IfOk result (λ given. ⊥) × IfErr result (λ refusal. (refusal ≡ work.refusal) ⊎ StatusCause old new s t refusal) };
 
     #[tactic(auto, using(session::proofs::Keeping::lets_go))]
     fn run<B: Bay>(self, m: &mut Mounted, alloc: Global, bay: &mut B) -> Result<(), Refusal> {
