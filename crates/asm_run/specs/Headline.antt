@@ -80,12 +80,13 @@ pub record Transcript {C : Type 0} (gives : C → ℕ → C → Type 0) (paths :
   pub written : Appends taken taken' (output_of history)
   pub told : Told history
   pub printed : IsPrintedToCut history
-  -- Up to the first that isn't proved, each move is one that the world may make, and each reply has its cause. An edit, and a command that
-  -- shows a group or goes into one, counts as proved in a state in which each mounted group is alone under its id.
+  -- Up to the first that isn't proved, each move is one that the world may make, and each reply has its cause. An edit, a write of bytes, and
+  -- a command that shows a group or goes into one count as proved in a state in which each mounted group is alone under its id.
   pub run : IsRunFrom (outside paths new.leaves) IsProvedIn (first_state w old) history
-  -- The same where the images at the start stand for the world, also of what asks the disks, up to the first move that isn't proved so. A
-  -- mount counts as proved so in a state in which each mounted group is alone under its id, and so is each group of the name. In the moments
-  -- that end in these moves each image stands for groups between.
+  -- The same where the images at the start stand for the world, also of what asks the disks, up to the first move that isn't proved so: what
+  -- is proved in any case, dbread, and MOUNT. A mount counts as proved so in a state in which each mounted group is alone under its id, and so
+  -- is each group of the name that isn't mounted. In the moments that end in these moves each image stands for groups between, of a write of
+  -- bytes also for the one with the span free.
   pub on_disks : (known : ℕ → Bool) → StartsAs known old w → IsRunFrom (held_outside paths new.leaves) (IsProvedApartIn known) (first_state w old) history
   pub ends : end_of (first_state w old) history ≡ end
   pub times : Readings gives clock (times_of history) clock'

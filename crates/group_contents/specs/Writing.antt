@@ -78,7 +78,7 @@ pub record WritesSpan (m : MountedGroup) (opened : OpenFile) (at : ℕ) (bytes :
 
 -- ---- at a path
 
--- Nothing was done, for there is no such file or span, or memory was short.
+-- Nothing was done: there is no such file or span, an extent of the file has no usable copy, or memory was short.
 pub record WritesNothing (old : MountedGroup) (path : Path) (at len : ℕ) (answer : Result (Unit {0}) Refusal) (new : MountedGroup) (s t : BayState) : Type 0 where
   pub refusal : Refusal
   pub answer_is : answer ≡ Err refusal
