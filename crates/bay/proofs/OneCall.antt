@@ -1,12 +1,14 @@
 -- A call in other words, and calls one after the other.
-use Rattle.std.proofs.Common.{◌≡◌, ◌≢◌, ⊎_elim, ℕ, ◌+◌, ◌≤◌, arith, refl, sym, subst}
+use Rattle.std.proofs.Common.{◌≡◌, ◌≢◌, ⊎_elim, ℕ, ◌+◌, ◌≤◌, ◌∙◌, arith, refl, sym, subst}
 use Rattle.std.proofs.lemmas.Bool.{cases_eq}
-use Rattle.std.specs.Prelude.{Result, Ok, Err, IfOk, OnErr}
+use Rattle.std.specs.Prelude.{Some, Result, Ok, Err, IfOk, OnErr}
+use Rattle.std.specs.Option.{ForSome}
+use Rattle.bay.specs.declared.fault.BayError.{BayError}
 use Rattle.bay.specs.Image.{Image, ChangesOnly}
 use Rattle.bay.specs.State.{BayState, IsSlot, KeepsAttached}
 use Rattle.bay.specs.Counts.{Rose}
 use Rattle.bay.specs.Moments.{Runs, Ends, Joins, Within}
-use Rattle.bay.specs.Calls.{Cost, CostsAtMost, both_costs, cost, Calls, Call, Done, Went}
+use Rattle.bay.specs.Calls.{AttachCall, Attaches, Cost, CostsAtMost, both_costs, cost, Calls, Call, DeviceCall, sends, sends_none, Settles, Done, Went}
 use Rattle.bay.proofs.Calls.{widened, goes_on, both_done, done_less, attached-trans, on_more, started, stops}
 use Rattle.bay.proofs.Images.{changes-trans}
 
@@ -60,6 +62,24 @@ module _ {slot : ℕ} {step : Image → Image → Type 0} {a b : BayState} where
       → KeepsAttached a b → b.calls ≤ a.calls + n → b.written slot ≤ a.written slot + m → Runs (IsSlot slot) step a b
       → IfOk result (λ value. does value a b) → OnErr result (Rose (a.faults slot) (b.faults slot)) → Call result slot step does (cost n m) a b
   call_of_parts n m attached calls written runs done cause = record { calls = of_parts n m attached calls written runs; done = done; cause = cause }
+
+  -- a call of the device is a call
+  pub of_device : {T E : Type 0} {result : Result T E} {does : T → BayState → BayState → Type 0} {sent : ℕ → ℕ} (bytes : ℕ)
+      → ((n : ℕ) → sent n ≤ n + bytes) → DeviceCall result slot step does sent a b → Call result slot step does (cost 1 bytes) a b
+  of_device bytes few call = call_of_parts 1 bytes call.attached (omega (arith, call.count)) (omega (arith, call.written, few (a.written slot))) call.runs call.done call.cause
+
+  -- one that reads or syncs
+  pub of_reading : {T E : Type 0} {result : Result T E} {does : T → BayState → BayState → Type 0} → DeviceCall result slot step does sends_none a b → Call result slot step does (cost 1 0) a b
+  of_reading call = of_device 0 (λ n. omega arith) call
+
+  -- one that writes
+  pub of_writing : {T E : Type 0} {result : Result T E} {does : T → BayState → BayState → Type 0} {bytes : ℕ} → DeviceCall result slot step does (sends bytes) a b → Call result slot step does (cost 1 bytes) a b
+  of_writing {bytes = bytes} call = of_device bytes (λ n. omega arith) call
+
+  -- a sync that leaves what it settles to others
+  pub of_settling : {T E : Type 0} {result : Result T E} → DeviceCall result slot step (Settles slot) sends_none a b → Call result slot step (Done step) (cost 1 0) a b
+  of_settling {result = Ok value} call = record { calls = (of_reading call).calls; done = stops call.runs; cause = tt }
+  of_settling {result = Err e} call = record { calls = (of_reading call).calls; done = tt; cause = call.cause }
 
 -- ---- a call with its answer
 
@@ -115,3 +135,11 @@ not_yet {a = a} keeps does = record {
   done = record { held = λ image holds. (image, holds, does image); now = λ image left. (image, left, does image) };
   cause = tt;
 }
+
+-- ---- a call that attaches a disk
+
+-- an attached disk keeps its size, whatever is answered
+pub keeps_size : {result : Result ℕ BayError} {slot : ℕ} {step : Image → Image → Type 0} {a b : BayState}
+    → AttachCall result slot step (Attaches slot) (a.attached slot) a b → ForSome (a.attached slot) (λ size. b.attached slot ≡ Some size)
+keeps_size {result = Ok size} call = call.done.has
+keeps_size {result = Err e} call = λ had is. call.refused ∙ is

@@ -1,10 +1,11 @@
 // The laws by which a claim on images is carried over calls, for any bay, step and claim. Each function has an empty
 // body: its contract is the law.
-ghost use Rattle.std.specs.Prelude.{◌≡◌, ◌≢◌, ◌+◌, ◌-◌, ◌<◌, ◌++◌, ◌∷◌, [], ℕ, Bool, false, List, length, OnErr};
+ghost use Rattle.std.specs.Prelude.{◌≡◌, ◌≢◌, ◌+◌, ◌-◌, ◌<◌, ◌≤◌, ◌++◌, ◌∷◌, [], ℕ, Bool, false, List, length, OnErr};
 ghost use Rattle.bay.specs.Image.{Image, Same};
 ghost use Rattle.bay.specs.Counts.{Rose};
 ghost use Rattle.bay.specs.Moments.{Runs, Ends, Holds, Durable, NowOnly, LeavesOnly, Joins, Within, Gives};
-ghost use Rattle.bay.specs.Calls.{Cost, cost, both_costs, CostsAtMost, Calls, Call, Done, Went};
+ghost use Rattle.bay.specs.Calls.{Cost, cost, both_costs, CostsAtMost, Calls, Call, DeviceCall, Done, Went};
+ghost use Rattle.bay.specs.State.{BayState};
 ghost use Rattle.bay.specs.Lists.{Tasks, Claims, OneMore, IsLocal, HasOwnSlot, own_cost, DoesOne, DoesEach};
 ghost use Rattle.bay.specs.Marks.{AtMarks};
 
@@ -18,6 +19,11 @@ pub trait Slots {
 /// What calls may do to an image of all disks.
 pub trait Step {
     ghost leads: { Image → Image → Type 0 };
+}
+
+/// What a call has done, of the bay before and after it.
+pub trait Deed {
+    ghost does: { BayState → BayState → Type 0 };
 }
 
 /// Claims on an image of all disks, numbered.
@@ -83,6 +89,18 @@ pub fn new_marks<B: Bay, P: Claim>(bay: &B)
     ensures pushed { (marks : List ℕ) → AtMarks (B.state bay.now) marks P.says
         → NowOnly (B.state bay.now) (P.says (length marks)) → AtMarks (B.state bay.now) (marks ++ (B.state bay.now).calls ∷ []) P.says }
     ensures first { AtMarks (B.state bay.now) [] P.says }
+{}
+
+/// A call of the device is a call: its cost is one call, and as many bytes as it can send.
+pub fn device_calls_are_calls<B: Bay, S: Step, D: Deed>(
+    start: &B,
+    end: &B,
+    slot: u32,
+    answer: Result<(), Fault>,
+)
+    ensures { (sent : ℕ → ℕ) (bytes : ℕ) → ((n : ℕ) → sent n ≤ n + bytes)
+        → DeviceCall answer slot S.leads (λ value. D.does) sent (B.state start.now) (B.state end.now)
+        → Call answer slot S.leads (λ value. D.does) (cost 1 bytes) (B.state start.now) (B.state end.now) }
 {}
 
 /// Calls are calls of a wider step, on more slots and at a greater cost.

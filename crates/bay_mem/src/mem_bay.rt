@@ -4,8 +4,9 @@ ghost use Rattle.std.specs.Option.{ForSome};
 ghost use Rattle.bay.specs.Image.{window, Same, ChangesOnly, Range, Puts, Makes, MayMake};
 ghost use Rattle.bay.specs.declared.fault.BayError.TheVariants.{Fault};
 ghost use Rattle.bay.specs.Counts.{counted, Rose};
+ghost use Rattle.bay.specs.Calls.{AttachCall, Attaches, AttachesZeros, DeviceCall, Held, Settles, Tells, sends, sends_none};
 ghost use Rattle.bay.specs.State.{IsSlot, KeepsAttached, AttachesOnly, IsOnSectors, size_of};
-ghost use Rattle.bay.specs.Moments.{Runs, Ends, Holds, Durable};
+ghost use Rattle.bay.specs.Moments.{Runs, Ends, Holds};
 ghost use Rattle.bay_mem.specs.Changes.{are_by, image_of, attached_at};
 ghost use Rattle.bay_mem.specs.Plans.{is_listed, is_past_stop, is_slot, is_absent, is_to_fail, tears};
 
@@ -206,14 +207,8 @@ impl Bay for MemBay {
     ghost state = { state_of };
 
     fn attach(&mut self, slot: u32, _path: &str) -> Result<u64, BayError>
-        ensures count { (state_of self.new).calls ≡ counted (state_of self.old).calls 1 }
-        ensures attached { IfOk result (λ size. (state_of self.new).attached slot ≡ Some size) }
-        ensures has { ForSome ((state_of self.old).attached slot) (λ size. (state_of self.new).attached slot ≡ Some size) }
-        ensures refused { OnErr result ((state_of self.new).attached slot ≡ (state_of self.old).attached slot) }
-        ensures others { AttachesOnly slot (state_of self.old) (state_of self.new) }
-        ensures written { (state_of self.new).written slot ≡ (state_of self.old).written slot }
-        ensures runs { Runs (IsSlot slot) Same (state_of self.old) (state_of self.new) }
-        ensures cause { IsErrOf result BayError.Fault → Rose ((state_of self.old).faults slot) ((state_of self.new).faults slot) }
+        ensures call { AttachCall result slot Same (Attaches slot) ((state_of self.old).attached slot)
+            (state_of self.old) (state_of self.new) }
         ensures plan { plan_of self.new ≡ plan_of self.old }
         ensures named { IsErr result ↔ IsTrue (fails_now self.old slot || not (has_image self.old slot)) }
     {
@@ -231,14 +226,8 @@ impl Bay for MemBay {
     }
 
     fn make(&mut self, slot: u32, _path: &str, size: u64) -> Result<(), BayError>
-        ensures count { (state_of self.new).calls ≡ counted (state_of self.old).calls 1 }
-        ensures attached { OnOk result ((state_of self.new).attached slot ≡ Some size) }
-        ensures refused { OnErr result ((state_of self.new).attached slot ≡ None) }
-        ensures others { AttachesOnly slot (state_of self.old) (state_of self.new) }
-        ensures written { (state_of self.new).written slot ≡ (state_of self.old).written slot }
-        ensures runs { Runs (IsSlot slot) (MayMake slot) (state_of self.old) (state_of self.new) }
-        ensures done { OnOk result (Ends (Makes slot size) (state_of self.old) (state_of self.new)) }
-        ensures cause { IsErrOf result BayError.Fault → Rose ((state_of self.old).faults slot) ((state_of self.new).faults slot) }
+        ensures call { AttachCall result slot (MayMake slot) (λ value. AttachesZeros slot size) None
+            (state_of self.old) (state_of self.new) }
         ensures plan { plan_of self.new ≡ plan_of self.old }
         ensures named { IsErrOf result BayError.Fault ↔ IsTrue (fails_now self.old slot) }
     {
@@ -259,12 +248,9 @@ impl Bay for MemBay {
         requires attached { IsSome ((state_of self.old).attached slot) }
         requires inside { at + length buf.old ≤ size_of (state_of self.old) slot }
         requires sectors { IsOnSectors at (length buf.old) }
-        ensures bytes { OnOk result (ForSome (state_of self.old).holds (λ image. buf.new ≡ window (image.byte slot) at (length buf.old))) }
-        ensures count { (state_of self.new).calls ≡ counted (state_of self.old).calls 1 }
-        ensures attached { KeepsAttached (state_of self.old) (state_of self.new) }
-        ensures written { (state_of self.new).written slot ≡ (state_of self.old).written slot }
-        ensures runs { Runs (IsSlot slot) Same (state_of self.old) (state_of self.new) }
-        ensures cause { OnErr result (Rose ((state_of self.old).faults slot) ((state_of self.new).faults slot)) }
+        ensures call { DeviceCall result slot Same
+            (λ value. Tells (λ image. buf.new ≡ window (image.byte slot) at (length buf.old)))
+            sends_none (state_of self.old) (state_of self.new) }
         ensures plan { plan_of self.new ≡ plan_of self.old }
         ensures named { IsErr result ↔ IsTrue (fails_now self.old slot) }
     {
@@ -280,12 +266,9 @@ impl Bay for MemBay {
         requires attached { IsSome ((state_of self.old).attached slot) }
         requires inside { at + length bytes.now ≤ size_of (state_of self.old) slot }
         requires sectors { IsOnSectors at (length bytes.now) }
-        ensures count { (state_of self.new).calls ≡ counted (state_of self.old).calls 1 }
-        ensures attached { KeepsAttached (state_of self.old) (state_of self.new) }
-        ensures written { (state_of self.new).written slot ≡ counted ((state_of self.old).written slot) (length bytes.now) }
-        ensures runs { Runs (IsSlot slot) (ChangesOnly (Range slot at (length bytes.now))) (state_of self.old) (state_of self.new) }
-        ensures held { OnOk result (Holds (Puts slot at bytes.now) (state_of self.old) (state_of self.new)) }
-        ensures cause { OnErr result (Rose ((state_of self.old).faults slot) ((state_of self.new).faults slot)) }
+        ensures call { DeviceCall result slot (ChangesOnly (Range slot at (length bytes.now)))
+            (Held (Puts slot at bytes.now)) (sends (length bytes.now))
+            (state_of self.old) (state_of self.new) }
         ensures plan { plan_of self.new ≡ plan_of self.old }
         // A write for which there is no memory fails as well.
         ensures named { IsTrue (fails_now self.old slot) → IsErr result }
@@ -308,12 +291,7 @@ impl Bay for MemBay {
 
     fn sync(&mut self, slot: u32) -> Result<(), Fault>
         requires attached { IsSome ((state_of self.old).attached slot) }
-        ensures count { (state_of self.new).calls ≡ counted (state_of self.old).calls 1 }
-        ensures attached { KeepsAttached (state_of self.old) (state_of self.new) }
-        ensures written { (state_of self.new).written slot ≡ (state_of self.old).written slot }
-        ensures runs { Runs (IsSlot slot) Same (state_of self.old) (state_of self.new) }
-        ensures durable { OnOk result (Durable slot (state_of self.new)) }
-        ensures cause { OnErr result (Rose ((state_of self.old).faults slot) ((state_of self.new).faults slot)) }
+        ensures call { DeviceCall result slot Same (Settles slot) sends_none (state_of self.old) (state_of self.new) }
         ensures plan { plan_of self.new ≡ plan_of self.old }
         ensures named { IsErr result ↔ IsTrue (fails_now self.old slot) }
     {

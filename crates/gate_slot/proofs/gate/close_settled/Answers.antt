@@ -1,7 +1,5 @@
-use Rattle.std.proofs.Common.{rules, arith}
-use Rattle.std.proofs.lemmas.Result.{on_ok_weaker}
-use Rattle.bay.proofs.Calls.{stops}
-use Rattle.bay.proofs.OneCall.{wider, afforded, then, call_of_parts}
+use Rattle.std.proofs.Common.{rules}
+use Rattle.bay.proofs.OneCall.{wider, afforded, then, of_settling}
 use Rattle.gate_slot.proofs.Steps.{closing, staying, finds}
 use Rattle.gate_slot.proofs.gate.close_settled.Goals as goal
 
@@ -17,5 +15,4 @@ returns-then-branch g c =
 pub returns-else-branch : goal.returns-else-branch
 returns-else-branch g c =
     let found = finds c.args.place c.args.slot (g.met.B.Bay.sound c.args.bay.now) c.requires.settled c.in_ok-is_open.ensures.call in
-    let sync = call_of_parts 1 0 c.sync.ensures.attached (omega arith) (omega arith) c.sync.ensures.runs (on_ok_weaker c.sync.result (λ durable. stops c.sync.ensures.runs) c.sync.ensures.durable) c.sync.ensures.cause in
-    afforded (search rules) (then (staying c.requires.usable) (rw c.if-branch.false at found) sync)
+    afforded (search rules) (then (staying c.requires.usable) (rw c.if-branch.false at found) (of_settling c.sync.ensures))
