@@ -1,15 +1,71 @@
 -- A word is read from its number alone.
 use Rattle.std.proofs.Common.{◌≡◌, ℕ, zero, suc, ◌<◌, Option, Some, None, refl, ap, arith}
+use Rattle.asm_group.specs.declared.GroupKind.{GroupKind}
+use Rattle.asm_group.specs.declared.GroupKind.TheVariants.{External, Normal, High}
+use Rattle.asm_group.specs.declared.Mode.{Mode}
+use Rattle.asm_group.specs.declared.Mode.TheVariants.{Online, Offline, Syncing, Dropping, Forced}
 use Rattle.asm_group.specs.declared.Stripe.{Stripe}
 use Rattle.asm_group.specs.declared.Stripe.TheVariants.{Coarse, Fine}
 use Rattle.asm_group.specs.declared.NodeKind.{NodeKind}
 use Rattle.asm_group.specs.declared.NodeKind.TheVariants.{Directory, System, Alias}
 use Rattle.asm_group.specs.declared.PendingKind.{PendingKind}
 use Rattle.asm_group.specs.declared.PendingKind.TheVariants.{Create, Remove, Grow, Shrink}
-use Rattle.asm_formats.specs.Codes.{stripe_code, node_code, pending_code}
-use Rattle.asm_base.specs.Words.{known_stripe, stripe_reading, known_node_kind, node_kind_reading, known_pending_kind, pending_kind_reading}
+use Rattle.asm_formats.specs.Codes.{kind_code, mode_code, stripe_code, node_code, pending_code}
+use Rattle.asm_base.specs.Words.{known_kind, kind_reading, known_mode, mode_reading, known_stripe, stripe_reading, known_node_kind, node_kind_reading, known_pending_kind, pending_kind_reading}
 use Rattle.asm_base.proofs.Exact.{IsExact, decoded_exact}
 use Rattle.asm_base.proofs.FieldLaws.{one_byte, byte_exact}
+
+pub kind_exact : IsExact (λ k. one_byte (kind_code k)) (λ k. Unit {0}) kind_reading
+kind_exact = decoded_exact known_kind kind_code known one_code fits_code byte_exact where
+  known : (k : GroupKind) → known_kind (kind_code k) ≡ Some k
+  known External = refl
+  known Normal = refl
+  known High = refl
+
+  coded : Option GroupKind → ℕ
+  coded (Some k) = kind_code k
+  coded None = 0
+
+  one_code : (n : ℕ) (k : GroupKind) → known_kind n ≡ Some k → n ≡ kind_code k
+  one_code zero k e = absurd cc
+  one_code (suc zero) k e = ap coded e
+  one_code (suc (suc zero)) k e = ap coded e
+  one_code (suc (suc (suc zero))) k e = ap coded e
+  one_code (suc (suc (suc (suc n)))) k e = absurd cc
+
+  fits_code : (k : GroupKind) → kind_code k < 256
+  fits_code External = omega arith
+  fits_code Normal = omega arith
+  fits_code High = omega arith
+
+pub mode_exact : IsExact (λ m. one_byte (mode_code m)) (λ m. Unit {0}) mode_reading
+mode_exact = decoded_exact known_mode mode_code known one_code fits_code byte_exact where
+  known : (m : Mode) → known_mode (mode_code m) ≡ Some m
+  known Online = refl
+  known Offline = refl
+  known Syncing = refl
+  known Dropping = refl
+  known Forced = refl
+
+  coded : Option Mode → ℕ
+  coded (Some m) = mode_code m
+  coded None = 0
+
+  one_code : (n : ℕ) (m : Mode) → known_mode n ≡ Some m → n ≡ mode_code m
+  one_code zero m e = absurd cc
+  one_code (suc zero) m e = ap coded e
+  one_code (suc (suc zero)) m e = ap coded e
+  one_code (suc (suc (suc zero))) m e = ap coded e
+  one_code (suc (suc (suc (suc zero)))) m e = ap coded e
+  one_code (suc (suc (suc (suc (suc zero))))) m e = ap coded e
+  one_code (suc (suc (suc (suc (suc (suc n)))))) m e = absurd cc
+
+  fits_code : (m : Mode) → mode_code m < 256
+  fits_code Online = omega arith
+  fits_code Offline = omega arith
+  fits_code Syncing = omega arith
+  fits_code Dropping = omega arith
+  fits_code Forced = omega arith
 
 pub stripe_exact : IsExact (λ s. one_byte (stripe_code s)) (λ s. Unit {0}) stripe_reading
 stripe_exact = decoded_exact known_stripe stripe_code known one_code fits_code byte_exact where

@@ -16,7 +16,7 @@ use crate::records::{Key, Value};
 use std::alloc::Global;
 
 /// The most bytes in a value.
-const MOST_VALUE: usize = 4064;
+pub const MOST_VALUE: usize = 4064;
 
 /// Fills the block with the record of this key and value.
 #[tactic(auto, unfolding(asm_formats::specs::Records::frame_spelling, crate::specs::Frames::frame_fields))]
@@ -66,7 +66,7 @@ fn read_bytes(alloc: Global, bytes: &[u8]) -> Result<Option<(Key, Value)>, NoMem
     ensures { IfOk result (λ read. read ≡ entry_in bytes.now) }
 {
     let mut from = Reader { bytes, at: 0 };
-    let Some((key, len)) = take_head(&mut from) else {
+    let Some((key, len)) = take_record_head(&mut from) else {
         return Ok(None);
     };
     let rest = &from.bytes[from.at as usize..];
@@ -78,9 +78,9 @@ fn read_bytes(alloc: Global, bytes: &[u8]) -> Result<Option<(Key, Value)>, NoMem
     Ok(Some((key, value)))
 }
 
-/// Takes the key and the length of the value.
+/// Takes the key of a record and the length of its value. Where there is none, some bytes may be gone.
 #[tactic(auto, unfolding(crate::specs::Frames::head_reading))]
-fn take_head(from: &mut Reader) -> Option<(Key, u16)>
+pub fn take_record_head(from: &mut Reader) -> Option<(Key, u16)>
     ensures { Reads from.new result (head_reading from.old) }
 {
     take_fixed(from, b"ASMR")?;

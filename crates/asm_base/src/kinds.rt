@@ -1,10 +1,23 @@
 //! The small values that records, statements and plans share.
 
-ghost use Rattle.std.specs.Prelude.{◌≡◌};
+ghost use Rattle.std.specs.Prelude.{◌≡◌, ◌≤◌, ◌<◌, ◌^◌};
+ghost use Rattle.std.specs.Bool.{OnTrue};
 ghost use Rattle.asm_group.specs.Shape.{is_shape, is_unit_size, is_step, is_sector, is_dir_blocks};
 
 pub use asm_group::{GroupKind, Mode, NodeKind, PendingKind, Stripe};
 use std::marker::Model;
+
+/// Disks in a group, at most.
+pub const MOST_DISKS: u8 = 64;
+
+/// Units of a disk, at most.
+pub const MOST_UNITS: u64 = 16_777_216;
+
+/// Units of a disk that hold user bytes, at least.
+pub const LEAST_USER_UNITS: u64 = 16;
+
+/// Extents in a chunk.
+pub const CHUNK_LEN: usize = 256;
 
 /// Want of memory.
 #[derive(Clone, Copy, Debug, PartialEq, Eq)]
@@ -103,15 +116,17 @@ impl Shape {
     pub fn is_allowed(&self) -> bool
         ensures { result ≡ is_shape self.now }
     {
-        is_unit_size(self.au)
-            && is_step(self.step)
+        is_unit_size(self.au as u64)
+            && is_step(self.step as u64)
             && is_sector(self.sector, self.au)
-            && is_dir_blocks(self.dir_blocks)
+            && is_dir_blocks(self.dir_blocks as u64)
     }
 }
 
-fn is_unit_size(au: u32) -> bool
-    ensures { result ≡ is_unit_size au }
+/// Whether a unit may have so many bytes: 4K, 16K, 64K, 256K, 1M, 2M, 4M, 8M, 16M, 32M or 64M.
+pub fn is_unit_size(au: u64) -> bool
+    ensures is { result ≡ is_unit_size au }
+    ensures small { OnTrue result (au < 2 ^ 32) }
 {
     matches!(
         au,
@@ -129,8 +144,10 @@ fn is_unit_size(au: u32) -> bool
     )
 }
 
-fn is_step(step: u32) -> bool
-    ensures { result ≡ is_step step }
+/// Whether so many extents may be of each size.
+pub fn is_step(step: u64) -> bool
+    ensures is { result ≡ is_step step }
+    ensures small { OnTrue result (step ≤ 20000) }
 {
     8 <= step && step <= 20_000 && step % 8 == 0
 }
@@ -142,8 +159,10 @@ fn is_sector(sector: u32, au: u32) -> bool
     (sector == 512 || sector == 4096) && 8 * sector <= au
 }
 
-fn is_dir_blocks(blocks: u32) -> bool
-    ensures { result ≡ is_dir_blocks blocks }
+/// Whether a directory copy may have so many record blocks.
+pub fn is_dir_blocks(blocks: u64) -> bool
+    ensures is { result ≡ is_dir_blocks blocks }
+    ensures small { OnTrue result (blocks ≤ 16384) }
 {
     128 <= blocks && blocks <= 16_384
 }

@@ -9,31 +9,39 @@ mod kinds;
 mod list;
 mod name;
 mod path;
+pub mod record_kind;
 mod records;
 mod refusal;
 mod refusal_text;
 mod word;
 
-pub use block::{BLOCK_SIZE, Block};
+pub use block::{
+    BLOCK, BLOCK_SIZE, Block, FIRST_CLAIM, FIRST_STATUS, LEAST_SIZE, REGION_START, SECOND_CLAIM,
+    SECOND_STATUS,
+};
 pub use cursor::{
     Reader, Writer, are_zeros, finish, has_only_zeros, is_at_end, put_bytes, put_flag, put_set,
     put_u8, put_u16, put_u32, put_u64, put_zeros, take_fixed, take_flag, take_set, take_u8,
     take_u16, take_u32, take_u64,
 };
 pub use disk_set::DiskSet;
-pub use frame::{decode_record, encode_record};
+pub use frame::{MOST_VALUE, decode_record, encode_record, take_record_head};
 pub use kinds::{
-    ExtentId, FileNo, GroupKind, Home, Homes, Mode, NoMemory, NodeKind, PendingKind, Redundancy,
-    Shape, Span, Stripe,
+    CHUNK_LEN, ExtentId, FileNo, GroupKind, Home, Homes, LEAST_USER_UNITS, MOST_DISKS, MOST_UNITS,
+    Mode, NoMemory, NodeKind, PendingKind, Redundancy, Shape, Span, Stripe, is_dir_blocks, is_step,
+    is_unit_size,
 };
 pub use list::{List, Text};
 pub use name::{
     Name, folded_byte, is_name, is_part, put_name, put_text, take_name, take_text, text_in,
 };
 pub use path::Path;
-pub use records::{Change, Key, Records, Value};
+pub use records::{
+    Change, Key, PENDING_KEY, REBALANCE_KEY, Records, SETTINGS_KEY, TEMPLATES_KEY, Value,
+};
 pub use refusal::{DiskRef, Limited, Refusal};
 pub use refusal_text::no_memory_line;
 pub use word::{
-    put_node_kind, put_pending_kind, put_stripe, take_node_kind, take_pending_kind, take_stripe,
+    put_kind, put_mode, put_node_kind, put_pending_kind, put_stripe, take_kind, take_mode,
+    take_node_kind, take_pending_kind, take_stripe,
 };

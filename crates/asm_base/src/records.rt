@@ -7,6 +7,7 @@ ghost use Rattle.asm_base.specs.Cursors.{written};
 use crate::cursor::Writer;
 use crate::kinds::NoMemory;
 use crate::list::List;
+use crate::record_kind;
 use std::alloc::Global;
 use std::collections::BTreeMap;
 use std::collections::btree_map::Iter;
@@ -19,6 +20,34 @@ pub struct Key {
     pub a: u32,
     pub b: u32,
 }
+
+/// The key of the active rebalance.
+pub const REBALANCE_KEY: Key = Key {
+    kind: record_kind::OPERATIONS,
+    a: 0,
+    b: 0,
+};
+
+/// The key of the pending operation.
+pub const PENDING_KEY: Key = Key {
+    kind: record_kind::OPERATIONS,
+    a: 1,
+    b: 0,
+};
+
+/// The key of the templates.
+pub const TEMPLATES_KEY: Key = Key {
+    kind: record_kind::TEMPLATES,
+    a: 0,
+    b: 0,
+};
+
+/// The key of the settings.
+pub const SETTINGS_KEY: Key = Key {
+    kind: record_kind::SETTINGS,
+    a: 0,
+    b: 0,
+};
 
 impl Model for Key {
     ghost use Rattle.asm_formats.specs.Items.{Key as FormatKey};

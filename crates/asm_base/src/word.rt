@@ -1,12 +1,68 @@
 //! Fields of one byte, whose number stands for a word.
 
 ghost use Rattle.std.specs.Prelude.{◌≡◌, ◌≤◌, ◌+◌, ◌∷◌, []};
-ghost use Rattle.asm_formats.specs.Codes.{stripe_code, node_code, pending_code};
+ghost use Rattle.asm_formats.specs.Codes.{kind_code, mode_code, stripe_code, node_code, pending_code};
 ghost use Rattle.asm_base.specs.Cursors.{Puts, Reads};
-ghost use Rattle.asm_base.specs.Words.{stripe_reading, node_kind_reading, pending_kind_reading};
+ghost use Rattle.asm_base.specs.Words.{kind_reading, mode_reading, stripe_reading, node_kind_reading, pending_kind_reading};
 
 use crate::cursor::{Reader, Writer, put_u8, take_u8};
-use crate::kinds::{NodeKind, PendingKind, Stripe};
+use crate::kinds::{GroupKind, Mode, NodeKind, PendingKind, Stripe};
+
+/// Puts the kind of a group: 1 EXTERNAL, 2 NORMAL, 3 HIGH redundancy.
+pub fn put_kind(to: &mut Writer, kind: GroupKind)
+    requires { to.old.at + 1 ≤ 4096 }
+    ensures puts { Puts to.old to.new (kind_code kind ∷ []) }
+    ensures at { to.new.at ≡ to.old.at + 1 }
+{
+    let code = match kind {
+        GroupKind::External => 1,
+        GroupKind::Normal => 2,
+        GroupKind::High => 3,
+    };
+    put_u8(to, code);
+}
+
+/// Takes the kind of a group. Where there is none, a byte may be gone.
+pub fn take_kind(from: &mut Reader) -> Option<GroupKind>
+    ensures { Reads from.new result (kind_reading from.old) }
+{
+    match take_u8(from)? {
+        1 => Some(GroupKind::External),
+        2 => Some(GroupKind::Normal),
+        3 => Some(GroupKind::High),
+        _ => None,
+    }
+}
+
+/// Puts the mode of a disk: 1 online, 2 offline, 3 syncing, 4 dropping, 5 forced.
+pub fn put_mode(to: &mut Writer, mode: Mode)
+    requires { to.old.at + 1 ≤ 4096 }
+    ensures puts { Puts to.old to.new (mode_code mode ∷ []) }
+    ensures at { to.new.at ≡ to.old.at + 1 }
+{
+    let code = match mode {
+        Mode::Online => 1,
+        Mode::Offline => 2,
+        Mode::Syncing => 3,
+        Mode::Dropping => 4,
+        Mode::Forced => 5,
+    };
+    put_u8(to, code);
+}
+
+/// Takes the mode of a disk. Where there is none, a byte may be gone.
+pub fn take_mode(from: &mut Reader) -> Option<Mode>
+    ensures { Reads from.new result (mode_reading from.old) }
+{
+    match take_u8(from)? {
+        1 => Some(Mode::Online),
+        2 => Some(Mode::Offline),
+        3 => Some(Mode::Syncing),
+        4 => Some(Mode::Dropping),
+        5 => Some(Mode::Forced),
+        _ => None,
+    }
+}
 
 /// Puts a stripe: 1 COARSE, 2 FINE.
 pub fn put_stripe(to: &mut Writer, stripe: Stripe)

@@ -1,5 +1,5 @@
 -- The order of status records, and the majorities that each needs.
-use Rattle.std.specs.Prelude.{◌≡◌, ◌⊎◌, ℕ, ◌+◌, ◌*◌, ◌^◌, List, [], ◌∷◌, flat_map, if◌then◌else◌, ◌==◌, Option, Some, None, ◌<◌, IsTrue}
+use Rattle.std.specs.Prelude.{◌≡◌, ◌⊎◌, ℕ, ◌+◌, ◌*◌, ◌^◌, List, [], ◌∷◌, flat_map, filter, length, nat_lt, if◌then◌else◌, ◌==◌, Bool, Option, Some, None, ◌<◌, IsTrue}
 use Rattle.asm_formats.specs.Sets.{elements}
 use Rattle.asm_formats.specs.Status.{Status, Entry, entry_of, is_status}
 
@@ -26,6 +26,15 @@ sets_of entries holders next_holders = disks_of entries holders ∷ (if next_hol
 -- the sets of which a majority each is needed
 abbrev pub sets : Status → List (List Holder)
 sets r = sets_of r.entries r.holders r.next_holders
+
+-- more than half of the disks pass a test
+abbrev pub most_pass : (Holder → Bool) → List Holder → Bool
+most_pass test set = nat_lt (length set) (2 * length (filter test set))
+
+-- the record of the greater number: r, or the one before it
+abbrev pub later_of : Status → Option Status → Option Status
+later_of r None = Some r
+later_of r (Some s) = if nat_lt (rank r) (rank s) then Some s else Some r
 
 -- After two sets both stay, or the second stays alone. After one set it stays, with or without next holders.
 abbrev pub FollowsSets : List (List Holder) → List (List Holder) → Type 0

@@ -4,6 +4,7 @@ use Rattle.std.specs.Int.{is_in_range}
 use Rattle.std.specs.List.{list_all}
 use Rattle.asm_group.specs.declared.Stripe.{Stripe}
 use Rattle.asm_group.specs.declared.NodeKind.{NodeKind}
+use Rattle.asm_group.specs.declared.NodeKind.TheVariants.{Directory}
 use Rattle.asm_group.specs.declared.PendingKind.{PendingKind}
 use Rattle.asm_group.specs.Names.{Bytes, is_name, is_part, folded}
 use Rattle.asm_group.specs.Group.{Template, Attributes}
@@ -67,6 +68,38 @@ pub data Item : Type 0 where
   -- of each extent of a chunk, the copies that are stale: bit k for copy k
   marks_item : ℕ → ℕ → List ℕ → Item
 
+-- a node of this kind is a directory of the tree
+abbrev pub is_directory_kind : NodeKind → Bool
+is_directory_kind Directory = true
+is_directory_kind _ = false
+
+-- ---- the kinds of records
+
+-- heads of files, and the chunks of their extents
+abbrev pub files_kind : ℕ
+files_kind = 1
+
+abbrev pub disks_kind : ℕ
+disks_kind = 2
+
+-- the active rebalance and the pending operation
+abbrev pub operations_kind : ℕ
+operations_kind = 4
+
+abbrev pub templates_kind : ℕ
+templates_kind = 5
+
+-- nodes of the tree of names
+abbrev pub nodes_kind : ℕ
+nodes_kind = 6
+
+abbrev pub settings_kind : ℕ
+settings_kind = 9
+
+-- marks of stale copies
+abbrev pub marks_kind : ℕ
+marks_kind = 12
+
 -- ---- keys
 
 pub record Key : Type 0 where
@@ -75,15 +108,15 @@ pub record Key : Type 0 where
   pub b : ℕ
 
 abbrev pub key : Item → Key
-key (file_item f head) = record { kind = 1; a = f; b = 0 }
-key (chunk_item f c homes) = record { kind = 1; a = f; b = c + 1 }
-key (disk_item d info) = record { kind = 2; a = d; b = 0 }
-key (rebalance_item power) = record { kind = 4; a = 0; b = 0 }
-key (pending_item op) = record { kind = 4; a = 1; b = 0 }
-key (templates_item ts) = record { kind = 5; a = 0; b = 0 }
-key (node_item n node) = record { kind = 6; a = n; b = 0 }
-key (settings_item s) = record { kind = 9; a = 0; b = 0 }
-key (marks_item f c marks) = record { kind = 12; a = f; b = c }
+key (file_item f head) = record { kind = files_kind; a = f; b = 0 }
+key (chunk_item f c homes) = record { kind = files_kind; a = f; b = c + 1 }
+key (disk_item d info) = record { kind = disks_kind; a = d; b = 0 }
+key (rebalance_item power) = record { kind = operations_kind; a = 0; b = 0 }
+key (pending_item op) = record { kind = operations_kind; a = 1; b = 0 }
+key (templates_item ts) = record { kind = templates_kind; a = 0; b = 0 }
+key (node_item n node) = record { kind = nodes_kind; a = n; b = 0 }
+key (settings_item s) = record { kind = settings_kind; a = 0; b = 0 }
+key (marks_item f c marks) = record { kind = marks_kind; a = f; b = c }
 
 -- the order of keys, as one number
 abbrev pub key_rank : Key → ℕ

@@ -5,7 +5,7 @@ use Rattle.asm_group.specs.Names.{Bytes}
 use Rattle.asm_group.specs.Group.{Template}
 use Rattle.asm_formats.specs.Bytes.{number, name_field, byte_at, number_at, name_at, repeated, spelled_by}
 use Rattle.asm_formats.specs.Codes.{flag, stripe_code, stripe_of, node_code, node_kind_of, pending_code, pending_kind_of}
-use Rattle.asm_formats.specs.Items.{FileHead, Home, Homes, DiskInfo, Pending, Node, Settings, Item, file_item, chunk_item, disk_item, rebalance_item, pending_item, templates_item, node_item, settings_item, marks_item, Key, key, is_same_key, chunk_len, is_item}
+use Rattle.asm_formats.specs.Items.{FileHead, Home, Homes, DiskInfo, Pending, Node, Settings, Item, file_item, chunk_item, disk_item, rebalance_item, pending_item, templates_item, node_item, settings_item, marks_item, Key, key, is_same_key, chunk_len, is_item, files_kind, disks_kind, operations_kind, templates_kind, nodes_kind, settings_kind}
 
 -- ---- as it is written
 
@@ -114,12 +114,12 @@ settings_at bytes =
 -- the value of a key, by its kind
 unfoldable pub item_by : Key → Bytes → Item
 item_by k bytes =
-    if k.kind == 1 then (if k.b == 0 then file_item k.a (file_head_at bytes) else chunk_item k.a (k.b - 1) (homes_at bytes))
-    else if k.kind == 2 then disk_item k.a (disk_info_at bytes)
-    else if k.kind == 4 then (if k.a == 0 then rebalance_item (number_at w16 bytes).0 else pending_item (pending_at bytes))
-    else if k.kind == 5 then templates_item (templates_at bytes)
-    else if k.kind == 6 then node_item k.a (node_at bytes)
-    else if k.kind == 9 then settings_item (settings_at bytes)
+    if k.kind == files_kind then (if k.b == 0 then file_item k.a (file_head_at bytes) else chunk_item k.a (k.b - 1) (homes_at bytes))
+    else if k.kind == disks_kind then disk_item k.a (disk_info_at bytes)
+    else if k.kind == operations_kind then (if k.a == 0 then rebalance_item (number_at w16 bytes).0 else pending_item (pending_at bytes))
+    else if k.kind == templates_kind then templates_item (templates_at bytes)
+    else if k.kind == nodes_kind then node_item k.a (node_at bytes)
+    else if k.kind == settings_kind then settings_item (settings_at bytes)
     else marks_item k.a k.b (take chunk_len bytes)
 
 -- the item of this key whose one spelling the value is

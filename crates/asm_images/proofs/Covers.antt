@@ -1,51 +1,29 @@
 -- What a record covers, another covers that names the same disks.
-use Rattle.std.proofs.Common.{◌≡◌, inl, inr, ⊎_elim, ℕ, ◌≤◌, Bool, true, false, cond, not, ◌&&◌, ◌||◌, List, [], ◌∷◌, ◌++◌, map, get_or, drop, filter, refl, sym, ap, subst, ◌∙◌, Option, Some, None, arith, ◌==◌}
+use Rattle.std.proofs.Common.{◌≡◌, inl, inr, ⊎_elim, ℕ, ◌≤◌, Bool, true, false, cond, not, ◌&&◌, ◌||◌, List, [], ◌∷◌, ◌++◌, get_or, filter, refl, sym, ap, subst, ◌∙◌, Option, Some, None, arith, ◌==◌}
 use Rattle.std.specs.Prelude.{find}
 use Rattle.std.specs.List.{list_all, flat_map, range_with_len}
 use Rattle.std.specs.Option.{option_map}
 use Rattle.std.proofs.lemmas.Bool.{cond_both, cond-true, cond-false, cases_Bool, cases_eq, eq-eqb, ne_eqb, both_ways}
-use Rattle.std.proofs.lemmas.Option.{same_Some, none-some}
-use Rattle.asm_group.specs.Shape.{Shape}
+use Rattle.std.proofs.lemmas.Option.{same_Some}
 use Rattle.asm_group.specs.Group.{Group}
 use Rattle.asm_formats.specs.Regions.{units_in}
 use Rattle.asm_formats.specs.Sets.{has_bit, elements}
 use Rattle.asm_formats.specs.Header.{Header}
 use Rattle.asm_formats.specs.Status.{Status, Entry, entry_of}
-use Rattle.asm_formats.specs.Items.{Item}
 use Rattle.asm_formats.specs.Content.{Content}
 use Rattle.asm_formats.specs.Among.{IsAmong}
-use Rattle.asm_placement.specs.Placed.{Placed, placed, fits_entry, is_inside, all_apart, places_fit}
-use Rattle.asm_placement.specs.Work.{is_regular}
 use Rattle.asm_images.specs.Members.{Image, Member, all_members, within, is_disk}
 use Rattle.asm_images.specs.Directories.{newest, held_by, copy_on, copies, IsNamed}
 use Rattle.asm_images.specs.Copies.{is_kept}
-use Rattle.asm_images.specs.Describing.{has_info}
 use Rattle.asm_images.specs.Stands.{Describes, HasUnits}
 use Rattle.asm_images.specs.Sound.{IsCovered}
 use Rattle.asm_images.specs.RecordLaws.{bare, ChangesModes}
 use Rattle.asm_formats.specs.Metadata.{header_of}
+use Rattle.asm_images.proofs.Bare.{Bare, all_info, has_bare, same_entry, same_places, same_regular}
 use Rattle.asm_images.proofs.Membership.{among_filter, among_filtered, filter_out}
 use Rattle.asm_images.proofs.Members.{member_is}
 use Rattle.asm_images.proofs.Sharing.{all_among}
 use Rattle.asm_images.proofs.Joining.{find_filter}
-
-abbrev Bare : Type 0
-Bare = ℕ × ℕ × ℕ × Bool
-
--- ---- an entry but for what it may change
-
-bare_entry : (entries : List Entry) (d : ℕ) → option_map bare (entry_of entries d) ≡ find (λ (b : Bare). b.0 == d) (map bare entries)
-unfolding entry_of
-bare_entry [] d = refl
-bare_entry (e ∷ entries) d = go (e.number == d) (bare_entry entries d)
-  where
-    go : (b : Bool) → option_map bare (entry_of entries d) ≡ find (λ (b : Bare). b.0 == d) (map bare entries)
-        → option_map bare (cond b (Some e) (entry_of entries d)) ≡ cond b (Some (bare e)) (find (λ (b : Bare). b.0 == d) (map bare entries))
-    go true same = refl
-    go false same = same
-
-same_entry : (xs ys : List Entry) (d : ℕ) → map bare xs ≡ map bare ys → option_map bare (entry_of xs d) ≡ option_map bare (entry_of ys d)
-same_entry xs ys d e = bare_entry xs d ∙ ap (λ (l : List Bare). find (λ (b : Bare). b.0 == d) l) e ∙ sym (bare_entry ys d)
 
 same_copy : (ms : List Member) (d : ℕ) (o p : Option Entry) → option_map bare o ≡ option_map bare p → copy_on ms d o ≡ copy_on ms d p
 same_copy ms d None None e = refl
@@ -54,57 +32,6 @@ same_copy ms d (Some x) None e = absurd cc
 same_copy ms d (Some x) (Some y) e =
     let birth : x.birth ≡ y.birth = ap (λ (b : Bare). b.1) (same_Some (bare x) (bare y) e) in
     ap (λ (n : ℕ). held_by (find (λ (m : Member). is_disk d n m.header) ms)) birth
-
-same_fit : (s : Shape) (p : Placed) (o q : Option Entry) → option_map bare o ≡ option_map bare q → fits_entry s p o ≡ fits_entry s p q
-same_fit s p None None e = refl
-same_fit s p None (Some y) e = absurd cc
-same_fit s p (Some x) None e = absurd cc
-same_fit s p (Some x) (Some y) e =
-    let units : x.units ≡ y.units = ap (λ (b : Bare). b.2) (same_Some (bare x) (bare y) e) in
-    ap (λ (n : ℕ). fits_entry s p (Some (record x { units = n }))) units
-
-same_regular : (o q : Option Entry) → option_map bare o ≡ option_map bare q → is_regular o ≡ is_regular q
-same_regular None None e = refl
-same_regular None (Some y) e = absurd cc
-same_regular (Some x) None e = absurd cc
-same_regular (Some x) (Some y) e = ap (λ (b : Bare). not b.3) (same_Some (bare x) (bare y) e)
-
-all_same : {A : Type 0} (t u : A → Bool) (xs : List A) → ((x : A) → t x ≡ u x) → list_all t xs ≡ list_all u xs
-all_same t u [] same = refl
-all_same t u (x ∷ xs) same = λ i. same x i && all_same t u xs same i
-
--- an entry with this bare part is there
-pub record HasBare (entries : List Entry) (d : ℕ) (e : Entry) : Type 0 where
-  pub entry : Entry
-  pub is : entry_of entries d ≡ Some entry
-  pub same : bare e ≡ bare entry
-
-has_bare : (xs ys : List Entry) (d : ℕ) (e : Entry) → map bare xs ≡ map bare ys → entry_of xs d ≡ Some e → HasBare ys d e
-has_bare xs ys d e same is = go (entry_of ys d) refl (sym (ap (option_map bare) is) ∙ same_entry xs ys d same)
-  where
-    go : (o : Option Entry) → entry_of ys d ≡ o → Some (bare e) ≡ option_map bare (entry_of ys d) → HasBare ys d e
-    go None there both = absurd (none-some (bare e) (sym (both ∙ ap (option_map bare) there)))
-    go (Some y) there both = record { entry = y; is = there; same = same_Some (bare e) (bare y) (both ∙ ap (option_map bare) there) }
-
-same_info : (items : List Item) (x y : Entry) → bare x ≡ bare y → has_info items x ≡ has_info items y
-same_info items x y e =
-    let number = ap (λ (b : Bare). b.0) e in
-    let birth = ap (λ (b : Bare). b.1) e in
-    λ i. has_info items (record x { number = number i; birth = birth i })
-
-first_of : Bare → List Bare → Bare
-first_of b [] = b
-first_of b (c ∷ cs) = c
-
-all_info : (items : List Item) (xs ys : List Entry) → map bare xs ≡ map bare ys → list_all (has_info items) xs ≡ list_all (has_info items) ys
-unfolding first_of
-all_info items [] [] e = refl
-all_info items [] (y ∷ ys) e = absurd cc
-all_info items (x ∷ xs) [] e = absurd cc
-all_info items (x ∷ xs) (y ∷ ys) e =
-    let head : bare x ≡ bare y = ap (λ (l : List Bare). first_of (bare x) l) e in
-    let tail : map bare xs ≡ map bare ys = ap (λ (l : List Bare). drop 1 l) e in
-    λ i. same_info items x y head i && all_info items xs ys tail i
 
 -- ---- other modes
 
@@ -133,11 +60,6 @@ module _ (id : ℕ) (image : Image) (groups : List Group) (r s : Status) (change
       let b = has_bare s.entries r.entries m.header.number e change.entries is in
       subst (λ (n : ℕ). n ≤ units_in m.header.shape m.disk.size) (sym (ap (λ (b : Bare). b.2) b.same)) (units b.entry b.is (sym (ap (λ (b : Bare). b.1) b.same) ∙ birth))
 
-  same_places : (shape : Shape) (items : List Item) → places_fit shape s.entries items ≡ places_fit shape r.entries items
-  same_places shape items = ap (λ (b : Bool). b && all_apart (placed shape.step items))
-      (all_same (is_inside shape s.entries) (is_inside shape r.entries) (placed shape.step items)
-      (λ p. same_fit shape p (entry_of s.entries p.home.disk) (entry_of r.entries p.home.disk) (same_entry s.entries r.entries p.home.disk change.entries)))
-
   described_so : (c : Content) (g : Group) → Describes image ms ms r c g → Describes image ms ms s c g
   described_so c g d = record {
     distinct = d.distinct;
@@ -151,7 +73,7 @@ module _ (id : ℕ) (image : Image) (groups : List Group) (r s : Status) (change
       extents = k.extents;
       extent_rules = k.extent_rules;
       owned = k.owned;
-      places = same_places g.shape d.items ∙ k.places;
+      places = same_places s.entries r.entries g.shape d.items change.entries ∙ k.places;
       regular = λ f i copy h at. same_regular (entry_of s.entries h.disk) (entry_of r.entries h.disk) (same_entry s.entries r.entries h.disk change.entries) ∙ k.regular f i copy h at;
       templates = k.templates;
       attributes = k.attributes;

@@ -21,6 +21,7 @@ pub mod Putting
 pub mod PutKeeps
 pub mod CreatedBytes
 pub mod Moving
+pub mod Bare
 pub mod Covers
 pub mod OtherEntries
 pub mod RowProofs

@@ -3,13 +3,13 @@ use Rattle.std.specs.Prelude.{◌≡◌, ◌⊎◌, ℕ, ◌*◌, ◌<◌, ◌�
 use Rattle.std.specs.List.{list_all}
 use Rattle.asm_formats.specs.Among.{IsAmong}
 use Rattle.asm_formats.specs.Status.{Status}
-use Rattle.asm_formats.specs.Following.{Holder, sets, rank, Follows}
+use Rattle.asm_formats.specs.Following.{Holder, sets, rank, Follows, most_pass, later_of}
 use Rattle.asm_formats.specs.Claim.{Claim}
 use Rattle.asm_images.specs.Members.{Member, has_disk, within, statuses, claims, AreDistinct}
 
 -- more than half of the set are among the members
 abbrev pub is_majority : List Member → List Holder → Bool
-is_majority ms set = nat_lt (length set) (2 * length (filter (λ h. has_disk ms h.0 h.1) set))
+is_majority ms set = most_pass (λ h. has_disk ms h.0 h.1) set
 
 -- Enough: a majority of each set of the record
 unfoldable pub is_enough : Status → List Member → Bool
@@ -17,8 +17,7 @@ is_enough r ms = list_all (is_majority ms) (sets r)
 
 -- the record of the greatest number
 abbrev pub greater : Status → Option Status → Option Status
-greater r None = Some r
-greater r (Some s) = if nat_lt (rank r) (rank s) then Some s else Some r
+greater r before = later_of r before
 
 abbrev pub greatest : List Status → Option Status
 greatest [] = None

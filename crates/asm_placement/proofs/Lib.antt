@@ -16,3 +16,4 @@ pub mod TablesMoved
 pub mod Falling
 pub mod Apart
 pub mod Endings
+pub mod PartnersAnew

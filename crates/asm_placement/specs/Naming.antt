@@ -2,11 +2,10 @@
 use Rattle.std.specs.Prelude.{ℕ, Bool, true, false, ◌&&◌, ◌==◌, Option, Some, None}
 use Rattle.asm_group.specs.declared.NodeKind.{NodeKind}
 use Rattle.asm_group.specs.declared.NodeKind.TheVariants.{Directory, System, Alias}
-use Rattle.asm_formats.specs.Items.{DiskInfo, FileHead, Node, Pending}
+use Rattle.asm_formats.specs.Items.{DiskInfo, FileHead, Node, Pending, is_directory_kind}
 
 abbrev pub is_directory : NodeKind → Bool
-is_directory Directory = true
-is_directory _ = false
+is_directory kind = is_directory_kind kind
 
 abbrev pub kind_eq : NodeKind → NodeKind → Bool
 kind_eq Directory Directory = true

@@ -10,7 +10,7 @@ use Rattle.asm_formats.specs.Items.{Settings, is_item, settings_item}
 use Rattle.asm_grammar.specs.Word.{number_of, size_of}
 use Rattle.asm_world.specs.Settings as world
 use Rattle.asm_world.specs.Settings.{when, with_attribute, with_creation_attribute, with_shape}
-use Rattle.attribute_values.specs.Creations.{AreNew, IsNew, creation_meant, shape_if}
+use Rattle.attribute_values.specs.Creations.{AreNew, IsNewCreation, creation_meant, shape_if}
 use Rattle.attribute_values.specs.Edits.{settings_with}
 use Rattle.attribute_values.specs.declared.creation.Creation.{Creation}
 

@@ -10,14 +10,14 @@ abbrev pub creation_meant : Creation → world.Creation
 creation_meant c = record { shape = c.shape; attributes = c.settings.attributes }
 
 -- a directory may hold the settings, and no file was made yet
-pub record IsNew (c : Creation) : Type 0 where
+pub record IsNewCreation (c : Creation) : Type 0 where
   pub allowed : is_item (settings_item c.settings) ≡ true
   pub incarnation : c.settings.incarnation ≡ 1
 
 -- each that is given is so
 abbrev pub AreNew : Option Creation → Type 0
 AreNew None = Unit {0}
-AreNew (Some c) = IsNew c
+AreNew (Some c) = IsNewCreation c
 
 -- the shape that a value makes, where it passes
 abbrev pub shape_if : (ℕ → Bool) → (ℕ → Shape) → Option ℕ → Option Shape

@@ -1,15 +1,14 @@
 //! The attributes of a creation.
 
-ghost use Rattle.std.specs.Prelude.{◌≡◌, ◌≤◌, ◌<◌, ◌^◌, ◌||◌, ◌==◌, IfOk};
-ghost use Rattle.std.specs.Bool.{OnTrue};
+ghost use Rattle.std.specs.Prelude.{◌≡◌, ◌||◌, ◌==◌, IfOk};
 ghost use Rattle.std.specs.Option.{option_map};
 ghost use Rattle.asm_group.specs.Shape.{is_dir_blocks, is_sector, is_step, is_unit_size};
 ghost use Rattle.asm_world.specs.Settings.{usual_creation, with_attribute, with_creation_attribute};
-ghost use Rattle.attribute_values.specs.Creations.{AreNew, IsNew, creation_meant, shape_if};
+ghost use Rattle.attribute_values.specs.Creations.{AreNew, IsNewCreation, creation_meant, shape_if};
 
 use crate::number::{number_of, size_of};
 use crate::setting::{is_same, with_attribute};
-use asm_base::{GroupKind, NoMemory, Shape};
+use asm_base::{GroupKind, NoMemory, Shape, is_dir_blocks, is_step, is_unit_size};
 use std::alloc::Global;
 use template_directory::Settings;
 
@@ -24,7 +23,7 @@ impl Creation {
     /// Units of 1 MB, sectors of 512 bytes, 20,000 extents of a size, 1,024 record blocks, and the settings of a new group.
     pub fn usual(alloc: Global, kind: GroupKind) -> Creation
         ensures usual { creation_meant result ≡ usual_creation kind }
-        ensures new { IsNew result }
+        ensures new { IsNewCreation result }
     {
         Creation {
             shape: usual_shape(kind),
@@ -41,7 +40,7 @@ impl Creation {
         name: &[u8],
         value: &[u8],
     ) -> Result<Option<Creation>, NoMemory>
-        requires { IsNew self.now }
+        requires { IsNewCreation self.now }
         ensures given { IfOk result (λ new. option_map creation_meant new ≡ with_creation_attribute (creation_meant self.now) (record { name = name.now; value = value.now })) }
         ensures new { IfOk result AreNew }
     {
@@ -70,7 +69,7 @@ impl Creation {
 
     /// With another shape, where there is one.
     fn with_shape(&self, shape: Option<Shape>) -> Result<Option<Creation>, NoMemory>
-        requires { IsNew self.now }
+        requires { IsNewCreation self.now }
         ensures given { IfOk result (λ new. option_map creation_meant new ≡ option_map (λ s. record (creation_meant self.now) { shape = s }) shape) }
         ensures new { IfOk result AreNew }
     {
@@ -90,7 +89,7 @@ impl Creation {
         name: &[u8],
         value: &[u8],
     ) -> Result<Option<Creation>, NoMemory>
-        requires { IsNew self.now }
+        requires { IsNewCreation self.now }
         ensures given { IfOk result (λ new. option_map creation_meant new ≡ option_map (λ a. record (creation_meant self.now) { attributes = a }) (with_attribute self.now.settings.attributes (record { name = name.now; value = value.now }))) }
         ensures new { IfOk result AreNew }
     {
@@ -174,39 +173,4 @@ fn with_blocks(shape: &Shape, number: Option<u64>) -> Option<Shape>
         }),
         _ => None,
     }
-}
-
-/// 4K, 16K, 64K, 256K, 1M, 2M, 4M, 8M, 16M, 32M or 64M.
-fn is_unit_size(au: u64) -> bool
-    ensures is { result ≡ is_unit_size au }
-    ensures small { OnTrue result (au < 2 ^ 32) }
-{
-    matches!(
-        au,
-        4_096
-            | 16_384
-            | 65_536
-            | 262_144
-            | 1_048_576
-            | 2_097_152
-            | 4_194_304
-            | 8_388_608
-            | 16_777_216
-            | 33_554_432
-            | 67_108_864
-    )
-}
-
-fn is_step(step: u64) -> bool
-    ensures is { result ≡ is_step step }
-    ensures small { OnTrue result (step ≤ 20000) }
-{
-    8 <= step && step <= 20_000 && step % 8 == 0
-}
-
-fn is_dir_blocks(blocks: u64) -> bool
-    ensures is { result ≡ is_dir_blocks blocks }
-    ensures small { OnTrue result (blocks ≤ 16384) }
-{
-    128 <= blocks && blocks <= 16_384
 }

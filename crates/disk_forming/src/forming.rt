@@ -7,6 +7,7 @@ ghost use Rattle.disk_forming.specs.Forming.{MayGiveHeader, HasHeader, MayGiveRe
 
 use crate::gates::close_all_gates;
 use crate::places::{block_slot, header_slot};
+use asm_base::{FIRST_CLAIM, FIRST_STATUS};
 use bay::{Bay, Fault};
 use gate_slot::put;
 
@@ -43,6 +44,6 @@ pub fn give_record<B: Bay>(
         (Done (HasRecord slot 512 claim.now status.now)) (cost 16 (4 * 512 + 2 * block_size))
         (B.state bay.old) (B.state bay.new) }
 {
-    put(bay, slot, block_slot(2, 1, 512), claim)?;
-    put(bay, slot, block_slot(6, 1, 512), status)
+    put(bay, slot, block_slot(FIRST_CLAIM, 1, 512), claim)?;
+    put(bay, slot, block_slot(FIRST_STATUS, 1, 512), status)
 }

@@ -6,6 +6,7 @@ ghost use Rattle.disk_forming.specs.Places.{other_gates};
 ghost use Rattle.disk_forming.specs.Gates.{HasRegion, GatesOf, ShutsGates, MayCloseAll, ClosesAll};
 
 use crate::places::{block_slot, header_slot};
+use asm_base::{FIRST_CLAIM, FIRST_STATUS, SECOND_CLAIM, SECOND_STATUS};
 use bay::{Bay, Fault};
 use gate_slot::close_gate;
 
@@ -38,7 +39,14 @@ fn close_other_gates<B: Bay>(
         (B.state bay.old) (B.state bay.new) }
 {
     let dir_blocks = dir_blocks as u32;
-    let gates: [u32; 6] = [2, 4, 6, 8, 10 + dir_blocks, 76 + dir_blocks];
+    let gates: [u32; 6] = [
+        FIRST_CLAIM,
+        SECOND_CLAIM,
+        FIRST_STATUS,
+        SECOND_STATUS,
+        10 + dir_blocks,
+        76 + dir_blocks,
+    ];
     for gate in &gates {
         close_gate(bay, slot, block_slot(*gate, 1, sector))?;
     }

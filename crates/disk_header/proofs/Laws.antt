@@ -14,41 +14,15 @@ use Rattle.asm_formats.specs.Header.{Header, form, header_fields, header_spellin
 use Rattle.asm_formats.proofs.Bodies.{header_codec}
 use Rattle.asm_formats.proofs.Fields.{passes_if_all}
 use Rattle.asm_base.specs.Readings.{both, whole, name_reading}
-use Rattle.asm_base.proofs.Exact.{IsBytes, IsExact, both_exact, as_exact, decoded_exact, fits_exact}
+use Rattle.asm_base.proofs.Exact.{IsBytes, IsExact, both_exact, as_exact, fits_exact}
 use Rattle.asm_base.proofs.Numbers.{number_exact}
+use Rattle.asm_base.proofs.WordLaws.{kind_exact}
 use Rattle.asm_base.proofs.FieldLaws.{byte_exact, flag_exact, fixed_exact}
 use Rattle.asm_base.proofs.NameLaws.{name_exact, name_is_part, name_is_short}
 use Rattle.asm_base.proofs.Decoding.{block_is_decoded}
 use Rattle.disk_header.specs.declared.reading.Ids.{Ids}
 use Rattle.disk_header.specs.declared.reading.Sizes.{Sizes}
-use Rattle.disk_header.specs.Readings.{known_kind, kind_reading, IdParts, to_ids, ids_reading, SizeParts, to_sizes, sizes_reading, HeaderParts, to_header, header_reading, is_right, right_header}
-
--- ---- the kind
-
-kind_exact : IsExact (λ k. kind_code k ∷ []) (λ k. Unit {0}) kind_reading
-kind_exact = decoded_exact known_kind kind_code known one_code fits_code byte_exact where
-  known : (k : GroupKind) → known_kind (kind_code k) ≡ Some k
-  known External = refl
-  known Normal = refl
-  known High = refl
-
-  one_code : (n : ℕ) (k : GroupKind) → known_kind n ≡ Some k → n ≡ kind_code k
-  one_code zero k e = absurd cc
-  one_code (suc zero) External e = refl
-  one_code (suc zero) Normal e = absurd cc
-  one_code (suc zero) High e = absurd cc
-  one_code (suc (suc zero)) External e = absurd cc
-  one_code (suc (suc zero)) Normal e = refl
-  one_code (suc (suc zero)) High e = absurd cc
-  one_code (suc (suc (suc zero))) External e = absurd cc
-  one_code (suc (suc (suc zero))) Normal e = absurd cc
-  one_code (suc (suc (suc zero))) High e = refl
-  one_code (suc (suc (suc (suc n)))) k e = absurd cc
-
-  fits_code : (k : GroupKind) → kind_code k < 256
-  fits_code External = omega arith
-  fits_code Normal = omega arith
-  fits_code High = omega arith
+use Rattle.disk_header.specs.Readings.{IdParts, to_ids, ids_reading, SizeParts, to_sizes, sizes_reading, HeaderParts, to_header, header_reading, is_right, right_header}
 
 -- ---- the groups of fields
 

@@ -1,25 +1,15 @@
 -- The reading of a header, field by field, and what is tested then.
-use Rattle.std.specs.Prelude.{ℕ, zero, suc, Bool, ◌&&◌, nat_lt, [], ◌∷◌, ◌++◌, codes, Option, Some, None, if◌then◌else◌}
+use Rattle.std.specs.Prelude.{ℕ, Bool, ◌&&◌, nat_lt, [], ◌∷◌, ◌++◌, codes, Option, Some, None, if◌then◌else◌}
 use Rattle.std.specs.Option.{option_and_then}
 use Rattle.std.specs.Int.{w16, w32, w64}
 use Rattle.asm_group.specs.declared.GroupKind.{GroupKind}
-use Rattle.asm_group.specs.declared.GroupKind.TheVariants.{External, Normal, High}
 use Rattle.asm_group.specs.Names.{Bytes, is_name}
 use Rattle.asm_group.specs.Shape.{is_shape}
 use Rattle.asm_formats.specs.Header.{Header, form}
-use Rattle.asm_base.specs.Readings.{Reading, both, as_a, decoded, byte_reading, number_reading, flag_reading, name_reading, fixed_reading}
+use Rattle.asm_base.specs.Readings.{Reading, both, as_a, byte_reading, number_reading, flag_reading, name_reading, fixed_reading}
+use Rattle.asm_base.specs.Words.{kind_reading}
 use Rattle.disk_header.specs.declared.reading.Ids.{Ids}
 use Rattle.disk_header.specs.declared.reading.Sizes.{Sizes}
-
-abbrev pub known_kind : ℕ → Option GroupKind
-known_kind zero = None
-known_kind (suc zero) = Some External
-known_kind (suc (suc zero)) = Some Normal
-known_kind (suc (suc (suc zero))) = Some High
-known_kind (suc (suc (suc (suc n)))) = None
-
-abbrev pub kind_reading : Reading GroupKind
-kind_reading = decoded known_kind byte_reading
 
 abbrev pub IdParts : Type 0
 IdParts = ℕ × (ℕ × (ℕ × GroupKind))

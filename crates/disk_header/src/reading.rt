@@ -4,12 +4,12 @@ ghost use Rattle.std.specs.Prelude.{◌≡◌, ◌≤◌, length, IfOk};
 ghost use Rattle.asm_formats.specs.Header.{decoded_header, is_header};
 ghost use Rattle.asm_base.specs.Cursors.{Reads};
 ghost use Rattle.asm_base.specs.Readings.{whole};
-ghost use Rattle.disk_header.specs.Readings.{kind_reading, ids_reading, sizes_reading, header_reading, is_right, right_header};
+ghost use Rattle.disk_header.specs.Readings.{ids_reading, sizes_reading, header_reading, is_right, right_header};
 
 use crate::header::Header;
 use asm_base::{
-    Block, GroupKind, NoMemory, Reader, Shape, has_only_zeros, take_fixed, take_flag, take_name,
-    take_u8, take_u16, take_u32, take_u64,
+    Block, GroupKind, NoMemory, Reader, Shape, has_only_zeros, take_fixed, take_flag, take_kind,
+    take_name, take_u8, take_u16, take_u32, take_u64,
 };
 use std::alloc::Global;
 
@@ -155,17 +155,6 @@ fn take_ids(from: &mut Reader) -> Option<Ids>
         birth: take_u64(from)?,
         kind: take_kind(from)?,
     })
-}
-
-fn take_kind(from: &mut Reader) -> Option<GroupKind>
-    ensures { Reads from.new result (kind_reading from.old) }
-{
-    match take_u8(from)? {
-        1 => Some(GroupKind::External),
-        2 => Some(GroupKind::Normal),
-        3 => Some(GroupKind::High),
-        _ => None,
-    }
 }
 
 #[tactic(auto, unfolding(crate::specs::Readings::sizes_reading))]

@@ -1,13 +1,12 @@
 //! The one spelling of a header.
 
-ghost use Rattle.std.specs.Prelude.{◌≡◌, ◌≤◌, ◌+◌, ◌∷◌, [], IsTrue};
+ghost use Rattle.std.specs.Prelude.{◌≡◌, ◌≤◌, IsTrue};
 ghost use Rattle.asm_formats.specs.Header.{is_header, header_fields, header_spelling};
-ghost use Rattle.asm_formats.specs.Codes.{kind_code};
 ghost use Rattle.asm_base.specs.Cursors.{Puts};
 
 use crate::header::Header;
 use asm_base::{
-    Block, GroupKind, Writer, finish, put_bytes, put_flag, put_name, put_u8, put_u16, put_u32,
+    Block, Writer, finish, put_bytes, put_flag, put_kind, put_name, put_u8, put_u16, put_u32,
     put_u64,
 };
 
@@ -41,17 +40,4 @@ fn put_header(to: &mut Writer, header: &Header)
     put_u16(to, header.sector as u16);
     put_u16(to, header.step as u16);
     put_u16(to, header.dir_blocks as u16);
-}
-
-fn put_kind(to: &mut Writer, kind: GroupKind)
-    requires { to.old.at + 1 ≤ 4096 }
-    ensures puts { Puts to.old to.new (kind_code kind ∷ []) }
-    ensures at { to.new.at ≡ to.old.at + 1 }
-{
-    let code = match kind {
-        GroupKind::External => 1,
-        GroupKind::Normal => 2,
-        GroupKind::High => 3,
-    };
-    put_u8(to, code);
 }

@@ -10,15 +10,12 @@ ghost use Rattle.asm_formats.specs.Header.{decoded_header, is_header};
 ghost use Rattle.asm_images.specs.Kept.{header_in};
 ghost use Rattle.disk_images.specs.Looks.{Looks, IsAllowed, HeaderIs, IsLooked, AreLooked};
 
-use asm_base::{Block, NoMemory};
+use asm_base::{BLOCK, Block, LEAST_SIZE, NoMemory};
 use bay::{Bay, BayError, Fault};
-use disk_forming::{BLOCK, header_slot};
+use disk_forming::header_slot;
 use disk_header::{Header, decode};
 use gate_slot::is_open;
 use std::alloc::Global;
-
-/// The bytes that a member has at least: up to its directory region.
-const LEAST_SIZE: u64 = 40_960;
 
 /// What a look at an image has shown. Sizes are in bytes.
 #[derive(Debug, Drop)]

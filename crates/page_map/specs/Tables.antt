@@ -3,7 +3,7 @@ use Rattle.std.specs.Prelude.{◌≡◌, ℕ, ◌+◌, ◌-◌, ◌<◌, Bool, t
 use Rattle.std.specs.Map.{lookup}
 use Rattle.asm_group.specs.Names.{Bytes}
 use Rattle.asm_formats.specs.Bytes.{block_size}
-use Rattle.asm_formats.specs.Items.{Key}
+use Rattle.asm_formats.specs.Items.{Key, operations_kind}
 use Rattle.asm_formats.specs.Records.{frame_spelling}
 use Rattle.asm_base.specs.Records.{Entry, is_key, record_at}
 use Rattle.asm_base.specs.Frames.{entry_frame}
@@ -45,13 +45,13 @@ pub record Shows (t : PageTable) (page : ℕ → Bytes) : Type 0 where
 
 -- the key of the active rebalance or of the pending operation, for which two pages are kept
 abbrev pub is_kept : Key → Bool
-is_kept k = (k.kind == 4) && (nat_le k.a 1 && (k.b == 0))
+is_kept k = (k.kind == operations_kind) && (nat_le k.a 1 && (k.b == 0))
 
 abbrev pub rebalance_key : Key
-rebalance_key = record { kind = 4; a = 0; b = 0 }
+rebalance_key = record { kind = operations_kind; a = 0; b = 0 }
 
 abbrev pub pending_key : Key
-pending_key = record { kind = 4; a = 1; b = 0 }
+pending_key = record { kind = operations_kind; a = 1; b = 0 }
 
 abbrev pub one_if : Bool → ℕ
 one_if b = if b then 1 else 0

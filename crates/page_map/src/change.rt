@@ -11,7 +11,7 @@ ghost use Rattle.std.specs.Ordering.{nat_cmp};
 ghost use Rattle.page_map.specs.Applying.{AddsNew, RemovesAll, SetsAll, PutOne, PutBlocks, GoneBlocks, Blocks, Applies, IsCause, block_at, page_number};
 
 use crate::table::PageMap;
-use asm_base::{Block, Key, NoMemory, Value, encode_record};
+use asm_base::{Block, Key, NoMemory, Value, encode_record, record_kind};
 use std::alloc::Global;
 use std::collections::BTreeMap;
 
@@ -37,7 +37,7 @@ impl From<NoMemory> for PageError {
 fn is_kept(key: Key) -> bool
     ensures { result ≡ is_kept key }
 {
-    key.kind == 4 && key.a <= 1 && key.b == 0
+    key.kind == record_kind::OPERATIONS && key.a <= 1 && key.b == 0
 }
 
 /// Whether a record of this key needs a page that isn't kept.

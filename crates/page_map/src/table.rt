@@ -7,25 +7,11 @@ ghost use Rattle.asm_base.specs.Records.{is_key, record_at};
 ghost use Rattle.page_map.specs.Tables.{place_at};
 
 use crate::free::FreePages;
-use asm_base::{Key, NoMemory, Records, Value};
+use asm_base::{Key, NoMemory, PENDING_KEY, REBALANCE_KEY, Records, Value};
 use std::alloc::Global;
 use std::collections::BTreeMap;
 use std::collections::btree_map::Iter;
 use std::marker::Model;
-
-/// The key of the active rebalance.
-const REBALANCE: Key = Key {
-    kind: 4,
-    a: 0,
-    b: 0,
-};
-
-/// The key of the pending operation.
-const PENDING: Key = Key {
-    kind: 4,
-    a: 1,
-    b: 0,
-};
 
 /// The records of a group's directories by key, and of each the page on which it stands.
 #[derive(Drop)]
@@ -100,8 +86,8 @@ impl PageMap {
         // No key has two pages.
         ensures ordered { IsStrictlySortedBy key_cmp (map key_of_place self.now.places) }
     {
-        let rebalance = self.place(REBALANCE).is_some();
-        let pending = self.place(PENDING).is_some();
+        let rebalance = self.place(REBALANCE_KEY).is_some();
+        let pending = self.place(PENDING_KEY).is_some();
         let kept = rebalance as u64 + pending as u64;
         let used = (self.places.len() as u64).saturating_sub(kept);
         (self.free.count() as u64)

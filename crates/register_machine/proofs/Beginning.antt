@@ -3,9 +3,9 @@ use Rattle.std.proofs.Common.{◌≡◌, ◌⊎◌, inl, inr, ⊎_elim, ℕ, ◌
 use Rattle.std.proofs.lemmas.Option.{none-some, same_Some}
 use Rattle.asm_formats.specs.Among.{IsAmong}
 use Rattle.asm_formats.specs.Status.{Status, is_status}
-use Rattle.asm_formats.specs.Following.{Holder, rank, sets, Follows}
+use Rattle.asm_formats.specs.Following.{Holder, rank, sets, Follows, most_pass}
 use Rattle.asm_formats.proofs.Orders.{is_ranked}
-use Rattle.register_machine.specs.Disks.{Disks, is_majority, is_enough, has_claim}
+use Rattle.register_machine.specs.Disks.{Disks, is_enough, has_claim}
 use Rattle.register_machine.specs.Machine.{Mark, Begun, Completed, Program, Idle, Claiming, Claimed, Writing, Holding, MayBegin}
 use Rattle.register_machine.specs.Laws.{begun, begun_since, last_completed}
 use Rattle.register_machine.proofs.Counting.{majority_grows, majority_of}
@@ -20,7 +20,7 @@ pub record IsNext (disks : Disks) (history : List Mark) (next : Status) : Type 0
   pub allowed : is_status next ≡ true
   pub above : (g : Status) → IsAmong (begun history) g → rank g < rank next
   pub follows : (v : Status) → base history ≡ Some v → Follows v next
-  pub shown : (v : Status) → base (Begun next ∷ history) ≡ Some v → is_majority (shows_from disks next.epoch) (pivot (sets v)) ≡ true
+  pub shown : (v : Status) → base (Begun next ∷ history) ≡ Some v → most_pass (shows_from disks next.epoch) (pivot (sets v)) ≡ true
 
 module _ (disks : Disks) (history : List Mark) (next : Status) (kept : Kept disks history) (is : IsNext disks history next) where
   -- the first record of all
@@ -32,7 +32,7 @@ module _ (disks : Disks) (history : List Mark) (next : Status) (kept : Kept disk
     current = λ g h le. ⊎_elim (λ (same : g ≡ next). inr (inl same)) (λ old. absurd (no_record g old)) h;
     since = λ g h. ⊎_elim (λ (same : g ≡ next). omega (arith, ap rank same)) (λ old. absurd (not_since g old)) h;
     above = λ last. absurd (not_last last);
-    shown = λ g h. ⊎_elim (λ (same : g ≡ next). subst (λ (r : Status). is_majority (shows_from disks r.epoch) (pivot (sets next)) ≡ true) (sym same) (is.shown next first_of)) (λ old. absurd (no_record g old)) h;
+    shown = λ g h. ⊎_elim (λ (same : g ≡ next). subst (λ (r : Status). most_pass (shows_from disks r.epoch) (pivot (sets next)) ≡ true) (sym same) (is.shown next first_of)) (λ old. absurd (no_record g old)) h;
     stands = λ last. absurd (not_last last);
     completed = λ w h. ⊎_elim (λ (same : Completed w ≡ Begun next). absurd cc) (λ old. absurd (no_mark (Completed w) old)) h;
   }
@@ -62,7 +62,7 @@ module _ (disks : Disks) (history : List Mark) (next : Status) (kept : Kept disk
     since = λ g h. ⊎_elim (λ (same : g ≡ next). let gt = is.above v old.is_begun in omega (arith, gt, ap rank same)) (λ was. old.since g was) h;
     above = λ last g h. ⊎_elim (λ (same : g ≡ next). let gt = is.above v old.is_begun in omega (arith, gt, ap rank same)) (λ was. old.above last g was) h;
     shown = λ g h. ⊎_elim
-        (λ (same : g ≡ next). subst (λ (r : Status). is_majority (shows_from disks r.epoch) (pivot (sets v)) ≡ true) (sym same) (is.shown v (ap (λ (o : Option Status). or_first o next) some)))
+        (λ (same : g ≡ next). subst (λ (r : Status). most_pass (shows_from disks r.epoch) (pivot (sets v)) ≡ true) (sym same) (is.shown v (ap (λ (o : Option Status). or_first o next) some)))
         (λ was. old.shown g was) h;
     stands = old.stands;
     completed = λ w h. ⊎_elim (λ (same : Completed w ≡ Begun next). absurd cc) (λ was. old.completed w was) h;
@@ -108,8 +108,8 @@ holding_next disks history last next kept allowed at top epoch turn follows = re
   allowed = allowed;
   above = λ g h. ⊎_elim (λ (same : g ≡ last). omega (arith, more, ap rank same)) (λ (lt : rank g < rank last). omega (arith, more, lt)) (top g h);
   follows = λ v e. subst (λ (r : Status). Follows r next) (same_Some last v (sym at ∙ e)) follows;
-  shown = λ v e. subst (λ (r : Status). is_majority (shows_from disks next.epoch) (pivot (sets r)) ≡ true) (same_Some last v (sym (ap (λ (o : Option Status). or_first o next) at) ∙ e))
-      (subst (λ (n : ℕ). is_majority (shows_from disks n) (pivot (sets last)) ≡ true) (sym epoch) (base_is.shown last base_is.is_begun));
+  shown = λ v e. subst (λ (r : Status). most_pass (shows_from disks next.epoch) (pivot (sets r)) ≡ true) (same_Some last v (sym (ap (λ (o : Option Status). or_first o next) at) ∙ e))
+      (subst (λ (n : ℕ). most_pass (shows_from disks n) (pivot (sets last)) ≡ true) (sym epoch) (base_is.shown last base_is.is_begun));
 }
   where
     more : rank last < rank next

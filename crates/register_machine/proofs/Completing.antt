@@ -5,8 +5,8 @@ use Rattle.std.proofs.lemmas.Bool.{cases_lt, eqb-true, false≢true, le-leb, leb
 use Rattle.std.proofs.lemmas.Option.{same_Some}
 use Rattle.asm_formats.specs.Among.{IsAmong}
 use Rattle.asm_formats.specs.Status.{Status}
-use Rattle.asm_formats.specs.Following.{Holder, rank, sets, Follows}
-use Rattle.register_machine.specs.Disks.{Disks, is_majority, is_enough, has_number, has_record, epoch_of}
+use Rattle.asm_formats.specs.Following.{Holder, rank, sets, Follows, most_pass}
+use Rattle.register_machine.specs.Disks.{Disks, is_enough, has_number, has_record, epoch_of}
 use Rattle.register_machine.specs.Machine.{Mark, Begun, Completed}
 use Rattle.register_machine.specs.Laws.{begun}
 use Rattle.register_machine.proofs.Counting.{majority_grows, majority_of, enough_grows}
@@ -31,7 +31,7 @@ module _ (disks : Disks) (history older : List Mark) (next : Status) (kept : Kep
   full : is_enough (has_from disks (rank next)) next ≡ true
   full = enough_grows (has_record disks next) (has_from disks (rank next)) next (λ d h. is_number (rank next) (disks d).status h) done
 
-  majority : (set : List Holder) → IsAmong (sets next) set → is_majority (has_from disks (rank next)) set ≡ true
+  majority : (set : List Holder) → IsAmong (sets next) set → most_pass (has_from disks (rank next)) set ≡ true
   majority set among = majority_of (has_from disks (rank next)) next set full among
 
   -- only the newest has its number

@@ -2,8 +2,8 @@
 use Rattle.std.proofs.Common.{◌≡◌, ◌⊎◌, ℕ, ◌+◌, ◌<◌, ◌≤◌, true, List, ◌∷◌, Some}
 use Rattle.asm_formats.specs.Among.{IsAmong}
 use Rattle.asm_formats.specs.Status.{Status, is_status}
-use Rattle.asm_formats.specs.Following.{Holder, rank, sets, Follows}
-use Rattle.register_machine.specs.Disks.{Disks, is_majority, is_enough, has_claim}
+use Rattle.asm_formats.specs.Following.{Holder, rank, sets, Follows, most_pass}
+use Rattle.register_machine.specs.Disks.{Disks, is_enough, has_claim}
 use Rattle.register_machine.specs.Machine.{Mark, Begun, Completed, Program, Idle, Claiming, Claimed, Writing, Holding, State}
 use Rattle.register_machine.specs.Laws.{begun, begun_since, last_completed, IsCurrent, AreNumbered}
 use Rattle.register_machine.proofs.Pivots.{pivot}
@@ -14,7 +14,7 @@ use Rattle.register_machine.proofs.Histories.{base}
 pub record Superseded (disks : Disks) (g : Status) : Type 0 where
   pub set : List Holder
   pub among : IsAmong (sets g) set
-  pub greater : is_majority (has_from disks (rank g + 1)) set ≡ true
+  pub greater : most_pass (has_from disks (rank g + 1)) set ≡ true
 
 -- of the record that was completed last, or else begun first
 pub record AtBase (disks : Disks) (history : List Mark) (v : Status) : Type 0 where
@@ -26,7 +26,7 @@ pub record AtBase (disks : Disks) (history : List Mark) (v : Status) : Type 0 wh
   pub since : (g : Status) → IsAmong (begun_since history) g → rank v ≤ rank g
   pub above : last_completed history ≡ Some v → (g : Status) → IsAmong (begun_since history) g → rank v < rank g
   -- a majority of the set that these share shows each epoch
-  pub shown : (g : Status) → IsAmong (begun history) g → is_majority (shows_from disks g.epoch) (pivot (sets v)) ≡ true
+  pub shown : (g : Status) → IsAmong (begun history) g → most_pass (shows_from disks g.epoch) (pivot (sets v)) ≡ true
   -- once complete it stands, or greater ones do
   pub stands : last_completed history ≡ Some v → is_enough (has_from disks (rank v)) v ≡ true
   pub completed : (w : Status) → IsAmong history (Completed w) → (w ≡ v) ⊎ (rank w < rank v)

@@ -2,7 +2,7 @@
 use Rattle.std.specs.Prelude.{ℕ, ◌*◌, Bool, ◌&&◌, List, [], ◌∷◌, length, filter, max, nat_le, nat_lt, if◌then◌else◌, ◌==◌, Option, Some, None, false}
 use Rattle.std.specs.List.{list_all, list_any}
 use Rattle.asm_formats.specs.Status.{Status}
-use Rattle.asm_formats.specs.Following.{Holder, rank, sets}
+use Rattle.asm_formats.specs.Following.{Holder, rank, sets, most_pass, later_of}
 
 pub record Disk : Type 0 where
   -- the greatest epoch that was claimed on it
@@ -34,13 +34,9 @@ with_record disks d r = with_disk disks d (record { claimed = (disks d).claimed;
 
 -- ---- majorities
 
--- more than half of the set pass the test
-abbrev pub is_majority : (Holder → Bool) → List Holder → Bool
-is_majority test set = nat_lt (length set) (2 * length (filter test set))
-
 -- Enough: those that pass the test are a majority of each set of the record
 abbrev pub is_enough : (Holder → Bool) → Status → Bool
-is_enough test r = list_all (is_majority test) (sets r)
+is_enough test r = list_all (most_pass test) (sets r)
 
 abbrev pub is_in : List Holder → Holder → Bool
 is_in read d = list_any (is_same d) read
@@ -62,8 +58,7 @@ has_record disks r d = has_number (rank r) (disks d).status
 -- the record of the greater number
 abbrev pub greater : Option Status → Option Status → Option Status
 greater None s = s
-greater (Some r) None = Some r
-greater (Some r) (Some s) = if nat_lt (rank r) (rank s) then Some s else Some r
+greater (Some r) s = later_of r s
 
 -- the greatest record on these disks
 abbrev pub greatest : Disks → List Holder → Option Status

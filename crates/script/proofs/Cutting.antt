@@ -8,7 +8,8 @@ use Rattle.std.proofs.lemmas.List.Sums.{prefix_len-le-length}
 use Rattle.std.specs.List.{prefix_len}
 use Rattle.std.specs.Str.{bytes_eq}
 use Rattle.std.specs.Char.{to_ascii_lowercase}
-use Rattle.script.specs.Script.{Place, between, comment, line, statement, quoted, place_at, is_blank, begins_comment, is_word_byte, is_keyword, opens_statement, onto, onto_at, cut}
+use Rattle.asm_grammar.specs.Bytes.{is_blank}
+use Rattle.script.specs.Script.{Place, between, comment, line, statement, quoted, place_at, begins_comment, is_word_byte, is_keyword, opens_statement, onto, onto_at, cut}
 use Rattle.script.specs.Scanning.{IsOpen, onto_all, Leads, FirstIs, Unended}
 
 -- a test is true or false, with the equation

@@ -2,7 +2,8 @@
 use Rattle.std.proofs.Common.{◌≡◌, ◌≢◌, ◌==◌, ◌<◌, ◌≤◌, ℕ, true, false, if◌then◌else◌, ◌⊎◌, inl, List, [], ◌∷◌, length, get_or, refl, sym, ap, subst, arith}
 use Rattle.std.proofs.lemmas.Bool.{eqb-true}
 use Rattle.std.specs.List.{prefix_len}
-use Rattle.script.specs.Script.{between, comment, line, statement, quoted, is_blank, begins_comment, is_word_byte, opens_statement}
+use Rattle.asm_grammar.specs.Bytes.{is_blank}
+use Rattle.script.specs.Script.{between, comment, line, statement, quoted, begins_comment, is_word_byte, opens_statement}
 use Rattle.script.specs.Scanning.{Steps}
 use Rattle.script.specs.declared.cutter.State.TheVariants.{Gap, Comment, Line, Statement, Quote}
 use Rattle.script.specs.declared.cutter.Step.TheVariants.{Skip, Take, EndsBefore, EndsWith, Waits}

@@ -2,10 +2,7 @@
 use Rattle.std.specs.Prelude.{◌==◌, ◌||◌, ℕ, Bool, true, false, not, if◌then◌else◌, List, [], ◌∷◌, map, take_while, codes, ◌&&◌}
 use Rattle.std.specs.Char.{to_ascii_lowercase}
 use Rattle.std.specs.Str.{bytes_eq}
-
--- space, tab, carriage return or line feed
-abbrev pub is_blank : ℕ → Bool
-is_blank b = (b == 32) || (b == 9) || (b == 13) || (b == 10)
+use Rattle.asm_grammar.specs.Bytes.{is_blank}
 
 -- a word ends before a blank and before any of ' ( ) , ; and =
 abbrev pub is_word_byte : ℕ → Bool

@@ -2,7 +2,8 @@
 
 ghost use Rattle.std.specs.Prelude.{◌≡◌, ◌≤◌, length};
 ghost use Rattle.std.specs.List.{prefix_len};
-ghost use Rattle.script.specs.Script.{is_blank, begins_comment, is_word_byte, is_keyword, opens_statement};
+ghost use Rattle.asm_grammar.specs.Bytes.{is_blank};
+ghost use Rattle.script.specs.Script.{begins_comment, is_word_byte, is_keyword, opens_statement};
 
 pub fn begins_comment(bytes: &[u8]) -> bool
     ensures { result ≡ begins_comment bytes.now }

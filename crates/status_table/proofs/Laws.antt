@@ -14,42 +14,13 @@ use Rattle.asm_base.specs.Readings.{whole}
 use Rattle.asm_base.proofs.Exact.{IsBytes, IsBytes-none, IsExact, Begins, bind_some, test_some, some_is, both_exact, as_exact, decoded_exact, fits_exact}
 use Rattle.asm_base.proofs.Numbers.{number_exact}
 use Rattle.asm_base.proofs.Tables.{are_bytes_is}
+use Rattle.asm_base.proofs.WordLaws.{mode_exact}
 use Rattle.asm_base.proofs.FieldLaws.{byte_exact, flag_exact, fixed_exact, counted_exact, whole_takes, whole_again}
 use Rattle.status_table.specs.declared.reading.Version.{Version}
 use Rattle.status_table.specs.declared.reading.Version.TheVariants.{One, Two}
 use Rattle.status_table.specs.Rules.{right_status}
-use Rattle.status_table.specs.Readings.{known_mode, mode_reading, EntryParts, to_entry, entry_reading, tag_of, next_reading, next_fields, StatusParts, to_status, status_reading, status_fields}
+use Rattle.status_table.specs.Readings.{EntryParts, to_entry, entry_reading, tag_of, next_reading, next_fields, StatusParts, to_status, status_reading, status_fields}
 use Rattle.status_table.proofs.Allowed.{parts_of, few, all_fit, FitsEntry}
-
--- ---- modes
-
-mode_exact : IsExact (λ m. mode_code m ∷ []) (λ m. Unit {0}) mode_reading
-mode_exact = decoded_exact known_mode mode_code known one_code fits_code byte_exact where
-  known : (m : Mode) → known_mode (mode_code m) ≡ Some m
-  known Online = refl
-  known Offline = refl
-  known Syncing = refl
-  known Dropping = refl
-  known Forced = refl
-
-  is_code : (n : ℕ) (k m : Mode) → n ≡ mode_code k → Some k ≡ Some m → n ≡ mode_code m
-  is_code n k m e same = e ∙ ap mode_code (some_is k m same)
-
-  one_code : (n : ℕ) (m : Mode) → known_mode n ≡ Some m → n ≡ mode_code m
-  one_code zero m e = absurd (none-some m e)
-  one_code (suc zero) m e = is_code 1 Online m refl e
-  one_code (suc (suc zero)) m e = is_code 2 Offline m refl e
-  one_code (suc (suc (suc zero))) m e = is_code 3 Syncing m refl e
-  one_code (suc (suc (suc (suc zero)))) m e = is_code 4 Dropping m refl e
-  one_code (suc (suc (suc (suc (suc zero))))) m e = is_code 5 Forced m refl e
-  one_code (suc (suc (suc (suc (suc (suc n)))))) m e = absurd (none-some m e)
-
-  fits_code : (m : Mode) → mode_code m < 256
-  fits_code Online = omega arith
-  fits_code Offline = omega arith
-  fits_code Syncing = omega arith
-  fits_code Dropping = omega arith
-  fits_code Forced = omega arith
 
 -- ---- entries
 

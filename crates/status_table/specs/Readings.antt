@@ -1,27 +1,15 @@
 -- The reading of a status record, field by field, and the fields of both versions.
-use Rattle.std.specs.Prelude.{ℕ, zero, suc, Bool, List, [], ◌∷◌, ◌++◌, length, flat_map, codes, Option, Some, None}
+use Rattle.std.specs.Prelude.{ℕ, Bool, List, [], ◌∷◌, ◌++◌, length, flat_map, codes, Option, Some, None}
 use Rattle.std.specs.Int.{w32, w64}
 use Rattle.asm_group.specs.declared.Mode.{Mode}
-use Rattle.asm_group.specs.declared.Mode.TheVariants.{Online, Offline, Syncing, Dropping, Forced}
 use Rattle.asm_formats.specs.Bytes.{number}
 use Rattle.asm_formats.specs.Codes.{flag}
 use Rattle.asm_formats.specs.Claim.{Claim}
 use Rattle.asm_formats.specs.Status.{Entry, Status, entry_fields}
-use Rattle.asm_base.specs.Readings.{Reading, both, as_a, decoded, counted, byte_reading, number_reading, flag_reading, fixed_reading}
+use Rattle.asm_base.specs.Readings.{Reading, both, as_a, counted, byte_reading, number_reading, flag_reading, fixed_reading}
+use Rattle.asm_base.specs.Words.{mode_reading}
 use Rattle.status_table.specs.declared.reading.Version.{Version}
 use Rattle.status_table.specs.declared.reading.Version.TheVariants.{One, Two}
-
-abbrev pub known_mode : ℕ → Option Mode
-known_mode zero = None
-known_mode (suc zero) = Some Online
-known_mode (suc (suc zero)) = Some Offline
-known_mode (suc (suc (suc zero))) = Some Syncing
-known_mode (suc (suc (suc (suc zero)))) = Some Dropping
-known_mode (suc (suc (suc (suc (suc zero))))) = Some Forced
-known_mode (suc (suc (suc (suc (suc (suc n)))))) = None
-
-abbrev pub mode_reading : Reading Mode
-mode_reading = decoded known_mode byte_reading
 
 abbrev pub EntryParts : Type 0
 EntryParts = ℕ × (ℕ × (Mode × (ℕ × (Bool × (ℕ × (ℕ × (ℕ × ℕ)))))))

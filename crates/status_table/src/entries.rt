@@ -110,7 +110,7 @@ pub fn without_entry(status: &PstRecord, disk: u8) -> PstRecord
 }
 
 /// The record with the first `count` of these entries.
-fn with_entries(status: &PstRecord, count: u8, entries: [PstEntry; 64]) -> PstRecord
+pub fn with_entries(status: &PstRecord, count: u8, entries: [PstEntry; 64]) -> PstRecord
     requires { count ≤ 64 }
     ensures { result ≡ record status.now { entries = take count entries } }
 {

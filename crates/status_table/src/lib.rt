@@ -16,8 +16,8 @@ pub use changes::{
 };
 pub use claim::{Claim, decode_claim, encode_claim};
 pub use entries::{
-    least_free_failgroup, with_entry, with_mode, with_offline, with_partners, with_repair,
-    with_units, without_entry,
+    least_free_failgroup, with_entries, with_entry, with_mode, with_offline, with_partners,
+    with_repair, with_units, without_entry,
 };
 pub use follows::same_sets_follow;
 pub use reading::decode;

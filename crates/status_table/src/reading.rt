@@ -5,12 +5,12 @@ ghost use Rattle.asm_formats.specs.Status.{decoded_status};
 ghost use Rattle.asm_base.specs.Readings.{fixed_reading, repeated, whole};
 ghost use Rattle.asm_base.specs.Cursors.{Reads, ReadsBy};
 ghost use Rattle.status_table.specs.Rules.{right_status};
-ghost use Rattle.status_table.specs.Readings.{tag_of, mode_reading, entry_reading, next_reading, status_reading};
+ghost use Rattle.status_table.specs.Readings.{tag_of, entry_reading, next_reading, status_reading};
 
 use crate::record::{PstEntry, PstRecord};
 use crate::rules::is_status;
 use asm_base::{
-    Block, DiskSet, Mode, Reader, has_only_zeros, take_fixed, take_flag, take_set, take_u8,
+    Block, DiskSet, Reader, has_only_zeros, take_fixed, take_flag, take_mode, take_set, take_u8,
     take_u32, take_u64,
 };
 
@@ -140,17 +140,4 @@ fn take_entry(from: &mut Reader) -> Option<PstEntry>
         repair: take_u64(from)?,
         partners: take_set(from)?,
     })
-}
-
-fn take_mode(from: &mut Reader) -> Option<Mode>
-    ensures { Reads from.new result (mode_reading from.old) }
-{
-    match take_u8(from)? {
-        1 => Some(Mode::Online),
-        2 => Some(Mode::Offline),
-        3 => Some(Mode::Syncing),
-        4 => Some(Mode::Dropping),
-        5 => Some(Mode::Forced),
-        _ => None,
-    }
 }

@@ -3,7 +3,6 @@
 ghost use Rattle.std.specs.Prelude.{◌≡◌, ◌≤◌, ◌+◌, ◌*◌, ◌++◌, ◌∷◌, [], length, flat_map, IsTrue};
 ghost use Rattle.std.specs.Int.{w64};
 ghost use Rattle.asm_formats.specs.Bytes.{number};
-ghost use Rattle.asm_formats.specs.Codes.{mode_code};
 ghost use Rattle.asm_formats.specs.Status.{entry_fields, is_status, status_spelling};
 ghost use Rattle.asm_base.specs.Cursors.{Puts};
 ghost use Rattle.status_table.specs.declared.reading.Version.TheVariants.{Two};
@@ -11,7 +10,7 @@ ghost use Rattle.status_table.specs.Readings.{status_fields};
 
 use crate::record::{PstEntry, PstRecord};
 use asm_base::{
-    Block, Mode, Writer, finish, put_bytes, put_flag, put_set, put_u8, put_u32, put_u64,
+    Block, Writer, finish, put_bytes, put_flag, put_mode, put_set, put_u8, put_u32, put_u64,
 };
 
 /// Fills the block with the record, in version 2.
@@ -70,19 +69,4 @@ fn put_entry(to: &mut Writer, entry: PstEntry)
     put_u64(to, entry.since);
     put_u64(to, entry.repair);
     put_set(to, entry.partners);
-}
-
-fn put_mode(to: &mut Writer, mode: Mode)
-    requires { to.old.at + 1 ≤ 4096 }
-    ensures puts { Puts to.old to.new (mode_code mode ∷ []) }
-    ensures at { to.new.at ≡ to.old.at + 1 }
-{
-    let code = match mode {
-        Mode::Online => 1,
-        Mode::Offline => 2,
-        Mode::Syncing => 3,
-        Mode::Dropping => 4,
-        Mode::Forced => 5,
-    };
-    put_u8(to, code);
 }
