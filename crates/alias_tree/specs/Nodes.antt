@@ -9,9 +9,8 @@ use Rattle.std.specs.BTreeMap.{is_at, insert_entry}
 use Rattle.std.specs.Map.{lookup, remove_entry}
 use Rattle.std.specs.Str.{bytes_eq}
 use Rattle.asm_group.specs.declared.NodeKind.{NodeKind}
-use Rattle.asm_group.specs.declared.NodeKind.TheVariants.{Directory}
 use Rattle.asm_group.specs.Names.{Bytes, Path, folded}
-use Rattle.asm_formats.specs.Items.{Item, node_item, Key, Node}
+use Rattle.asm_formats.specs.Items.{Item, node_item, Key, Node, is_directory_kind, nodes_kind}
 use Rattle.asm_base.specs.Records.{Entry}
 use Rattle.asm_base.specs.Tables.{IsItemTable, item_record}
 
@@ -30,7 +29,7 @@ abbrev pub record_of : Numbered → Entry
 record_of x = item_record (item_of x)
 
 abbrev pub is_mine : Key → Bool
-is_mine k = k.kind == 6
+is_mine k = k.kind == nodes_kind
 
 abbrev pub is_before : ℕ → ℕ → Bool
 is_before m n = is_lt (nat_cmp m n)
@@ -47,8 +46,7 @@ without_node nodes n = remove_entry (is_at (nat_cmp n)) nodes
 -- ---- the rule
 
 abbrev pub kind_is_directory : NodeKind → Bool
-kind_is_directory Directory = true
-kind_is_directory _ = false
+kind_is_directory kind = is_directory_kind kind
 
 abbrev pub is_directory : Node → Bool
 is_directory node = kind_is_directory node.kind

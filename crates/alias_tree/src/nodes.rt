@@ -18,14 +18,11 @@ use crate::files::{FileName, FileNames, name_by_kind};
 use crate::node::Node;
 use crate::reading::read_node;
 use crate::writing::node_record;
-use asm_base::{Change, Key, NoMemory, NodeKind, Records, Value};
+use asm_base::{Change, Key, NoMemory, NodeKind, Records, Value, record_kind};
 use std::alloc::Global;
 use std::collections::BTreeMap;
 use std::collections::btree_map::Iter;
 use std::marker::Model;
-
-/// The kind of the records of nodes.
-const KIND: u16 = 6;
 
 /// The nodes by number, of which nothing else is said.
 #[derive(Drop)]
@@ -210,7 +207,7 @@ impl Nodes {
         ensures step { IfOk result (λ taken. (if is_mine key then add_item is_before (entry_of_record entry_of) self.old (key, value.now) else Some self.old) ≡ (if taken then Some self.new else None)) }
         ensures ascending { IfOk result (λ taken. OnTrue taken (Ascend is_before self.new)) }
     {
-        if key.kind != KIND {
+        if key.kind != record_kind::NODES {
             return Ok(true);
         }
         let Some(node) = read_node(alloc, key, value)? else {

@@ -6,6 +6,7 @@ ghost use Rattle.std.specs.Ordering.{nat_cmp};
 ghost use Rattle.std.specs.BTreeMap.{is_at};
 ghost use Rattle.alias_tree.specs.Nodes.{KeepsRule, node_at};
 ghost use Rattle.alias_tree.specs.Opening.{AreNodes, Refuses, value_at};
+ghost use Rattle.asm_formats.specs.Items.{nodes_kind};
 
 use crate::index::{put_at, remove_node};
 use crate::nodes::Nodes;
@@ -56,7 +57,7 @@ impl OpenTree {
     /// isn't a node's or another node has its parent and folded name. Where there is no memory the nodes stay.
     #[tactic(auto, using(crate::proofs::OpenLaws::record_put, crate::proofs::OpenLaws::put_keeps_nodes, crate::proofs::OpenLaws::name_of_record, crate::proofs::OpenLaws::not_read, crate::proofs::OpenLaws::is_taken))]
     pub fn put_record(&mut self, alloc: Global, key: Key, value: &Value) -> Result<bool, NoMemory>
-        requires kind { key.kind ≡ 6 }
+        requires kind { key.kind ≡ nodes_kind }
         requires absent { node_at self.old key.a ≡ None }
         ensures put { IfOk result (λ put. OnTrue put ((n : ℕ) → value_at self.new n ≡ (if is_at (nat_cmp key.a) n then Some value.now else value_at self.old n))) }
         ensures refused { IfOk result (λ put. OnFalse put (Refuses self.old key value.now)) }

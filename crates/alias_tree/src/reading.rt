@@ -2,20 +2,23 @@
 
 ghost use Rattle.std.specs.Prelude.{◌≡◌, ◌≤◌, ◌<◌, ◌^◌, length, IfOk};
 ghost use Rattle.std.specs.Option.{option_map};
-ghost use Rattle.asm_formats.specs.Items.{node_item};
+ghost use Rattle.asm_formats.specs.Items.{node_item, nodes_kind};
 ghost use Rattle.asm_formats.specs.Values.{decoded_item};
 ghost use Rattle.asm_base.specs.Cursors.{Reads};
 ghost use Rattle.asm_base.specs.Records.{all_of};
-ghost use Rattle.alias_tree.specs.Readings.{is_node_key, node_reading};
+ghost use Rattle.record_values.specs.Values.{node_reading};
+ghost use Rattle.alias_tree.specs.Readings.{is_node_key};
 
 use crate::node::Node;
-use asm_base::{Key, NoMemory, Reader, Value, is_at_end, take_name, take_node_kind, take_u32};
+use asm_base::{
+    Key, NoMemory, Reader, Value, is_at_end, record_kind, take_name, take_node_kind, take_u32,
+};
 use std::alloc::Global;
 
 /// The node that a record says, or None where it isn't of the formats.
 #[tactic(auto, using(crate::proofs::Readings::node_is_read, crate::proofs::Readings::none_is_read))]
 pub(crate) fn read_node(alloc: Global, key: Key, value: &Value) -> Result<Option<Node>, NoMemory>
-    requires { key.kind ≡ 6 }
+    requires { key.kind ≡ nodes_kind }
     ensures { IfOk result (λ read. option_map (node_item key.a) read ≡ decoded_item key value.now) }
 {
     if !is_node_key(key) {
@@ -30,7 +33,7 @@ fn is_node_key(key: Key) -> bool
     ensures fits { key.a < 2 ^ 32 }
 {
     let number = key.a;
-    key.kind == 6 && number > 0 && key.b == 0
+    key.kind == record_kind::NODES && number > 0 && key.b == 0
 }
 
 /// What a value of these bytes says of a node.
@@ -50,7 +53,7 @@ fn read_bytes(alloc: Global, bytes: &[u8]) -> Result<Option<Node>, NoMemory>
     }
 }
 
-#[tactic(auto, unfolding(crate::specs::Readings::node_reading))]
+#[tactic(auto, unfolding(record_values::specs::Values::node_reading))]
 fn take_node(alloc: Global, from: &mut Reader) -> Result<Option<Node>, NoMemory>
     ensures { IfOk result (λ read. Reads from.new read (node_reading from.old)) }
 {

@@ -7,7 +7,9 @@ ghost use Rattle.asm_base.specs.Cursors.{Puts};
 ghost use Rattle.asm_base.specs.Tables.{item_record};
 
 use crate::node::Node;
-use asm_base::{Block, Key, NoMemory, Value, Writer, put_name, put_node_kind, put_u32};
+use asm_base::{
+    Block, Key, NoMemory, Value, Writer, put_name, put_node_kind, put_u32, record_kind,
+};
 use std::alloc::Global;
 
 /// The record of a node of this number.
@@ -17,7 +19,7 @@ pub fn node_record(alloc: Global, number: u32, node: &Node) -> Result<(Key, Valu
     ensures { IfOk result (λ r. r ≡ item_record (node_item number node.now)) }
 {
     let key = Key {
-        kind: 6,
+        kind: record_kind::NODES,
         a: number,
         b: 0,
     };

@@ -1,18 +1,23 @@
 -- The value of a record passes just where it is decoded.
-use Rattle.std.proofs.Common.{◌≡◌, ◌≢◌, ℕ, zero, suc, ◌+◌, ◌-◌, ◌^◌, ◌<◌, ◌≤◌, Bool, true, false, cond, eqb, ltb, List, length, take, Option, Some, None, refl, sym, ap, subst, ◌∙◌, arith, inl, inr, ◌⊎◌}
+use Rattle.std.proofs.Common.{◌≡◌, ◌≢◌, ℕ, zero, suc, ◌+◌, ◌-◌, ◌^◌, ◌<◌, Bool, true, false, cond, eqb, ltb, take, Option, Some, None, refl, sym, ap, subst, ◌∙◌, arith, inl, inr, ◌⊎◌}
 use Rattle.std.specs.Prelude.{◌&&◌}
 use Rattle.std.specs.Option.{is_some}
-use Rattle.std.specs.List.{list_all}
-use Rattle.std.proofs.lemmas.Bool.{and_parts, and_from, cases_eq, cases_lt, eqb-true, eq-eqb, ltb-true, lt-ltb, le-ltb, ne_eqb, true≢false}
+use Rattle.std.proofs.lemmas.Bool.{and_parts, and_from, cases_eq, cases_lt, ltb-true, lt-ltb, le-ltb, ne_eqb, true≢false}
 use Rattle.std.proofs.lemmas.Option.{none-some}
 use Rattle.asm_group.specs.Names.{Bytes}
 use Rattle.asm_formats.specs.Items.{Item, Key, key, is_item, marks_item}
 use Rattle.asm_formats.specs.Values.{value, decoded_item, item_by, disk_info_at, node_at}
 use Rattle.asm_formats.proofs.Bodies.{item_codec}
 use Rattle.asm_base.proofs.Exact.{IsBytes}
+use Rattle.record_values.proofs.Decoded.{by_kind, nothing_decoded}
+use Rattle.record_values.proofs.Disks.{disk_fits, disk_form}
+use Rattle.record_values.proofs.Operations.{pending_form, power_form}
+use Rattle.record_values.proofs.Templates.{templates_form}
+use Rattle.record_values.proofs.Nodes.{node_fits, node_form}
+use Rattle.record_values.proofs.Settings.{settings_form}
 use Rattle.directory_page.specs.Checks.{is_all}
 use Rattle.directory_page.specs.Values.{are_marks, operation_passes, single_passes, value_passes, disk_check, node_check, templates_check, settings_check}
-use Rattle.directory_page.proofs.ReadingLaws.{by_kind, file_passes, chunk_passes, disk_passes, disk_form, disk_number, power_passes, power_form, pending_passes, pending_form, node_passes, node_form, node_number, settings_pass, settings_form, templates_passes, templates_form}
+use Rattle.directory_page.proofs.ReadingLaws.{file_passes, chunk_passes, disk_passes, power_passes, pending_passes, node_passes, settings_pass, templates_passes}
 
 -- the item that a value would be
 abbrev would_be : ℕ → ℕ → ℕ → Bytes → Item
@@ -23,13 +28,7 @@ Decoded kind a b bytes passes = passes ≡ is_some (decoded_item (record { kind 
 
 -- nothing is decoded where that item is none of the key
 none_decoded : (kind a b : ℕ) (bytes : Bytes) → (is_item (would_be kind a b bytes) ≡ true → key (would_be kind a b bytes) ≡ record { kind = kind; a = a; b = b } → ⊥) → Decoded kind a b bytes false
-none_decoded kind a b bytes never = go (decoded_item (record { kind = kind; a = a; b = b }) bytes) refl where
-  go : (o : Option Item) → decoded_item (record { kind = kind; a = a; b = b }) bytes ≡ o → false ≡ is_some o
-  go None e = refl
-  go (Some i) e =
-      let d = item_codec.decoded (record { kind = kind; a = a; b = b }) bytes i e in
-      let same = by_kind (record { kind = kind; a = a; b = b }) bytes i e in
-      absurd (never (ap is_item same ∙ d.0) (ap key same ∙ d.1))
+none_decoded kind a b bytes never = sym (ap is_some (nothing_decoded (record { kind = kind; a = a; b = b }) bytes (would_be kind a b bytes) refl never))
 
 -- ---- files and chunks
 
@@ -85,13 +84,13 @@ marks_pass a b bytes lt = go (ltb b (2 ^ 32 - 1) && are_marks bytes) refl (decod
 disks : (a : ℕ) (bytes : Bytes) → IsBytes bytes → Decoded 2 a 0 bytes (ltb a 64 && is_all (disk_check bytes))
 disks a bytes are = elim (cases_lt a 64) [
   | inl lt ↦ rw (lt-ltb a 64 lt) (disk_passes a bytes lt are)
-  | inr past ↦ rw (le-ltb a 64 past) (none_decoded 2 a 0 bytes (λ ok at. omega (arith, past, disk_number a (disk_info_at bytes) (ap is_item (sym (disk_form a 0 bytes)) ∙ ok))))
+  | inr past ↦ rw (le-ltb a 64 past) (none_decoded 2 a 0 bytes (λ ok at. omega (arith, past, (disk_fits a (disk_info_at bytes) (ap is_item (sym (disk_form a 0 bytes)) ∙ ok)).0)))
 ]
 
 nodes : (a : ℕ) (bytes : Bytes) → a < 2 ^ 32 → IsBytes bytes → Decoded 6 a 0 bytes (ltb 0 a && is_all (node_check bytes))
 nodes a bytes lt are = elim (cases_lt 0 a) [
   | inl some ↦ rw (lt-ltb 0 a some) (node_passes a bytes some lt are)
-  | inr none ↦ rw (le-ltb 0 a none) (none_decoded 6 a 0 bytes (λ ok at. omega (arith, none, node_number a (node_at bytes) (ap is_item (sym (node_form a 0 bytes)) ∙ ok))))
+  | inr none ↦ rw (le-ltb 0 a none) (none_decoded 6 a 0 bytes (λ ok at. omega (arith, none, (node_fits a (node_at bytes) (ap is_item (sym (node_form a 0 bytes)) ∙ ok)).0)))
 ]
 
 -- a key whose numbers aren't those that the item has

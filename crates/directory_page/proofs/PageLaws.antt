@@ -1,18 +1,18 @@
 -- A block is a page where it is zeros, or the frame of a value that passes.
-use Rattle.std.proofs.Common.{◌≡◌, ℕ, ◌<◌, Bool, true, false, cond, List, [], ◌∷◌, length, Option, Some, None, refl, sym, ap, ◌∙◌, arith}
+use Rattle.std.proofs.Common.{◌≡◌, Bool, true, false, cond, [], ◌∷◌, length, Option, Some, None, refl, ap, ◌∙◌}
 use Rattle.std.specs.Prelude.{◌&&◌, nat_le, ◌==◌, drop, take}
 use Rattle.std.specs.Option.{is_some, option_and_then, option_map}
 use Rattle.std.specs.List.{list_all}
 use Rattle.asm_group.specs.Names.{Bytes}
-use Rattle.asm_formats.specs.Items.{Item, Key}
+use Rattle.asm_formats.specs.Items.{Item}
 use Rattle.asm_formats.specs.Values.{decoded_item}
-use Rattle.asm_formats.specs.Records.{Frame, decoded_frame, decoded_record}
+use Rattle.asm_formats.specs.Records.{Frame, decoded_record}
 use Rattle.asm_formats.specs.Content.{is_empty_page, is_page, page_items}
 use Rattle.asm_base.specs.Records.{Entry}
 use Rattle.asm_base.specs.Frames.{Head, entry_frame, entry_in, framed, head_reading}
 use Rattle.asm_base.proofs.Exact.{IsBytes}
 use Rattle.asm_base.proofs.FrameLaws.{frame_is_read}
-use Rattle.directory_page.specs.Frames.{is_framed, is_value_of, value_in}
+use Rattle.directory_page.specs.Frames.{is_framed, is_value_of}
 
 -- the value of an entry is decoded
 abbrev says : Option Entry → Bool

@@ -1,8 +1,10 @@
 -- A check passes over just what a reading takes.
-use Rattle.std.proofs.Common.{◌≡◌, ℕ, zero, suc, ◌+◌, ◌-◌, ◌<◌, ◌≤◌, Bool, true, false, cond, eqb, List, [], ◌∷◌, ◌++◌, length, Option, Some, None, refl, sym, ap, ◌∙◌, arith}
+use Rattle.std.proofs.Common.{◌≡◌, ℕ, zero, suc, ◌+◌, ◌-◌, ◌<◌, ◌≤◌, Bool, true, false, cond, eqb, List, ◌∷◌, length, Option, Some, None, refl, sym, ap, ◌∙◌, arith}
 use Rattle.std.specs.Option.{is_some, option_and_then, option_map}
+use Rattle.asm_formats.specs.Items.{Item, Key}
+use Rattle.asm_formats.specs.Values.{decoded_item}
 use Rattle.asm_base.specs.Readings.{Reading, both, as_a, repeated}
-use Rattle.asm_base.specs.Records.{all_of, are_bytes}
+use Rattle.asm_base.specs.Records.{all_of}
 use Rattle.asm_base.proofs.Exact.{IsBytes}
 use Rattle.asm_base.proofs.Tables.{bytes_are}
 use Rattle.directory_page.specs.Checks.{Check, passed, in_turn, times, is_all}
@@ -58,6 +60,14 @@ all_passes {A} {c} {r} law bytes are = ap is_all (law.same bytes) ∙ rw (bytes_
   go : (o : Option (A × List ℕ)) → is_all (option_map (λ (x : A × List ℕ). x.1) o) ≡ is_some (option_and_then (λ (x : A × List ℕ). cond (eqb (length x.1) 0) (Some x.0) None) o)
   go None = refl
   go (Some x) = end x.0 (eqb (length x.1) 0)
+
+-- Where the reading's value is what is decoded, the check passes just where something is.
+pub passes_decoded : {A : Type 0} {c : Check} {r : Reading A} → Passing c r → (make : A → Item) (k : Key) (bytes : List ℕ) → option_map make (all_of r bytes) ≡ decoded_item k bytes
+    → IsBytes bytes → is_all (c bytes) ≡ is_some (decoded_item k bytes)
+passes_decoded {A} {c} {r} law make k bytes decoded are = all_passes law bytes are ∙ kept (all_of r bytes) ∙ ap is_some decoded where
+  kept : (o : Option A) → is_some o ≡ is_some (option_map make o)
+  kept None = refl
+  kept (Some x) = refl
 
 -- ---- a loop over one check
 

@@ -1,46 +1,19 @@
--- The values of directory records, kind by kind: how each is read, and its check, which keeps no value.
-use Rattle.std.specs.Prelude.{ℕ, zero, suc, ◌-◌, ◌^◌, Bool, true, false, ◌&&◌, ◌==◌, nat_lt, nat_le, List, [], ◌∷◌, length, if◌then◌else◌, Option, Some, None}
+-- The checks of the values of directory records, kind by kind. A check keeps no value.
+use Rattle.std.specs.Prelude.{ℕ, zero, suc, ◌-◌, ◌^◌, Bool, true, false, ◌&&◌, ◌==◌, nat_lt, nat_le, List, [], ◌∷◌, length, if◌then◌else◌, Some, None}
 use Rattle.std.specs.Option.{option_and_then, option_map}
 use Rattle.std.specs.List.{list_all}
 use Rattle.std.specs.Int.{w16, w32, w64}
-use Rattle.asm_group.specs.declared.Stripe.{Stripe}
-use Rattle.asm_group.specs.declared.NodeKind.{NodeKind}
-use Rattle.asm_group.specs.declared.PendingKind.{PendingKind}
-use Rattle.asm_group.specs.Names.{Bytes, is_name, folded}
+use Rattle.asm_group.specs.Names.{Bytes, folded}
 use Rattle.asm_group.specs.Group.{Template}
 use Rattle.asm_formats.specs.Sets.{most_disks}
-use Rattle.asm_formats.specs.Items.{FileHead, Home, Homes, DiskInfo, Pending, Node, Settings, chunk_len, is_redundancy, most_templates, precedes}
-use Rattle.asm_base.specs.Readings.{Reading, both, as_a, decoded, tested, repeated, counted, byte_reading, flag_reading, number_reading, name_reading, text_reading}
+use Rattle.asm_formats.specs.Items.{chunk_len, disks_kind, files_kind, marks_kind, most_templates, nodes_kind, operations_kind, precedes, settings_kind, templates_kind}
+use Rattle.asm_base.specs.Readings.{Reading, byte_reading, flag_reading, number_reading, name_reading, text_reading}
 use Rattle.asm_base.specs.Words.{stripe_reading, node_kind_reading, pending_kind_reading}
+use Rattle.asm_base.specs.Parts.{home_reading}
+use Rattle.record_values.specs.Values.{copies_reading, named_reading, system_reading}
 use Rattle.directory_page.specs.Checks.{Check, passed, in_turn, times, is_all}
-use Rattle.asm_base.specs.Parts.{home_reading, to_disk, to_pending, to_template, to_node, to_settings}
-
--- ---- fields
-
--- one to three copies
-abbrev pub copies_reading : Reading ℕ
-copies_reading = tested is_redundancy byte_reading
-
--- the name of a disk, a failure group or a template
-abbrev pub named_reading : Reading Bytes
-named_reading = tested is_name (text_reading 30)
 
 -- ---- files
-
--- a file has a system name
-abbrev pub system_reading : Reading ℕ
-system_reading = tested (nat_lt 0) (number_reading w32)
-
-abbrev pub FileParts : Type 0
-FileParts = ℕ × (Stripe × (Bytes × (ℕ × (ℕ × (ℕ × ℕ)))))
-
-abbrev pub to_file : FileParts → FileHead
-to_file (copies, (stripe, (type_name, (size, (incarnation, (system, alias)))))) =
-    record { copies = copies; stripe = stripe; type_name = type_name; size = size; incarnation = incarnation; system = system; alias = alias }
-
-abbrev pub file_reading : Reading FileHead
-file_reading =
-    as_a to_file (both copies_reading (both stripe_reading (both (name_reading 30) (both (number_reading w64) (both (number_reading w64) (both system_reading (number_reading w32)))))))
 
 -- the numbers behind the type's name
 unfoldable pub file_numbers_check : Check
@@ -51,9 +24,6 @@ file_check = in_turn (passed copies_reading) (in_turn (passed stripe_reading) (i
 
 -- ---- chunks
 
-abbrev pub chunk_reading : Reading (List Homes)
-chunk_reading = repeated chunk_len (repeated 3 home_reading)
-
 -- the homes of one extent
 unfoldable pub extent_check : Check
 extent_check = times 3 (passed home_reading)
@@ -63,33 +33,20 @@ chunk_check = times chunk_len extent_check
 
 -- ---- disks
 
-abbrev pub disk_reading : Reading DiskInfo
-disk_reading = as_a to_disk (both (number_reading w64) (both named_reading named_reading))
-
 unfoldable pub disk_check : Check
 disk_check = in_turn (passed (number_reading w64)) (in_turn (passed named_reading) (passed named_reading))
 
 -- ---- operations
-
-abbrev pub pending_reading : Reading Pending
-pending_reading = as_a to_pending (both pending_kind_reading (both (number_reading w32) (number_reading w64)))
 
 unfoldable pub pending_check : Check
 pending_check = in_turn (passed pending_kind_reading) (in_turn (passed (number_reading w32)) (passed (number_reading w64)))
 
 -- ---- templates
 
-unfoldable pub template_reading : Reading Template
-template_reading = as_a to_template (both named_reading (both copies_reading (both stripe_reading flag_reading)))
-
 -- by folded name, the first behind a name
 unfoldable pub ascend_after : Bytes → List Template → Bool
 ascend_after before [] = true
 ascend_after before (t ∷ ts) = precedes (folded before) (folded t.name) && ascend_after t.name ts
-
--- the first comes behind the empty name
-abbrev pub templates_reading : Reading (List Template)
-templates_reading = tested (ascend_after []) (counted most_templates template_reading)
 
 -- what stands behind its name
 unfoldable pub template_rest_check : Check
@@ -110,17 +67,10 @@ templates_check bytes = option_and_then (λ n. if nat_le n.0 most_templates then
 
 -- ---- nodes
 
-abbrev pub node_reading : Reading Node
-node_reading = as_a to_node (both (number_reading w32) (both node_kind_reading (both (number_reading w32) (name_reading 80))))
-
 unfoldable pub node_check : Check
 node_check = in_turn (passed (number_reading w32)) (in_turn (passed node_kind_reading) (in_turn (passed (number_reading w32)) (passed (name_reading 80))))
 
 -- ---- settings
-
-abbrev pub settings_reading : Reading Settings
-settings_reading =
-    as_a to_settings (both (number_reading w64) (both (number_reading w64) (both (text_reading 30) (both (text_reading 30) (text_reading 30)))))
 
 unfoldable pub settings_check : Check
 settings_check =
@@ -141,17 +91,17 @@ operation_passes a bytes =
 -- of the kinds that have one number at most
 abbrev pub single_passes : ℕ → ℕ → Bytes → Bool
 single_passes kind a bytes =
-    if kind == 2 then nat_lt a most_disks && is_all (disk_check bytes)
-    else if kind == 4 then operation_passes a bytes
-    else if kind == 5 then (a == 0) && is_all (templates_check bytes)
-    else if kind == 6 then nat_lt 0 a && is_all (node_check bytes)
-    else if kind == 9 then (a == 0) && is_all (settings_check bytes)
+    if kind == disks_kind then nat_lt a most_disks && is_all (disk_check bytes)
+    else if kind == operations_kind then operation_passes a bytes
+    else if kind == templates_kind then (a == 0) && is_all (templates_check bytes)
+    else if kind == nodes_kind then nat_lt 0 a && is_all (node_check bytes)
+    else if kind == settings_kind then (a == 0) && is_all (settings_check bytes)
     else false
 
 -- the value of a record of these numbers is one of the format
 abbrev pub value_passes : ℕ → ℕ → ℕ → Bytes → Bool
 value_passes kind a b bytes =
-    if kind == 1 then (if b == 0 then is_all (file_check bytes) else is_all (chunk_check bytes))
-    else if kind == 12 then nat_lt b (2 ^ 32 - 1) && are_marks bytes
+    if kind == files_kind then (if b == 0 then is_all (file_check bytes) else is_all (chunk_check bytes))
+    else if kind == marks_kind then nat_lt b (2 ^ 32 - 1) && are_marks bytes
     else if b == 0 then single_passes kind a bytes
     else false

@@ -2,23 +2,18 @@
 ghost use Rattle.asm_base.specs.Readings.{flag_reading};
 ghost use Rattle.asm_base.specs.Words.{stripe_reading, node_kind_reading, pending_kind_reading};
 ghost use Rattle.directory_page.specs.Checks.{Passes, passed};
-ghost use Rattle.directory_page.specs.Values.{copies_reading, system_reading};
 ghost use Rattle.asm_base.specs.Parts.{home_reading};
+ghost use Rattle.record_values.specs.Values.{copies_reading, system_reading};
 
-use asm_base::{
-    Reader, take_flag, take_node_kind, take_pending_kind, take_stripe, take_u8, take_u32,
-};
+use asm_base::{Reader, take_flag, take_node_kind, take_pending_kind, take_stripe};
+use record_values::{take_copies, take_home, take_system};
 
 /// Passes over a number of copies: 1 to 3.
 pub(crate) fn pass_copies(from: &mut Reader) -> Option<()>
     ensures { Passes from.new result (passed copies_reading from.old) }
 {
-    let copies = take_u8(from)?;
-    if 1 <= copies && copies <= 3 {
-        Some(())
-    } else {
-        None
-    }
+    take_copies(from)?;
+    Some(())
 }
 
 /// Passes over a stripe: 1 COARSE, 2 FINE.
@@ -41,22 +36,16 @@ pub(crate) fn pass_flag(from: &mut Reader) -> Option<()>
 pub(crate) fn pass_system(from: &mut Reader) -> Option<()>
     ensures { Passes from.new result (passed system_reading from.old) }
 {
-    let node = take_u32(from)?;
-    if 0 < node { Some(()) } else { None }
+    take_system(from)?;
+    Some(())
 }
 
 /// Passes over a home. An absent one is 255 and 0.
-#[tactic(auto, unfolding(asm_base::specs::Parts::home_reading))]
 pub(crate) fn pass_home(from: &mut Reader) -> Option<()>
     ensures { Passes from.new result (passed home_reading from.old) }
 {
-    let disk = take_u8(from)?;
-    let unit = take_u32(from)?;
-    if disk != 255 || unit == 0 {
-        Some(())
-    } else {
-        None
-    }
+    take_home(from)?;
+    Some(())
 }
 
 /// Passes over the kind of a pending operation: 1 create, 2 remove, 3 grow, 4 shrink.

@@ -3,15 +3,11 @@ ghost use Rattle.std.specs.Prelude.{◌≡◌, ◌≤◌, length};
 ghost use Rattle.std.specs.Option.{is_some, option_copied};
 ghost use Rattle.asm_formats.specs.Content.{is_empty_page, is_page};
 ghost use Rattle.asm_formats.specs.Records.{decoded_record};
-ghost use Rattle.asm_base.specs.Cursors.{Reads};
 ghost use Rattle.asm_base.specs.Frames.{head_reading};
 ghost use Rattle.directory_page.specs.Frames.{is_framed, value_in};
 
 use crate::values::is_value;
-use asm_base::{Block, Key, Reader, are_zeros, take_fixed, take_u16, take_u32};
-
-/// The most bytes in a value.
-const MOST_VALUE: usize = 4064;
+use asm_base::{Block, MOST_VALUE, Reader, are_zeros, take_record_head};
 
 /// Whether a block is a page of a directory copy: zeros, or the one spelling of a record.
 pub fn is_page(block: &Block) -> bool
@@ -48,27 +44,13 @@ fn passes_record(bytes: &[u8]) -> bool
     ensures { result ≡ is_framed (head_reading bytes.now) }
 {
     let mut from = Reader { bytes, at: 0 };
-    let Some((key, len)) = take_head(&mut from) else {
+    let Some((key, len)) = take_record_head(&mut from) else {
         return false;
     };
     let Some(value) = value_in(&from.bytes[from.at as usize..], len) else {
         return false;
     };
     is_value(key.kind, key.a, key.b, value)
-}
-
-/// Takes the key and the length of the value.
-#[tactic(auto, unfolding(asm_base::specs::Frames::head_reading))]
-fn take_head(from: &mut Reader) -> Option<(Key, u16)>
-    ensures { Reads from.new result (head_reading from.old) }
-{
-    take_fixed(from, b"ASMR")?;
-    let kind = take_u16(from)?;
-    let a = take_u32(from)?;
-    let b = take_u32(from)?;
-    let len = take_u16(from)?;
-    take_fixed(from, &[0; 16])?;
-    Some((Key { kind, a, b }, len))
 }
 
 /// The value of a length, where only zeros stand behind it.

@@ -5,7 +5,7 @@ ghost use Rattle.asm_formats.specs.Items.{precedes};
 ghost use Rattle.asm_base.specs.Cursors.{ReadsBy};
 ghost use Rattle.asm_base.specs.Readings.{name_reading, text_reading};
 ghost use Rattle.directory_page.specs.Checks.{Passes, passed};
-ghost use Rattle.directory_page.specs.Values.{named_reading};
+ghost use Rattle.record_values.specs.Values.{named_reading};
 
 use asm_base::{Reader, folded_byte, is_name, is_part, text_in};
 

@@ -13,7 +13,7 @@ use crate::fields::{
 };
 use crate::templates::are_templates;
 use crate::text::{pass_name, pass_named, pass_text};
-use asm_base::{Reader, is_at_end, take_u16, take_u32, take_u64};
+use asm_base::{Reader, is_at_end, record_kind, take_u16, take_u32, take_u64};
 
 /// Extents in a chunk.
 const CHUNK_LEN: usize = 256;
@@ -35,14 +35,14 @@ fn passes_value(kind: u16, a: u32, b: u32, bytes: &[u8]) -> bool
     ensures { result ≡ value_passes kind a b bytes.now }
 {
     match kind {
-        1 => {
+        record_kind::FILES => {
             if b == 0 {
                 is_file(bytes)
             } else {
                 is_chunk(bytes)
             }
         }
-        12 => b < u32::MAX && are_marks(bytes),
+        record_kind::MARKS => b < u32::MAX && are_marks(bytes),
         _ => b == 0 && passes_single(kind, a, bytes),
     }
 }
@@ -53,11 +53,11 @@ fn passes_single(kind: u16, a: u32, bytes: &[u8]) -> bool
     ensures { result ≡ single_passes kind a bytes.now }
 {
     match kind {
-        2 => a < MOST_DISKS && is_disk(bytes),
-        4 => is_operation(a, bytes),
-        5 => a == 0 && are_templates(bytes),
-        6 => 0 < a && is_node(bytes),
-        9 => a == 0 && is_settings(bytes),
+        record_kind::DISKS => a < MOST_DISKS && is_disk(bytes),
+        record_kind::OPERATIONS => is_operation(a, bytes),
+        record_kind::TEMPLATES => a == 0 && are_templates(bytes),
+        record_kind::NODES => 0 < a && is_node(bytes),
+        record_kind::SETTINGS => a == 0 && is_settings(bytes),
         _ => false,
     }
 }

@@ -1,14 +1,12 @@
 -- The table of extents, as the list of the chunks in the order of file and number.
 use Rattle.std.specs.Prelude.{ℕ, ◌+◌, ◌-◌, ◌*◌, ◌/◌, ◌%◌, ◌<◌, ◌^◌, ◌↔◌, Bool, true, false, ◌==◌, ◌&&◌, ◌||◌, not, List, [], ◌∷◌, ◌++◌, length, take, drop, get_or, nat_lt, replicate, slice_set, Option, Some, None, if◌then◌else◌, IsTrue}
-use Rattle.std.specs.Ordering.{nat_cmp, ordering_then, is_lt}
-use Rattle.std.specs.declared.cmp.Ordering.{Ordering}
 use Rattle.std.specs.BTreeMap.{is_at, insert_entry}
 use Rattle.std.specs.BTreeMap.Range.{entries_between}
 use Rattle.std.specs.declared.ops.Bound.TheVariants.{Included, Unbounded}
 use Rattle.std.specs.Map.{lookup, remove_entry, set_value}
 use Rattle.std.specs.List.{list_all, prefix_len}
 use Rattle.std.specs.Option.{is_some, option_and_then, unwrap_or}
-use Rattle.asm_formats.specs.Items.{Homes, Item, chunk_item, chunk_len, is_homes, Key}
+use Rattle.asm_formats.specs.Items.{Homes, Item, chunk_item, chunk_len, is_homes, Key, files_kind}
 use Rattle.asm_base.specs.Records.{Entry, add_item}
 use Rattle.asm_base.specs.Tables.{IsItemTable, entry_of_record, item_record}
 use Rattle.asm_base.specs.Chunks.{Chunk, chunk_cmp, is_before}
@@ -101,7 +99,7 @@ are_extents homes = list_all is_homes homes && list_all has_home homes
 -- ---- records
 
 abbrev pub chunk_key : ℕ → ℕ → Key
-chunk_key f c = record { kind = 1; a = f; b = c + 1 }
+chunk_key f c = record { kind = files_kind; a = f; b = c + 1 }
 
 abbrev pub item_of : Chunked → Item
 item_of x = chunk_item x.0.0 x.0.1 x.1
@@ -111,7 +109,7 @@ record_of x = item_record (item_of x)
 
 -- the head of a file has the second number 0
 abbrev pub is_chunk : Key → Bool
-is_chunk key = (key.kind == 1) && not (key.b == 0)
+is_chunk key = (key.kind == files_kind) && not (key.b == 0)
 
 -- the entry that an item is
 abbrev pub chunked : Item → Option Chunked

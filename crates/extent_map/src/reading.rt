@@ -8,11 +8,11 @@ ghost use Rattle.asm_base.specs.Cursors.{Reads};
 ghost use Rattle.asm_base.specs.Readings.{repeated};
 ghost use Rattle.asm_base.specs.Records.{all_of};
 ghost use Rattle.extent_map.specs.Extents.{chunk_key};
-ghost use Rattle.extent_map.specs.Readings.{chunk_reading, extent_reading};
-ghost use Rattle.asm_base.specs.Parts.{home_reading};
+ghost use Rattle.record_values.specs.Values.{chunk_reading, extent_reading};
 
 use crate::chunk::Chunk;
-use asm_base::{Home, Homes, List, NoMemory, Reader, is_at_end, take_u8, take_u32};
+use asm_base::{Homes, List, NoMemory, Reader, is_at_end};
+use record_values::take_home;
 use std::alloc::Global;
 
 /// Extents in a chunk.
@@ -49,7 +49,7 @@ fn read_chunk(alloc: Global, bytes: &[u8]) -> Result<Option<Chunk>, NoMemory>
     }
 }
 
-#[tactic(auto, using(asm_base::proofs::Loops::goes_on, asm_base::proofs::Loops::fails, asm_base::proofs::Loops::is_done, asm_base::proofs::Loops::starts), unfolding(crate::specs::Readings::chunk_reading))]
+#[tactic(auto, using(asm_base::proofs::Loops::goes_on, asm_base::proofs::Loops::fails, asm_base::proofs::Loops::is_done, asm_base::proofs::Loops::starts), unfolding(record_values::specs::Values::chunk_reading))]
 fn take_extents(alloc: Global, from: &mut Reader) -> Result<Option<Chunk>, NoMemory>
     ensures { IfOk result (λ read. Reads from.new read (chunk_reading from.old)) }
 {
@@ -63,7 +63,7 @@ fn take_extents(alloc: Global, from: &mut Reader) -> Result<Option<Chunk>, NoMem
     Ok(Some(Chunk::from_homes(homes.into_vec())))
 }
 
-#[tactic(auto, unfolding(crate::specs::Readings::extent_reading, asm_base::specs::Readings::repeated))]
+#[tactic(auto, unfolding(record_values::specs::Values::extent_reading, asm_base::specs::Readings::repeated))]
 fn take_extent(from: &mut Reader) -> Option<Homes>
     ensures { Reads from.new result (extent_reading from.old) }
 {
@@ -72,17 +72,4 @@ fn take_extent(from: &mut Reader) -> Option<Homes>
         second: take_home(from)?,
         third: take_home(from)?,
     })
-}
-
-/// An absent home is 255 and 0.
-#[tactic(auto, unfolding(asm_base::specs::Parts::home_reading))]
-fn take_home(from: &mut Reader) -> Option<Option<Home>>
-    ensures { Reads from.new result (home_reading from.old) }
-{
-    let disk = take_u8(from)?;
-    let unit = take_u32(from)?;
-    if disk != 255 {
-        return Some(Some(Home { disk, unit }));
-    }
-    if unit == 0 { Some(None) } else { None }
 }

@@ -10,8 +10,8 @@ ghost use Rattle.asm_base.specs.Records.{Ascend, ends_below, of_kinds, read_from
 use crate::chunk::{ABSENT, Chunk, has_home};
 use crate::reading::chunk_in;
 use crate::rule::{opened, stands_at};
-use crate::writing::{KIND, chunk_record};
-use asm_base::{Change, ExtentId, Homes, Key, NoMemory, Records, Value};
+use crate::writing::chunk_record;
+use asm_base::{Change, ExtentId, Homes, Key, NoMemory, Records, Value, record_kind};
 use std::alloc::Global;
 use std::collections::BTreeMap;
 use std::collections::btree_map::{Iter, Range};
@@ -309,7 +309,7 @@ impl ExtentMap {
         ensures step { IfOk result (λ taken. (if is_chunk key then add self.old (key, value.now) else Some self.old) ≡ (if taken then Some self.new else None)) }
         ensures ascending { IfOk result (λ taken. OnTrue taken (Ascend is_before self.new)) }
     {
-        if key.kind != KIND || key.b == 0 {
+        if key.kind != record_kind::FILES || key.b == 0 {
             return Ok(true);
         }
         let at = (key.a, key.b - 1);

@@ -6,11 +6,10 @@ ghost use Rattle.asm_base.specs.Cursors.{Puts};
 ghost use Rattle.extent_map.specs.Extents.{record_of};
 
 use crate::chunk::Chunk;
-use asm_base::{Block, Home, Homes, Key, NoMemory, Value, Writer, put_bytes, put_u8, put_u32};
+use asm_base::{
+    Block, Home, Homes, Key, NoMemory, Value, Writer, put_bytes, put_u8, put_u32, record_kind,
+};
 use std::alloc::Global;
-
-/// The kind of the records of files and of their chunks.
-pub const KIND: u16 = 1;
 
 /// The record of a file's chunk.
 #[tactic(auto, unfolding(asm_formats::specs::Values::value))]
@@ -19,7 +18,7 @@ pub fn chunk_record(alloc: Global, at: (u32, u32), chunk: &Chunk) -> Result<(Key
     ensures { IfOk result (λ made. made ≡ record_of (at, chunk.now)) }
 {
     let key = Key {
-        kind: KIND,
+        kind: record_kind::FILES,
         a: at.0,
         b: at.1 + 1,
     };

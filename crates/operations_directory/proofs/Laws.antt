@@ -1,7 +1,7 @@
 -- The table of operations is read exactly from its records.
 use Rattle.std.proofs.Common.{◌≡◌, ℕ, true, List, [], ◌∷◌, ◌++◌, Option, Some, None, refl, sym, ap, subst, ◌∙◌, arith}
 use Rattle.std.specs.Prelude.{IfSome}
-use Rattle.asm_formats.specs.Items.{Item, Key, is_item, pending_item, rebalance_item, Pending as PendingOperation}
+use Rattle.asm_formats.specs.Items.{Key, is_item, Pending as PendingOperation}
 use Rattle.asm_formats.specs.Values.{value, decoded_item}
 use Rattle.asm_formats.proofs.Bodies.{item_codec}
 use Rattle.asm_base.specs.Records.{Entry, of_kinds, read_from}

@@ -2,7 +2,7 @@
 use Rattle.std.specs.Prelude.{ℕ, Bool, ◌==◌, List, ◌++◌, map, Option, None, IsTrue}
 use Rattle.std.specs.List.{AllByRecursion}
 use Rattle.std.specs.Option.{option_map, option_to_list}
-use Rattle.asm_formats.specs.Items.{Item, Key, Pending, is_item, pending_item, rebalance_item}
+use Rattle.asm_formats.specs.Items.{Item, Key, Pending, is_item, pending_item, rebalance_item, operations_kind}
 use Rattle.asm_base.specs.Records.{Entry}
 use Rattle.asm_base.specs.Tables.{item_record}
 
@@ -26,4 +26,4 @@ abbrev pub IsTable : Operations → Type 0
 IsTable t = AllByRecursion (λ i. IsTrue (is_item i)) (items_of t)
 
 abbrev pub is_operation : Key → Bool
-is_operation key = key.kind == 4
+is_operation key = key.kind == operations_kind

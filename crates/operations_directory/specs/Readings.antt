@@ -1,17 +1,15 @@
 -- The reading of the table of operations, record by record.
 use Rattle.std.specs.Prelude.{ℕ, zero, suc, ◌||◌, List, Option, Some, None, if◌then◌else◌}
-use Rattle.std.specs.Int.{w16, w32, w64}
+use Rattle.std.specs.Int.{w16}
 use Rattle.std.specs.Option.{is_some, option_and_then, option_map}
-use Rattle.asm_group.specs.declared.PendingKind.{PendingKind}
 use Rattle.asm_formats.specs.Items.{Item, Pending as PendingOperation, pending_item, rebalance_item}
-use Rattle.asm_base.specs.Readings.{Reading, as_a, both, number_reading}
-use Rattle.asm_base.specs.Words.{pending_kind_reading}
+use Rattle.asm_base.specs.Readings.{number_reading}
 use Rattle.asm_base.specs.Records.{Entry, all_of}
 use Rattle.asm_base.specs.Tables.{entry_of_record}
 use Rattle.operations_directory.specs.declared.reading.Operation.{Operation}
 use Rattle.operations_directory.specs.declared.reading.Operation.TheVariants.{Rebalance, Pending}
 use Rattle.operations_directory.specs.Operations.{Operations}
-use Rattle.asm_base.specs.Parts.{to_pending}
+use Rattle.record_values.specs.Values.{pending_reading}
 
 -- the item that says an operation, and the operation that an item says
 abbrev pub item_of : Operation → Item
@@ -24,9 +22,6 @@ operation_of (pending_item p) = Some (Pending p)
 operation_of _ = None
 
 -- ---- values
-
-unfoldable pub pending_reading : Reading PendingOperation
-pending_reading = as_a to_pending (both pending_kind_reading (both (number_reading w32) (number_reading w64)))
 
 -- the value of the record of two numbers
 abbrev pub read_operation : ℕ → ℕ → List ℕ → Option Operation

@@ -6,7 +6,9 @@ ghost use Rattle.asm_base.specs.Cursors.{Reads};
 ghost use Rattle.asm_base.specs.Readings.{number_reading};
 ghost use Rattle.asm_base.specs.Records.{all_of};
 ghost use Rattle.asm_base.specs.Tables.{entry_of_record};
-ghost use Rattle.operations_directory.specs.Readings.{operation_of, pending_reading, read_operation};
+ghost use Rattle.asm_formats.specs.Items.{operations_kind};
+ghost use Rattle.record_values.specs.Values.{pending_reading};
+ghost use Rattle.operations_directory.specs.Readings.{operation_of, read_operation};
 
 use crate::pending::Pending;
 use asm_base::{Key, Reader, is_at_end, take_pending_kind, take_u16, take_u32, take_u64};
@@ -21,7 +23,7 @@ pub enum Operation {
 
 /// The operation of a record of the kind, or None where it isn't of the formats.
 pub fn operation_in(key: Key, bytes: &[u8]) -> Option<Operation>
-    requires kind { key.kind ≡ 4 }
+    requires kind { key.kind ≡ operations_kind }
     requires few { length bytes.now < 2 ^ 32 }
     ensures { result ≡ entry_of_record operation_of (key, bytes.now) }
 {
@@ -59,7 +61,7 @@ fn pending_of(bytes: &[u8]) -> Option<Pending>
     if is_at_end(&from) { Some(op) } else { None }
 }
 
-#[tactic(auto, unfolding(crate::specs::Readings::pending_reading))]
+#[tactic(auto, unfolding(record_values::specs::Values::pending_reading))]
 fn take_pending(from: &mut Reader) -> Option<Pending>
     ensures { Reads from.new result (pending_reading from.old) }
 {

@@ -4,11 +4,12 @@ ghost use Rattle.std.specs.Prelude.{◌≡◌, ◌++◌, IfOk, IfSome, IsOk, OnO
 ghost use Rattle.asm_base.specs.Records.{of_kinds, read_from};
 ghost use Rattle.operations_directory.specs.Operations.{IsTable, Operations, is_operation, nothing_begun, records_of};
 ghost use Rattle.operations_directory.specs.Readings.{add, with_operation, with_pending, with_rebalance};
+ghost use Rattle.asm_formats.specs.Items.{operations_kind};
 
 use crate::pending::Pending;
 use crate::reading::{Operation, operation_in};
-use crate::writing::{KIND, pending_record, rebalance_record};
-use asm_base::{Change, Key, NoMemory, Records, Value};
+use crate::writing::{pending_record, rebalance_record};
+use asm_base::{Change, Key, NoMemory, Records, Value, record_kind};
 use std::alloc::Global;
 use std::marker::Model;
 
@@ -96,7 +97,7 @@ impl OperationTable {
     {
         let mut table = OperationTable::new();
         for (key, value) in records.iter() {
-            if key.kind == KIND {
+            if key.kind == record_kind::OPERATIONS {
                 table = table.with_record(*key, value)?;
             }
         }
@@ -105,7 +106,7 @@ impl OperationTable {
 
     /// The table with one record more of its kind, where that follows the others.
     fn with_record(self, key: Key, value: &Value) -> Option<OperationTable>
-        requires { key.kind ≡ 4 }
+        requires { key.kind ≡ operations_kind }
         ensures { result ≡ add self (key, value.now) }
     {
         let operation = operation_in(key, value.as_bytes())?;

@@ -7,18 +7,17 @@ ghost use Rattle.asm_base.specs.Cursors.{Puts};
 ghost use Rattle.asm_base.specs.Tables.{item_record};
 
 use crate::pending::Pending;
-use asm_base::{Block, Key, NoMemory, Value, Writer, put_pending_kind, put_u16, put_u32, put_u64};
+use asm_base::{
+    Block, Key, NoMemory, Value, Writer, put_pending_kind, put_u16, put_u32, put_u64, record_kind,
+};
 use std::alloc::Global;
-
-/// The kind of the records of operations.
-pub const KIND: u16 = 4;
 
 /// The record of an active rebalance of a power.
 pub fn rebalance_record(alloc: Global, power: u16) -> Result<(Key, Value), NoMemory>
     ensures { IfOk result (λ made. made ≡ item_record (rebalance_item power)) }
 {
     let key = Key {
-        kind: KIND,
+        kind: record_kind::OPERATIONS,
         a: 0,
         b: 0,
     };
@@ -30,7 +29,7 @@ pub fn pending_record(alloc: Global, op: &Pending) -> Result<(Key, Value), NoMem
     ensures { IfOk result (λ made. made ≡ item_record (pending_item op.now)) }
 {
     let key = Key {
-        kind: KIND,
+        kind: record_kind::OPERATIONS,
         a: 1,
         b: 0,
     };

@@ -7,7 +7,7 @@ use Rattle.std.specs.BTreeMap.Range.{entries_between}
 use Rattle.std.specs.declared.ops.Bound.TheVariants.{Included, Unbounded}
 use Rattle.std.specs.Map.{lookup, remove_entry}
 use Rattle.std.specs.List.{list_all}
-use Rattle.asm_formats.specs.Items.{Item, marks_item, Key}
+use Rattle.asm_formats.specs.Items.{Item, marks_item, Key, marks_kind}
 use Rattle.asm_base.specs.Records.{Entry, add_item}
 use Rattle.asm_base.specs.Tables.{IsItemTable, entry_of_record, item_record}
 use Rattle.asm_base.specs.Chunks.{Chunk, chunk_cmp, is_before}
@@ -35,7 +35,7 @@ abbrev pub marks_to : ℕ → List ℕ → List ℕ
 marks_to kept marks = take kept marks ++ drop kept (replicate 256 0)
 
 abbrev pub chunk_key : ℕ → ℕ → Key
-chunk_key f c = record { kind = 12; a = f; b = c }
+chunk_key f c = record { kind = marks_kind; a = f; b = c }
 
 -- the item of a chunk's marks, and its record
 abbrev pub item_of : Marked → Item
@@ -45,7 +45,7 @@ abbrev pub record_of : Marked → Entry
 record_of x = item_record (item_of x)
 
 abbrev pub is_marks : Key → Bool
-is_marks key = key.kind == 12
+is_marks key = key.kind == marks_kind
 
 -- the entry that an item is
 abbrev pub marked : Item → Option Marked

@@ -7,6 +7,7 @@ ghost use Rattle.asm_formats.specs.Values.{decoded_item};
 ghost use Rattle.staleness_directory.specs.Changing.{value_at};
 ghost use Rattle.staleness_directory.specs.Marks.{IsTable};
 ghost use Rattle.asm_base.specs.Chunks.{Chunk, chunk_cmp};
+ghost use Rattle.asm_formats.specs.Items.{marks_kind};
 
 use crate::marks::marks_of;
 use crate::table::StaleTable;
@@ -18,7 +19,7 @@ impl StaleTable {
     /// value isn't that of marks. Where there is no memory the table stays.
     #[tactic(auto, using(crate::proofs::ChangeLaws::record_put, crate::proofs::ChangeLaws::marks_allowed, crate::proofs::ChangeLaws::not_read))]
     pub fn put_record(&mut self, key: Key, value: &Value) -> Result<bool, NoMemory>
-        requires { key.kind ≡ 12 }
+        requires { key.kind ≡ marks_kind }
         ensures put { IfOk result (λ put. OnTrue put ((c : Chunk) → value_at self.new c ≡ (if is_at (chunk_cmp (key.a, key.b)) c then Some value.now else value_at self.old c))) }
         ensures refused { IfOk result (λ put. OnFalse put (decoded_item key value.now ≡ None)) }
         ensures stays { IfOk result (λ put. OnFalse put (self.new ≡ self.old)) }

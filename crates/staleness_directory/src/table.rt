@@ -8,14 +8,11 @@ ghost use Rattle.asm_formats.specs.Items.{is_item};
 ghost use Rattle.asm_base.specs.Records.{Ascend, ends_below, of_kinds, read_from};
 
 use crate::marks::{Marks, marks_of};
-use asm_base::{Change, Key, NoMemory, Records, Value};
+use asm_base::{Change, Key, NoMemory, Records, Value, record_kind};
 use std::alloc::Global;
 use std::collections::BTreeMap;
 use std::collections::btree_map::{Iter, Range};
 use std::marker::Model;
-
-/// The kind of the records of marks.
-const KIND: u16 = 12;
 
 /// The stale marks of each chunk, by file and chunk. Contracts see the list of them in this order.
 #[derive(Drop)]
@@ -163,7 +160,7 @@ impl StaleTable {
         ensures step { IfOk result (λ taken. (if is_marks key then add self.old (key, value.now) else Some self.old) ≡ (if taken then Some self.new else None)) }
         ensures ascending { IfOk result (λ taken. OnTrue taken (Ascend is_before self.new)) }
     {
-        if key.kind != KIND {
+        if key.kind != record_kind::MARKS {
             return Ok(true);
         }
         let Some(marks) = marks_of(key.a, key.b, value.as_bytes()) else {
@@ -197,7 +194,7 @@ fn marks_record(alloc: Global, key: (u32, u32), marks: &Marks) -> Result<(Key, V
     let value = Value::from_slice(alloc, &marks.bits)?;
     Ok((
         Key {
-            kind: KIND,
+            kind: record_kind::MARKS,
             a: key.0,
             b: key.1,
         },

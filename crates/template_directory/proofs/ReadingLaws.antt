@@ -21,106 +21,11 @@ use Rattle.asm_base.proofs.NameLaws.{name_exact, text_exact, name_is_part}
 use Rattle.asm_base.proofs.Tables.{bytes_are, are_bytes_is}
 use Rattle.asm_base.proofs.ItemTables.{value_is_decoded}
 use Rattle.template_directory.specs.Tables.{Table, IsTable, records_of, settings_said, table_of, templates_said}
-use Rattle.template_directory.specs.Readings.{template_reading, templates_reading, are_right, right_templates, settings_reading}
-use Rattle.asm_base.specs.Parts.{TemplateParts, to_template, SettingParts, to_settings}
+use Rattle.record_values.specs.Values.{templates_reading, settings_reading}
+use Rattle.record_values.proofs.Templates.{templates_decoded}
+use Rattle.record_values.proofs.Settings.{settings_decoded}
 
--- ---- templates
-
-of_template : Template → TemplateParts
-of_template t = (t.name, (t.copies, (t.stripe, t.system)))
-
-record FitsTemplate (t : Template) : Type 0 where
-  name : is_part 30 t.name ≡ true
-  copies : t.copies < 256
-
-template_exact : IsExact template_fields FitsTemplate template_reading
-unfolding template_reading of_template
-template_exact =
-    let fields = both_exact (name_exact 30 (omega arith)) (both_exact byte_exact (both_exact stripe_exact flag_exact)) in
-    fits_exact (λ t f. record { name = f.0; copies = f.1.0 }) (λ t f. (f.name, (f.copies, (tt, tt))))
-    (as_exact to_template of_template (λ p. refl) (λ t. refl) fields)
-
-templates_value : List Template → List ℕ
-templates_value ts = length ts ∷ flat_map template_fields ts
-
-FitsTemplates : List Template → Type 0
-FitsTemplates ts = (length ts ≤ 64) × AllByRecursion FitsTemplate ts
-
-templates_exact : IsExact templates_value FitsTemplates templates_reading
-unfolding templates_reading templates_value FitsTemplates
-templates_exact = counted_exact 64 (omega arith) template_exact
-
--- ---- settings
-
-of_settings : Settings → SettingParts
-of_settings s = (s.incarnation, (s.attributes.repair, (s.attributes.asm, (s.attributes.rdbms, s.attributes.advm))))
-
-Text : List ℕ → Type 0
-Text t = (length t ≤ 30) × IsBytes t
-
-record FitsSettings (s : Settings) : Type 0 where
-  incarnation : s.incarnation < 2 ^ 64
-  repair : s.attributes.repair < 2 ^ 64
-  asm : Text s.attributes.asm
-  rdbms : Text s.attributes.rdbms
-  advm : Text s.attributes.advm
-
-settings_exact : IsExact settings_value FitsSettings settings_reading
-unfolding settings_reading of_settings Text
-settings_exact =
-    let text = text_exact 30 (omega arith) in
-    let fields = both_exact (number_exact w64) (both_exact (number_exact w64) (both_exact text (both_exact text text))) in
-    fits_exact (λ s f. record { incarnation = f.0; repair = f.1.0; asm = f.1.1.0; rdbms = f.1.1.1.0; advm = f.1.1.1.1 }) (λ s f. (f.incarnation, (f.repair, (f.asm, (f.rdbms, f.advm)))))
-    (as_exact to_settings of_settings (λ p. refl) (λ s. refl) fields)
-
--- ---- what the records may be
-
-fits_of : (ts : List Template) → list_all is_template ts ≡ true → AllByRecursion FitsTemplate ts
-fits_of [] ok = tt
-fits_of (t ∷ ts) ok =
-    let a = and_parts (is_template t) (list_all is_template ts) ok in
-    let b = and_parts (is_name t.name) (is_redundancy t.copies) a.0 in
-    let c = and_parts (leb 1 t.copies) (leb t.copies 3) b.1 in
-    (record { name = name_is_part t.name b.0; copies = omega (arith, leb-true t.copies 3 c.1) }, fits_of ts a.1)
-
-templates_allowed : (ts : List Template) → FitsTemplates ts → are_right ts ≡ true → is_item (templates_item ts) ≡ true
-unfolding is_item are_right FitsTemplates
-templates_allowed ts fits ok = and_from (leb (length ts) 64) (list_all is_template ts && names_ascend ts) (le-leb (length ts) 64 fits.0) ok
-
-templates_fit : (ts : List Template) → is_item (templates_item ts) ≡ true → FitsTemplates ts × (are_right ts ≡ true)
-unfolding is_item are_right FitsTemplates
-templates_fit ts ok =
-    let a = and_parts (leb (length ts) 64) (list_all is_template ts && names_ascend ts) ok in
-    ((leb-true (length ts) 64 a.0, fits_of ts (and_parts (list_all is_template ts) (names_ascend ts) a.1).0), a.1)
-
-text_allowed : (t : List ℕ) → Text t → is_text t ≡ true
-unfolding Text
-text_allowed t fits = and_from (leb (length t) 30) (are_bytes t) (le-leb (length t) 30 fits.0) (bytes_are t fits.1)
-
-text_fits : (t : List ℕ) → is_text t ≡ true → Text t
-unfolding Text
-text_fits t ok =
-    let a = and_parts (leb (length t) 30) (are_bytes t) ok in
-    (leb-true (length t) 30 a.0, are_bytes_is t a.1)
-
-settings_allowed : (s : Settings) → FitsSettings s → is_item (settings_item s) ≡ true
-unfolding is_item
-settings_allowed s fits =
-    let t = s.attributes in
-    and_from (ltb s.incarnation (2 ^ 64)) _ (lt-ltb s.incarnation (2 ^ 64) fits.incarnation)
-    (and_from (ltb t.repair (2 ^ 64)) _ (lt-ltb t.repair (2 ^ 64) fits.repair)
-    (and_from (is_text t.asm) _ (text_allowed t.asm fits.asm)
-    (and_from (is_text t.rdbms) (is_text t.advm) (text_allowed t.rdbms fits.rdbms) (text_allowed t.advm fits.advm))))
-
-settings_fit : (s : Settings) → is_item (settings_item s) ≡ true → FitsSettings s
-unfolding is_item
-settings_fit s ok =
-    let t = s.attributes in
-    let a = and_parts (ltb s.incarnation (2 ^ 64)) _ ok in
-    let b = and_parts (ltb t.repair (2 ^ 64)) _ a.1 in
-    let c = and_parts (is_text t.asm) _ b.1 in
-    let d = and_parts (is_text t.rdbms) (is_text t.advm) c.1 in
-    record { incarnation = ltb-true s.incarnation (2 ^ 64) a.0; repair = ltb-true t.repair (2 ^ 64) b.0; asm = text_fits t.asm c.0; rdbms = text_fits t.rdbms d.0; advm = text_fits t.advm d.1 }
+-- ---- what settings may be
 
 -- numbers of their types pass where the texts do
 by_texts : (s : Settings) → s.incarnation < 2 ^ 64 → s.attributes.repair < 2 ^ 64 → (is_text s.attributes.asm && (is_text s.attributes.rdbms && is_text s.attributes.advm)) ≡ is_item (settings_item s)
@@ -129,60 +34,6 @@ by_texts s incarnation repair = rw (lt-ltb s.incarnation (2 ^ 64) incarnation, l
 
 pub texts_are_all : {v s : Settings} → v ≡ s → v.incarnation < 2 ^ 64 → v.attributes.repair < 2 ^ 64 → (is_text s.attributes.asm && (is_text s.attributes.rdbms && is_text s.attributes.advm)) ≡ is_item (settings_item s)
 texts_are_all {v} {s} same incarnation repair = by_texts s (subst (λ (t : Settings). t.incarnation < 2 ^ 64) same incarnation) (subst (λ (t : Settings). t.attributes.repair < 2 ^ 64) same repair)
-
--- ---- the records
-
-templates_of_key : (i : Item) → key i ≡ record { kind = 5; a = 0; b = 0 } → (ts : List Template) × (i ≡ templates_item ts)
-templates_of_key (file_item f h) e = absurd (omega (arith, ap (λ (k : Key). k.kind) e))
-templates_of_key (chunk_item f c homes) e = absurd (omega (arith, ap (λ (k : Key). k.kind) e))
-templates_of_key (disk_item d info) e = absurd (omega (arith, ap (λ (k : Key). k.kind) e))
-templates_of_key (rebalance_item power) e = absurd (omega (arith, ap (λ (k : Key). k.kind) e))
-templates_of_key (pending_item op) e = absurd (omega (arith, ap (λ (k : Key). k.kind) e))
-templates_of_key (templates_item ts) e = (ts, refl)
-templates_of_key (node_item n node) e = absurd (omega (arith, ap (λ (k : Key). k.kind) e))
-templates_of_key (settings_item s) e = absurd (omega (arith, ap (λ (k : Key). k.kind) e))
-templates_of_key (marks_item f c marks) e = absurd (omega (arith, ap (λ (k : Key). k.kind) e))
-
-settings_of_key : (i : Item) → key i ≡ record { kind = 9; a = 0; b = 0 } → (s : Settings) × (i ≡ settings_item s)
-settings_of_key (file_item f h) e = absurd (omega (arith, ap (λ (k : Key). k.kind) e))
-settings_of_key (chunk_item f c homes) e = absurd (omega (arith, ap (λ (k : Key). k.kind) e))
-settings_of_key (disk_item d info) e = absurd (omega (arith, ap (λ (k : Key). k.kind) e))
-settings_of_key (rebalance_item power) e = absurd (omega (arith, ap (λ (k : Key). k.kind) e))
-settings_of_key (pending_item op) e = absurd (omega (arith, ap (λ (k : Key). k.kind) e))
-settings_of_key (templates_item ts) e = absurd (omega (arith, ap (λ (k : Key). k.kind) e))
-settings_of_key (node_item n node) e = absurd (omega (arith, ap (λ (k : Key). k.kind) e))
-settings_of_key (settings_item s) e = (s, refl)
-settings_of_key (marks_item f c marks) e = absurd (omega (arith, ap (λ (k : Key). k.kind) e))
-
-templates_value_is : (ts : List Template) → value (templates_item ts) ≡ templates_value ts
-unfolding value templates_value
-templates_value_is ts = refl
-
-settings_value_is : (s : Settings) → value (settings_item s) ≡ settings_value s
-unfolding value
-settings_value_is s = refl
-
-templates_are_read : (bytes : List ℕ) → option_map templates_item (right_templates (all_of templates_reading bytes)) ≡ decoded_item (record { kind = 5; a = 0; b = 0 }) bytes
-templates_are_read bytes =
-    value_is_decoded are_right templates_item templates_exact (record { kind = 5; a = 0; b = 0 }) templates_value_is (λ ts fits e. (templates_allowed ts fits e, refl)) known bytes where
-      known : (i : Item) → is_item i ≡ true → key i ≡ record { kind = 5; a = 0; b = 0 } → (ts : List Template) × (templates_item ts ≡ i) × FitsTemplates ts × (are_right ts ≡ true)
-      known i ok at =
-          let ts = templates_of_key i at in
-          let p = templates_fit ts.0 (subst (λ (j : Item). is_item j ≡ true) ts.1 ok) in
-          (ts.0, sym ts.1, p.0, p.1)
-
-unchanged : {A : Type 0} (o : Option A) → o ≡ option_and_then (λ x. cond true (Some x) None) o
-unchanged None = refl
-unchanged (Some x) = refl
-
-settings_are_read : (bytes : List ℕ) → option_map settings_item (all_of settings_reading bytes) ≡ decoded_item (record { kind = 9; a = 0; b = 0 }) bytes
-settings_are_read bytes =
-    ap (option_map settings_item) (unchanged (all_of settings_reading bytes))
-    ∙ value_is_decoded (λ s. true) settings_item settings_exact (record { kind = 9; a = 0; b = 0 }) settings_value_is (λ s fits e. (settings_allowed s fits, refl)) known bytes where
-      known : (i : Item) → is_item i ≡ true → key i ≡ record { kind = 9; a = 0; b = 0 } → (s : Settings) × (settings_item s ≡ i) × FitsSettings s × (true ≡ true)
-      known i ok at =
-          let s = settings_of_key i at in
-          (s.0, sym s.1, settings_fit s.0 (subst (λ (j : Item). is_item j ≡ true) s.1 ok), refl)
 
 -- ---- what a record says
 
@@ -200,15 +51,15 @@ settings_again : (o : Option Settings) → o ≡ option_and_then settings_said (
 settings_again None = refl
 settings_again (Some s) = refl
 
-pub templates_are_said : (k : Key) (bytes : List ℕ) → is_same_key k (record { kind = 5; a = 0; b = 0 }) ≡ true → right_templates (all_of templates_reading bytes) ≡ entry_of_record templates_said (k, bytes)
+pub templates_are_said : (k : Key) (bytes : List ℕ) → is_same_key k (record { kind = 5; a = 0; b = 0 }) ≡ true → all_of templates_reading bytes ≡ entry_of_record templates_said (k, bytes)
 unfolding entry_of_record
 templates_are_said k bytes e =
-    said_again (right_templates (all_of templates_reading bytes)) ∙ ap (option_and_then templates_said) (templates_are_read bytes ∙ ap (λ (j : Key). decoded_item j bytes) (sym (only_key k 5 e)))
+    said_again (all_of templates_reading bytes) ∙ ap (option_and_then templates_said) (templates_decoded bytes ∙ ap (λ (j : Key). decoded_item j bytes) (sym (only_key k 5 e)))
 
 pub settings_are_said : (k : Key) (bytes : List ℕ) → is_same_key k (record { kind = 9; a = 0; b = 0 }) ≡ true → all_of settings_reading bytes ≡ entry_of_record settings_said (k, bytes)
 unfolding entry_of_record
 settings_are_said k bytes e =
-    settings_again (all_of settings_reading bytes) ∙ ap (option_and_then settings_said) (settings_are_read bytes ∙ ap (λ (j : Key). decoded_item j bytes) (sym (only_key k 9 e)))
+    settings_again (all_of settings_reading bytes) ∙ ap (option_and_then settings_said) (settings_decoded bytes ∙ ap (λ (j : Key). decoded_item j bytes) (sym (only_key k 9 e)))
 
 -- the item that is decoded has the key
 at_key : (k : Key) (bytes : List ℕ) (i : Item) → decoded_item k bytes ≡ Some i → key i ≡ k

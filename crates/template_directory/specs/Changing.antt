@@ -1,15 +1,15 @@
 -- What a change of records does to the table of templates and settings.
 use Rattle.std.specs.Prelude.{ℕ, ◌==◌, ◌&&◌, List, Option, Some, None, if◌then◌else◌}
 use Rattle.std.specs.Option.{option_map}
-use Rattle.asm_formats.specs.Items.{Item, Key, templates_item, settings_item}
+use Rattle.asm_formats.specs.Items.{Item, Key, templates_item, settings_item, settings_kind, templates_kind}
 use Rattle.asm_formats.specs.Values.{value}
 use Rattle.template_directory.specs.Tables.{Table}
 
 -- what the table says at a key
 abbrev pub item_at : Table → Key → Option Item
 item_at t k =
-    if k.kind == 5 then (if (k.a == 0) && (k.b == 0) then Some (templates_item t.templates) else None)
-    else if k.kind == 9 then (if (k.a == 0) && (k.b == 0) then Some (settings_item t.settings) else None)
+    if k.kind == templates_kind then (if (k.a == 0) && (k.b == 0) then Some (templates_item t.templates) else None)
+    else if k.kind == settings_kind then (if (k.a == 0) && (k.b == 0) then Some (settings_item t.settings) else None)
     else None
 
 -- the value of its record

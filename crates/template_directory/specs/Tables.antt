@@ -6,7 +6,7 @@ use Rattle.std.specs.declared.cmp.Ordering.{Ordering}
 use Rattle.std.specs.declared.cmp.Ordering.TheVariants.{Less, Equal, Greater}
 use Rattle.asm_group.specs.Names.{Bytes, is_same_name}
 use Rattle.asm_group.specs.Group.{Template}
-use Rattle.asm_formats.specs.Items.{Settings, Item, templates_item, settings_item, Key, is_item, most_templates}
+use Rattle.asm_formats.specs.Items.{Settings, Item, templates_item, settings_item, Key, is_item, most_templates, settings_kind, templates_kind}
 use Rattle.asm_base.specs.Records.{Entry}
 use Rattle.asm_base.specs.Tables.{entry_of_record, item_record}
 use Rattle.asm_base.specs.Names.{folded_cmp}
@@ -55,7 +55,7 @@ place_of name (t ∷ ts) = if is_lt (folded_cmp t.name name) then suc (place_of 
 
 -- the records of templates and of settings
 abbrev pub is_mine : Key → Bool
-is_mine k = (k.kind == 5) || (k.kind == 9)
+is_mine k = (k.kind == templates_kind) || (k.kind == settings_kind)
 
 abbrev pub records_of : Table → List Entry
 records_of t = item_record (templates_item t.templates) ∷ item_record (settings_item t.settings) ∷ []

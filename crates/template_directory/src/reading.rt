@@ -9,21 +9,17 @@ ghost use Rattle.asm_base.specs.Readings.{repeated};
 ghost use Rattle.asm_base.specs.Records.{all_of};
 ghost use Rattle.asm_base.specs.Tables.{entry_of_record};
 ghost use Rattle.template_directory.specs.Tables.{templates_said, settings_said};
-ghost use Rattle.template_directory.specs.Readings.{template_reading, templates_reading, are_right, right_templates, settings_reading};
+ghost use Rattle.template_directory.specs.Readings.{are_right};
+ghost use Rattle.record_values.specs.Values.{template_reading, templates_reading, settings_reading};
 
 use crate::settings::Settings;
 use crate::template::Template;
 use asm_base::{
-    Key, List, NoMemory, Reader, Value, is_at_end, take_flag, take_name, take_stripe, take_text,
+    Key, List, NoMemory, Reader, Value, is_at_end, record_kind, take_flag, take_stripe, take_text,
     take_u8, take_u64,
 };
+use record_values::{take_copies, take_named};
 use std::alloc::Global;
-
-/// The kind of the record of templates.
-pub(crate) const TEMPLATES: u16 = 5;
-
-/// The kind of the record of settings.
-pub(crate) const SETTINGS: u16 = 9;
 
 /// Templates in a group, at most.
 pub(crate) const MOST_TEMPLATES: usize = 64;
@@ -37,10 +33,10 @@ pub(crate) fn templates_in(
 ) -> Result<Option<List<Template>>, NoMemory>
     ensures { IfOk result (λ read. read ≡ entry_of_record templates_said (key, value.now)) }
 {
-    if !is_only(key, TEMPLATES) {
+    if !is_only(key, record_kind::TEMPLATES) {
         return Ok(None);
     }
-    let read = read_right(alloc, value.as_bytes())?;
+    let read = read_templates(alloc, value.as_bytes())?;
     Ok(read)
 }
 
@@ -53,7 +49,7 @@ pub(crate) fn settings_in(
 ) -> Result<Option<Settings>, NoMemory>
     ensures { IfOk result (λ read. read ≡ entry_of_record settings_said (key, value.now)) }
 {
-    if !is_only(key, SETTINGS) {
+    if !is_only(key, record_kind::SETTINGS) {
         return Ok(None);
     }
     let read = read_settings(alloc, value.as_bytes())?;
@@ -65,20 +61,6 @@ fn is_only(key: Key, kind: u16) -> bool
     ensures { result ≡ is_same_key key (record { kind = kind; a = 0; b = 0 }) }
 {
     key.kind == kind && key.a == 0 && key.b == 0
-}
-
-fn read_right(alloc: Global, bytes: &[u8]) -> Result<Option<List<Template>>, NoMemory>
-    requires { length bytes.now ≤ 4064 }
-    ensures { IfOk result (λ read. read ≡ right_templates (all_of templates_reading bytes.now)) }
-{
-    let Some(templates) = read_templates(alloc, bytes)? else {
-        return Ok(None);
-    };
-    if are_right(templates.as_slice()) {
-        Ok(Some(templates))
-    } else {
-        Ok(None)
-    }
 }
 
 #[tactic(auto, using(asm_base::proofs::Tables::bytes_are), unfolding(asm_base::specs::Records::all_of))]
@@ -156,7 +138,7 @@ fn is_before(first: &Template, second: &Template) -> bool
     first.name.folded_cmp(&second.name).is_lt()
 }
 
-#[tactic(auto, unfolding(crate::specs::Readings::templates_reading))]
+#[tactic(auto, unfolding(record_values::specs::Values::templates_reading))]
 fn take_templates(alloc: Global, from: &mut Reader) -> Result<Option<List<Template>>, NoMemory>
     ensures { IfOk result (λ read. Reads from.new read (templates_reading from.old)) }
 {
@@ -166,7 +148,14 @@ fn take_templates(alloc: Global, from: &mut Reader) -> Result<Option<List<Templa
     if count as usize > MOST_TEMPLATES {
         return Ok(None);
     }
-    take_counted(alloc, from, count)
+    let Some(templates) = take_counted(alloc, from, count)? else {
+        return Ok(None);
+    };
+    if names_ascend(templates.as_slice()) {
+        Ok(Some(templates))
+    } else {
+        Ok(None)
+    }
 }
 
 #[tactic(auto, using(asm_base::proofs::Loops::goes_on, asm_base::proofs::Loops::fails, asm_base::proofs::Loops::is_done, asm_base::proofs::Loops::starts))]
@@ -187,14 +176,14 @@ fn take_counted(
     Ok(Some(templates))
 }
 
-#[tactic(auto, unfolding(crate::specs::Readings::template_reading))]
+#[tactic(auto, unfolding(record_values::specs::Values::template_reading))]
 fn take_template(alloc: Global, from: &mut Reader) -> Result<Option<Template>, NoMemory>
     ensures { IfOk result (λ read. Reads from.new read (template_reading from.old)) }
 {
-    let Some(name) = take_name(alloc, from, 30)? else {
+    let Some(name) = take_named(alloc, from)? else {
         return Ok(None);
     };
-    let Some(copies) = take_u8(from) else {
+    let Some(copies) = take_copies(from) else {
         return Ok(None);
     };
     let Some(stripe) = take_stripe(from) else {
@@ -211,7 +200,7 @@ fn take_template(alloc: Global, from: &mut Reader) -> Result<Option<Template>, N
     }))
 }
 
-#[tactic(auto, unfolding(crate::specs::Readings::settings_reading))]
+#[tactic(auto, unfolding(record_values::specs::Values::settings_reading))]
 fn take_settings(alloc: Global, from: &mut Reader) -> Result<Option<Settings>, NoMemory>
     ensures { IfOk result (λ read. Reads from.new read (settings_reading from.old)) }
 {

@@ -7,11 +7,11 @@ ghost use Rattle.asm_formats.specs.Items.{is_item, is_template, names_ascend, te
 ghost use Rattle.asm_base.specs.Records.{of_kinds};
 ghost use Rattle.template_directory.specs.Tables.{Table, IsTable, if_same, is_mine, place_of, records_of, table_of, template_named, with_template, without_template};
 
-use crate::reading::{MOST_TEMPLATES, SETTINGS, TEMPLATES, settings_in, templates_in};
+use crate::reading::{MOST_TEMPLATES, settings_in, templates_in};
 use crate::settings::Settings;
 use crate::template::Template;
 use crate::writing::{settings_value, templates_value};
-use asm_base::{Change, Key, List, Name, NoMemory, Records, Value};
+use asm_base::{Change, Key, List, Name, NoMemory, Records, Value, record_kind};
 use std::alloc::Global;
 use std::collections::btree_map::Iter;
 use std::marker::Model;
@@ -129,9 +129,11 @@ impl TemplateTable {
         ensures gone { change.new.gone ≡ change.old.gone }
     {
         let templates = templates_value(alloc, self.list())?;
-        change.put.push((only_key(TEMPLATES), templates))?;
+        change
+            .put
+            .push((only_key(record_kind::TEMPLATES), templates))?;
         let settings = settings_value(alloc, self.settings())?;
-        change.put.push((only_key(SETTINGS), settings))
+        change.put.push((only_key(record_kind::SETTINGS), settings))
     }
 
     /// The table whose records these are, or None where one of the two isn't there or isn't of the format, or there is
@@ -203,7 +205,7 @@ fn next_mine<'a>(left: &mut Iter<'a, Key, Value>) -> Option<(Key, &'a Value)>
 fn is_mine(key: Key) -> bool
     ensures { result ≡ is_mine key }
 {
-    key.kind == TEMPLATES || key.kind == SETTINGS
+    key.kind == record_kind::TEMPLATES || key.kind == record_kind::SETTINGS
 }
 
 /// How many names are before a name.

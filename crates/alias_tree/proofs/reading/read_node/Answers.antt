@@ -1,6 +1,6 @@
 use Rattle.std.proofs.Common.{sym, ap, ◌∙◌}
 use Rattle.asm_base.specs.Records.{all_of}
-use Rattle.alias_tree.specs.Readings.{node_reading}
+use Rattle.record_values.specs.Values.{node_reading}
 use Rattle.alias_tree.proofs.Readings.{node_is_read}
 use Rattle.alias_tree.proofs.reading.read_node.Goals as goal
 

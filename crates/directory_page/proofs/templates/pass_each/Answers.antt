@@ -1,4 +1,4 @@
-use Rattle.std.proofs.Common.{◌≡◌, false, sym, ◌∙◌}
+use Rattle.std.proofs.Common.{◌≡◌, false}
 use Rattle.asm_group.specs.Names.{folded}
 use Rattle.asm_formats.specs.Items.{precedes}
 use Rattle.directory_page.proofs.Ascending.{after_back}

@@ -2,7 +2,7 @@ use Rattle.std.proofs.Common.{[], ◌∷◌, length, ap, arith}
 use Rattle.std.proofs.lemmas.List.{length-append}
 use Rattle.asm_base.specs.Readings.{repeated}
 use Rattle.asm_base.proofs.Loops.{goes_on}
-use Rattle.extent_map.specs.Readings.{extent_reading}
+use Rattle.record_values.specs.Values.{extent_reading}
 use Rattle.extent_map.proofs.reading.take_extents.Goals as goal
 
 pub loop-i-preserved : goal.loop-i-preserved

@@ -1,7 +1,7 @@
 use Rattle.std.proofs.Common.{◌≡◌, ◌-◌, length}
 use Rattle.asm_base.specs.Readings.{repeated}
 use Rattle.asm_base.proofs.Loops.{after_front}
-use Rattle.extent_map.specs.Readings.{extent_reading}
+use Rattle.record_values.specs.Values.{extent_reading}
 use Rattle.extent_map.proofs.reading.take_extents.Given as goal
 
 abbrev pub invariant-loop-i : goal.invariant-loop-i

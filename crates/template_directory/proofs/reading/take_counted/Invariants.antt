@@ -1,7 +1,7 @@
 use Rattle.std.proofs.Common.{◌≡◌, ◌-◌}
 use Rattle.asm_base.specs.Readings.{repeated}
 use Rattle.asm_base.proofs.Loops.{after_front}
-use Rattle.template_directory.specs.Readings.{template_reading}
+use Rattle.record_values.specs.Values.{template_reading}
 use Rattle.template_directory.proofs.reading.take_counted.Given as goal
 
 abbrev pub invariant-loop : goal.invariant-loop

@@ -1,0 +1,9 @@
+pub mod Decoded
+pub mod FieldLaws
+pub mod Files
+pub mod Chunks
+pub mod Disks
+pub mod Operations
+pub mod Templates
+pub mod Nodes
+pub mod Settings
