@@ -8,7 +8,7 @@ use Rattle.asm_base.specs.Records.{Entry, is_key}
 use Rattle.page_map.specs.Changes.{is_gone, is_put, last_put, value_after}
 use Rattle.page_map.proofs.Changing.{last_put_any}
 use Rattle.alias_tree.specs.Nodes.{KeepsRule}
-use Rattle.catalog_tables.specs.Changing.{AreItems, IsAfter, Sets}
+use Rattle.catalog_tables.specs.Changing.{AreItemTables, IsAfter, Sets}
 use Rattle.catalog_tables.specs.Tables.{AreTables, Tables, records_of}
 use Rattle.catalog_tables.proofs.SameTables.{same_tables}
 
@@ -97,19 +97,19 @@ after_is_ok (Err e) put gone t room full new others puts goes = tt
 abbrev pub After : Tables → List Entry → List Key → Tables → Type 0
 After t put gone v = (k : Key) → records_of v k ≡ value_after put gone k (records_of t k)
 
-items_of : (t : Tables) → AreTables t → AreItems t
+items_of : (t : Tables) → AreTables t → AreItemTables t
 items_of t a = record { files = a.files; extents = a.extents.0; nodes = a.nodes.items; templates = a.templates; stale = a.stale; operations = a.operations; disks = a.disks }
 
 -- what gives at each key what the tables after the change give is those tables
-pub is_after : (t u v : Tables) (put : List Entry) (gone : List Key) → IsAfter t put gone u → AreItems v → ((k : Key) → records_of v k ≡ value_after put gone k (records_of t k)) → u ≡ v
+pub is_after : (t u v : Tables) (put : List Entry) (gone : List Key) → IsAfter t put gone u → AreItemTables v → ((k : Key) → records_of v k ≡ value_after put gone k (records_of t k)) → u ≡ v
 is_after t u v put gone after items same = same_tables u v (items_of u after.tables) items (λ k. after.records k ∙ sym (same k))
 
 pub one_after : (t u v : Tables) (put : List Entry) (gone : List Key) → IsAfter t put gone u → IsAfter t put gone v → u ≡ v
 one_after t u v put gone a b = is_after t u v put gone a (items_of v b.tables) b.records
 
 -- the nodes of the tables after the change keep the tree's rule
-pub after_rule : (t v : Tables) (put : List Entry) (gone : List Key) → (u : Tables) × IsAfter t put gone u → AreItems v → ((k : Key) → records_of v k ≡ value_after put gone k (records_of t k)) → KeepsRule v.nodes
+pub after_rule : (t v : Tables) (put : List Entry) (gone : List Key) → (u : Tables) × IsAfter t put gone u → AreItemTables v → ((k : Key) → records_of v k ≡ value_after put gone k (records_of t k)) → KeepsRule v.nodes
 after_rule t v put gone after items same = subst (λ (x : Tables). KeepsRule x.nodes) (is_after t after.0 v put gone after.1 items same) after.1.tables.nodes.rule
 
-pub after_tables : (t v : Tables) (put : List Entry) (gone : List Key) → (u : Tables) × IsAfter t put gone u → AreItems v → ((k : Key) → records_of v k ≡ value_after put gone k (records_of t k)) → IsAfter t put gone v
+pub after_tables : (t v : Tables) (put : List Entry) (gone : List Key) → (u : Tables) × IsAfter t put gone u → AreItemTables v → ((k : Key) → records_of v k ≡ value_after put gone k (records_of t k)) → IsAfter t put gone v
 after_tables t v put gone after items same = subst (λ (x : Tables). IsAfter t put gone x) (is_after t after.0 v put gone after.1 items same) after.1

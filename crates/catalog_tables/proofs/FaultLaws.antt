@@ -11,7 +11,7 @@ use Rattle.extent_map.specs.Extents.{Chunked, IsNumbered, IsTable}
 use Rattle.asm_base.specs.Chunks.{Chunk}
 use Rattle.extent_map.proofs.Laws.{table_numbered}
 use Rattle.catalog_tables.specs.Tables.{AreTables, Tables}
-use Rattle.catalog_tables.specs.Rules.{AreOnRegular, HasExtents, IsShort, KeepsRules, blocks_used, first_unknown, first_wrong, has_chunk, has_marks, has_names, is_marked_right, is_named_back, is_on_disks, is_owned, is_regular_chunk, keeps_copies}
+use Rattle.catalog_tables.specs.Rules.{AreOnRegular, HasExtents, IsShortFile, KeepsRules, blocks_used, first_unknown, first_wrong, has_chunk, has_marks, has_names, is_marked_right, is_named_back, is_on_disks, is_owned, is_regular_chunk, keeps_copies}
 use Rattle.catalog_tables.specs.Placing.{after_homes, homes_of, misplaced, unused_maps}
 use Rattle.catalog_tables.specs.Faults.{AreChunksRight, AreNamesRight, AreSizesRight, BreaksRule, IsChunkFault, disk_key, file_key, key_of_chunk, key_of_marks, node_key, settings_key}
 use Rattle.catalog_tables.specs.Faults as fault
@@ -71,7 +71,7 @@ node_is s es t n k e is = fault.nameless_node n e is
 pub file_is : (s : Shape) (es : List status.Entry) (t : Tables) (f : ℕ) (k : Key) → first_wrong (has_names t) t.files ≡ Some f → k ≡ file_key f → BreaksRule s es t k
 file_is s es t f k e is = fault.nameless_file f e is
 
-pub short_is : (s : Shape) (es : List status.Entry) (t : Tables) (f : ℕ) (k : Key) → IsShort t s f → k ≡ file_key f → BreaksRule s es t k
+pub short_is : (s : Shape) (es : List status.Entry) (t : Tables) (f : ℕ) (k : Key) → IsShortFile t s f → k ≡ file_key f → BreaksRule s es t k
 short_is s es t f k e is = fault.short_file f e is
 
 pub unknown_is : (s : Shape) (es : List status.Entry) (t : Tables) (d : ℕ) (k : Key) → first_unknown t es ≡ Some d → k ≡ disk_key d → BreaksRule s es t k

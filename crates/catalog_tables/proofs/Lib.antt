@@ -1,4 +1,3 @@
-pub mod DiskLaws
 pub mod FaultLaws
 pub mod FileLaws
 pub mod HomeUnits

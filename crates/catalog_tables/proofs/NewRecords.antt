@@ -11,7 +11,7 @@ use Rattle.extent_map.specs.Extents.{chunk_at, chunk_key}
 use Rattle.asm_base.specs.Chunks.{Chunk}
 use Rattle.alias_tree.specs.Nodes.{node_at}
 use Rattle.staleness_directory.specs.Marks.{marks_at}
-use Rattle.catalog_tables.specs.Disks.{info_at}
+use Rattle.disk_directory.specs.Disks.{info_at}
 use Rattle.catalog_tables.specs.Faults.{IsCatalog, disk_key, file_key, key_of_marks, node_key, settings_key, templates_key}
 use Rattle.catalog_tables.specs.Rules.{blocks_used, lacks_record, new_records}
 use Rattle.catalog_tables.specs.Tables.{Catalogued, Tables, item_at}

@@ -27,7 +27,7 @@ use Rattle.operations_directory.specs.Operations as operations
 use Rattle.operations_directory.specs.Readings.{item_of}
 use Rattle.operations_directory.specs.declared.reading.Operation.{Operation}
 use Rattle.operations_directory.specs.declared.reading.Operation.TheVariants.{Rebalance, Pending as PendingOne}
-use Rattle.catalog_tables.specs.Disks as disks
+use Rattle.disk_directory.specs.Disks as disks
 use Rattle.catalog_tables.specs.Tables.{first_unreadable}
 use Rattle.catalog_tables.specs.Faults.{settings_key, templates_key}
 use Rattle.catalog_tables.specs.Readable.{AreReadable, HasNeeded}

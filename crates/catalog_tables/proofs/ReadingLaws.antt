@@ -13,7 +13,7 @@ use Rattle.extent_map.specs.Faults.{HasGap, gap_from}
 use Rattle.extent_map.proofs.Laws.{all_numbered}
 use Rattle.catalog_tables.specs.declared.error.CatalogError.{CatalogError}
 use Rattle.catalog_tables.specs.Tables.{first_unreadable}
-use Rattle.catalog_tables.specs.Faults.{IsAtFault, IsGap, IsLoose, IsNeeded, Names}
+use Rattle.catalog_tables.specs.Faults.{IsAtFault, IsGap, IsLoose, IsNeeded, NamesFault}
 use Rattle.catalog_tables.specs.Faults as fault
 use Rattle.catalog_tables.specs.declared.error.CatalogError.TheVariants as answer
 
@@ -23,11 +23,11 @@ unreadable_at content s es k e = fault.unreadable e
 pub absent_at : (content : List Entry) (s : Shape) (es : List status.Entry) (k : Key) → (record_at content k ≡ None) × IsNeeded k → IsAtFault content s es k
 absent_at content s es k e = fault.absent e.0 e.1
 
-pub gap_at : (content : List Entry) (e : CatalogError) → Names (IsGap content) e → (s : Shape) (es : List status.Entry) → Names (IsAtFault content s es) e
+pub gap_at : (content : List Entry) (e : CatalogError) → NamesFault (IsGap content) e → (s : Shape) (es : List status.Entry) → NamesFault (IsAtFault content s es) e
 gap_at content (answer.Damaged k) g s es = fault.gap g.0 g.1 g.2
 gap_at content answer.NoMemory g s es = tt
 
-pub loose_at : (content : List Entry) (e : CatalogError) → Names (IsLoose content) e → (s : Shape) (es : List status.Entry) → Names (IsAtFault content s es) e
+pub loose_at : (content : List Entry) (e : CatalogError) → NamesFault (IsLoose content) e → (s : Shape) (es : List status.Entry) → NamesFault (IsAtFault content s es) e
 loose_at content (answer.Damaged k) g s es = fault.loose_node g.0 g.1 g.2
 loose_at content answer.NoMemory g s es = tt
 

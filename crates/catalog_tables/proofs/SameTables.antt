@@ -23,7 +23,7 @@ use Rattle.staleness_directory.proofs.Laws as marks_laws
 use Rattle.extent_map.specs.Changing as extents_changing
 use Rattle.extent_map.proofs.Laws as extents_laws
 use Rattle.operations_directory.specs.Operations.{IsTable as AreOperations, Operations}
-use Rattle.catalog_tables.specs.Changing.{AreItems}
+use Rattle.catalog_tables.specs.Changing.{AreItemTables}
 use Rattle.catalog_tables.specs.Tables.{Tables, item_at, records_of}
 
 either : (b : Bool) → (b ≡ true) ⊎ (b ≡ false)
@@ -110,7 +110,7 @@ module _ {K X : Type 0} (R : K → K → Ordering) (order : IsTotalOrder R) (exa
 abbrev Alike : Tables → Tables → Type 0
 Alike t u = (k : Key) → records_of t k ≡ records_of u k
 
-same_files : (t u : Tables) → AreItems t → AreItems u → Alike t u → t.files ≡ u.files
+same_files : (t u : Tables) → AreItemTables t → AreItemTables u → Alike t u → t.files ≡ u.files
 unfolding item_at
 same_files t u a b same =
     same_values nat_cmp nat_cmp_total nat_cmp-IsAntisymmetric file_item (λ k v w. refl) (λ k v w e. cc) t.files u.files a.files.0 a.files.1 b.files.0 b.files.1
@@ -123,30 +123,30 @@ chunk_record t c =
     let back : c.1 + 1 - 1 ≡ c.1 = omega arith in
     rw (some, back) refl
 
-same_extents : (t u : Tables) → AreItems t → AreItems u → Alike t u → t.extents ≡ u.extents
+same_extents : (t u : Tables) → AreItemTables t → AreItemTables u → Alike t u → t.extents ≡ u.extents
 same_extents t u a b same =
     same_values chunk_order.chunk_cmp extents_laws.chunk_total extents_laws.same_chunk (λ (c : chunk_order.Chunk) (h : List Homes). chunk_item c.0 c.1 h) (λ k v w. refl) (λ k v w e. cc) t.extents u.extents a.extents.0 a.extents.1 b.extents.0 b.extents.1
     (λ c. sym (chunk_record t c) ∙ (same (record { kind = 1; a = c.0; b = c.1 + 1 }) ∙ chunk_record u c))
 
-same_disks : (t u : Tables) → AreItems t → AreItems u → Alike t u → t.disks ≡ u.disks
+same_disks : (t u : Tables) → AreItemTables t → AreItemTables u → Alike t u → t.disks ≡ u.disks
 unfolding item_at
 same_disks t u a b same =
     same_values nat_cmp nat_cmp_total nat_cmp-IsAntisymmetric disk_item (λ k v w. refl) (λ k v w e. cc) t.disks u.disks a.disks.0 a.disks.1 b.disks.0 b.disks.1
     (λ d. same (record { kind = 2; a = d; b = 0 }))
 
-same_nodes : (t u : Tables) → AreItems t → AreItems u → Alike t u → t.nodes ≡ u.nodes
+same_nodes : (t u : Tables) → AreItemTables t → AreItemTables u → Alike t u → t.nodes ≡ u.nodes
 unfolding item_at
 same_nodes t u a b same =
     same_values nat_cmp nat_cmp_total nat_cmp-IsAntisymmetric node_item (λ k v w. refl) (λ k v w e. cc) t.nodes u.nodes a.nodes.0 a.nodes.1 b.nodes.0 b.nodes.1
     (λ n. same (record { kind = 6; a = n; b = 0 }))
 
-same_marks : (t u : Tables) → AreItems t → AreItems u → Alike t u → t.stale ≡ u.stale
+same_marks : (t u : Tables) → AreItemTables t → AreItemTables u → Alike t u → t.stale ≡ u.stale
 unfolding item_at
 same_marks t u a b same =
     same_values chunk_order.chunk_cmp marks_laws.chunk_total marks_laws.same_chunk (λ (c : chunk_order.Chunk) (m : List ℕ). marks_item c.0 c.1 m) (λ k v w. refl) (λ k v w e. cc) t.stale u.stale a.stale.0 a.stale.1 b.stale.0 b.stale.1
     (λ c. same (record { kind = 12; a = c.0; b = c.1 }))
 
-same_templates : (t u : Tables) → AreItems t → AreItems u → Alike t u → t.templates ≡ u.templates
+same_templates : (t u : Tables) → AreItemTables t → AreItemTables u → Alike t u → t.templates ≡ u.templates
 unfolding item_at
 same_templates t u a b same =
     let five = some_is (value (templates_item t.templates.templates)) (value (templates_item u.templates.templates)) (same (record { kind = 5; a = 0; b = 0 })) in
@@ -155,7 +155,7 @@ same_templates t u a b same =
     let settings : t.templates.settings ≡ u.templates.settings = let e = same_item (settings_item t.templates.settings) (settings_item u.templates.settings) a.templates.settings b.templates.settings refl nine in cc in
     λ i. record { templates = list i; settings = settings i }
 
-same_operations : (t u : Tables) → AreItems t → AreItems u → Alike t u → t.operations ≡ u.operations
+same_operations : (t u : Tables) → AreItemTables t → AreItemTables u → Alike t u → t.operations ≡ u.operations
 unfolding item_at
 same_operations t u a b same =
     let power = powers t.operations.rebalance u.operations.rebalance (power_ok t.operations a.operations) (power_ok u.operations b.operations) (same (record { kind = 4; a = 0; b = 0 })) in
@@ -193,7 +193,7 @@ same_operations t u a b same =
         let is : v ≡ w = cc in
         ap (λ (n : PendingOperation). Some n) is
 
-pub same_tables : (t u : Tables) → AreItems t → AreItems u → ((k : Key) → records_of t k ≡ records_of u k) → t ≡ u
+pub same_tables : (t u : Tables) → AreItemTables t → AreItemTables u → ((k : Key) → records_of t k ≡ records_of u k) → t ≡ u
 same_tables t u a b same =
     let files = same_files t u a b same in
     let extents = same_extents t u a b same in

@@ -1,8 +1,8 @@
 -- Entries that give each disk as many units as its map has.
-use Rattle.std.proofs.Common.{◌≡◌, ℕ, ◌<◌, ◌+◌, Bool, true, false, eqb, List, Option, Some, None, refl, sym, ap, subst, ◌∙◌, arith, inl, inr}
+use Rattle.std.proofs.Common.{◌≡◌, ℕ, ◌<◌, Bool, true, false, eqb, List, Some, refl, sym, ap, ◌∙◌, arith, inl, inr}
 use Rattle.std.specs.Prelude.{flat_map}
-use Rattle.std.specs.List.{list_all, range_with_len, slice_get}
-use Rattle.std.proofs.lemmas.Bool.{eqb-true, eq-eqb, ne_eqb, true≢false}
+use Rattle.std.specs.List.{slice_get}
+use Rattle.std.proofs.lemmas.Bool.{eqb-true, eq-eqb}
 use Rattle.std.proofs.lemmas.List.{length-replicate}
 use Rattle.asm_group.specs.Shape.{Shape}
 use Rattle.asm_formats.specs.Regions.{reserved_units}
@@ -10,7 +10,7 @@ use Rattle.asm_formats.specs.Sets.{most_disks}
 use Rattle.asm_formats.specs.Status.{Entry}
 use Rattle.asm_formats.proofs.Among.{map_range_same}
 use Rattle.allocator.specs.UnitMaps.{UnitMap, unused}
-use Rattle.catalog_tables.specs.Tables.{Catalogued, Tables}
+use Rattle.catalog_tables.specs.Tables.{Tables}
 use Rattle.catalog_tables.specs.Placing.{HasUnits, HaveSameUnits, after_chunks, after_homes, disk_units, have_units, homes_of, map_units, unused_maps}
 use Rattle.catalog_tables.proofs.EntryLaws.{either}
 use Rattle.catalog_tables.proofs.HomeUnits.{behind, chunks_are_homes, unused_at}

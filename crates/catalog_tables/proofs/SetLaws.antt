@@ -27,7 +27,7 @@ use Rattle.staleness_directory.specs.Marks.{Marked, marks_at}
 use Rattle.staleness_directory.specs.Changing as stale
 use Rattle.operations_directory.specs.Operations.{Operations}
 use Rattle.operations_directory.specs.Changing as operations
-use Rattle.catalog_tables.specs.Disks as disks
+use Rattle.disk_directory.specs.Disks as disks
 use Rattle.catalog_tables.specs.Changing.{Sets, is_place}
 use Rattle.catalog_tables.specs.Tables.{Tables, item_at, records_of}
 

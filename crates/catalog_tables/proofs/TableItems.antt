@@ -29,7 +29,7 @@ use Rattle.alias_tree.specs.Nodes as nodes
 use Rattle.template_directory.specs.Tables as templates
 use Rattle.staleness_directory.specs.Marks as stale
 use Rattle.operations_directory.specs.Operations as operations
-use Rattle.catalog_tables.specs.Disks as disks
+use Rattle.disk_directory.specs.Disks as disks
 use Rattle.catalog_tables.specs.Tables.{AreTables, HasRecords, Tables, item_at}
 use Rattle.catalog_tables.specs.Items.{AreItemsIn, AreItemsOf}
 

@@ -1,6 +1,6 @@
 -- What a change of records does to the tables of a group.
 use Rattle.std.specs.Prelude.{◌≡◌, ℕ, Bool, true, false, ◌==◌, ◌&&◌, List, Option, if◌then◌else◌}
-use Rattle.asm_formats.specs.Items.{Key}
+use Rattle.asm_formats.specs.Items.{Key, disks_kind, files_kind, marks_kind, nodes_kind, operations_kind, settings_kind, templates_kind}
 use Rattle.asm_base.specs.Records.{Entry, is_key}
 use Rattle.page_map.specs.Changes.{value_after}
 use Rattle.file_directory.specs.Files as files
@@ -9,7 +9,7 @@ use Rattle.alias_tree.specs.Opening as nodes
 use Rattle.template_directory.specs.Tables as templates
 use Rattle.staleness_directory.specs.Marks as stale
 use Rattle.operations_directory.specs.Operations as operations
-use Rattle.catalog_tables.specs.Disks as disks
+use Rattle.disk_directory.specs.Disks as disks
 use Rattle.catalog_tables.specs.Tables.{AreTables, Tables, records_of}
 use Rattle.catalog_tables.specs.declared.opening.OpenParts.{OpenParts}
 
@@ -23,7 +23,7 @@ abbrev pub Sets : Tables → Tables → Key → Option (List ℕ) → Type 0
 Sets t u key v = (k : Key) → records_of u k ≡ (if is_key key k then v else records_of t k)
 
 -- The entries of each table are of the formats and in order. The rules of extents and of nodes needn't hold.
-pub record AreItems (t : Tables) : Type 0 where
+pub record AreItemTables (t : Tables) : Type 0 where
   pub files : files.IsTable t.files
   pub extents : extents.AreChunks t.extents
   pub nodes : nodes.AreNodes t.nodes
@@ -38,7 +38,7 @@ abbrev pub tables_of : OpenParts → Tables
 tables_of p = record { files = p.files; extents = p.extents; nodes = p.tree; templates = p.templates; stale = p.stale; operations = p.operations; disks = p.disks }
 
 -- what isn't an invariant of the tables' types
-pub record IsOpen (p : OpenParts) : Type 0 where
+pub record ArePartsOpen (p : OpenParts) : Type 0 where
   pub extents : extents.AreChunks p.extents
   pub stale : stale.IsTable p.stale
   pub operations : operations.IsTable p.operations
@@ -46,6 +46,6 @@ pub record IsOpen (p : OpenParts) : Type 0 where
 -- tables may say something at the key
 abbrev pub is_place : Key → Bool
 is_place k =
-    if k.kind == 1 then true else if k.kind == 4 then true else if k.kind == 12 then true
-    else if k.kind == 2 then k.b == 0 else if k.kind == 6 then k.b == 0
-    else if k.kind == 5 then (k.a == 0) && (k.b == 0) else if k.kind == 9 then (k.a == 0) && (k.b == 0) else false
+    if k.kind == files_kind then true else if k.kind == operations_kind then true else if k.kind == marks_kind then true
+    else if k.kind == disks_kind then k.b == 0 else if k.kind == nodes_kind then k.b == 0
+    else if k.kind == templates_kind then (k.a == 0) && (k.b == 0) else if k.kind == settings_kind then (k.a == 0) && (k.b == 0) else false

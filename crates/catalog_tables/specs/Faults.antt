@@ -2,7 +2,7 @@
 use Rattle.std.specs.Prelude.{◌≡◌, ◌⊎◌, ◌<◌, ◌≤◌, ℕ, ◌+◌, List, Some, None}
 use Rattle.std.specs.List.{AllByRecursion}
 use Rattle.asm_group.specs.Shape.{Shape}
-use Rattle.asm_formats.specs.Items.{Key}
+use Rattle.asm_formats.specs.Items.{Key, disks_kind, files_kind, marks_kind, nodes_kind, settings_kind, templates_kind}
 use Rattle.asm_formats.specs.Status as status
 use Rattle.asm_base.specs.Records.{Entry, record_at}
 use Rattle.extent_map.specs.Extents.{chunk_key}
@@ -12,35 +12,35 @@ use Rattle.alias_tree.specs.Faults.{HasFault}
 use Rattle.catalog_tables.specs.declared.error.CatalogError.{CatalogError}
 use Rattle.catalog_tables.specs.declared.error.CatalogError.TheVariants as answer
 use Rattle.catalog_tables.specs.Tables.{AreTables, Catalogued, HasRecords, Tables, first_unreadable}
-use Rattle.catalog_tables.specs.Rules.{AreOnRegular, HasExtents, IsShort, KeepsRules, blocks_used, first_unknown, first_wrong, has_chunk, has_marks, has_names, is_marked_right, is_named_back, is_on_disks, is_owned, is_regular_chunk, keeps_copies}
+use Rattle.catalog_tables.specs.Rules.{AreOnRegular, HasExtents, IsShortFile, KeepsRules, blocks_used, first_unknown, first_wrong, has_chunk, has_marks, has_names, is_marked_right, is_named_back, is_on_disks, is_owned, is_regular_chunk, keeps_copies}
 use Rattle.catalog_tables.specs.Placing.{HasUnits, misplaced, unused_maps}
 
 -- ---- keys
 
 abbrev pub file_key : ℕ → Key
-file_key f = record { kind = 1; a = f; b = 0 }
+file_key f = record { kind = files_kind; a = f; b = 0 }
 
 abbrev pub key_of_chunk : Chunk → Key
 key_of_chunk at = chunk_key at.0 at.1
 
 abbrev pub disk_key : ℕ → Key
-disk_key d = record { kind = 2; a = d; b = 0 }
+disk_key d = record { kind = disks_kind; a = d; b = 0 }
 
 abbrev pub templates_key : Key
-templates_key = record { kind = 5; a = 0; b = 0 }
+templates_key = record { kind = templates_kind; a = 0; b = 0 }
 
 abbrev pub node_key : ℕ → Key
-node_key n = record { kind = 6; a = n; b = 0 }
+node_key n = record { kind = nodes_kind; a = n; b = 0 }
 
 abbrev pub settings_key : Key
-settings_key = record { kind = 9; a = 0; b = 0 }
+settings_key = record { kind = settings_kind; a = 0; b = 0 }
 
 -- the record of this key must be there
 abbrev pub IsNeeded : Key → Type 0
 IsNeeded k = (k ≡ templates_key) ⊎ (k ≡ settings_key)
 
 abbrev pub key_of_marks : Chunk → Key
-key_of_marks at = record { kind = 12; a = at.0; b = at.1 }
+key_of_marks at = record { kind = marks_kind; a = at.0; b = at.1 }
 
 -- ---- faults
 
@@ -91,7 +91,7 @@ pub data BreaksRule (s : Shape) (entries : List status.Entry) (t : Tables) (k : 
   -- a file that names a node that isn't there or isn't such a node of the file
   nameless_file : (f : ℕ) → first_wrong (has_names t) t.files ≡ Some f → k ≡ file_key f → BreaksRule s entries t k
   -- a file that has by its size an extent that hasn't all its copies
-  short_file : (f : ℕ) → IsShort t s f → k ≡ file_key f → BreaksRule s entries t k
+  short_file : (f : ℕ) → IsShortFile t s f → k ≡ file_key f → BreaksRule s entries t k
   -- an entry that has no disk record of its number and birth
   unknown_disk : (d : ℕ) → first_unknown t entries ≡ Some d → k ≡ disk_key d → BreaksRule s entries t k
   -- more records than there is room for
@@ -118,9 +118,9 @@ abbrev pub IsLoose : List Entry → Key → Type 0
 IsLoose content k = (n : ℕ) × HasFault content n × (k ≡ node_key n)
 
 -- an answer that names a record at fault, or says that memory is wanting
-abbrev pub Names : (Key → Type 0) → CatalogError → Type 0
-Names IsFault (answer.Damaged k) = IsFault k
-Names IsFault answer.NoMemory = Unit {0}
+abbrev pub NamesFault : (Key → Type 0) → CatalogError → Type 0
+NamesFault IsFault (answer.Damaged k) = IsFault k
+NamesFault IsFault answer.NoMemory = Unit {0}
 
 -- ---- the catalog
 

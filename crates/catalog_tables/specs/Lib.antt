@@ -1,4 +1,3 @@
-pub mod Disks
 pub mod Tables
 pub mod Rules
 pub mod Placing

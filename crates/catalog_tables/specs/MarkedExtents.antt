@@ -63,8 +63,8 @@ pub record IsFirstPlace (d : ℕ) (marks : List ℕ) (homes : List Homes) (from 
   pub marked : has_stale_on d (get_or marks place 0, get_or homes place []) ≡ true
   pub before : (q : ℕ) → from ≤ q → q < place → has_stale_on d (get_or marks q 0, get_or homes q []) ≡ false
 
-abbrev pub HasNoPlace : ℕ → List ℕ → List Homes → ℕ → Type 0
-HasNoPlace d marks homes from = (q : ℕ) → from ≤ q → q < chunk_len → has_stale_on d (get_or marks q 0, get_or homes q []) ≡ false
+abbrev pub HasNoMarkedHome : ℕ → List ℕ → List Homes → ℕ → Type 0
+HasNoMarkedHome d marks homes from = (q : ℕ) → from ≤ q → q < chunk_len → has_stale_on d (get_or marks q 0, get_or homes q []) ≡ false
 
 -- x is the first extent of a chunk from a place on that has one
 pub record IsFirstIn (t : Tables) (d : ℕ) (at : Chunk) (from : ℕ) (x : ℕ × ℕ) : Type 0 where

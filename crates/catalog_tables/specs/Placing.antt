@@ -119,8 +119,8 @@ put_maps ms [] = ms
 put_maps ms (x ∷ xs) = put_maps (slice_set ms x.0 x.1) xs
 
 -- the maps of disks with as many units as the entries give stay
-abbrev pub OthersStay : List status.Entry → List UnitMap → List UnitMap → Type 0
-OthersStay entries old new = (d : ℕ) → map_units (slice_get old d) ≡ disk_units entries d → slice_get new d ≡ slice_get old d
+abbrev pub OtherMapsStay : List status.Entry → List UnitMap → List UnitMap → Type 0
+OtherMapsStay entries old new = (d : ℕ) → map_units (slice_get old d) ≡ disk_units entries d → slice_get new d ≡ slice_get old d
 
 -- no unit from one on is used
 abbrev pub IsFit : Option UnitMap → ℕ → Type 0

@@ -5,7 +5,7 @@ use Rattle.std.specs.Option.{option_map, unwrap_or}
 use Rattle.asm_group.specs.Shape.{Shape}
 use Rattle.asm_group.specs.declared.NodeKind.{NodeKind}
 use Rattle.asm_group.specs.declared.NodeKind.TheVariants.{System, Alias}
-use Rattle.asm_formats.specs.Items.{DiskInfo, Key, chunk_len, FileHead, Home, Homes, Node, Pending}
+use Rattle.asm_formats.specs.Items.{Key, chunk_len, FileHead, Home, Homes}
 use Rattle.asm_formats.specs.Among.{IsAmong}
 use Rattle.asm_formats.specs.Sets.{has_bit}
 use Rattle.asm_formats.specs.Status as status
@@ -20,7 +20,7 @@ use Rattle.file_directory.specs.Files.{File, head_at, is_file}
 use Rattle.extent_map.specs.Extents.{Chunked, chunk_at, extent_at}
 use Rattle.alias_tree.specs.Nodes.{Numbered, node_at}
 use Rattle.staleness_directory.specs.Marks.{Marked, marks_at}
-use Rattle.catalog_tables.specs.Disks.{info_at}
+use Rattle.disk_directory.specs.Disks.{info_at}
 use Rattle.catalog_tables.specs.Tables.{AreTables, Tables, records_of}
 
 -- the key of the first entry that isn't right
@@ -183,7 +183,7 @@ pub record KeepsRules (s : Shape) (t : Tables) : Type 0 where
   pub room : blocks_used t + 2 ≤ s.dir_blocks
 
 -- the number is that of a file that lacks an extent
-pub record IsShort (t : Tables) (s : Shape) (f : ℕ) : Type 0 where
+pub record IsShortFile (t : Tables) (s : Shape) (f : ℕ) : Type 0 where
   pub head : FileHead
   pub file : IsAmong t.files (f, head)
   pub lacks : LacksExtent t s (f, head)

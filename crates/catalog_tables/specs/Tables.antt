@@ -2,7 +2,7 @@
 use Rattle.std.specs.Prelude.{◌≡◌, ℕ, ◌-◌, ◌==◌, ◌&&◌, Bool, not, find, List, map, Option, Some, None, if◌then◌else◌, is_some}
 use Rattle.std.specs.Option.{option_map}
 use Rattle.asm_group.specs.Shape.{Shape}
-use Rattle.asm_formats.specs.Items.{Item, Key, file_item, chunk_item, disk_item, rebalance_item, pending_item, templates_item, node_item, settings_item, marks_item}
+use Rattle.asm_formats.specs.Items.{Item, Key, file_item, chunk_item, disk_item, rebalance_item, pending_item, templates_item, node_item, settings_item, marks_item, disks_kind, files_kind, marks_kind, nodes_kind, operations_kind, settings_kind, templates_kind}
 use Rattle.asm_formats.specs.Values.{value, decoded_item}
 use Rattle.asm_base.specs.Records.{Entry, of_kinds}
 use Rattle.allocator.specs.UnitMaps.{UnitMap}
@@ -12,7 +12,7 @@ use Rattle.alias_tree.specs.Nodes as nodes
 use Rattle.template_directory.specs.Tables as templates
 use Rattle.staleness_directory.specs.Marks as stale
 use Rattle.operations_directory.specs.Operations as operations
-use Rattle.catalog_tables.specs.Disks as disks
+use Rattle.disk_directory.specs.Disks as disks
 
 pub record Tables : Type 0 where
   pub files : List files.File
@@ -49,13 +49,13 @@ pub record AreTables (t : Tables) : Type 0 where
 -- what the tables say at a key
 unfoldable pub item_at : Tables → Key → Option Item
 item_at t k =
-    if k.kind == 1 then (if k.b == 0 then option_map (file_item k.a) (files.head_at t.files k.a) else option_map (chunk_item k.a (k.b - 1)) (extents.chunk_at t.extents (k.a, k.b - 1)))
-    else if k.kind == 2 then (if k.b == 0 then option_map (disk_item k.a) (disks.info_at t.disks k.a) else None)
-    else if k.kind == 4 then (if k.b == 0 then (if k.a == 0 then option_map rebalance_item t.operations.rebalance else if k.a == 1 then option_map pending_item t.operations.pending else None) else None)
-    else if k.kind == 5 then (if (k.a == 0) && (k.b == 0) then Some (templates_item t.templates.templates) else None)
-    else if k.kind == 6 then (if k.b == 0 then option_map (node_item k.a) (nodes.node_at t.nodes k.a) else None)
-    else if k.kind == 9 then (if (k.a == 0) && (k.b == 0) then Some (settings_item t.templates.settings) else None)
-    else if k.kind == 12 then option_map (marks_item k.a k.b) (stale.marks_at t.stale (k.a, k.b))
+    if k.kind == files_kind then (if k.b == 0 then option_map (file_item k.a) (files.head_at t.files k.a) else option_map (chunk_item k.a (k.b - 1)) (extents.chunk_at t.extents (k.a, k.b - 1)))
+    else if k.kind == disks_kind then (if k.b == 0 then option_map (disk_item k.a) (disks.info_at t.disks k.a) else None)
+    else if k.kind == operations_kind then (if k.b == 0 then (if k.a == 0 then option_map rebalance_item t.operations.rebalance else if k.a == 1 then option_map pending_item t.operations.pending else None) else None)
+    else if k.kind == templates_kind then (if (k.a == 0) && (k.b == 0) then Some (templates_item t.templates.templates) else None)
+    else if k.kind == nodes_kind then (if k.b == 0 then option_map (node_item k.a) (nodes.node_at t.nodes k.a) else None)
+    else if k.kind == settings_kind then (if (k.a == 0) && (k.b == 0) then Some (settings_item t.templates.settings) else None)
+    else if k.kind == marks_kind then option_map (marks_item k.a k.b) (stale.marks_at t.stale (k.a, k.b))
     else None
 
 -- the value that the tables give at a key

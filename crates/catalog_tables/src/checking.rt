@@ -5,7 +5,7 @@ ghost use Rattle.std.specs.List.{list_all};
 ghost use Rattle.asm_group.specs.Shape.{Shape as GroupShape, is_shape};
 ghost use Rattle.asm_formats.specs.Status.{Entry, is_entry};
 ghost use Rattle.extent_map.specs.Extents as extent_table;
-ghost use Rattle.catalog_tables.specs.Faults.{AreChunksRight, AreNamesRight, AreSizesRight, BreaksRule, IsChunkFault, Names, disk_key, file_key, key_of_marks};
+ghost use Rattle.catalog_tables.specs.Faults.{AreChunksRight, AreNamesRight, AreSizesRight, BreaksRule, IsChunkFault, NamesFault, disk_key, file_key, key_of_marks};
 ghost use Rattle.catalog_tables.specs.Placing.{HasUnits};
 ghost use Rattle.catalog_tables.specs.Rules.{AreOnRegular, KeepsRules, first_unknown};
 ghost use Rattle.catalog_tables.specs.Tables.{AreTables};
@@ -13,9 +13,10 @@ ghost use Rattle.catalog_tables.specs.Tables.{AreTables};
 use crate::error::CatalogError;
 use crate::parts::Parts;
 use crate::placing::{place_in, unused_units};
-use crate::reading::{SETTINGS, chunk_key, node_key};
+use crate::reading::{chunk_key, node_key};
 use allocator::Units;
-use asm_base::{Key, Shape};
+use asm_base::{Key, SETTINGS_KEY, Shape, record_kind};
+use disk_directory::disk_key;
 use status_table::PstEntry;
 use std::alloc::Global;
 
@@ -101,7 +102,7 @@ impl Parts {
             return Some(chunk_key(at));
         }
         if !self.has_room(shape) {
-            return Some(SETTINGS);
+            return Some(SETTINGS_KEY);
         }
         None
     }
@@ -118,7 +119,7 @@ impl Parts {
         requires entries { IsTrue (list_all is_entry entries.now) }
         requires table { extent_table.IsTable self.now.extents }
         ensures units { IfOk result (λ v. HasUnits shape.now entries.now self.now v.items) }
-        ensures fault { IfErr result (Names (BreaksRule shape.now entries.now self.now)) }
+        ensures fault { IfErr result (NamesFault (BreaksRule shape.now entries.now self.now)) }
     {
         let mut units = unused_units(alloc, shape, entries)?;
         match place_in(&mut units, shape.step, &self.extents) {
@@ -133,7 +134,7 @@ fn marks_key(at: (u32, u32)) -> Key
     ensures { result ≡ key_of_marks at }
 {
     Key {
-        kind: 12,
+        kind: record_kind::MARKS,
         a: at.0,
         b: at.1,
     }
@@ -144,19 +145,8 @@ pub fn file_key(file: u32) -> Key
     ensures { result ≡ file_key file }
 {
     Key {
-        kind: 1,
+        kind: record_kind::FILES,
         a: file,
-        b: 0,
-    }
-}
-
-/// The key of a disk's record.
-pub fn disk_key(number: u8) -> Key
-    ensures { result ≡ disk_key number }
-{
-    Key {
-        kind: 2,
-        a: number as u32,
         b: 0,
     }
 }

@@ -5,9 +5,9 @@ ghost use Rattle.std.specs.Option.{option_copied};
 ghost use Rattle.asm_placement.specs.Naming.{is_birth};
 ghost use Rattle.catalog_tables.specs.Rules.{blocks_used, first_unknown, has_info};
 
-use crate::disk_info::DiskInfo;
 use crate::parts::Parts;
 use asm_base::Shape;
+use disk_directory::DiskInfo;
 use status_table::PstEntry;
 
 /// Blocks of a directory copy that are kept for the rebalance and the pending operation.

@@ -7,7 +7,7 @@ ghost use Rattle.std.specs.Option.{option_copied};
 ghost use Rattle.asm_group.specs.Shape.{is_shape};
 ghost use Rattle.extent_map.specs.Extents as extent_map;
 ghost use Rattle.extent_map.specs.Extents.{extent_at};
-ghost use Rattle.catalog_tables.specs.Rules.{HasExtents, IsShort, LacksExtent, has_copies};
+ghost use Rattle.catalog_tables.specs.Rules.{HasExtents, IsShortFile, LacksExtent, has_copies};
 
 use crate::parts::Parts;
 use asm_base::{Homes, Shape};
@@ -19,7 +19,7 @@ impl Parts {
     pub(crate) fn short_file(&self, shape: &Shape) -> Option<u32>
         requires shape { IsTrue (is_shape shape.now) }
         requires table { extent_map.IsTable self.now.extents }
-        ensures some { IfSome result (IsShort self.now shape.now) }
+        ensures some { IfSome result (IsShortFile self.now shape.now) }
         ensures none { IfNone result (AllByRecursion (HasExtents self.now shape.now) self.now.files) }
     {
         for (file, head) in self.files.iter() {

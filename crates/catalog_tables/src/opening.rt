@@ -1,17 +1,17 @@
 //! The tables of a group in the midst of a change.
 
 ghost use Rattle.std.specs.Prelude.{◌≡◌, ◌<◌, ◌+◌, ◌^◌, ◌==◌, ◌||◌, false, true, if◌then◌else◌, None, OnOk, Some};
-ghost use Rattle.asm_formats.specs.Items.{Key as FormatKey};
+ghost use Rattle.asm_formats.specs.Items.{Key as FormatKey, files_kind, settings_kind, templates_kind, disks_kind, marks_kind, nodes_kind, operations_kind};
 ghost use Rattle.asm_base.specs.Records.{is_key};
 ghost use Rattle.page_map.specs.Changes.{is_gone, is_put, last_put, value_after};
 ghost use Rattle.alias_tree.specs.Nodes.{KeepsRule};
-ghost use Rattle.catalog_tables.specs.Changing.{AreItems, IsOpen, Sets, is_place, tables_of};
+ghost use Rattle.catalog_tables.specs.Changing.{AreItemTables, ArePartsOpen, Sets, is_place, tables_of};
 ghost use Rattle.catalog_tables.specs.Tables.{AreTables, records_of};
 
-use crate::disks::{DiskTable, is_mine};
 use crate::parts::Parts;
 use alias_tree::{AliasTree, OpenTree};
 use asm_base::{Key, NoMemory, Value};
+use disk_directory::{DiskTable, is_mine};
 use extent_map::ExtentMap;
 use file_directory::FileTable;
 use operations_directory::OperationTable;
@@ -36,7 +36,7 @@ impl OpenParts {
     pub(crate) fn of(parts: Parts) -> OpenParts
         requires { AreTables parts }
         ensures tables { tables_of result ≡ parts }
-        ensures open { IsOpen result }
+        ensures open { ArePartsOpen result }
     {
         OpenParts {
             files: parts.files,
@@ -67,8 +67,8 @@ impl OpenParts {
 
     /// Shows that each entry is of the formats, and does nothing.
     pub(crate) fn are_items(&self)
-        requires { IsOpen self.now }
-        ensures { AreItems (tables_of self.now) }
+        requires { ArePartsOpen self.now }
+        ensures { AreItemTables (tables_of self.now) }
     {
         let _ = self.files.get(0);
         let _ = self.disks.get(0);
@@ -86,9 +86,9 @@ impl OpenParts {
         put: &[(Key, Value)],
         gone: &[Key],
     ) -> Result<(), NoMemory>
-        requires { IsOpen self.old }
+        requires { ArePartsOpen self.old }
         ensures after { OnOk result ((k : FormatKey) → records_of (tables_of self.new) k ≡ value_after put.now gone.now k (records_of (tables_of self.old) k)) }
-        ensures open { OnOk result (IsOpen self.new) }
+        ensures open { OnOk result (ArePartsOpen self.new) }
     {
         self.forget_nodes(put);
         self.put_all(alloc, put)?;
@@ -97,9 +97,9 @@ impl OpenParts {
 
     /// Takes the nodes away whose records are put: they may change places with one another.
     fn forget_nodes(&mut self, put: &[(Key, Value)])
-        requires { IsOpen self.old }
+        requires { ArePartsOpen self.old }
         ensures others { (k : FormatKey) → is_put put.now k ≡ false → records_of (tables_of self.new) k ≡ records_of (tables_of self.old) k }
-        ensures open { IsOpen self.new }
+        ensures open { ArePartsOpen self.new }
     {
         for (key, _) in put {
             self.forget_node(*key);
@@ -107,9 +107,9 @@ impl OpenParts {
     }
 
     fn forget_node(&mut self, key: Key)
-        requires { IsOpen self.old }
+        requires { ArePartsOpen self.old }
         ensures others { (k : FormatKey) → is_key key k ≡ false → records_of (tables_of self.new) k ≡ records_of (tables_of self.old) k }
-        ensures open { IsOpen self.new }
+        ensures open { ArePartsOpen self.new }
     {
         if key.kind != 6 || !is_place(key) {
             return;
@@ -118,9 +118,9 @@ impl OpenParts {
     }
 
     fn put_all(&mut self, alloc: Global, put: &[(Key, Value)]) -> Result<(), NoMemory>
-        requires { IsOpen self.old }
+        requires { ArePartsOpen self.old }
         ensures put { OnOk result ((k : FormatKey) → records_of (tables_of self.new) k ≡ last_put put.now k (records_of (tables_of self.old) k)) }
-        ensures open { OnOk result (IsOpen self.new) }
+        ensures open { OnOk result (ArePartsOpen self.new) }
     {
         for (key, value) in put {
             self.put_record(alloc, *key, value)?;
@@ -129,9 +129,9 @@ impl OpenParts {
     }
 
     fn remove_all(&mut self, gone: &[Key]) -> Result<(), NoMemory>
-        requires { IsOpen self.old }
+        requires { ArePartsOpen self.old }
         ensures gone { OnOk result ((k : FormatKey) → records_of (tables_of self.new) k ≡ (if is_gone gone.now k then None else records_of (tables_of self.old) k)) }
-        ensures open { OnOk result (IsOpen self.new) }
+        ensures open { OnOk result (ArePartsOpen self.new) }
     {
         for key in gone {
             self.remove_record(*key)?;
@@ -147,9 +147,9 @@ impl OpenParts {
         key: Key,
         value: &Value,
     ) -> Result<(), NoMemory>
-        requires { IsOpen self.old }
+        requires { ArePartsOpen self.old }
         ensures put { OnOk result (Sets (tables_of self.old) (tables_of self.new) key (Some value.now)) }
-        ensures open { OnOk result (IsOpen self.new) }
+        ensures open { OnOk result (ArePartsOpen self.new) }
     {
         match key.kind {
             1 => self.put_file(alloc, key, value),
@@ -167,9 +167,9 @@ impl OpenParts {
     /// must be there.
     #[tactic(auto, using(crate::proofs::SetLaws::nothing_set))]
     pub(crate) fn remove_record(&mut self, key: Key) -> Result<(), NoMemory>
-        requires { IsOpen self.old }
+        requires { ArePartsOpen self.old }
         ensures gone { OnOk result (Sets (tables_of self.old) (tables_of self.new) key None) }
-        ensures open { OnOk result (IsOpen self.new) }
+        ensures open { OnOk result (ArePartsOpen self.new) }
     {
         if !is_place(key) {
             return Ok(());
@@ -186,10 +186,10 @@ impl OpenParts {
     }
 
     fn remove_file(&mut self, key: Key)
-        requires kind { key.kind ≡ 1 }
-        requires open { IsOpen self.old }
+        requires kind { key.kind ≡ files_kind }
+        requires open { ArePartsOpen self.old }
         ensures gone { Sets (tables_of self.old) (tables_of self.new) key None }
-        ensures open { IsOpen self.new }
+        ensures open { ArePartsOpen self.new }
     {
         if key.b == 0 {
             self.remove_head(key);
@@ -199,66 +199,66 @@ impl OpenParts {
     }
 
     fn remove_head(&mut self, key: Key)
-        requires kind { key.kind ≡ 1 }
+        requires kind { key.kind ≡ files_kind }
         requires head { key.b ≡ 0 }
-        requires open { IsOpen self.old }
+        requires open { ArePartsOpen self.old }
         ensures gone { Sets (tables_of self.old) (tables_of self.new) key None }
-        ensures open { IsOpen self.new }
+        ensures open { ArePartsOpen self.new }
     {
         let _ = self.files.remove(key.a);
     }
 
     fn remove_chunk(&mut self, file: u32, chunk: u32)
-        requires open { IsOpen self.old }
-        ensures gone { Sets (tables_of self.old) (tables_of self.new) (record { kind = 1; a = file; b = chunk + 1 }) None }
-        ensures open { IsOpen self.new }
+        requires open { ArePartsOpen self.old }
+        ensures gone { Sets (tables_of self.old) (tables_of self.new) (record { kind = files_kind; a = file; b = chunk + 1 }) None }
+        ensures open { ArePartsOpen self.new }
     {
         self.extents.remove_record(file, chunk);
     }
 
     fn remove_disk(&mut self, key: Key)
-        requires kind { key.kind ≡ 2 }
+        requires kind { key.kind ≡ disks_kind }
         requires place { is_place key ≡ true }
-        requires open { IsOpen self.old }
+        requires open { ArePartsOpen self.old }
         ensures gone { Sets (tables_of self.old) (tables_of self.new) key None }
-        ensures open { IsOpen self.new }
+        ensures open { ArePartsOpen self.new }
     {
         self.disks.remove_record(key.a);
     }
 
     fn remove_operation(&mut self, key: Key)
-        requires kind { key.kind ≡ 4 }
-        requires open { IsOpen self.old }
+        requires kind { key.kind ≡ operations_kind }
+        requires open { ArePartsOpen self.old }
         ensures gone { Sets (tables_of self.old) (tables_of self.new) key None }
-        ensures open { IsOpen self.new }
+        ensures open { ArePartsOpen self.new }
     {
         self.operations.remove_record(key);
     }
 
     fn remove_node(&mut self, key: Key)
-        requires kind { key.kind ≡ 6 }
+        requires kind { key.kind ≡ nodes_kind }
         requires place { is_place key ≡ true }
-        requires open { IsOpen self.old }
+        requires open { ArePartsOpen self.old }
         ensures gone { Sets (tables_of self.old) (tables_of self.new) key None }
-        ensures open { IsOpen self.new }
+        ensures open { ArePartsOpen self.new }
     {
         self.tree.remove_record(key.a);
     }
 
     fn remove_marks(&mut self, key: Key)
-        requires kind { key.kind ≡ 12 }
-        requires open { IsOpen self.old }
+        requires kind { key.kind ≡ marks_kind }
+        requires open { ArePartsOpen self.old }
         ensures gone { Sets (tables_of self.old) (tables_of self.new) key None }
-        ensures open { IsOpen self.new }
+        ensures open { ArePartsOpen self.new }
     {
         let _ = self.stale.remove((key.a, key.b));
     }
 
     fn put_file(&mut self, alloc: Global, key: Key, value: &Value) -> Result<(), NoMemory>
-        requires kind { key.kind ≡ 1 }
-        requires open { IsOpen self.old }
+        requires kind { key.kind ≡ files_kind }
+        requires open { ArePartsOpen self.old }
         ensures put { OnOk result (Sets (tables_of self.old) (tables_of self.new) key (Some value.now)) }
-        ensures open { OnOk result (IsOpen self.new) }
+        ensures open { OnOk result (ArePartsOpen self.new) }
     {
         if key.b == 0 {
             return self.put_head(alloc, key, value);
@@ -267,11 +267,11 @@ impl OpenParts {
     }
 
     fn put_head(&mut self, alloc: Global, key: Key, value: &Value) -> Result<(), NoMemory>
-        requires kind { key.kind ≡ 1 }
+        requires kind { key.kind ≡ files_kind }
         requires head { key.b ≡ 0 }
-        requires open { IsOpen self.old }
+        requires open { ArePartsOpen self.old }
         ensures put { OnOk result (Sets (tables_of self.old) (tables_of self.new) key (Some value.now)) }
-        ensures open { OnOk result (IsOpen self.new) }
+        ensures open { OnOk result (ArePartsOpen self.new) }
     {
         taken(self.files.put_record(alloc, key, value)?)
     }
@@ -284,17 +284,17 @@ impl OpenParts {
         value: &Value,
     ) -> Result<(), NoMemory>
         requires number { chunk + 1 < 2 ^ 32 }
-        requires open { IsOpen self.old }
-        ensures put { OnOk result (Sets (tables_of self.old) (tables_of self.new) (record { kind = 1; a = file; b = chunk + 1 }) (Some value.now)) }
-        ensures open { OnOk result (IsOpen self.new) }
+        requires open { ArePartsOpen self.old }
+        ensures put { OnOk result (Sets (tables_of self.old) (tables_of self.new) (record { kind = files_kind; a = file; b = chunk + 1 }) (Some value.now)) }
+        ensures open { OnOk result (ArePartsOpen self.new) }
     {
         taken(self.extents.put_record(alloc, file, chunk, value)?)
     }
 
     fn put_disk(&mut self, alloc: Global, key: Key, value: &Value) -> Result<(), NoMemory>
-        requires open { IsOpen self.old }
+        requires open { ArePartsOpen self.old }
         ensures put { OnOk result (Sets (tables_of self.old) (tables_of self.new) key (Some value.now)) }
-        ensures open { OnOk result (IsOpen self.new) }
+        ensures open { OnOk result (ArePartsOpen self.new) }
     {
         if !is_mine(key) {
             return Err(NoMemory);
@@ -303,29 +303,29 @@ impl OpenParts {
     }
 
     fn put_operation(&mut self, key: Key, value: &Value) -> Result<(), NoMemory>
-        requires kind { key.kind ≡ 4 }
-        requires open { IsOpen self.old }
+        requires kind { key.kind ≡ operations_kind }
+        requires open { ArePartsOpen self.old }
         ensures put { OnOk result (Sets (tables_of self.old) (tables_of self.new) key (Some value.now)) }
-        ensures open { OnOk result (IsOpen self.new) }
+        ensures open { OnOk result (ArePartsOpen self.new) }
     {
         taken(self.operations.put_record(key, value))
     }
 
     fn put_templates(&mut self, alloc: Global, key: Key, value: &Value) -> Result<(), NoMemory>
-        requires kind { (key.kind == 5 || key.kind == 9) ≡ true }
-        requires open { IsOpen self.old }
+        requires kind { (key.kind == templates_kind || key.kind == settings_kind) ≡ true }
+        requires open { ArePartsOpen self.old }
         ensures put { OnOk result (Sets (tables_of self.old) (tables_of self.new) key (Some value.now)) }
-        ensures open { OnOk result (IsOpen self.new) }
+        ensures open { OnOk result (ArePartsOpen self.new) }
     {
         taken(self.templates.put_record(alloc, key, value)?)
     }
 
     /// A node whose number has one takes its place.
     fn put_node(&mut self, alloc: Global, key: Key, value: &Value) -> Result<(), NoMemory>
-        requires kind { key.kind ≡ 6 }
-        requires open { IsOpen self.old }
+        requires kind { key.kind ≡ nodes_kind }
+        requires open { ArePartsOpen self.old }
         ensures put { OnOk result (Sets (tables_of self.old) (tables_of self.new) key (Some value.now)) }
-        ensures open { OnOk result (IsOpen self.new) }
+        ensures open { OnOk result (ArePartsOpen self.new) }
     {
         if key.b != 0 {
             return Err(NoMemory);
@@ -335,10 +335,10 @@ impl OpenParts {
     }
 
     fn put_marks(&mut self, key: Key, value: &Value) -> Result<(), NoMemory>
-        requires kind { key.kind ≡ 12 }
-        requires open { IsOpen self.old }
+        requires kind { key.kind ≡ marks_kind }
+        requires open { ArePartsOpen self.old }
         ensures put { OnOk result (Sets (tables_of self.old) (tables_of self.new) key (Some value.now)) }
-        ensures open { OnOk result (IsOpen self.new) }
+        ensures open { OnOk result (ArePartsOpen self.new) }
     {
         taken(self.stale.put_record(key, value)?)
     }

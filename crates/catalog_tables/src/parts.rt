@@ -1,7 +1,7 @@
 //! The tables of a group.
 
-use crate::disks::DiskTable;
 use alias_tree::AliasTree;
+use disk_directory::DiskTable;
 use extent_map::ExtentMap;
 use file_directory::FileTable;
 use operations_directory::OperationTable;

@@ -11,14 +11,11 @@ ghost use Rattle.asm_placement.specs.Placed.{placed_copies, placed_extents};
 ghost use Rattle.catalog_tables.specs.Placing.{AreFit, IsFit, after_chunks, after_homes, disk_units, have_units, home_placed, home_taken, map_units, misplaced, unused_maps};
 
 use allocator::Units;
-use asm_base::{Home, Homes, NoMemory, Shape};
+use asm_base::{Home, Homes, MOST_DISKS, NoMemory, Shape};
 use extent_map::ExtentMap;
 use status_table::PstEntry;
 use std::alloc::Global;
 use striping::units_of;
-
-/// Disk numbers are below this one.
-pub const MOST_DISKS: u8 = 64;
 
 /// Makes the units of the homes of all chunks used. The first chunk that has a home whose units aren't free.
 #[tactic(auto, using(crate::proofs::PlacingLaws::next_chunk, crate::proofs::PlacingLaws::no_chunks, crate::proofs::PlacingLaws::chunk_refused))]
@@ -60,7 +57,7 @@ pub fn place_chunk(units: &mut [Units], step: u32, file: u32, first: u64, extent
 }
 
 /// The same for the homes of an extent of so many units.
-fn place_extent(units: &mut [Units], file: u32, index: u64, len: u32, homes: &Homes) -> bool
+pub fn place_extent(units: &mut [Units], file: u32, index: u64, len: u32, homes: &Homes) -> bool
     requires { 0 < len }
     ensures { after_homes units.old (placed_copies file index len homes.now) ≡ (if result then Some units.new else None) }
 {

@@ -12,15 +12,15 @@ ghost use Rattle.extent_map.specs.Extents as extent_table;
 ghost use Rattle.extent_map.specs.Faults.{IsWithoutGap};
 ghost use Rattle.template_directory.specs.Tables as template_table;
 ghost use Rattle.catalog_tables.specs.Tables.{AreTables, HasRecords, first_unreadable, is_record};
-ghost use Rattle.catalog_tables.specs.Faults.{IsAtFault, IsGap, IsLoose, Names, key_of_chunk, node_key, settings_key, templates_key};
+ghost use Rattle.catalog_tables.specs.Faults.{IsAtFault, IsGap, IsLoose, NamesFault, key_of_chunk, node_key, settings_key, templates_key};
 ghost use Rattle.catalog_tables.specs.Readable.{AreReadable, HasNeeded};
 
-use crate::disks::DiskTable;
 use crate::error::CatalogError;
 use crate::parts::Parts;
 use alias_tree::AliasTree;
-use asm_base::{Key, NoMemory, Records, Value};
+use asm_base::{Key, NoMemory, Records, SETTINGS_KEY, TEMPLATES_KEY, Value, record_kind};
 use directory_page::is_value;
+use disk_directory::DiskTable;
 use extent_map::ExtentMap;
 use file_directory::FileTable;
 use operations_directory::OperationTable;
@@ -28,27 +28,13 @@ use staleness_directory::StaleTable;
 use std::alloc::Global;
 use template_directory::TemplateTable;
 
-/// The key of the templates' record.
-pub const TEMPLATES: Key = Key {
-    kind: 5,
-    a: 0,
-    b: 0,
-};
-
-/// The key of the settings' record.
-pub const SETTINGS: Key = Key {
-    kind: 9,
-    a: 0,
-    b: 0,
-};
-
 impl Parts {
     /// The tables whose records these are. It takes time in proportion to the records, times the logarithm of their number.
     #[tactic(auto, using(crate::proofs::ReadingLaws::unreadable_at, crate::proofs::ReadingLaws::absent_at, crate::proofs::ReadingLaws::gap_at, crate::proofs::ReadingLaws::loose_at, crate::proofs::ReadableLaws::readable_is))]
     pub fn from_records(alloc: Global, content: &Records) -> Result<Parts, CatalogError>
         ensures records { IfOk result (HasRecords content.now) }
         ensures tables { IfOk result AreTables }
-        ensures fault { IfErr result (λ e. (s : Shape) (es : Items Entry) → Names (IsAtFault content.now s es) e) }
+        ensures fault { IfErr result (λ e. (s : Shape) (es : Items Entry) → NamesFault (IsAtFault content.now s es) e) }
     {
         if let Some(key) = unreadable(content) {
             return Err(CatalogError::Damaged { key });
@@ -134,11 +120,11 @@ fn absent(content: &Records) -> Option<Key>
     ensures absent { IfSome result (λ k. (record_at content.now k ≡ None) × IsNeeded k) }
     ensures none { IfNone result (HasNeeded content.now) }
 {
-    if content.get(TEMPLATES).is_none() {
-        return Some(TEMPLATES);
+    if content.get(TEMPLATES_KEY).is_none() {
+        return Some(TEMPLATES_KEY);
     }
-    if content.get(SETTINGS).is_none() {
-        return Some(SETTINGS);
+    if content.get(SETTINGS_KEY).is_none() {
+        return Some(SETTINGS_KEY);
     }
     None
 }
@@ -150,7 +136,7 @@ fn read_extents(alloc: Global, content: &Records) -> Result<ExtentMap, CatalogEr
     requires { AreReadable content.now }
     ensures table { IfOk result extent_table.IsTable }
     ensures records { IfOk result (λ t. of_kinds extent_table.is_chunk content.now ≡ map extent_table.record_of t) }
-    ensures fault { IfErr result (Names (IsGap content.now)) }
+    ensures fault { IfErr result (NamesFault (IsGap content.now)) }
 {
     if let Some(extents) = ExtentMap::from_records(alloc, content)? {
         return Ok(extents);
@@ -178,7 +164,7 @@ pub(crate) fn chunk_key(at: (u32, u32)) -> Key
     ensures { result ≡ key_of_chunk at }
 {
     Key {
-        kind: 1,
+        kind: record_kind::FILES,
         a: at.0,
         b: at.1 + 1,
     }
@@ -188,7 +174,7 @@ pub(crate) fn chunk_key(at: (u32, u32)) -> Key
 fn read_tree(alloc: Global, content: &Records) -> Result<AliasTree, CatalogError>
     requires { AreReadable content.now }
     ensures records { IfOk result (λ t. of_kinds nodes.is_mine content.now ≡ map nodes.record_of t) }
-    ensures fault { IfErr result (Names (IsLoose content.now)) }
+    ensures fault { IfErr result (NamesFault (IsLoose content.now)) }
 {
     if let Some(tree) = AliasTree::from_records(alloc, content)? {
         return Ok(tree);
@@ -206,7 +192,7 @@ pub fn node_key(number: u32) -> Key
     ensures { result ≡ node_key number }
 {
     Key {
-        kind: 6,
+        kind: record_kind::NODES,
         a: number,
         b: 0,
     }

@@ -20,7 +20,7 @@ use Rattle.extent_map.proofs.Numbering.{is_same, tail_up}
 use Rattle.extent_map.specs.Changing.{value_at}
 use Rattle.catalog_tables.specs.Changing.{IsAfter}
 use Rattle.catalog_tables.specs.Tables.{AreTables, Tables, records_of}
-use Rattle.catalog_units.specs.Giving.{AreUnitsOfKept, IsNew, IsOld, but, chunks_kept, keys_of, stays}
+use Rattle.catalog_units.specs.Giving.{AreUnitsOfKept, IsNewKey, IsOld, but, chunks_kept, keys_of, stays}
 use Rattle.catalog_tables.specs.Placing.{after_chunks, after_homes, homes_of}
 use Rattle.catalog_tables.proofs.HomeUnits.{chunks_are_homes}
 use Rattle.catalog_tables.proofs.SameTables.{chunk_record, looked, same_found, same_lookups}
@@ -202,7 +202,7 @@ length_keys [] gone = omega arith
 length_keys (e ∷ put) gone = omega (arith, length_keys put gone)
 
 -- a chunk whose key is new is given back, and another changes nothing
-pub given_new : (step : ℕ) (ks : List Key) (i : ℕ) (k : Key) (t : List Chunked) (old new : List UnitMap) → i < length ks → k ≡ get_or ks i k → IsNew ks i k
+pub given_new : (step : ℕ) (ks : List Key) (i : ℕ) (k : Key) (t : List Chunked) (old new : List UnitMap) → i < length ks → k ≡ get_or ks i k → IsNewKey ks i k
     → ((keep : Chunk → Bool) (first : List UnitMap) → keep (k.a, k.b - 1) ≡ true → AreUnitsOfKept step first keep t old → AreUnitsOfKept step first (but keep (k.a, k.b - 1)) t new)
     → (first : List UnitMap) → AreUnitsOfKept step first (stays (take i ks)) t old → AreUnitsOfKept step first (stays (take (i + 1) ks)) t new
 given_new step ks i k t old new less is n given first e =
@@ -213,7 +213,7 @@ pub given_old : (step : ℕ) (ks : List Key) (i : ℕ) (k : Key) (t : List Chunk
 given_old step ks i k t old less is o first e = units_alike step first old (stays (take i ks)) (stays (take (i + 1) ks)) t (λ c. sym (stays_same ks i k less is o c)) e
 
 -- a chunk whose key is new is put, and another changes nothing
-pub marked_new : (step : ℕ) (ks : List Key) (i : ℕ) (k : Key) (t : List Chunked) (old new : List UnitMap) → i < length ks → k ≡ get_or ks i k → IsNew ks i k
+pub marked_new : (step : ℕ) (ks : List Key) (i : ℕ) (k : Key) (t : List Chunked) (old new : List UnitMap) → i < length ks → k ≡ get_or ks i k → IsNewKey ks i k
     → ((keep : Chunk → Bool) (first after : List UnitMap) → keep (k.a, k.b - 1) ≡ true → AreUnitsOfKept step first (but keep (k.a, k.b - 1)) t old → AreUnitsOfKept step first keep t after → after ≡ new)
     → (first after : List UnitMap) → AreUnitsOfKept step first (stays (take (i + 1) ks)) t old → AreUnitsOfKept step first (stays (take i ks)) t after → after ≡ new
 marked_new step ks i k t old new less is n marked first after e f =
@@ -225,17 +225,17 @@ marked_old step ks i k t old less is o first after e f =
     some_is after old (sym f ∙ units_alike step first old (stays (take (i + 1) ks)) (stays (take i ks)) t (stays_same ks i k less is o) e)
 
 -- the same where the key is read field by field
-pub given_view : (step : ℕ) (ks : List Key) (i kind a b : ℕ) (k : Key) (t : List Chunked) (old new : List UnitMap) → record { kind = kind; a = a; b = b } ≡ k → i < length ks → k ≡ get_or ks i k → IsNew ks i k
+pub given_view : (step : ℕ) (ks : List Key) (i kind a b : ℕ) (k : Key) (t : List Chunked) (old new : List UnitMap) → record { kind = kind; a = a; b = b } ≡ k → i < length ks → k ≡ get_or ks i k → IsNewKey ks i k
     → ((keep : Chunk → Bool) (first : List UnitMap) → keep (a, b - 1) ≡ true → AreUnitsOfKept step first keep t old → AreUnitsOfKept step first (but keep (a, b - 1)) t new)
     → (first : List UnitMap) → AreUnitsOfKept step first (stays (take i ks)) t old → AreUnitsOfKept step first (stays (take (i + 1) ks)) t new
 given_view step ks i kind a b k t old new view less is n =
-    given_new step ks i (record { kind = kind; a = a; b = b }) t old new less (subst (λ (j : Key). j ≡ get_or ks i j) (sym view) is) (subst (λ (j : Key). IsNew ks i j) (sym view) n)
+    given_new step ks i (record { kind = kind; a = a; b = b }) t old new less (subst (λ (j : Key). j ≡ get_or ks i j) (sym view) is) (subst (λ (j : Key). IsNewKey ks i j) (sym view) n)
 
-pub marked_view : (step : ℕ) (ks : List Key) (i kind a b : ℕ) (k : Key) (t : List Chunked) (old new : List UnitMap) → record { kind = kind; a = a; b = b } ≡ k → i < length ks → k ≡ get_or ks i k → IsNew ks i k
+pub marked_view : (step : ℕ) (ks : List Key) (i kind a b : ℕ) (k : Key) (t : List Chunked) (old new : List UnitMap) → record { kind = kind; a = a; b = b } ≡ k → i < length ks → k ≡ get_or ks i k → IsNewKey ks i k
     → ((keep : Chunk → Bool) (first after : List UnitMap) → keep (a, b - 1) ≡ true → AreUnitsOfKept step first (but keep (a, b - 1)) t old → AreUnitsOfKept step first keep t after → after ≡ new)
     → (first after : List UnitMap) → AreUnitsOfKept step first (stays (take (i + 1) ks)) t old → AreUnitsOfKept step first (stays (take i ks)) t after → after ≡ new
 marked_view step ks i kind a b k t old new view less is n =
-    marked_new step ks i (record { kind = kind; a = a; b = b }) t old new less (subst (λ (j : Key). j ≡ get_or ks i j) (sym view) is) (subst (λ (j : Key). IsNew ks i j) (sym view) n)
+    marked_new step ks i (record { kind = kind; a = a; b = b }) t old new less (subst (λ (j : Key). j ≡ get_or ks i j) (sym view) is) (subst (λ (j : Key). IsNewKey ks i j) (sym view) n)
 
 -- ---- all keys
 

@@ -1,7 +1,7 @@
 -- The units of some chunks of a table.
 use Rattle.std.specs.Prelude.{◌≡◌, ℕ, Bool, ◌&&◌, not, List, ◌++◌, ◌<◌, map, filter, take, true, false, Some}
 use Rattle.std.specs.BTreeMap.{is_at}
-use Rattle.asm_formats.specs.Items.{Key}
+use Rattle.asm_formats.specs.Items.{Key, files_kind}
 use Rattle.asm_base.specs.Records.{Entry}
 use Rattle.page_map.specs.Changes.{is_gone}
 use Rattle.allocator.specs.UnitMaps.{UnitMap}
@@ -30,10 +30,10 @@ abbrev pub stays : List Key → Chunk → Bool
 stays keys c = not (is_gone keys (chunk_key c.0 c.1))
 
 -- a key at a place of a change: the first of a chunk's record, or none that is new
-pub record IsNew (keys : List Key) (place : ℕ) (k : Key) : Type 0 where
-  pub kind : k.kind ≡ 1
+pub record IsNewKey (keys : List Key) (place : ℕ) (k : Key) : Type 0 where
+  pub kind : k.kind ≡ files_kind
   pub some : 0 < k.b
   pub first : is_gone (take place keys) k ≡ false
 
 abbrev pub IsOld : List Key → ℕ → Key → Type 0
-IsOld keys place k = k.kind ≡ 1 → 0 < k.b → is_gone (take place keys) k ≡ true
+IsOld keys place k = k.kind ≡ files_kind → 0 < k.b → is_gone (take place keys) k ≡ true

@@ -10,12 +10,12 @@ ghost use Rattle.asm_base.specs.Chunks.{Chunk};
 ghost use Rattle.extent_map.specs.Changing.{AreChunks};
 ghost use Rattle.catalog_tables.specs.Changing.{IsAfter};
 ghost use Rattle.catalog_tables.specs.Tables.{AreTables};
-ghost use Rattle.catalog_units.specs.Giving.{AreUnitsOfKept, IsNew, IsOld, keys_of, stays};
+ghost use Rattle.catalog_units.specs.Giving.{AreUnitsOfKept, IsNewKey, IsOld, keys_of, stays};
 ghost use Rattle.catalog_tables.specs.Placing.{after_chunks};
 
 use crate::giving::{give_at, mark_at};
 use allocator::Units;
-use asm_base::{Change, Key, Shape, Value};
+use asm_base::{Change, Key, Shape, Value, record_kind};
 use catalog_tables::Parts;
 use extent_map::ExtentMap;
 
@@ -55,10 +55,10 @@ fn is_earlier(put: &[(Key, Value)], gone: &[Key], place: usize, key: Key) -> boo
 /// Whether the key at a place of a change is that of a chunk, and stands at no earlier place.
 fn is_new(put: &[(Key, Value)], gone: &[Key], place: usize, key: Key) -> bool
     requires { place ≤ length put.now + length gone.now }
-    ensures new { OnTrue result (IsNew (keys_of put.now gone.now) place key) }
+    ensures new { OnTrue result (IsNewKey (keys_of put.now gone.now) place key) }
     ensures old { OnFalse result (IsOld (keys_of put.now gone.now) place key) }
 {
-    key.kind == 1 && key.b > 0 && !is_earlier(put, gone, place, key)
+    key.kind == record_kind::FILES && key.b > 0 && !is_earlier(put, gone, place, key)
 }
 
 /// Gives the units of the chunk back whose key stands at a place of a change, unless an earlier place has it too.

@@ -1,28 +1,28 @@
 -- The head of a file is read from its one spelling alone.
-use Rattle.std.proofs.Common.{◌≡◌, ℕ, ◌^◌, ◌<◌, ◌≤◌, Bool, true, false, leb, ltb, eqb, cond, List, [], ◌++◌, length, map, Option, Some, None, refl, sym, ap, subst, ◌∙◌, arith}
+use Rattle.std.proofs.Common.{◌≡◌, ℕ, ◌^◌, ◌<◌, ◌≤◌, Bool, true, false, leb, ltb, eqb, List, [], ◌++◌, length, map, Option, Some, refl, sym, ap, subst, ◌∙◌, arith}
 use Rattle.std.specs.Prelude.{◌&&◌}
 use Rattle.std.specs.Int.{w32, w64}
 use Rattle.std.specs.Option.{option_map}
 use Rattle.std.specs.Prelude.{IfSome}
-use Rattle.std.specs.BTreeMap.{is_at}
 use Rattle.std.specs.Cmp.{nat_cmp_total}
 use Rattle.std.specs.FinMap.{nat_cmp-IsAntisymmetric}
 use Rattle.std.specs.Ordering.{nat_cmp}
-use Rattle.std.specs.declared.cmp.Ordering.TheVariants.{Equal}
 use Rattle.std.proofs.lemmas.Bool.{and_parts, eqb-true, le-leb, leb-true, ltb-true, lt-ltb, true≢false}
 use Rattle.asm_group.specs.Names.{is_part}
 use Rattle.asm_formats.specs.Bytes.{number}
 use Rattle.asm_formats.specs.Items.{FileHead, Item, Key, file_item, chunk_item, disk_item, rebalance_item, pending_item, templates_item, node_item, settings_item, marks_item, key, is_item, is_redundancy}
 use Rattle.asm_formats.specs.Values.{value, file_value, decoded_item}
-use Rattle.asm_base.specs.Records.{Entry, all_of, ends_below, of_kinds, read_from}
+use Rattle.asm_base.specs.Records.{Entry, all_of, of_kinds, read_from}
 use Rattle.asm_base.specs.Tables.{entry_of_record}
-use Rattle.asm_base.proofs.Exact.{IsExact, some_is, both_exact, as_exact, fits_exact}
+use Rattle.asm_base.proofs.Exact.{IsExact, both_exact, as_exact, fits_exact}
 use Rattle.asm_base.proofs.Numbers.{number_exact}
 use Rattle.asm_base.proofs.FieldLaws.{byte_exact}
 use Rattle.asm_base.proofs.WordLaws.{stripe_exact}
 use Rattle.asm_base.proofs.NameLaws.{name_exact, part_is, part_is_short, part_of}
-use Rattle.asm_base.proofs.ItemTables.{IsEntry, entry_is_read, entry_taken, is_entry_item, items_again, items_found, put_keeps, removed_keeps, value_is_decoded}
-use Rattle.file_directory.specs.Files.{File, IsTable, add, entry_of, is_before, is_mine, item_of, record_of, with_head, without_file}
+use Rattle.asm_base.proofs.ItemTables.{entry_is_read, value_is_decoded}
+use Rattle.item_table.proofs.Laws as tables
+use Rattle.file_directory.specs.Files.{File, IsTable, add, entry_of, is_mine, item_of, record_of, with_head, without_file}
+use Rattle.file_directory.specs.Entries.{is_entry}
 use Rattle.file_directory.specs.declared.reading.Numbers.{Numbers}
 use Rattle.file_directory.specs.Readings.{NumberParts, to_numbers, numbers_reading, HeadParts, to_head, head_reading, is_right, right_head}
 
@@ -146,19 +146,6 @@ name_fits_inside f {v} {h} same ok = subst (λ (x : FileHead). length x.type_nam
 
 -- ---- the table
 
-is_entry : IsEntry item_of entry_of
-is_entry = record { there = there; back = λ x. refl } where
-  there : (i : Item) (x : File) → entry_of i ≡ Some x → item_of x ≡ i
-  there (file_item f h) x e = ap item_of (some_is x (f, h) (sym e))
-  there (chunk_item f c homes) x e = absurd cc
-  there (disk_item d info) x e = absurd cc
-  there (rebalance_item power) x e = absurd cc
-  there (pending_item op) x e = absurd cc
-  there (templates_item ts) x e = absurd cc
-  there (node_item n node) x e = absurd cc
-  there (settings_item s) x e = absurd cc
-  there (marks_item f c marks) x e = absurd cc
-
 -- the file of a record of its kinds is read from its value
 pub file_is_read : (k : Key) (bytes : List ℕ) → k.a < 2 ^ 32 → is_mine k ≡ true → entry_of_record entry_of (k, bytes) ≡ option_map (λ h. (k.a, h)) (right_head (all_of head_reading bytes))
 file_is_read k bytes lt mine =
@@ -166,46 +153,18 @@ file_is_read k bytes lt mine =
     let same : record { kind = 1; a = k.a; b = 0 } ≡ k = λ i. record { kind = sym (eqb-true k.kind 1 p.0) i; a = k.a; b = sym (eqb-true k.b 0 p.1) i } in
     entry_is_read is_entry (file_item k.a) (λ h. (k.a, h)) (λ h. refl) (k, bytes) (right_head (all_of head_reading bytes)) (head_is_read k.a bytes lt ∙ ap (λ (j : Key). decoded_item j bytes) same)
 
-pub file_is_item : (e : Entry) (x : File) → is_mine e.0 ≡ true → entry_of_record entry_of e ≡ Some x → is_item (item_of x) ≡ true
-file_is_item e x mine read = ((is_entry_item is_entry is_mine).takes e x mine read).1
-
--- the record of the file that is read is the record
-pub file_of_record : (e : Entry) (x : File) → is_mine e.0 ≡ true → entry_of_record entry_of e ≡ Some x → record_of x ≡ e
-file_of_record e x mine read = ((is_entry_item is_entry is_mine).takes e x mine read).0
-
-same_number : (m n : ℕ) → nat_cmp m n ≡ Equal → m ≡ n
-same_number = nat_cmp-IsAntisymmetric
-
+-- a table with another head of a file, or without it
 pub put_keeps_table : (files : List File) (f : ℕ) (h : FileHead) → is_item (file_item f h) ≡ true → IsTable files → IsTable (with_head files f h)
-put_keeps_table files f h ok t = put_keeps nat_cmp nat_cmp_total same_number item_of files f h ok t
+put_keeps_table files f h ok t = tables.put_keeps_table nat_cmp_total nat_cmp-IsAntisymmetric item_of files f h ok t
 
 pub remove_keeps_table : (files : List File) (f : ℕ) → IsTable files → IsTable (without_file files f)
-remove_keeps_table files f t = removed_keeps nat_cmp nat_cmp_total item_of (is_at (nat_cmp f)) files t
-
--- a record of its kinds that isn't of the format, or that doesn't come behind the others, isn't taken up
-pub step_none : (files : List File) (e : Entry) → is_mine e.0 ≡ true → entry_of_record entry_of e ≡ None → cond (is_mine e.0) (add files e) (Some files) ≡ None
-step_none files e mine read = rw (mine, read) refl
-
-pub step_before : (files : List File) (e : Entry) (x : File) → is_mine e.0 ≡ true → entry_of_record entry_of e ≡ Some x → ends_below is_before files x.0 ≡ false → cond (is_mine e.0) (add files e) (Some files) ≡ None
-step_before files e x mine read ends = rw (mine, read, ends) refl
-
-pub step_taken : (files new : List File) (e : Entry) (x : File) → is_mine e.0 ≡ true → IsTable files → entry_of_record entry_of e ≡ Some x → ends_below is_before files x.0 ≡ true → new ≡ with_head files x.0 x.1 → cond (is_mine e.0) (add files e) (Some files) ≡ Some new
-step_taken files new e x mine table read ends put = rw mine (entry_taken is_entry nat_cmp nat_cmp_total files new e x table.0 read ends put).0
+remove_keeps_table files f t = tables.remove_keeps_table nat_cmp_total item_of files f t
 
 pub table_found : (records : List Entry) (read : Option (List File)) → read ≡ read_from is_mine add [] records → IfSome read (λ t. IsTable t × (of_kinds is_mine records ≡ map record_of t))
-table_found records read e = items_found is_entry is_mine is_before records read e
+table_found records read e = tables.table_found is_entry is_mine nat_cmp records read e
 
 pub table_again : (records : List Entry) (read : Option (List File)) (t : List File) → read ≡ read_from is_mine add [] records → IsTable t → of_kinds is_mine records ≡ map record_of t → read ≡ Some t
-table_again records read t e fits same = items_again is_entry is_mine is_before records read t e fits same
-
--- the same of a key whose fields are in the open
-pub file_is_item_inside : {v k : Key} (bytes : List ℕ) (h : FileHead) → v ≡ k → is_mine k ≡ true → entry_of_record entry_of (k, bytes) ≡ Some (k.a, h) → is_item (file_item v.a h) ≡ true
-file_is_item_inside {v} {k} bytes h same mine read = subst (λ (j : Key). is_item (file_item j.a h) ≡ true) (sym same) (file_is_item (k, bytes) (k.a, h) mine read)
-
-pub step_taken_inside : (files new : List File) {v k : Key} (bytes : List ℕ) (h : FileHead) → v ≡ k → is_mine k ≡ true → IsTable files → entry_of_record entry_of (k, bytes) ≡ Some (k.a, h) → ends_below is_before files v.a ≡ true → new ≡ with_head files v.a h
-    → cond (is_mine k) (add files (k, bytes)) (Some files) ≡ Some new
-step_taken_inside files new {v} {k} bytes h same mine table read ends put =
-    step_taken files new (k, bytes) (k.a, h) mine table read (subst (λ (j : Key). ends_below is_before files j.a ≡ true) same ends) (subst (λ (j : Key). new ≡ with_head files j.a h) same put)
+table_again records read t e fits same = tables.table_again is_entry is_mine nat_cmp records read t e fits same
 
 -- the test of a head, where the numbers are those of their types
 by_tests : (f : ℕ) (h : FileHead) → f < 2 ^ 32 → FitsNumbers (numbers_of h) → is_part 255 h.type_name ≡ true → (is_right h && leb (length h.type_name) 30) ≡ is_item (file_item f h)

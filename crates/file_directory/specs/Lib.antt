@@ -1,3 +1,4 @@
 pub mod Files
 pub mod Readings
 pub mod Changing
+pub mod Entries

@@ -1,7 +1,6 @@
 //! The files of a group: of each number the head of the file.
 #![tactic(auto)]
 
-mod changing;
 mod head;
 mod reading;
 mod table;

@@ -9,11 +9,9 @@ ghost use Rattle.file_directory.specs.Files.{record_of};
 use crate::head::FileHead;
 use asm_base::{
     Block, Key, NoMemory, Value, Writer, put_name, put_stripe, put_u8, put_u32, put_u64,
+    record_kind,
 };
 use std::alloc::Global;
-
-/// The kind of the records of files and their chunks.
-pub(crate) const KIND: u16 = 1;
 
 /// The record of a file with this head.
 #[tactic(auto, using(crate::proofs::Laws::name_fits), unfolding(asm_formats::specs::Values::value))]
@@ -29,7 +27,7 @@ pub fn record_of(alloc: Global, file: u32, head: &FileHead) -> Result<(Key, Valu
     put_head(&mut to, head);
     let value = Value::from_writer(alloc, &to)?;
     let key = Key {
-        kind: KIND,
+        kind: record_kind::FILES,
         a: file,
         b: 0,
     };

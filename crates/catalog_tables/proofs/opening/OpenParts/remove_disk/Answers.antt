@@ -2,7 +2,7 @@ use Rattle.std.proofs.Common.{◌≡◌, ℕ, cond, None, subst}
 use Rattle.std.specs.Ordering.{nat_cmp}
 use Rattle.std.specs.BTreeMap.{is_at}
 use Rattle.asm_formats.specs.Items.{Key}
-use Rattle.catalog_tables.specs.Disks.{value_at}
+use Rattle.disk_directory.specs.Disks.{value_at}
 use Rattle.catalog_tables.proofs.SetLaws.{disks_set, place_of_disk}
 use Rattle.catalog_tables.specs.Changing.{tables_of}
 use Rattle.catalog_tables.proofs.opening.OpenParts.remove_disk.Goals as goal

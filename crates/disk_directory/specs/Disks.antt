@@ -1,0 +1,64 @@
+-- The table of disk records, as the list of them in the order of their numbers.
+use Rattle.std.specs.Prelude.{ℕ, Bool, ◌==◌, ◌&&◌, nat_lt, List, Option, Some, None, if◌then◌else◌}
+use Rattle.std.specs.Int.{w64}
+use Rattle.std.specs.Ordering.{nat_cmp}
+use Rattle.std.specs.Option.{option_and_then}
+use Rattle.asm_group.specs.Names.{is_name}
+use Rattle.asm_formats.specs.Items.{DiskInfo, Item, Key, disk_item, disks_kind}
+use Rattle.asm_base.specs.Readings.{Reading, both, as_a, number_reading, name_reading}
+use Rattle.asm_base.specs.Records.{Entry}
+use Rattle.item_table.specs.Tables.{IsTable as IsKeyTable, add as key_add, at_key, bytes_at, is_before as key_before, record_of as key_record, with_key, without_key}
+use Rattle.asm_base.specs.Parts.{to_disk}
+
+-- a disk's number and what its record says
+abbrev pub Disk : Type 0
+Disk = ℕ × DiskInfo
+
+-- the record of a disk, and the table with another one of it or without it
+abbrev pub info_at : List Disk → ℕ → Option DiskInfo
+info_at disks d = at_key nat_cmp disks d
+
+abbrev pub with_info : List Disk → ℕ → DiskInfo → List Disk
+with_info disks d info = with_key nat_cmp disks d info
+
+abbrev pub without_disk : List Disk → ℕ → List Disk
+without_disk disks d = without_key nat_cmp disks d
+
+abbrev pub item_of : Disk → Item
+item_of x = disk_item x.0 x.1
+
+abbrev pub entry_of : Item → Option Disk
+entry_of (disk_item d info) = Some (d, info)
+entry_of _ = None
+
+abbrev pub record_of : Disk → Entry
+record_of x = key_record item_of x
+
+-- the value of the record of a disk
+abbrev pub value_at : List Disk → ℕ → Option (List ℕ)
+value_at disks d = bytes_at nat_cmp item_of disks d
+
+abbrev pub is_mine : Key → Bool
+is_mine k = (k.kind == disks_kind) && ((k.b == 0) && nat_lt k.a 64)
+
+abbrev pub is_before : ℕ → ℕ → Bool
+is_before m n = key_before nat_cmp m n
+
+-- disks by number, each with what a record may say
+abbrev pub IsTable : List Disk → Type 0
+IsTable disks = IsKeyTable nat_cmp item_of disks
+
+abbrev pub add : List Disk → Entry → Option (List Disk)
+add disks e = key_add nat_cmp entry_of disks e
+
+-- ---- the reading of a record's value
+
+unfoldable pub disk_reading : Reading DiskInfo
+disk_reading = as_a to_disk (both (number_reading w64) (both (name_reading 30) (name_reading 30)))
+
+-- what is tested besides
+abbrev pub is_right : DiskInfo → Bool
+is_right d = is_name d.name && is_name d.failgroup
+
+abbrev pub right_disk : Option DiskInfo → Option DiskInfo
+right_disk read = option_and_then (λ d. if is_right d then Some d else None) read

@@ -1,9 +1,0 @@
-use Rattle.std.proofs.Common.{◌≡◌, []}
-use Rattle.asm_base.specs.Records.{read_from}
-use Rattle.file_directory.specs.Files.{add, is_mine}
-use Rattle.file_directory.proofs.table.FileTable.read.Given as goal
-
-abbrev pub invariant-loop-key : goal.invariant-loop-key
-invariant-loop-key l = record {
-  read : read_from is_mine add l.table l.key-iterator ≡ read_from is_mine add [] l.records;
-}
