@@ -4,7 +4,7 @@ use Rattle.std.specs.Prelude.{IfOk}
 use Rattle.bay.specs.State.{BayState}
 use Rattle.asm_formats.specs.Status.{Status}
 use Rattle.asm_images.specs.Register.{greatest}
-use Rattle.status_register.specs.Told.{Told}
+use Rattle.bay.specs.Told.{Told}
 use Rattle.status_register.specs.Surveys.{AreRead, Says, records_on, first_damage, missing}
 use Rattle.status_register.specs.Answers.{Surveyed, IsAnswer, IsSurveyed, Judges}
 use Rattle.status_register.specs.declared.member.Member.{Member}
@@ -13,7 +13,7 @@ use Rattle.status_register.specs.declared.error.SurveyError.{SurveyError}
 use Rattle.status_register.specs.declared.error.SurveyError.TheVariants.{NoMajority}
 use Rattle.bay.specs.Moments.{Ends}
 use Rattle.asm_formats.specs.Claim.{claim_spelling}
-use Rattle.status_register.specs.Rows.{HaveBody}
+use Rattle.status_register.specs.Rows.{HaveClaim}
 use Rattle.status_register.specs.Registered.{Registered, registered, claim_of, IsClaimAnswer}
 use Rattle.status_register.proofs.Tallying.{RoseAt}
 
@@ -37,12 +37,12 @@ judged id ms tally (Err refusal) judges = tt
 -- ---- the answer of a claim
 
 module _ (s t : BayState) (survey : Surveyed) (ms took shown : List Member) (body : List ℕ) (lacking : Option (ℕ × ℕ)) (are : AreRead (RoseAt s t) ms took) (members : ms ≡ survey.members)
-    (done : Ends (HaveBody 2 4 body took) s t) (claim : body ≡ claim_spelling (claim_of survey)) (lacks : lacking ≡ missing shown (Some survey.value)) (same : shown ≡ took) where
+    (done : Ends (HaveClaim body took) s t) (claim : body ≡ claim_spelling (claim_of survey)) (lacks : lacking ≡ missing shown (Some survey.value)) (same : shown ≡ took) where
   members_did : AreRead (RoseAt s t) survey.members took
   members_did = subst (λ (l : List Member). AreRead (RoseAt s t) l took) members are
 
-  they_show : Ends (HaveBody 2 4 (claim_spelling (claim_of survey)) took) s t
-  they_show = subst (λ (b : List ℕ). Ends (HaveBody 2 4 b took) s t) claim done
+  they_show : Ends (HaveClaim (claim_spelling (claim_of survey)) took) s t
+  they_show = subst (λ (b : List ℕ). Ends (HaveClaim b took) s t) claim done
 
   of_took : (o : Option (ℕ × ℕ)) → lacking ≡ o → missing took (Some survey.value) ≡ o
   of_took o is = sym (lacks ∙ ap (λ (l : List Member). missing l (Some survey.value)) same) ∙ is

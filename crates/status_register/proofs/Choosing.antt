@@ -69,56 +69,36 @@ pub record IsNext (first second gate : ℕ) (Other : ℕ → ℕ → Type 0) : T
   pub pair : ArePair first second gate other
   pub rule : Other gate other
 
+-- what the slot that is put holds isn't greater than what the other slot of the pair holds
+module _ {A : Type 0} (decoded : List ℕ → Option A) (test : A → Bool) (number : A → ℕ) (p q slot : ℕ) (image : Image) (long : 40960 ≤ image.size slot) (p_low : p ≤ 8) (q_low : q ≤ 8) where
+  abbrev pub Less : ℕ → ℕ → Type 0
+  Less here there = Holds test number p q (in_slot decoded (disk_bytes image slot) here) (in_slot decoded (disk_bytes image slot) there)
+
+  says : (k : ℕ) → k ≤ 8 → listed (said decoded image slot k) ≡ in_slot decoded (disk_bytes image slot) k
+  says k le = sym (slot_says decoded image slot k (omega (arith, le, long)))
+
+  -- a gate of the pair, and the other one
+  chosen : (gate here there : ℕ) → here ≤ 8 → there ≤ 8 → ArePair p q here there → gate ≡ here → Holds test number p q (listed (said decoded image slot here)) (listed (said decoded image slot there))
+      → IsNext p q gate Less
+  chosen gate here there here_low there_low pair is holds = record {
+    other = there;
+    pair = subst (λ (g : ℕ). ArePair p q g there) (sym is) pair;
+    rule = subst (λ (g : ℕ). Less g there) (sym is)
+        (subst (λ (l : List (Option A)). Holds test number p q l (in_slot decoded (disk_bytes image slot) there)) (says here here_low)
+        (subst (λ (l : List (Option A)). Holds test number p q (listed (said decoded image slot here)) l) (says there there_low) holds));
+  }
+
+  pub next_of : IsNext p q (other_gate p q (number_of test number (said decoded image slot p)) (number_of test number (said decoded image slot q))) Less
+  next_of = ⊎_elim
+      (λ is. chosen _ p q p_low q_low (inl (refl, refl)) is.0 is.1)
+      (λ is. chosen _ q p q_low p_low (inr (refl, refl)) is.0 is.1)
+      (other_facts test number p q (said decoded image slot p) (said decoded image slot q))
+
 module _ (id slot : ℕ) (image : Image) (long : 40960 ≤ image.size slot) where
-  claims_at : (k : ℕ) → k ≤ 8 → in_slot decoded_claim (disk_bytes image slot) k ≡ listed (said decoded_claim image slot k)
-  claims_at k le = slot_says decoded_claim image slot k (omega (arith, le, long))
-
-  records_at : (k : ℕ) → k ≤ 8 → in_slot decoded_status (disk_bytes image slot) k ≡ listed (said decoded_status image slot k)
-  records_at k le = slot_says decoded_status image slot k (omega (arith, le, long))
-
   pub claim_gate_next : IsNext 2 4 (claim_gate id slot image) (OtherClaims id (disk_bytes image slot))
   unfolding claim_gate
-  claim_gate_next =
-      let test : Claim → Bool = λ c. c.id == id in
-      let number : Claim → ℕ = λ c. c.epoch in
-      let first = sym (claims_at 2 (omega arith)) in
-      let second = sym (claims_at 4 (omega arith)) in
-      ⊎_elim
-      (λ is. record {
-        other = 4;
-        pair = inl (is.0, refl);
-        rule = subst (λ (g : ℕ). OtherClaims id (disk_bytes image slot) g 4) (sym is.0)
-            (subst (λ (l : List (Option Claim)). Holds test number 2 4 l (in_slot decoded_claim (disk_bytes image slot) 4)) first
-            (subst (λ (l : List (Option Claim)). Holds test number 2 4 (listed (said decoded_claim image slot 2)) l) second is.1));
-      })
-      (λ is. record {
-        other = 2;
-        pair = inr (is.0, refl);
-        rule = subst (λ (g : ℕ). OtherClaims id (disk_bytes image slot) g 2) (sym is.0)
-            (subst (λ (l : List (Option Claim)). Holds test number 2 4 l (in_slot decoded_claim (disk_bytes image slot) 2)) second
-            (subst (λ (l : List (Option Claim)). Holds test number 2 4 (listed (said decoded_claim image slot 4)) l) first is.1));
-      })
-      (other_facts test number 2 4 (said decoded_claim image slot 2) (said decoded_claim image slot 4))
+  claim_gate_next = next_of decoded_claim (λ (c : Claim). c.id == id) (λ (c : Claim). c.epoch) 2 4 slot image long (omega arith) (omega arith)
 
   pub status_gate_next : IsNext 6 8 (status_gate id slot image) (OtherHolds id (disk_bytes image slot))
   unfolding status_gate
-  status_gate_next =
-      let test : Status → Bool = λ r. r.id == id in
-      let first = sym (records_at 6 (omega arith)) in
-      let second = sym (records_at 8 (omega arith)) in
-      ⊎_elim
-      (λ is. record {
-        other = 8;
-        pair = inl (is.0, refl);
-        rule = subst (λ (g : ℕ). OtherHolds id (disk_bytes image slot) g 8) (sym is.0)
-            (subst (λ (l : List (Option Status)). Holds test rank 6 8 l (in_slot decoded_status (disk_bytes image slot) 8)) first
-            (subst (λ (l : List (Option Status)). Holds test rank 6 8 (listed (said decoded_status image slot 6)) l) second is.1));
-      })
-      (λ is. record {
-        other = 6;
-        pair = inr (is.0, refl);
-        rule = subst (λ (g : ℕ). OtherHolds id (disk_bytes image slot) g 6) (sym is.0)
-            (subst (λ (l : List (Option Status)). Holds test rank 6 8 l (in_slot decoded_status (disk_bytes image slot) 6)) second
-            (subst (λ (l : List (Option Status)). Holds test rank 6 8 (listed (said decoded_status image slot 8)) l) first is.1));
-      })
-      (other_facts test rank 6 8 (said decoded_status image slot 6) (said decoded_status image slot 8))
+  status_gate_next = next_of decoded_status (λ (r : Status). r.id == id) rank 6 8 slot image long (omega arith) (omega arith)

@@ -16,7 +16,7 @@ use Rattle.asm_images.specs.Steps.{IsLast}
 use Rattle.asm_images.proofs.History.{surveyed_counts}
 use Rattle.asm_images.proofs.Sharing.{current_share, shares_itself}
 use Rattle.status_register.specs.History.{FitsIn}
-use Rattle.status_register.specs.Rows.{HasBody}
+use Rattle.status_register.specs.Rows.{HasStatus}
 use Rattle.status_register.specs.SurveyLaws.{IsMemberOn}
 use Rattle.status_register.specs.Surveys.{disk_in, missing}
 use Rattle.status_register.specs.declared.member.Member.{Member}
@@ -60,6 +60,6 @@ module _ (slots id : ℕ) (completed : Option Status) (begun : List Status) (ima
 
 pub stored_record_completes : (slots id : ℕ) (completed : Option Status) (begun : List Status) (image : bay.Image) (took : List Member) (r : Status) → FitsIn slots id completed begun image → IsLast completed begun r
     → IsTrue (is_status r) → r.id ≡ id → ((m : Member) → IsAmong took m → IsMemberOn slots id image m)
-    → ((m : Member) → IsAmong took m → HasBody 6 8 (status_spelling r) m.slot image) → missing took (Some r) ≡ None → FitsIn slots id (Some r) [] image
+    → ((m : Member) → IsAmong took m → HasStatus (status_spelling r) m.slot image) → missing took (Some r) ≡ None → FitsIn slots id (Some r) [] image
 stored_record_completes slots id completed begun image took r fits last allowed group are show enough =
     completes slots id completed begun image fits r last took are (λ m h. shows_record slots id image m (are m h) r allowed group (show m h)) enough

@@ -4,6 +4,7 @@ use Rattle.bay.specs.Image.{Image, Range, Same, ChangesOnly}
 use Rattle.bay.specs.State.{BayState, KeepsAttached, size_of}
 use Rattle.bay.specs.Moments.{Within, Joins}
 use Rattle.bay.proofs.Images.{changes-within}
+use Rattle.bay.proofs.OneCall.{Follows}
 use Rattle.gate_slot.specs.Slot.{IsUsable, PlaceOf, MayPut, HasPut}
 use Rattle.status_register.specs.Places.{place_at, HasSlots}
 use Rattle.status_register.specs.Slots.{FoundGate, MayFill, Fills, MayPutNext, PutsNext}
@@ -82,3 +83,7 @@ module _ (gate_of : ℕ → Image → ℕ) (slot : ℕ) (body : List ℕ) where
     pub puts_next : Joins (FoundGate (gate_of slot) gate) (Fills gate slot body) (PutsNext gate_of slot body)
     puts_next x y z found step = subst (λ (g : ℕ). Fills g slot body x z) (sym (gate_before x y found))
         (record { shows = step.shows; elsewhere = from_same gate x y z found.same step.elsewhere })
+
+    -- the gate is found, and then the slot is filled
+    pub put_follows : Follows Same (FoundGate (gate_of slot) gate) (MayFill gate slot body) (Fills gate slot body) (MayPutNext gate_of slot body) (PutsNext gate_of slot body)
+    put_follows = record { starts = same_puts; goes = may_put_next; ends = puts_next }

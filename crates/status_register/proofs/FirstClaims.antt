@@ -7,7 +7,7 @@ use Rattle.asm_formats.specs.Claim.{Claim, is_claim, claim_spelling}
 use Rattle.asm_formats.specs.Status.{Status}
 use Rattle.status_register.specs.History.{FitsIn}
 use Rattle.status_register.specs.Keeping.{EpochStands, FitsWith, HasNoRecord}
-use Rattle.status_register.specs.Rows.{HaveBody, PutsRow}
+use Rattle.status_register.specs.Rows.{HaveClaim, PutsRow}
 use Rattle.status_register.specs.Slots.{claim_gate}
 use Rattle.status_register.specs.SurveyLaws.{IsMemberOn}
 use Rattle.status_register.specs.Surveys.{missing}
@@ -30,7 +30,7 @@ module _ (s t : BayState) (sound : IsSound s) (id : ℕ) (c : Claim) (allowed : 
       (record { now = λ image left. (before.now image left, λ m among. slots_long m.slot m.sector sound (have m among) image left) })
 
   -- the first record of the claimed epoch may be written
-  pub may_be_first : c.id ≡ id → Ends (HaveBody 2 4 (claim_spelling c) ms) s t → (slots : ℕ) (r : Status) → r.id ≡ id → r.epoch ≡ c.epoch → missing ms (Some r) ≡ None
+  pub may_be_first : c.id ≡ id → Ends (HaveClaim (claim_spelling c) ms) s t → (slots : ℕ) (r : Status) → r.id ≡ id → r.epoch ≡ c.epoch → missing ms (Some r) ≡ None
       → NowOnly s (FitsWith slots id ms None []) → NowOnly t (HasNoRecord slots r ms)
   may_be_first group done slots r of_group of_epoch enough before = record {
     now = λ image left.

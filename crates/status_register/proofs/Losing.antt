@@ -18,6 +18,7 @@ use Rattle.status_register.specs.declared.member.Member.{Member}
 use Rattle.status_register.proofs.Holding.{disk_is, is_disk, entry_birth}
 use Rattle.status_register.proofs.Meeting.{any_among, found}
 use Rattle.status_register.proofs.Counting.{shortfall_first}
+use Rattle.status_register.proofs.Taking.{append_last, append_left, last_or_before}
 
 -- ---- one of these is the member
 
@@ -51,25 +52,13 @@ there_of ms m is =
 -- ---- who was left out
 
 pub last_is : (xs : List Member) (m n : Member) → IsAmong (xs ++ m ∷ []) n → IsAmong xs n ⊎ (n ≡ m)
-last_is [] m n (inl same) = inr same
-last_is [] m n (inr none) = absurd none
-last_is (x ∷ xs) m n (inl same) = inl (inl same)
-last_is (x ∷ xs) m n (inr h) = ⊎_elim (λ before. inl (inr before)) (λ last. inr last) (last_is xs m n h)
-
-kept_before : (xs ys : List Member) (n : Member) → IsAmong xs n → IsAmong (xs ++ ys) n
-kept_before [] ys n h = absurd h
-kept_before (x ∷ xs) ys n (inl same) = inl same
-kept_before (x ∷ xs) ys n (inr h) = inr (kept_before xs ys n h)
-
-kept_last : (xs : List Member) (m : Member) → IsAmong (xs ++ m ∷ []) m
-kept_last [] m = inl refl
-kept_last (x ∷ xs) m = inr (kept_last xs m)
+last_is = last_or_before
 
 pub took_or_failed : (failed : ℕ → Type 0) (ms took : List Member) → AreRead failed ms took → (m : Member) → IsAmong ms m → IsAmong took m ⊎ failed m.slot
 took_or_failed failed ms took none_yet m h = absurd h
 took_or_failed failed ms took (one_read before earlier n are) m h = ⊎_elim
-    (λ old. ⊎_elim (λ yes. inl (kept_before earlier (n ∷ []) m yes)) (λ lost. inr lost) (took_or_failed failed before earlier are m old))
-    (λ (same : m ≡ n). inl (subst (λ (k : Member). IsAmong (earlier ++ n ∷ []) k) (sym same) (kept_last earlier n)))
+    (λ old. ⊎_elim (λ yes. inl (append_left earlier (n ∷ []) m yes)) (λ lost. inr lost) (took_or_failed failed before earlier are m old))
+    (λ (same : m ≡ n). inl (subst (λ (k : Member). IsAmong (earlier ++ n ∷ []) k) (sym same) (append_last earlier n)))
     (last_is before n m h)
 took_or_failed failed ms took (one_failed before earlier n rose are) m h = ⊎_elim
     (λ old. took_or_failed failed before earlier are m old)

@@ -1,6 +1,6 @@
 -- What a survey finds is what the members of the image hold.
 use Rattle.std.proofs.Common.{◌≡◌, inl, inr, ⊎_elim, ℕ, ◌+◌, ◌*◌, ◌<◌, ◌≤◌, Bool, true, false, List, [], ◌∷◌, length, filter, get_or, nat_lt, Option, Some, None, refl, sym, ap, subst, ◌∙◌, arith, IsTrue}
-use Rattle.std.specs.Prelude.{nat_le, ◌++◌, ◌==◌, ◌&&◌, ◌||◌, ◌/◌}
+use Rattle.std.specs.Prelude.{flat_map, nat_le, ◌++◌, ◌==◌, ◌&&◌, ◌||◌, ◌/◌}
 use Rattle.std.specs.List.{list_any, list_all}
 use Rattle.std.proofs.lemmas.Bool.{cond_both, leb-true, cond-true, false≢true, eqb-true, eq-eqb, ltb-true, lt-ltb, and_parts, or_cases}
 use Rattle.std.proofs.lemmas.Option.{none-some}
@@ -19,7 +19,7 @@ use Rattle.asm_formats.proofs.Bodies.{claim_codec}
 use Rattle.asm_images.specs.MountLaws.{HaveClaimed}
 use Rattle.asm_images.proofs.Bridges.{bytes_are_listed}
 use Rattle.asm_images.proofs.Mounts.{surveyed_epoch_is_above, claim_is_seen}
-use Rattle.status_register.specs.Rows.{HasBody}
+use Rattle.status_register.specs.Rows.{HasClaim}
 use Rattle.status_register.specs.Sayings.{listed}
 use Rattle.status_register.specs.Slots.{said}
 use Rattle.status_register.proofs.Surveying.{claims_said}
@@ -107,29 +107,30 @@ module _ (slots id : ℕ) (image : bay.Image) (read : List Member) (are : (m : M
       let n = there f.0 f.1 in
       flat_map_among (λ (m : a.Member). of_group id m.disk.statuses) chosen n.0 r n.1 (subst (λ (d : Metadata). IsAmong (of_group id d.statuses) r) (sym n.2) f.2)
 
-  from_image : (r : Status) → IsAmong (statuses id chosen) r → IsAmong (records_on id image read) r
-  unfolding records_on statuses within
-  from_image r h =
-      let f = among_flat_map (λ (m : a.Member). of_group id m.disk.statuses) chosen r h in
-      let n = f.0 in
-      let is = member_is id (disks_in slots image) n (among_within (slots_of read) all n f.1) in
-      let m = found (λ (k : Member). k.slot == n.slot) read (filter_out (λ (k : a.Member). slots_of read k.slot) all n f.1) in
+  -- the member that was read, of a member of the image in its slot
+  read_of : (n : a.Member) → IsAmong chosen n → (m : Member) × IsAmong read m × (n.disk ≡ disk_in image m.slot)
+  unfolding within
+  read_of n h =
+      let is = member_is id (disks_in slots image) n (among_within (slots_of read) all n h) in
+      let m = found (λ (k : Member). k.slot == n.slot) read (filter_out (λ (k : a.Member). slots_of read k.slot) all n h) in
       let same : m.0.slot ≡ n.slot = eqb-true m.0.slot n.slot m.2 in
       let bytes = (disks_are_listed slots m.0.slot image (are m.0 m.1).inside).1 in
-      let disk : n.disk ≡ disk_in image m.0.slot = is.disk ∙ (ap (λ (k : ℕ). metadata (get_or (disks_in slots image) k [])) (sym same) ∙ ap metadata bytes) in
-      flat_map_among (λ (k : Member). of_group id (disk_in image k.slot).statuses) read m.0 r m.1 (subst (λ (d : Metadata). IsAmong (of_group id d.statuses) r) disk f.2)
+      (m.0, m.1, is.disk ∙ (ap (λ (k : ℕ). metadata (get_or (disks_in slots image) k [])) (sym same) ∙ ap metadata bytes))
+
+  -- what the disks of those say, the disks that were read say
+  from_chosen : {A : Type 0} (of : Metadata → List A) (x : A) → IsAmong (flat_map (λ (m : a.Member). of m.disk) chosen) x → IsAmong (flat_map (λ (m : Member). of (disk_in image m.slot)) read) x
+  from_chosen {A} of x h =
+      let f = among_flat_map (λ (m : a.Member). of m.disk) chosen x h in
+      let m = read_of f.0 f.1 in
+      flat_map_among (λ (k : Member). of (disk_in image k.slot)) read m.0 x m.1 (subst (λ (d : Metadata). IsAmong (of d) x) m.2 f.2)
+
+  from_image : (r : Status) → IsAmong (statuses id chosen) r → IsAmong (records_on id image read) r
+  unfolding records_on statuses
+  from_image r h = from_chosen (λ (d : Metadata). of_group id d.statuses) r h
 
   claims_from_image : (c : Claim) → IsAmong (claims id chosen) c → IsAmong (claims_on id image read) c
-  unfolding claims_on claims within
-  claims_from_image c h =
-      let f = among_flat_map (λ (m : a.Member). claims_of_group id m.disk.claims) chosen c h in
-      let n = f.0 in
-      let is = member_is id (disks_in slots image) n (among_within (slots_of read) all n f.1) in
-      let m = found (λ (k : Member). k.slot == n.slot) read (filter_out (λ (k : a.Member). slots_of read k.slot) all n f.1) in
-      let same : m.0.slot ≡ n.slot = eqb-true m.0.slot n.slot m.2 in
-      let bytes = (disks_are_listed slots m.0.slot image (are m.0 m.1).inside).1 in
-      let disk : n.disk ≡ disk_in image m.0.slot = is.disk ∙ (ap (λ (k : ℕ). metadata (get_or (disks_in slots image) k [])) (sym same) ∙ ap metadata bytes) in
-      flat_map_among (λ (k : Member). claims_of_group id (disk_in image k.slot).claims) read m.0 c m.1 (subst (λ (d : Metadata). IsAmong (claims_of_group id d.claims) c) disk f.2)
+  unfolding claims_on claims
+  claims_from_image c h = from_chosen (λ (d : Metadata). claims_of_group id d.claims) c h
 
   -- a disk with a header has its slots
   pub long_enough : (m : Member) → IsAmong read m → 40960 ≤ image.size m.slot
@@ -149,7 +150,7 @@ module _ (slots id : ℕ) (image : bay.Image) (read : List Member) (are : (m : M
     says_claim : (slot gate : ℕ) → shown image slot gate ≡ Some (claim_spelling c) → said decoded_claim image slot gate ≡ Some (Some c)
     says_claim slot gate is = ap (λ (o : Option (List ℕ)). option_map decoded_claim o) is ∙ ap (λ (o : Option Claim). Some o) (claim_codec.1 c allowed)
 
-    pub shows_claim : (m : Member) → IsAmong read m → HasBody 2 4 (claim_spelling c) m.slot image → IsAmong (claims_of_group id (disk_in image m.slot).claims) c
+    pub shows_claim : (m : Member) → IsAmong read m → HasClaim (claim_spelling c) m.slot image → IsAmong (claims_of_group id (disk_in image m.slot).claims) c
     shows_claim m h has =
         let first = listed (said decoded_claim image m.slot 2) in
         let second = listed (said decoded_claim image m.slot 4) in
@@ -159,15 +160,10 @@ module _ (slots id : ℕ) (image : bay.Image) (read : List Member) (are : (m : M
         (λ one. among_left (claims_of_group id first) (claims_of_group id second) c (of_listed (said decoded_claim image m.slot 2) (says_claim m.slot 2 one)))
         (λ two. among_right (claims_of_group id first) (claims_of_group id second) c (of_listed (said decoded_claim image m.slot 4) (says_claim m.slot 4 two))) has))
 
-    have_claimed : ((m : Member) → IsAmong read m → HasBody 2 4 (claim_spelling c) m.slot image) → HaveClaimed id chosen c.epoch
-    unfolding within
+    have_claimed : ((m : Member) → IsAmong read m → HasClaim (claim_spelling c) m.slot image) → HaveClaimed id chosen c.epoch
     have_claimed show n h =
-        let is = member_is id (disks_in slots image) n (among_within (slots_of read) all n h) in
-        let m = found (λ (k : Member). k.slot == n.slot) read (filter_out (λ (k : a.Member). slots_of read k.slot) all n h) in
-        let same : m.0.slot ≡ n.slot = eqb-true m.0.slot n.slot m.2 in
-        let bytes = (disks_are_listed slots m.0.slot image (are m.0 m.1).inside).1 in
-        let disk : n.disk ≡ disk_in image m.0.slot = is.disk ∙ (ap (λ (k : ℕ). metadata (get_or (disks_in slots image) k [])) (sym same) ∙ ap metadata bytes) in
-        (c, subst (λ (d : Metadata). IsAmong (claims_of_group id d.claims) c) (sym disk) (shows_claim m.0 m.1 (show m.0 m.1)), omega arith)
+        let m = read_of n h in
+        (c, subst (λ (d : Metadata). IsAmong (claims_of_group id d.claims) c) (sym m.2) (shows_claim m.0 m.1 (show m.0 m.1)), omega arith)
 
   has_there : (h : Holder) → is_there read h ≡ true → has_disk chosen h.0 h.1 ≡ true
   has_there h e =
@@ -234,7 +230,7 @@ surveyed_epoch_above slots id completed begun image read r epoch fits are is non
 -- a claim that a majority of each set shows is seen by every set that is enough
 pub shown_claim_is_seen : (slots id : ℕ) (completed : Option Status) (begun : List Status) (image : bay.Image) (took : List Member) (g r : Status) → FitsIn slots id completed begun image
     → ((m : Member) → IsAmong took m → IsMemberOn slots id image m) → IsTrue (is_claim (record { id = id; epoch = r.epoch }))
-    → ((m : Member) → IsAmong took m → HasBody 2 4 (claim_spelling (record { id = id; epoch = r.epoch })) m.slot image)
+    → ((m : Member) → IsAmong took m → HasClaim (claim_spelling (record { id = id; epoch = r.epoch })) m.slot image)
     → IsAmong (current_records completed begun) g → missing took (Some g) ≡ None → ((v : Status) → base completed begun ≡ Some v → Follows v r)
     → (P : ℕ → Bool) (s : Status) → IsAmong (r ∷ current_records completed begun) s → IsTrue (is_enough s (within P (all_members id (disks_in slots image))))
     → HasEpoch id (within P (all_members id (disks_in slots image))) r.epoch
@@ -244,7 +240,7 @@ shown_claim_is_seen slots id completed begun image took g r fits are allowed sho
 
 pub claimed_record_begins : (slots id : ℕ) (completed : Option Status) (begun : List Status) (image : bay.Image) (took : List Member) (g r : Status) → FitsIn slots id completed begun image
     → ((m : Member) → IsAmong took m → IsMemberOn slots id image m) → IsTrue (is_claim (record { id = id; epoch = r.epoch }))
-    → ((m : Member) → IsAmong took m → HasBody 2 4 (claim_spelling (record { id = id; epoch = r.epoch })) m.slot image)
+    → ((m : Member) → IsAmong took m → HasClaim (claim_spelling (record { id = id; epoch = r.epoch })) m.slot image)
     → IsAmong (current_records completed begun) g → missing took (Some g) ≡ None → ((v : Status) → base completed begun ≡ Some v → Follows v r)
     → IsTrue (is_status r) → ((s : Status) → IsAmong (current_records completed begun) s → rank s < rank r) → FitsIn slots id completed (begun ++ (r ∷ [])) image
 claimed_record_begins slots id completed begun image took g r fits are claim show counted none follows allowed above_all =

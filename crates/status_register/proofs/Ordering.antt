@@ -1,18 +1,20 @@
 -- Puts on members in their order.
-use Rattle.std.proofs.Common.{◌≡◌, ◌≢◌, ◌⊎◌, inl, inr, ⊎_elim, ℕ, zero, suc, ◌<◌, List, [], ◌∷◌, ◌++◌, get_or, Option, Some, None, refl, sym, ap, subst, ◌∙◌, arith}
+use Rattle.std.proofs.Common.{◌≡◌, ◌≢◌, ◌⊎◌, inl, inr, ⊎_elim, ℕ, zero, suc, ◌<◌, ◌≤◌, List, [], ◌∷◌, ◌++◌, length, take, get_or, Option, Some, None, refl, sym, ap, subst, ◌∙◌, arith}
 use Rattle.std.proofs.lemmas.Bool.{cond_both}
 use Rattle.bay.specs.Image.{Image, Same}
+use Rattle.bay.specs.Calls.{Calls}
 use Rattle.bay.specs.Counts.{Rose}
 use Rattle.bay.specs.Moments.{Runs, Ends}
 use Rattle.bay.specs.State.{BayState}
 use Rattle.bay.proofs.Calls.{both_done, done_less, goes_on, stops, widened}
 use Rattle.bay.proofs.Images.{same-refl, same-trans}
+use Rattle.bay.proofs.OneCall.{cheaper}
 use Rattle.asm_formats.specs.Among.{IsAmong}
 use Rattle.asm_images.specs.Bridge.{shown}
 use Rattle.asm_formats.specs.Status.{Status}
 use Rattle.status_register.specs.Holders.{SlotsDiffer, holder_in, holders_below, attached_to}
 use Rattle.status_register.specs.OrderLaws.{Descend}
-use Rattle.status_register.specs.Rows.{HasBody, IsTried, PutsInOrder, PutsRow, RunsInOrder, Takes, no_put, one_put}
+use Rattle.status_register.specs.Rows.{CallsInOrder, HasStatus, IsTried, cost_of_puts, PutsInOrder, PutsRow, RunsInOrder, Takes, no_put, one_put}
 use Rattle.status_register.specs.Slots.{FoundGate, MayFill, Fills, MayPutNext, PutsNext, status_gate}
 use Rattle.status_register.specs.Tallies.{IsSlotOf}
 use Rattle.status_register.specs.declared.member.Member.{Member}
@@ -106,6 +108,12 @@ module _ (gate_of : ℕ → Image → ℕ) (body : List ℕ) where
 pub row_runs : (gate_of : ℕ → Image → ℕ) (ms : List Member) (body : List ℕ) (s t : BayState) → RunsInOrder gate_of ms body s t → Runs (IsSlotOf ms) (PutsRow gate_of ms body) s t
 row_runs gate_of ms body s t run = widened (order_row gate_of body (λ slot. Rose (s.faults slot) (t.faults slot)) ms) run
 
+-- the puts on all of them
+pub all_in_order : (gate_of : ℕ → Image → ℕ) (body : List ℕ) {ms : List Member} {s t : BayState} {i : ℕ} → take i ms ≡ ms → i ≤ length ms
+    → Calls (IsSlotOf ms) (PutsInOrder gate_of body (RoseAt s t) (take i ms)) (cost_of_puts i) s t → CallsInOrder gate_of ms body s t
+all_in_order gate_of body {ms} {s} {t} {i} whole few calls = cheaper (record { calls = omega (arith, few); bytes = λ slot. omega (arith, few) })
+    (subst (λ (l : List Member). Calls (IsSlotOf ms) (PutsInOrder gate_of body (RoseAt s t) l) (cost_of_puts i) s t) whole calls)
+
 -- ---- calls on one member more
 
 pub none_tried : (s : BayState) → Ends Same s s
@@ -167,18 +175,18 @@ module _ (id : ℕ) (body : List ℕ) (failed : ℕ → Type 0) where
       order_other ms slot (λ n h. differ n (inr h)) past.0 y past.2 k ∙ tried_other m slot x past.0 (differ m (inl refl)) past.1 k
 
   -- what was put stays
-  still_shows : (slot : ℕ) (x y : Image) → SameBytes slot x y → HasBody 6 8 body slot x → HasBody 6 8 body slot y
+  still_shows : (slot : ℕ) (x y : Image) → SameBytes slot x y → HasStatus body slot x → HasStatus body slot y
   still_shows slot x y same (inl one) = inl (same_shown slot 6 x y same ∙ one)
   still_shows slot x y same (inr two) = inr (same_shown slot 8 x y same ∙ two)
 
-  put_shows : (m : Member) (x y : Image) → PutsNext (status_gate id) m.slot body x y → HasBody 6 8 body m.slot y
+  put_shows : (m : Member) (x y : Image) → PutsNext (status_gate id) m.slot body x y → HasStatus body m.slot y
   put_shows m x y puts = ⊎_elim
       (λ is. inl (subst (λ (g : ℕ). shown y m.slot g ≡ Some body) is puts.shows))
       (λ is. inr (subst (λ (g : ℕ). shown y m.slot g ≡ Some body) is puts.shows))
       (status_gate_either id m.slot x)
 
   abbrev HasIt : Member → Image → Type 0
-  HasIt m y = HasBody 6 8 body m.slot y ⊎ failed m.slot
+  HasIt m y = HasStatus body m.slot y ⊎ failed m.slot
 
   tried_has : (m : Member) (x y z : Image) → IsTried (status_gate id) body failed m x y → SameBytes m.slot y z → HasIt m z
   tried_has m x y z (inl puts) same = inl (still_shows m.slot y z same (put_shows m x y puts))
@@ -200,6 +208,6 @@ module _ (id : ℕ) (body : List ℕ) (failed : ℕ → Type 0) where
 pub greater_numbers_first : (id : ℕ) (body : List ℕ) (places : List (Option Member)) (r : Status) (before now : ℕ → ℕ) (x y : Image) → SlotsDiffer places
     → PutsInOrder (status_gate id) body (λ slot. Rose (before slot) (now slot)) (attached_to places r) x y
     → (greater m : Member) → IsAmong (attached_to places r) greater → IsAmong (attached_to places r) m → m.number < greater.number
-    → SameBytes m.slot x y ⊎ (HasBody 6 8 body greater.slot y ⊎ Rose (before greater.slot) (now greater.slot))
+    → SameBytes m.slot x y ⊎ (HasStatus body greater.slot y ⊎ Rose (before greater.slot) (now greater.slot))
 greater_numbers_first id body places r before now x y differ puts greater m there here lt =
     greater_first id body (λ slot. Rose (before slot) (now slot)) (attached_to places r) (below_apart places r 64 differ) (attached_descend places r) x y puts greater m there here lt

@@ -14,7 +14,7 @@ use Rattle.asm_formats.specs.Following.{Holder, disks_of}
 use Rattle.status_register.specs.Holders.{is_of, HoldSlots, SlotsDiffer}
 use Rattle.status_register.specs.Keeping.{IsReady}
 use Rattle.status_register.specs.Registered.{Registered, placed, all_placed, AreNumbered}
-use Rattle.status_register.specs.Rows.{AreApart, HaveBody}
+use Rattle.status_register.specs.Rows.{AreApart, HaveStatus}
 use Rattle.status_register.specs.Surveys.{is_there}
 use Rattle.status_register.specs.Tallies.{HaveSlots, IsSlotOf}
 use Rattle.status_register.specs.Writes.{HoldersShow, first_holders}
@@ -165,5 +165,5 @@ module _ (r : Status) (ms : List Member) (small : AreNumbered ms) where
       let in_sets : (has_bit r.holders k.number || has_bit r.next_holders k.number) ≡ true = or_left (has_bit r.holders k.number) (has_bit r.next_holders k.number) (ap (has_bit r.holders) number ∙ disk.bit) in
       (m, held_below (all_placed r.entries (replicate 64 None) ms) r 64 k.number m (small k f.1) (record { there = good.1; number = good.2; entry = good.3; bit = in_sets }), own, same)
 
-  pub holders_show : (s t : BayState) → ((h : Holder) → IsAmong (disks_of r.entries r.holders) h → IsTrue (is_there ms h)) → Ends (HaveBody 6 8 (status_spelling r) (first_holders r ms)) s t → Ends (HoldersShow ms r) s t
+  pub holders_show : (s t : BayState) → ((h : Holder) → IsAmong (disks_of r.entries r.holders) h → IsTrue (is_there ms h)) → Ends (HaveStatus (status_spelling r) (first_holders r ms)) s t → Ends (HoldersShow ms r) s t
   holders_show s t all done = done_less (λ x y have h among. let m = attached h among (all h among) in (m.0, first_among m.0 m.1, m.2, m.3, have m.0 m.1)) done

@@ -24,7 +24,7 @@ use Rattle.asm_images.proofs.Membership.{among_within}
 use Rattle.asm_images.proofs.Recording.{status_allowed, turn_below, epoch_le, those_append}
 use Rattle.asm_images.proofs.Sharing.{enough_meet}
 use Rattle.status_register.specs.Keeping.{ShowsEpoch, EpochStands}
-use Rattle.status_register.specs.Rows.{HasBody, PutsRow, no_put, one_put}
+use Rattle.status_register.specs.Rows.{HasStatus, PutsRow, no_put, one_put}
 use Rattle.status_register.specs.Sayings.{listed}
 use Rattle.status_register.specs.Slots.{MayPutNext, said, claim_gate, status_gate}
 use Rattle.status_register.specs.SurveyLaws.{IsMemberOn, slots_of}
@@ -94,7 +94,7 @@ record_allowed slots id image m on r h =
     (to_image slots id image (m ∷ []) (only slots id image m on) r (flat_map_among (λ (k : Member). of_group id (disk_in image k.slot).statuses) (m ∷ []) m r (inl refl) h)))
 
 -- a record that a disk shows is one of its records
-pub shows_record : (slots id : ℕ) (image : bay.Image) (m : Member) → IsMemberOn slots id image m → (r : Status) → IsTrue (is_status r) → r.id ≡ id → HasBody 6 8 (status_spelling r) m.slot image
+pub shows_record : (slots id : ℕ) (image : bay.Image) (m : Member) → IsMemberOn slots id image m → (r : Status) → IsTrue (is_status r) → r.id ≡ id → HasStatus (status_spelling r) m.slot image
     → IsAmong (of_group id (disk_in image m.slot).statuses) r
 shows_record slots id image m on r allowed group has =
     let first = listed (said decoded_status image m.slot 6) in

@@ -1,7 +1,7 @@
 -- What the gates and bodies of slots show.
-use Rattle.std.proofs.Common.{◌≡◌, ℕ, ◌+◌, ◌*◌, true, false, List, Option, Some, None, sym, ap, subst, ◌∙◌}
+use Rattle.std.proofs.Common.{◌≡◌, ℕ, ◌+◌, ◌*◌, true, false, List, Option, Some, None, refl, sym, ap, subst, ◌∙◌}
 use Rattle.std.specs.Prelude.{◌==◌, if◌then◌else◌}
-use Rattle.std.specs.Option.{ForSome, option_map}
+use Rattle.std.specs.Option.{ForSome}
 use Rattle.std.proofs.lemmas.Bool.{cond-true, cond-false}
 use Rattle.std.proofs.lemmas.Option.{same_Some}
 use Rattle.bay.specs.Image.{Image, Same, window}
@@ -11,12 +11,10 @@ use Rattle.bay.proofs.Images.{window-same}
 use Rattle.gate_slot.specs.Slot.{is_open_in}
 use Rattle.asm_images.specs.Bridge.{shown}
 use Rattle.status_register.specs.Places.{place_at}
-use Rattle.status_register.specs.Told.{Told}
-use Rattle.status_register.specs.Slots.{said, claim_number, record_number, other_gate, claim_gate, status_gate, next_gate}
+use Rattle.bay.specs.Told.{Told}
+use Rattle.status_register.specs.Slots.{ShowBoth, claim_gate, first_gate, gate_by, next_gate, number_in, other_gate, second_gate, status_gate}
 use Rattle.status_register.specs.declared.places.SlotPair.{SlotPair}
 use Rattle.status_register.specs.declared.places.SlotPair.TheVariants.{Claims, Records}
-use Rattle.asm_formats.specs.Claim.{Claim, decoded_claim}
-use Rattle.asm_formats.specs.Status.{Status, decoded_status}
 use Rattle.status_register.proofs.Telling.{SameBytes}
 
 -- disks with the same bytes show the same
@@ -44,34 +42,29 @@ module _ (slot gate sector : ℕ) where
       ∙ sym (cond-true (start.0.byte slot (gate * 4096) == 165) (Some (window (start.0.byte slot) ((gate + 1) * 4096) 4096)) None (sym (is_open start.0 start.1))) in
       subst (λ (i : Image). Some bytes ≡ shown i slot gate) is there
 
--- what is told of a body is told of what it says
-pub told_said : {A : Type 0} (s t : BayState) (decoded : List ℕ → Option A) (slot gate : ℕ) (o : Option (List ℕ)) → Told s t (λ image. o ≡ shown image slot gate)
-    → Told s t (λ image. option_map decoded o ≡ said decoded image slot gate)
-told_said s t decoded slot gate o told = λ now holds image was. ap (λ (p : Option (List ℕ)). option_map decoded p) (told now holds image was)
-
-pub same_said : {A : Type 0} (decoded : List ℕ → Option A) (slot gate : ℕ) (x y : Image) → SameBytes slot x y → said decoded y slot gate ≡ said decoded x slot gate
-same_said decoded slot gate x y same = ap (λ (p : Option (List ℕ)). option_map decoded p) (same_shown slot gate x y same)
-
 -- ---- the next gates
 
-pub same_claim_gate : (id slot : ℕ) (x y : Image) → SameBytes slot x y → claim_gate id slot y ≡ claim_gate id slot x
-unfolding claim_gate
-same_claim_gate id slot x y same = λ i. other_gate 2 4 (claim_number id (same_said decoded_claim slot 2 x y same i)) (claim_number id (same_said decoded_claim slot 4 x y same i))
+-- by the bodies in both slots
+pub next_gate_by : (pair : SlotPair) (id slot : ℕ) (image : Image) → next_gate pair id slot image ≡ gate_by pair id slot image
+unfolding claim_gate status_gate
+next_gate_by Claims id slot image = refl
+next_gate_by Records id slot image = refl
 
-pub same_status_gate : (id slot : ℕ) (x y : Image) → SameBytes slot x y → status_gate id slot y ≡ status_gate id slot x
-unfolding status_gate
-same_status_gate id slot x y same = λ i. other_gate 6 8 (record_number id (same_said decoded_status slot 6 x y same i)) (record_number id (same_said decoded_status slot 8 x y same i))
+module _ (pair : SlotPair) (id slot : ℕ) where
+  abbrev gate_of_bodies : Option (List ℕ) → Option (List ℕ) → ℕ
+  gate_of_bodies one other = other_gate (first_gate pair) (second_gate pair) (number_in pair id one) (number_in pair id other)
 
-pub same_next_gate : (pair : SlotPair) (id slot : ℕ) (x y : Image) → SameBytes slot x y → next_gate pair id slot y ≡ next_gate pair id slot x
-same_next_gate Claims id = same_claim_gate id
-same_next_gate Records id = same_status_gate id
+  pub same_next_gate : (x y : Image) → SameBytes slot x y → next_gate pair id slot y ≡ next_gate pair id slot x
+  same_next_gate x y same = next_gate_by pair id slot y
+      ∙ ((λ i. gate_of_bodies (same_shown slot (first_gate pair) x y same i) (same_shown slot (second_gate pair) x y same i)) ∙ sym (next_gate_by pair id slot x))
 
-pub claim_gate_is : (id slot : ℕ) (image : Image) (a b : Option (Option Claim)) → a ≡ said decoded_claim image slot 2 → b ≡ said decoded_claim image slot 4
-    → claim_gate id slot image ≡ other_gate 2 4 (claim_number id a) (claim_number id b)
-unfolding claim_gate
-claim_gate_is id slot image a b first second = sym (λ i. other_gate 2 4 (claim_number id (first i)) (claim_number id (second i)))
+  pub next_gate_is : (image : Image) (one other : Option (List ℕ)) → ShowBoth pair slot one other image
+      → next_gate pair id slot image ≡ other_gate (first_gate pair) (second_gate pair) (number_in pair id one) (number_in pair id other)
+  next_gate_is image one other show = next_gate_by pair id slot image ∙ sym (λ i. gate_of_bodies (show.first i) (show.second i))
 
-pub status_gate_is : (id slot : ℕ) (image : Image) (a b : Option (Option Status)) → a ≡ said decoded_status image slot 6 → b ≡ said decoded_status image slot 8
-    → status_gate id slot image ≡ other_gate 6 8 (record_number id a) (record_number id b)
-unfolding status_gate
-status_gate_is id slot image a b first second = sym (λ i. other_gate 6 8 (record_number id (first i)) (record_number id (second i)))
+-- bodies are shown as they were
+pub same_both : (pair : SlotPair) (slot : ℕ) (one other : Option (List ℕ)) (x y : Image) → SameBytes slot x y → ShowBoth pair slot one other y → ShowBoth pair slot one other x
+same_both pair slot one other x y same show = record {
+  first = show.first ∙ same_shown slot (first_gate pair) x y same;
+  second = show.second ∙ same_shown slot (second_gate pair) x y same;
+}

@@ -1,18 +1,22 @@
 -- What the slots of one disk say, and of one disk more.
-use Rattle.std.proofs.Common.{◌≡◌, ℕ, ◌+◌, ◌*◌, ◌≤◌, Bool, true, false, not, List, [], ◌∷◌, ◌++◌, Option, Some, None, refl, ap, ◌∙◌, arith}
+use Rattle.std.proofs.Common.{◌≡◌, ℕ, ◌+◌, ◌*◌, ◌≤◌, Bool, true, false, not, List, [], ◌∷◌, ◌++◌, Option, Some, None, refl, sym, ap, ◌∙◌, arith}
 use Rattle.std.specs.Prelude.{◌==◌, ◌&&◌, if◌then◌else◌}
 use Rattle.std.specs.Option.{option_map, option_or, is_some}
 use Rattle.bay.specs.Image.{Image, window}
 use Rattle.asm_formats.specs.Bytes.{block, is_open}
-use Rattle.asm_formats.specs.Claim.{decoded_claim}
-use Rattle.asm_formats.specs.Status.{decoded_status}
+use Rattle.asm_formats.specs.Claim.{Claim, decoded_claim}
+use Rattle.asm_formats.specs.Status.{Status, decoded_status}
 use Rattle.asm_formats.specs.Metadata.{metadata, in_slot}
 use Rattle.asm_formats.specs.Damage.{body_damage, is_spoiled}
 use Rattle.asm_images.specs.Bridge.{disk_bytes}
 use Rattle.asm_images.proofs.Bridges.{bytes_are_listed}
-use Rattle.status_register.specs.Slots.{said}
-use Rattle.status_register.specs.Surveys.{disk_in}
-use Rattle.status_register.specs.Sayings.{listed, spoiled, claim_damage, status_damage}
+use Rattle.asm_images.specs.Members.{claims_of_group, of_group}
+use Rattle.asm_images.specs.Register.{greatest}
+use Rattle.status_register.specs.Slots.{ShowBoth, said}
+use Rattle.status_register.specs.Surveys.{disk_in, greatest_epoch}
+use Rattle.status_register.specs.Tallies.{SlotsSay}
+use Rattle.status_register.specs.declared.places.SlotPair.TheVariants.{Claims, Records}
+use Rattle.status_register.specs.Sayings.{damage_in, listed, spoiled}
 
 -- ---- one slot
 
@@ -62,10 +66,34 @@ module _ (image : Image) (slot : ℕ) (long : 40960 ≤ image.size slot) where
   damage_by false false false false = refl
 
   pub damage_said : body_damage (disk_bytes image slot)
-      ≡ option_or (claim_damage (said decoded_claim image slot 2) (said decoded_claim image slot 4)) (status_damage (said decoded_status image slot 6) (said decoded_status image slot 8))
+      ≡ option_or (damage_in Claims (said decoded_claim image slot 2) (said decoded_claim image slot 4)) (damage_in Records (said decoded_status image slot 6) (said decoded_status image slot 8))
   unfolding body_damage
   damage_said =
       (λ i. option_map (λ k. k + 1) (option_or
       (if slot_spoiled decoded_claim image slot 2 (omega (arith, long)) i then Some 2 else (if slot_spoiled decoded_claim image slot 4 (omega (arith, long)) i then Some 4 else None))
       (if slot_spoiled decoded_status image slot 6 (omega (arith, long)) i then Some 6 else (if slot_spoiled decoded_status image slot 8 (omega (arith, long)) i then Some 8 else None))))
       ∙ damage_by (spoiled (said decoded_claim image slot 2)) (spoiled (said decoded_claim image slot 4)) (spoiled (said decoded_status image slot 6)) (spoiled (said decoded_status image slot 8))
+
+  -- what the bodies in the slots say
+  module _ (c d : Option (List ℕ)) (claims : ShowBoth Claims slot c d image) (r q : Option (List ℕ)) (records : ShowBoth Records slot r q image) (id : ℕ) where
+    claims_are : (disk_in image slot).claims ≡ listed (option_map decoded_claim c) ++ listed (option_map decoded_claim d)
+    claims_are = claims_said ∙ sym (λ i. listed (option_map decoded_claim (claims.first i)) ++ listed (option_map decoded_claim (claims.second i)))
+
+    statuses_are : (disk_in image slot).statuses ≡ listed (option_map decoded_status r) ++ listed (option_map decoded_status q)
+    statuses_are = statuses_said ∙ sym (λ i. listed (option_map decoded_status (records.first i)) ++ listed (option_map decoded_status (records.second i)))
+
+    damage_is : body_damage (disk_bytes image slot)
+        ≡ option_or (damage_in Claims (option_map decoded_claim c) (option_map decoded_claim d)) (damage_in Records (option_map decoded_status r) (option_map decoded_status q))
+    damage_is = damage_said ∙ sym (λ i. option_or
+        (damage_in Claims (option_map decoded_claim (claims.first i)) (option_map decoded_claim (claims.second i)))
+        (damage_in Records (option_map decoded_status (records.first i)) (option_map decoded_status (records.second i))))
+
+    pub slots_say : (c_says d_says : Option (Option Claim)) (r_says q_says : Option (Option Status)) → c_says ≡ option_map decoded_claim c → d_says ≡ option_map decoded_claim d
+        → r_says ≡ option_map decoded_status r → q_says ≡ option_map decoded_status q → (epoch : ℕ) (status : Option Status) (block : Option ℕ)
+        → epoch ≡ greatest_epoch (claims_of_group id (listed c_says ++ listed d_says)) → status ≡ greatest (of_group id (listed r_says ++ listed q_says))
+        → block ≡ option_or (damage_in Claims c_says d_says) (damage_in Records r_says q_says) → SlotsSay id slot epoch status block image
+    slots_say c_says d_says r_says q_says c_is d_is r_is q_is epoch status block epoch_is status_is block_is = record {
+      epoch_is = ap (λ (cs : List (Option Claim)). greatest_epoch (claims_of_group id cs)) (claims_are ∙ sym (λ i. listed (c_is i) ++ listed (d_is i))) ∙ sym epoch_is;
+      status_is = ap (λ (rs : List (Option Status)). greatest (of_group id rs)) (statuses_are ∙ sym (λ i. listed (r_is i) ++ listed (q_is i))) ∙ sym status_is;
+      damage_is = damage_is ∙ (sym (λ i. option_or (damage_in Claims (c_is i) (d_is i)) (damage_in Records (r_is i) (q_is i))) ∙ sym block_is);
+    }

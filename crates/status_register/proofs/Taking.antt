@@ -9,15 +9,13 @@ use Rattle.bay.specs.Moments.{Runs, Ends, Joins}
 use Rattle.bay.proofs.Calls.{stops, both_done}
 use Rattle.asm_formats.specs.Among.{IsAmong}
 use Rattle.asm_images.specs.Bridge.{shown}
-use Rattle.asm_formats.specs.Claim.{decoded_claim}
-use Rattle.asm_formats.specs.Status.{decoded_status}
-use Rattle.status_register.specs.Slots.{MayPutNext, PutsNext, other_gate, claim_gate, status_gate, claim_number, record_number, said, next_gate, first_gate, second_gate}
+use Rattle.status_register.specs.Slots.{MayPutNext, PutsNext, first_gate, next_gate, number_in, other_gate, second_gate, status_gate}
 use Rattle.status_register.specs.Rows.{HasBody, HaveBody, Takes, AreApart}
 use Rattle.status_register.specs.Surveys.{AreRead, none_yet, one_read, one_failed}
 use Rattle.status_register.specs.declared.member.Member.{Member}
 use Rattle.status_register.specs.declared.places.SlotPair.{SlotPair}
-use Rattle.status_register.specs.declared.places.SlotPair.TheVariants.{Claims, Records}
-use Rattle.status_register.proofs.Shown.{same_shown}
+use Rattle.status_register.specs.declared.places.SlotPair.TheVariants.{Records}
+use Rattle.status_register.proofs.Shown.{next_gate_by, same_shown}
 use Rattle.status_register.proofs.Tallying.{RoseAt, still_read}
 
 -- ---- members
@@ -27,16 +25,16 @@ among_append [] ys m h = inr h
 among_append (x ∷ xs) ys m (inl same) = inl (inl same)
 among_append (x ∷ xs) ys m (inr h) = ⊎_elim (λ first. inl (inr first)) (λ second. inr second) (among_append xs ys m h)
 
-append_left : (xs ys : List Member) (m : Member) → IsAmong xs m → IsAmong (xs ++ ys) m
+pub append_left : (xs ys : List Member) (m : Member) → IsAmong xs m → IsAmong (xs ++ ys) m
 append_left [] ys m h = absurd h
 append_left (x ∷ xs) ys m (inl same) = inl same
 append_left (x ∷ xs) ys m (inr h) = inr (append_left xs ys m h)
 
-append_last : (xs : List Member) (m : Member) → IsAmong (xs ++ m ∷ []) m
+pub append_last : (xs : List Member) (m : Member) → IsAmong (xs ++ m ∷ []) m
 append_last [] m = inl refl
 append_last (x ∷ xs) m = inr (append_last xs m)
 
-last_or_before : (xs : List Member) (m n : Member) → IsAmong (xs ++ m ∷ []) n → IsAmong xs n ⊎ (n ≡ m)
+pub last_or_before : (xs : List Member) (m n : Member) → IsAmong (xs ++ m ∷ []) n → IsAmong xs n ⊎ (n ≡ m)
 last_or_before xs m n h = ⊎_elim (λ before. inl before) (λ last. inr (⊎_elim (λ same. same) (λ none. absurd none) last)) (among_append xs (m ∷ []) n h)
 
 pub kept_among : (failed : ℕ → Type 0) (ms kept : List Member) → AreRead failed ms kept → (n : Member) → IsAmong kept n → IsAmong ms n
@@ -63,17 +61,14 @@ either_gate p q None b = inl refl
 either_gate p q (Some n) None = inr refl
 either_gate p q (Some n) (Some m) = cond_both (nat_le m n) q p (λ (g : ℕ). (g ≡ p) ⊎ (g ≡ q)) (λ le. inr refl) (λ above. inl refl)
 
-claim_gate_either : (id slot : ℕ) (image : Image) → (claim_gate id slot image ≡ 2) ⊎ (claim_gate id slot image ≡ 4)
-unfolding claim_gate
-claim_gate_either id slot image = either_gate 2 4 (claim_number id (said decoded_claim image slot 2)) (claim_number id (said decoded_claim image slot 4))
+pub next_gate_either : (pair : SlotPair) (id slot : ℕ) (image : Image) → (next_gate pair id slot image ≡ first_gate pair) ⊎ (next_gate pair id slot image ≡ second_gate pair)
+next_gate_either pair id slot image = ⊎_elim
+    (λ is. inl (next_gate_by pair id slot image ∙ is))
+    (λ is. inr (next_gate_by pair id slot image ∙ is))
+    (either_gate (first_gate pair) (second_gate pair) (number_in pair id (shown image slot (first_gate pair))) (number_in pair id (shown image slot (second_gate pair))))
 
 pub status_gate_either : (id slot : ℕ) (image : Image) → (status_gate id slot image ≡ 6) ⊎ (status_gate id slot image ≡ 8)
-unfolding status_gate
-status_gate_either id slot image = either_gate 6 8 (record_number id (said decoded_status image slot 6)) (record_number id (said decoded_status image slot 8))
-
-pub next_gate_either : (pair : SlotPair) (id slot : ℕ) (image : Image) → (next_gate pair id slot image ≡ first_gate pair) ⊎ (next_gate pair id slot image ≡ second_gate pair)
-next_gate_either Claims id = claim_gate_either id
-next_gate_either Records id = status_gate_either id
+status_gate_either id = next_gate_either Records id
 
 -- ---- one more
 

@@ -2,7 +2,7 @@
 use Rattle.std.proofs.Common.{◌≡◌, inl, inr, ⊎_elim, ℕ, zero, suc, ◌+◌, ◌<◌, ◌≤◌, List, [], ◌∷◌, ◌++◌, length, get_or, Option, refl, sym, ap, subst, ◌∙◌, arith}
 use Rattle.std.proofs.lemmas.List.{length-append}
 use Rattle.bay.specs.Image.{Image, Same, window}
-use Rattle.bay.specs.State.{BayState}
+use Rattle.bay.specs.State.{BayState, KeepsAttached}
 use Rattle.bay.specs.Counts.{Rose}
 use Rattle.bay.specs.Moments.{Runs}
 use Rattle.bay.proofs.Images.{window-same}
@@ -13,11 +13,13 @@ use Rattle.asm_formats.specs.Damage.{body_damage}
 use Rattle.asm_images.specs.Bridge.{disk_bytes}
 use Rattle.asm_images.specs.Members.{claims_of_group, of_group}
 use Rattle.asm_images.specs.Register.{greatest}
-use Rattle.status_register.specs.Told.{Told}
+use Rattle.bay.specs.Told.{Told}
 use Rattle.status_register.specs.Surveys.{AreRead, none_yet, one_read, one_failed, Says, greatest_epoch}
-use Rattle.status_register.specs.Tallies.{Adds, SlotsSay}
+use Rattle.status_register.specs.Tallies.{Adds, HaveSlots, SlotsSay}
+use Rattle.status_register.specs.Places.{HasSlots}
 use Rattle.status_register.specs.declared.member.Member.{Member}
 use Rattle.status_register.specs.declared.tally.Tally.{Tally}
+use Rattle.status_register.proofs.Filling.{still_slots}
 use Rattle.status_register.proofs.Telling.{told_later, told_before}
 use Rattle.status_register.proofs.Joining.{says_more}
 
@@ -81,3 +83,7 @@ pub among_get : (ms : List Member) (i : ℕ) (d : Member) → i < length ms → 
 among_get [] i d lt = absurd (omega arith)
 among_get (m ∷ ms) zero d lt = inl refl
 among_get (m ∷ ms) (suc i) d lt = inr (among_get ms i d (omega arith))
+
+-- one of the members has its slots while the same disks stay attached
+pub member_slots : {s t : BayState} (ms : List Member) (i : ℕ) (d : Member) → HaveSlots s ms → KeepsAttached s t → i < length ms → HasSlots t (get_or ms i d).slot (get_or ms i d).sector
+member_slots ms i d have keeps lt = still_slots (have (get_or ms i d) (among_get ms i d lt)) keeps

@@ -4,11 +4,14 @@ use Rattle.std.specs.Prelude.{IsSome, unwrap_or}
 use Rattle.std.proofs.lemmas.Bool.{false≢true}
 use Rattle.std.proofs.lemmas.Option.{same_Some}
 use Rattle.bay.specs.Image.{Image, Same}
-use Rattle.bay.specs.State.{BayState, IsSound}
+use Rattle.bay.specs.State.{BayState, IsSlot, IsSound}
+use Rattle.bay.specs.Calls.{Calls, Cost, both_costs}
 use Rattle.bay.specs.Moments.{Runs, Ends, Durable}
 use Rattle.bay.proofs.Calls.{stops, still_durable, as_held}
+use Rattle.bay.proofs.Images.{same-trans}
+use Rattle.bay.proofs.OneCall.{joined}
 use Rattle.status_register.specs.Places.{HasSlots}
-use Rattle.status_register.specs.Told.{Told}
+use Rattle.bay.specs.Told.{Told}
 use Rattle.status_register.specs.Slots.{FoundGate}
 
 module _ (s m t : BayState) (P : Image → Type 0) {slots : ℕ → Type 0} {step : Image → Image → Type 0} where
@@ -23,9 +26,14 @@ module _ (s m t : BayState) (P : Image → Type 0) {slots : ℕ → Type 0} {ste
       let start = first.held mid.0 mid.1 in
       subst P (same_Some start.0 image (sym start.1 ∙ was)) (keeps start.0 mid.0 start.2 (told now holds mid.0 mid.1))
 
--- two things that are told
-pub told_both : (s t : BayState) (P Q R : Image → Type 0) → ((x : Image) → P x → Q x → R x) → Told s t P → Told s t Q → Told s t R
-told_both s t P Q R joins p q = λ now holds image was. joins image (p now holds image was) (q now holds image was)
+-- two reads of a slot's disk, one after the other
+module _ {slot : ℕ} {one two : Cost} {s m t : BayState} (first : Calls (IsSlot slot) Same one s m) (next : Calls (IsSlot slot) Same two m t) where
+  pub both_read : Calls (IsSlot slot) Same (both_costs one two) s t
+  both_read = joined same-trans first (stops first.runs) next
+
+  pub told_both : (P Q R : Image → Type 0) → ((x y : Image) → Same x y → Q y → Q x) → ((x : Image) → P x → Q x → R x) → Told s m P → Told m t Q → Told s t R
+  told_both P Q R keeps joins p q = λ now holds image was.
+      joins image (told_later s m t P next.runs p now holds image was) (told_before s m t Q first.runs next.runs keeps q now holds image was)
 
 -- each byte of a slot's disk is the same
 abbrev pub SameBytes : ℕ → Image → Image → Type 0

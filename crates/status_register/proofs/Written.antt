@@ -25,7 +25,7 @@ use Rattle.status_register.specs.Holders.{attached_to, numbered, HoldSlots}
 use Rattle.status_register.specs.Keeping.{EpochStands, HasHistory, HasNoRecord, Keeps, KeepsOn, IsSurveyOf, FitsWith, KeepsFromClaim, IsReady}
 use Rattle.status_register.specs.Registered.{Registered, AreNumbered, IsClaimAnswer, claim_of, registered}
 use Rattle.status_register.specs.Answers.{Surveyed}
-use Rattle.status_register.specs.Rows.{HaveBody, PutsRow, AreApart}
+use Rattle.status_register.specs.Rows.{HaveClaim, HaveStatus, PutsRow, AreApart}
 use Rattle.status_register.specs.Slots.{claim_gate, status_gate}
 use Rattle.status_register.specs.SurveyLaws.{IsMemberOn}
 use Rattle.status_register.specs.Surveys.{missing}
@@ -165,7 +165,7 @@ module _ (s t : BayState) (sound : IsSound s) (old : Registered) (next : Status)
   group_is : r.id ≡ old.id
   group_is = group ∙ keeps.continues.group
 
-  after_ok : (failed : ℕ) (took : List Member) → ((m : Member) → IsAmong took m → IsAmong ms m) → Ends (HaveBody 6 8 (status_spelling r) took) s t → missing took (Some r) ≡ None
+  after_ok : (failed : ℕ) (took : List Member) → ((m : Member) → IsAmong took m → IsAmong ms m) → Ends (HaveStatus (status_spelling r) took) s t → missing took (Some r) ≡ None
       → Keeps slots (after_write old next (Ok failed)) (Some r) [] t
   after_ok failed took kept done enough = record {
     continues = record { group = group_is; counts = inl refl; holds = λ is. refl; below = λ x h. ⊎_elim (λ (same : x ≡ r). omega (arith, ap rank same)) (λ none. absurd none) h };
@@ -212,7 +212,7 @@ module _ (s t : BayState) (sound : IsSound s) (r : Status) (allowed : IsTrue (is
   pub first_fits : LeavesOnly s t (FitsIn slots r.id None (r ∷ []))
   first_fits = leaves_less (λ image b. b.fits) first_moments
 
-  pub first_completed : Ends (HaveBody 6 8 (status_spelling r) (first_holders r ms)) s t → missing (first_holders r ms) (Some r) ≡ None → Keeps slots (first_register r ms) (Some r) [] t
+  pub first_completed : Ends (HaveStatus (status_spelling r) (first_holders r ms)) s t → missing (first_holders r ms) (Some r) ≡ None → Keeps slots (first_register r ms) (Some r) [] t
   first_completed done enough = record {
     continues = record { group = refl; counts = inl refl; holds = λ is. refl; below = λ x h. ⊎_elim (λ (same : x ≡ r). omega (arith, ap rank same)) (λ none. absurd none) h };
     now = record {
@@ -236,7 +236,7 @@ module _ (s t : BayState) (sound : IsSound s) (survey : Surveyed) (allowed : IsT
   claim_leaves slots completed begun before = claims_leave s t sound survey.id (claim_of survey) allowed survey.members have run slots completed begun before
 
   claim_keeps : (slots : ℕ) (completed : Option Status) (begun : List Status) → IsSurveyOf slots survey completed begun → NowOnly s (FitsWith slots survey.id survey.members completed begun)
-      → (took : List Member) → ((m : Member) → IsAmong took m → IsAmong survey.members m) → Ends (HaveBody 2 4 (claim_spelling (claim_of survey)) took) s t → missing took (Some survey.value) ≡ None
+      → (took : List Member) → ((m : Member) → IsAmong took m → IsAmong survey.members m) → Ends (HaveClaim (claim_spelling (claim_of survey)) took) s t → missing took (Some survey.value) ≡ None
       → Keeps slots (registered survey) completed begun t
   claim_keeps slots completed begun is before took kept done enough = record {
     continues = record { group = is.group; counts = is.counts; holds = λ written. absurd (false≢true (sym written)); below = λ x h. let low = is.below x h in omega (arith, low.0, low.1) };

@@ -5,7 +5,7 @@ use Rattle.bay.specs.State.{BayState}
 use Rattle.bay.specs.Counts.{Rose}
 use Rattle.asm_formats.specs.Status.{Status}
 use Rattle.asm_images.specs.Register.{greatest}
-use Rattle.status_register.specs.Told.{Told}
+use Rattle.bay.specs.Told.{Told}
 use Rattle.status_register.specs.Surveys.{AreRead, claims_on, records_on, greatest_epoch, first_damage, missing}
 use Rattle.status_register.specs.declared.member.Member.{Member}
 use Rattle.status_register.specs.declared.tally.Tally.{Tally}

@@ -1,5 +1,4 @@
 pub mod Places
-pub mod Told
 pub mod Slots
 pub mod Surveys
 pub mod Sayings

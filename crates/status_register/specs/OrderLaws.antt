@@ -5,7 +5,7 @@ use Rattle.bay.specs.Counts.{Rose}
 use Rattle.asm_formats.specs.Among.{IsAmong}
 use Rattle.asm_formats.specs.Status.{Status}
 use Rattle.status_register.specs.Holders.{SlotsDiffer, attached_to}
-use Rattle.status_register.specs.Rows.{HasBody, PutsInOrder, PutsRow}
+use Rattle.status_register.specs.Rows.{HasStatus, PutsInOrder, PutsRow}
 use Rattle.status_register.specs.Slots.{status_gate}
 use Rattle.status_register.specs.declared.member.Member.{Member}
 
@@ -23,7 +23,7 @@ GreaterNumbersFirst =
     (id : ℕ) (body : List ℕ) (places : List (Option Member)) (r : Status) (before now : ℕ → ℕ) (x y : Image) → SlotsDiffer places
     → PutsInOrder (status_gate id) body (λ slot. Rose (before slot) (now slot)) (attached_to places r) x y
     → (greater m : Member) → IsAmong (attached_to places r) greater → IsAmong (attached_to places r) m → m.number < greater.number
-    → ((k : ℕ) → y.byte m.slot k ≡ x.byte m.slot k) ⊎ (HasBody 6 8 body greater.slot y ⊎ Rose (before greater.slot) (now greater.slot))
+    → ((k : ℕ) → y.byte m.slot k ≡ x.byte m.slot k) ⊎ (HasStatus body greater.slot y ⊎ Rose (before greater.slot) (now greater.slot))
 
 -- puts in the order of the members are a row of puts
 abbrev pub OrderedPutsAreARow : Type 0

@@ -9,7 +9,7 @@ use Rattle.asm_formats.specs.Claim.{Claim, claim_spelling}
 use Rattle.asm_formats.specs.Status.{Status, Entry, entry_of}
 use Rattle.status_register.specs.Answers.{Surveyed, IsRefusal}
 use Rattle.status_register.specs.History.{FitsIn}
-use Rattle.status_register.specs.Rows.{HaveBody}
+use Rattle.status_register.specs.Rows.{HaveClaim}
 use Rattle.status_register.specs.Surveys.{AreRead, missing}
 use Rattle.status_register.specs.declared.member.Member.{Member}
 use Rattle.status_register.specs.declared.error.SurveyError.{SurveyError}
@@ -62,7 +62,7 @@ registered survey = record {
 abbrev pub IsClaimAnswer : Surveyed → Result Registered SurveyError → BayState → BayState → Type 0
 IsClaimAnswer survey answer s t =
     (took : List Member) × AreRead (λ slot. Rose (s.faults slot) (t.faults slot)) survey.members took
-    × Ends (HaveBody 2 4 (claim_spelling (claim_of survey)) took) s t
+    × Ends (HaveClaim (claim_spelling (claim_of survey)) took) s t
     × MatchResult answer
     (λ register. (missing took (Some survey.value) ≡ None) × (register ≡ registered survey))
     (λ refusal. IsRefusal refusal (missing took (Some survey.value)) (Some survey.value) None)

@@ -1,14 +1,16 @@
 -- A body is put on the disks of several members, one after another.
-use Rattle.std.specs.Prelude.{◌≡◌, ◌⊎◌, ℕ, ◌<◌, List, [], ◌∷◌, ◌++◌, length, get_or, Some}
+use Rattle.std.specs.Prelude.{◌≡◌, ◌⊎◌, ℕ, ◌*◌, ◌<◌, List, [], ◌∷◌, ◌++◌, length, get_or, Some}
 use Rattle.bay.specs.Image.{Image, Same}
 use Rattle.bay.specs.State.{BayState}
 use Rattle.bay.specs.Counts.{Rose}
 use Rattle.bay.specs.Moments.{Ends, Runs}
+use Rattle.bay.specs.Calls.{Cost, cost, Calls}
 use Rattle.asm_formats.specs.Among.{IsAmong}
 use Rattle.asm_images.specs.Bridge.{shown}
-use Rattle.status_register.specs.Slots.{MayPutNext, PutsNext}
+use Rattle.status_register.specs.Slots.{MayPutNext, PutsNext, first_gate, second_gate}
 use Rattle.status_register.specs.Tallies.{IsSlotOf}
 use Rattle.status_register.specs.declared.member.Member.{Member}
+use Rattle.status_register.specs.declared.places.SlotPair.TheVariants.{Claims, Records}
 
 -- some puts of a body on disks of these members, each whole or in part
 pub data PutsRow (gate_of : ℕ → Image → ℕ) (ms : List Member) (body : List ℕ) : Image → Image → Type 0 where
@@ -29,6 +31,15 @@ PutsInOrder gate_of body failed (m ∷ ms) old new =
 abbrev pub RunsInOrder : (ℕ → Image → ℕ) → List Member → List ℕ → BayState → BayState → Type 0
 RunsInOrder gate_of ms body s t = Runs (IsSlotOf ms) (PutsInOrder gate_of body (λ slot. Rose (s.faults slot) (t.faults slot)) ms) s t
 
+-- the cost of a put of a body on each of so many members: the calls, and the bytes that one slot is given
+abbrev pub cost_of_puts : ℕ → Cost
+cost_of_puts n = cost (13 * n) (12288 * n)
+
+-- the puts on these members as one value
+abbrev pub CallsInOrder : (ℕ → Image → ℕ) → List Member → List ℕ → BayState → BayState → Type 0
+CallsInOrder gate_of ms body s t =
+    Calls (IsSlotOf ms) (PutsInOrder gate_of body (λ slot. Rose (s.faults slot) (t.faults slot)) ms) (cost_of_puts (length ms)) s t
+
 -- one of the two slots of a disk shows the body
 abbrev pub HasBody : ℕ → ℕ → List ℕ → ℕ → Image → Type 0
 HasBody first second body slot image = (shown image slot first ≡ Some body) ⊎ (shown image slot second ≡ Some body)
@@ -36,6 +47,20 @@ HasBody first second body slot image = (shown image slot first ≡ Some body) �
 -- each of these disks shows the body, whatever it showed before
 abbrev pub HaveBody : ℕ → ℕ → List ℕ → List Member → Image → Image → Type 0
 HaveBody first second body took old new = (m : Member) → IsAmong took m → HasBody first second body m.slot new
+
+-- a claim slot, and a status slot, of a disk shows the body
+abbrev pub HasClaim : List ℕ → ℕ → Image → Type 0
+HasClaim body slot image = HasBody (first_gate Claims) (second_gate Claims) body slot image
+
+abbrev pub HasStatus : List ℕ → ℕ → Image → Type 0
+HasStatus body slot image = HasBody (first_gate Records) (second_gate Records) body slot image
+
+-- the same of each of these disks
+abbrev pub HaveClaim : List ℕ → List Member → Image → Image → Type 0
+HaveClaim body took old new = HaveBody (first_gate Claims) (second_gate Claims) body took old new
+
+abbrev pub HaveStatus : List ℕ → List Member → Image → Image → Type 0
+HaveStatus body took old new = HaveBody (first_gate Records) (second_gate Records) body took old new
 
 -- one member more: left out where its slot failed, and else its disk shows the body
 abbrev pub Takes : (ℕ → Image → ℕ) → Member → List ℕ → List Member → List Member → BayState → BayState → Type 0

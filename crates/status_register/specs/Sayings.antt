@@ -1,6 +1,8 @@
 -- What both slots of a pair say of a group.
-use Rattle.std.specs.Prelude.{◌≡◌, ⊤, ℕ, Bool, IsTrue, true, false, List, [], ◌∷◌, if◌then◌else◌, Option, Some, None}
+use Rattle.std.specs.Prelude.{◌≡◌, ⊤, ℕ, ◌+◌, Bool, IsTrue, true, false, List, [], ◌∷◌, if◌then◌else◌, Option, Some, None}
 use Rattle.asm_formats.specs.Status.{Status, is_status}
+use Rattle.status_register.specs.Slots.{first_gate, second_gate}
+use Rattle.status_register.specs.declared.places.SlotPair.{SlotPair}
 
 -- what there is
 abbrev pub listed : {A : Type 0} → Option A → List A
@@ -28,9 +30,6 @@ spoiled None = false
 spoiled (Some None) = true
 spoiled (Some (Some x)) = false
 
--- the block of the first claim, and of the first record, that must be one and isn't
-abbrev pub claim_damage : {A : Type 0} → Option (Option A) → Option (Option A) → Option ℕ
-claim_damage first second = if spoiled first then Some 3 else (if spoiled second then Some 5 else None)
-
-abbrev pub status_damage : {A : Type 0} → Option (Option A) → Option (Option A) → Option ℕ
-status_damage first second = if spoiled first then Some 7 else (if spoiled second then Some 9 else None)
+-- the block of the first body of a pair that must be a value and isn't
+abbrev pub damage_in : {A : Type 0} → SlotPair → Option (Option A) → Option (Option A) → Option ℕ
+damage_in pair first second = if spoiled first then Some (first_gate pair + 1) else (if spoiled second then Some (second_gate pair + 1) else None)

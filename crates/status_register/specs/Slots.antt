@@ -1,14 +1,31 @@
 -- What stands in the claim and status slots of a disk, and which slot the next claim or record is put into.
-use Rattle.std.specs.Prelude.{◌≡◌, ◌⊎◌, ℕ, ◌*◌, ◌==◌, Bool, nat_le, if◌then◌else◌, List, Option, Some, None}
+use Rattle.std.specs.Prelude.{◌≡◌, ◌⊎◌, ℕ, ◌*◌, ◌==◌, Bool, nat_le, if◌then◌else◌, List, get_or, Option, Some, None}
 use Rattle.std.specs.Option.{option_map}
 use Rattle.bay.specs.Image.{Image, Range, Same, ChangesOnly}
 use Rattle.asm_formats.specs.Bytes.{block_size}
 use Rattle.asm_formats.specs.Claim.{Claim, decoded_claim}
 use Rattle.asm_formats.specs.Status.{Status, decoded_status}
 use Rattle.asm_formats.specs.Following.{rank}
+use Rattle.asm_formats.specs.Regions.{claim_gates, status_gates}
 use Rattle.asm_images.specs.Bridge.{shown}
 use Rattle.status_register.specs.declared.places.SlotPair.{SlotPair}
 use Rattle.status_register.specs.declared.places.SlotPair.TheVariants.{Claims, Records}
+
+-- the gates of both slots of a pair
+abbrev pub gates_of : SlotPair → List ℕ
+gates_of Claims = claim_gates
+gates_of Records = status_gates
+
+abbrev pub first_gate : SlotPair → ℕ
+first_gate pair = get_or (gates_of pair) 0 0
+
+abbrev pub second_gate : SlotPair → ℕ
+second_gate pair = get_or (gates_of pair) 1 0
+
+-- both slots of a pair show these bodies
+pub record ShowBoth (pair : SlotPair) (slot : ℕ) (one other : Option (List ℕ)) (image : Image) : Type 0 where
+  pub first : one ≡ shown image slot (first_gate pair)
+  pub second : other ≡ shown image slot (second_gate pair)
 
 -- what the body behind a gate says: nothing where the gate is shut, and no value where the body is none
 abbrev pub said : {A : Type 0} → (List ℕ → Option A) → Image → ℕ → ℕ → Option (Option A)
@@ -33,26 +50,27 @@ other_gate first second None other = first
 other_gate first second (Some n) None = second
 other_gate first second (Some n) (Some m) = if nat_le m n then second else first
 
+-- the number of the group's claim, or record, in a body of a pair
+abbrev pub number_in : SlotPair → ℕ → Option (List ℕ) → Option ℕ
+number_in Claims id body = claim_number id (option_map decoded_claim body)
+number_in Records id body = record_number id (option_map decoded_status body)
+
+-- the gate of the slot of a pair that the next body is put into, by the numbers in both
+abbrev pub gate_by : SlotPair → ℕ → ℕ → Image → ℕ
+gate_by pair id slot image =
+    other_gate (first_gate pair) (second_gate pair) (number_in pair id (shown image slot (first_gate pair))) (number_in pair id (shown image slot (second_gate pair)))
+
 -- the gate of the slot that the next claim is put into, and that of the next record
 unfoldable pub claim_gate : ℕ → ℕ → Image → ℕ
-claim_gate id slot image = other_gate 2 4 (claim_number id (said decoded_claim image slot 2)) (claim_number id (said decoded_claim image slot 4))
+claim_gate id slot image = gate_by Claims id slot image
 
 unfoldable pub status_gate : ℕ → ℕ → Image → ℕ
-status_gate id slot image = other_gate 6 8 (record_number id (said decoded_status image slot 6)) (record_number id (said decoded_status image slot 8))
+status_gate id slot image = gate_by Records id slot image
 
 -- the same of a pair of slots
 abbrev pub next_gate : SlotPair → ℕ → ℕ → Image → ℕ
 next_gate Claims id = claim_gate id
 next_gate Records id = status_gate id
-
--- the gates of both
-abbrev pub first_gate : SlotPair → ℕ
-first_gate Claims = 2
-first_gate Records = 6
-
-abbrev pub second_gate : SlotPair → ℕ
-second_gate Claims = 4
-second_gate Records = 8
 
 -- the disks are the same, and it is known which gate is the next
 pub record FoundGate (gate_of : Image → ℕ) (gate : ℕ) (old new : Image) : Type 0 where

@@ -15,7 +15,7 @@ use Rattle.asm_images.specs.Bridge.{disk_bytes, disks_in}
 use Rattle.asm_images.specs.Members.{all_members, within}
 use Rattle.asm_images.specs.Register.{base, is_enough, HasEpoch, current_records, greatest}
 use Rattle.status_register.specs.History.{FitsIn}
-use Rattle.status_register.specs.Rows.{HasBody, PutsRow}
+use Rattle.status_register.specs.Rows.{HasClaim, HasStatus, PutsRow}
 use Rattle.status_register.specs.Surveys.{records_on, missing, claims_on, greatest_epoch}
 use Rattle.status_register.specs.declared.member.Member.{Member}
 
@@ -54,7 +54,7 @@ abbrev pub ShownClaimIsSeen : Type 0
 ShownClaimIsSeen =
     (slots id : ℕ) (completed : Option Status) (begun : List Status) (image : Image) (took : List Member) (g r : Status) → FitsIn slots id completed begun image
     → ((m : Member) → IsAmong took m → IsMemberOn slots id image m) → IsTrue (is_claim (record { id = id; epoch = r.epoch }))
-    → ((m : Member) → IsAmong took m → HasBody 2 4 (claim_spelling (record { id = id; epoch = r.epoch })) m.slot image)
+    → ((m : Member) → IsAmong took m → HasClaim (claim_spelling (record { id = id; epoch = r.epoch })) m.slot image)
     → IsAmong (current_records completed begun) g → missing took (Some g) ≡ None → ((v : Status) → base completed begun ≡ Some v → Follows v r)
     → (P : ℕ → Bool) (s : Status) → IsAmong (r ∷ current_records completed begun) s → IsTrue (is_enough s (within P (all_members id (disks_in slots image))))
     → HasEpoch id (within P (all_members id (disks_in slots image))) r.epoch
@@ -91,7 +91,7 @@ abbrev pub ClaimedRecordBegins : Type 0
 ClaimedRecordBegins =
     (slots id : ℕ) (completed : Option Status) (begun : List Status) (image : Image) (took : List Member) (g r : Status) → FitsIn slots id completed begun image
     → ((m : Member) → IsAmong took m → IsMemberOn slots id image m) → IsTrue (is_claim (record { id = id; epoch = r.epoch }))
-    → ((m : Member) → IsAmong took m → HasBody 2 4 (claim_spelling (record { id = id; epoch = r.epoch })) m.slot image)
+    → ((m : Member) → IsAmong took m → HasClaim (claim_spelling (record { id = id; epoch = r.epoch })) m.slot image)
     → IsAmong (current_records completed begun) g → missing took (Some g) ≡ None → ((v : Status) → base completed begun ≡ Some v → Follows v r)
     → IsTrue (is_status r) → ((s : Status) → IsAmong (current_records completed begun) s → rank s < rank r) → FitsIn slots id completed (begun ++ r ∷ []) image
 
@@ -100,4 +100,4 @@ abbrev pub StoredRecordCompletes : Type 0
 StoredRecordCompletes =
     (slots id : ℕ) (completed : Option Status) (begun : List Status) (image : Image) (took : List Member) (r : Status) → FitsIn slots id completed begun image → IsLast completed begun r
     → IsTrue (is_status r) → r.id ≡ id → ((m : Member) → IsAmong took m → IsMemberOn slots id image m)
-    → ((m : Member) → IsAmong took m → HasBody 6 8 (status_spelling r) m.slot image) → missing took (Some r) ≡ None → FitsIn slots id (Some r) [] image
+    → ((m : Member) → IsAmong took m → HasStatus (status_spelling r) m.slot image) → missing took (Some r) ≡ None → FitsIn slots id (Some r) [] image

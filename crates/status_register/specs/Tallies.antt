@@ -11,7 +11,7 @@ use Rattle.asm_images.specs.Bridge.{disk_bytes}
 use Rattle.asm_images.specs.Members.{claims_of_group, of_group}
 use Rattle.asm_images.specs.Register.{greatest}
 use Rattle.status_register.specs.Places.{HasSlots}
-use Rattle.status_register.specs.Told.{Told}
+use Rattle.bay.specs.Told.{Told}
 use Rattle.status_register.specs.Surveys.{disk_in, greatest_epoch, greater_of}
 use Rattle.status_register.specs.declared.member.Member.{Member}
 use Rattle.status_register.specs.declared.tally.Tally.{Tally}

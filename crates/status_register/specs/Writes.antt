@@ -11,7 +11,7 @@ use Rattle.asm_formats.specs.Status.{Status, status_spelling}
 use Rattle.asm_formats.specs.Following.{Holder, sets, disks_of}
 use Rattle.status_register.specs.Holders.{next_turn, numbered, attached_to}
 use Rattle.status_register.specs.Registered.{Registered, all_placed}
-use Rattle.status_register.specs.Rows.{HasBody, HaveBody}
+use Rattle.status_register.specs.Rows.{HasStatus, HaveStatus}
 use Rattle.status_register.specs.Surveys.{AreRead, missing, seen_of}
 use Rattle.status_register.specs.Tallies.{IsSlotOf}
 use Rattle.status_register.specs.declared.member.Member.{Member}
@@ -42,14 +42,14 @@ pub record IsLost (ms took : List Member) (all : List (List Holder)) (disk : Mem
 abbrev pub IsWriteAnswer : List Member → Status → Result ℕ Dead → BayState → BayState → Type 0
 IsWriteAnswer ms r answer s t =
     (took : List Member) × AreRead (λ slot. Rose (s.faults slot) (t.faults slot)) ms took
-    × Ends (HaveBody 6 8 (status_spelling r) took) s t
+    × Ends (HaveStatus (status_spelling r) took) s t
     × MatchResult answer
     (λ failed. (missing took (Some r) ≡ None) × IsFailed ms took failed)
     (λ dead. (disk : Member) × IsLost ms took (sets r) disk × (dead.slot ≡ disk.slot) × Rose (s.faults dead.slot) (t.faults dead.slot))
 
 -- each of these disks that isn't in the set shows the record
 abbrev pub ShowBut : List Member → ℕ → Status → Image → Image → Type 0
-ShowBut ms failed r old new = (m : Member) → IsAmong ms m → has_bit failed m.number ≡ false → HasBody 6 8 (status_spelling r) m.slot new
+ShowBut ms failed r old new = (m : Member) → IsAmong ms m → has_bit failed m.number ≡ false → HasStatus (status_spelling r) m.slot new
 
 -- one of these disks is in the set only where its slot failed
 abbrev pub FailedAlone : List Member → ℕ → BayState → BayState → Type 0
@@ -67,7 +67,7 @@ after_write old next (Err dead) = record old { turn = next_turn old.turn }
 abbrev pub HoldersShow : List Member → Status → Image → Image → Type 0
 HoldersShow ms r old new =
     (h : Holder) → IsAmong (disks_of r.entries r.holders) h
-    → (m : Member) × IsAmong ms m × (m.number ≡ h.0) × (m.birth ≡ h.1) × HasBody 6 8 (status_spelling r) m.slot new
+    → (m : Member) × IsAmong ms m × (m.number ≡ h.0) × (m.birth ≡ h.1) × HasStatus (status_spelling r) m.slot new
 
 -- the attached holders of a first record
 abbrev pub first_holders : Status → List Member → List Member

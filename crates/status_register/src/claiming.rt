@@ -4,7 +4,7 @@ ghost use Rattle.asm_formats.specs.Claim.{claim_spelling};
 ghost use Rattle.bay.specs.State.{KeepsAttached};
 ghost use Rattle.bay.specs.Moments.{Runs, Ends};
 ghost use Rattle.status_register.specs.Keeping.{KeepsNoRecord, MayBeFirst};
-ghost use Rattle.status_register.specs.Rows.{AreApart, HaveBody, PutsRow};
+ghost use Rattle.status_register.specs.Rows.{AreApart, HaveClaim, PutsRow};
 ghost use Rattle.status_register.specs.Slots.{claim_gate};
 ghost use Rattle.status_register.specs.Tallies.{HaveSlots, IsSlotOf};
 ghost use Rattle.status_register.specs.Writes.{IsDeadOf};
@@ -24,7 +24,7 @@ pub fn claim_first<B: Bay>(bay: &mut B, id: u64, epoch: u64, members: &[Member])
     requires slots { HaveSlots (B.state bay.old) members.now }
     requires few { length members.now ≤ 512 }
     requires apart { AreApart members.now }
-    ensures done { OnOk result (Ends (HaveBody 2 4 (claim_spelling (record { id = id; epoch = epoch })) members.now) (B.state bay.old) (B.state bay.new)) }
+    ensures done { OnOk result (Ends (HaveClaim (claim_spelling (record { id = id; epoch = epoch })) members.now) (B.state bay.old) (B.state bay.new)) }
     ensures cause { IfErr result (λ dead. IsDeadOf members.now dead.slot (B.state bay.old) (B.state bay.new)) }
     ensures attached { KeepsAttached (B.state bay.old) (B.state bay.new) }
     ensures calls { (B.state bay.new).calls ≤ (B.state bay.old).calls + 13 * length members.now }

@@ -1,15 +1,16 @@
 // Which slot of a disk the next claim or record is put into: the one that doesn't hold.
-ghost use Rattle.std.specs.Prelude.{◌≡◌, ◌≤◌, ◌+◌, OnErr, IfOk};
+ghost use Rattle.std.specs.Prelude.{◌≡◌, ◌⊎◌, ◌≤◌, IfOk};
+ghost use Rattle.std.specs.Option.{option_map};
 ghost use Rattle.asm_formats.specs.Following.{rank};
-ghost use Rattle.bay.specs.State.{KeepsAttached, IsSlot};
+ghost use Rattle.bay.specs.Calls.{Call, cost};
 ghost use Rattle.bay.specs.Image.{Same};
-ghost use Rattle.bay.specs.Counts.{Rose};
-ghost use Rattle.bay.specs.Moments.{Runs, Ends};
+ghost use Rattle.bay.specs.Moments.{Ends};
 ghost use Rattle.status_register.specs.Places.{HasSlots};
-ghost use Rattle.status_register.specs.Slots.{FoundGate, claim_number, next_gate, other_gate, record_number};
+ghost use Rattle.status_register.specs.Slots.{FoundGate, claim_number, next_gate, number_in, other_gate, record_number};
 
-use crate::bodies::{read_claims, read_records};
-use crate::places::{FIRST_CLAIM, FIRST_STATUS, SECOND_CLAIM, SECOND_STATUS, SlotPair};
+use crate::bodies::{claim_in, read_both, record_in};
+use crate::places::SlotPair;
+use asm_base::Block;
 use bay::{Bay, Fault};
 use status_table::{Claim, PstRecord};
 
@@ -57,7 +58,8 @@ fn record_number(id: u64, said: &Option<Option<PstRecord>>) -> Option<u128>
 /// The slot beside the one that holds, by the numbers in both: the first where neither has one. Where both have one
 /// number the first holds.
 fn other_gate(first: u64, second: u64, number: Option<u128>, other: Option<u128>) -> u64
-    ensures { result ≡ other_gate first second number other }
+    ensures gate { result ≡ other_gate first second number other }
+    ensures one { (result ≡ first) ⊎ (result ≡ second) }
 {
     match number {
         None => first,
@@ -65,6 +67,16 @@ fn other_gate(first: u64, second: u64, number: Option<u128>, other: Option<u128>
             None => second,
             Some(other) => { if other <= number { second } else { first } }
         },
+    }
+}
+
+/// The number of the group's claim, or record, in a body of a pair.
+fn number_in(pair: SlotPair, id: u64, body: &Option<Block>) -> Option<u128>
+    ensures { result ≡ number_in pair id (option_map (λ b. b.bytes) body.now) }
+{
+    match pair {
+        SlotPair::Claims => claim_number(id, &claim_in(body)),
+        SlotPair::Records => record_number(id, &record_in(body)),
     }
 }
 
@@ -78,32 +90,15 @@ pub fn next_gate<B: Bay>(
 ) -> Result<u64, Fault>
     requires slots { HasSlots (B.state bay.old) slot sector }
     ensures small { IfOk result (λ gate. gate ≤ 8) }
-    ensures attached { KeepsAttached (B.state bay.old) (B.state bay.new) }
-    ensures calls { (B.state bay.new).calls ≤ (B.state bay.old).calls + 5 }
-    ensures written { (B.state bay.new).written slot ≡ (B.state bay.old).written slot }
-    ensures runs { Runs (IsSlot slot) Same (B.state bay.old) (B.state bay.new) }
-    ensures done { IfOk result (λ gate. Ends (FoundGate (next_gate pair id slot) gate) (B.state bay.old) (B.state bay.new)) }
-    ensures cause { OnErr result (Rose ((B.state bay.old).faults slot) ((B.state bay.new).faults slot)) }
+    ensures call { Call result slot Same (λ gate. Ends (FoundGate (next_gate pair id slot) gate))
+        (cost 5 0) (B.state bay.old) (B.state bay.new) }
 {
     bay.sync(slot)?;
-    match pair {
-        SlotPair::Claims => {
-            let (first, second) = read_claims(bay, slot, sector)?;
-            Ok(other_gate(
-                FIRST_CLAIM,
-                SECOND_CLAIM,
-                claim_number(id, &first),
-                claim_number(id, &second),
-            ))
-        }
-        SlotPair::Records => {
-            let (first, second) = read_records(bay, slot, sector)?;
-            Ok(other_gate(
-                FIRST_STATUS,
-                SECOND_STATUS,
-                record_number(id, &first),
-                record_number(id, &second),
-            ))
-        }
-    }
+    let (first, second) = read_both(bay, pair, slot, sector)?;
+    Ok(other_gate(
+        pair.first_gate(),
+        pair.second_gate(),
+        number_in(pair, id, &first),
+        number_in(pair, id, &second),
+    ))
 }

@@ -1,27 +1,40 @@
 // The claim and status slots of a disk.
 ghost use Rattle.std.specs.Prelude.{◌≡◌, ◌≤◌};
 ghost use Rattle.status_register.specs.Places.{place_at};
+ghost use Rattle.status_register.specs.Slots.{first_gate, second_gate};
 
+use asm_base::{BLOCK, FIRST_CLAIM, FIRST_STATUS, SECOND_CLAIM, SECOND_STATUS};
 use gate_slot::Place;
-
-/// Bytes in a block.
-pub const BLOCK: u64 = 4096;
-
-/// The gates of the two claim slots, in blocks.
-pub const FIRST_CLAIM: u64 = 2;
-
-pub const SECOND_CLAIM: u64 = 4;
-
-/// The gates of the two status slots, in blocks.
-pub const FIRST_STATUS: u64 = 6;
-
-pub const SECOND_STATUS: u64 = 8;
 
 /// The pairs of slots of a disk.
 #[derive(Clone, Copy, Debug, PartialEq, Eq)]
 pub enum SlotPair {
     Claims,
     Records,
+}
+
+impl SlotPair {
+    /// The gate of the first slot, in blocks.
+    pub fn first_gate(self) -> u64
+        ensures gate { result ≡ first_gate self }
+        ensures small { result ≤ 8 }
+    {
+        match self {
+            SlotPair::Claims => FIRST_CLAIM as u64,
+            SlotPair::Records => FIRST_STATUS as u64,
+        }
+    }
+
+    /// The gate of the second slot, in blocks.
+    pub fn second_gate(self) -> u64
+        ensures gate { result ≡ second_gate self }
+        ensures small { result ≤ 8 }
+    {
+        match self {
+            SlotPair::Claims => SECOND_CLAIM as u64,
+            SlotPair::Records => SECOND_STATUS as u64,
+        }
+    }
 }
 
 /// The slot whose gate is in a block, with its body in the block behind it.

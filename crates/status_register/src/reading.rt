@@ -1,22 +1,18 @@
 // What the slots of one disk say of a group.
-ghost use Rattle.std.specs.Prelude.{◌≡◌, ◌≤◌, ◌+◌, ◌++◌, IfOk, OnErr};
-ghost use Rattle.asm_formats.specs.Claim.{decoded_claim};
-ghost use Rattle.asm_formats.specs.Damage.{body_damage};
-ghost use Rattle.asm_images.specs.Bridge.{disk_bytes};
+ghost use Rattle.std.specs.Prelude.{◌≡◌, ◌++◌, IfOk};
 ghost use Rattle.asm_images.specs.Members.{claims_of_group, of_group};
 ghost use Rattle.asm_images.specs.Register.{greatest};
+ghost use Rattle.bay.specs.Calls.{Call, cost};
 ghost use Rattle.bay.specs.Image.{Same};
-ghost use Rattle.bay.specs.State.{KeepsAttached, IsSlot};
-ghost use Rattle.bay.specs.Counts.{Rose};
-ghost use Rattle.bay.specs.Moments.{Runs};
 ghost use Rattle.status_register.specs.Places.{HasSlots};
-ghost use Rattle.status_register.specs.Sayings.{IsOwnRecord, listed, spoiled, claim_damage, status_damage};
-ghost use Rattle.status_register.specs.Surveys.{disk_in, greater_of, greatest_epoch};
-ghost use Rattle.status_register.specs.Told.{Told};
+ghost use Rattle.status_register.specs.Sayings.{IsOwnRecord, damage_in, listed, spoiled};
+ghost use Rattle.status_register.specs.Surveys.{greater_of, greatest_epoch};
+ghost use Rattle.status_register.specs.Tallies.{SlotsSay};
+ghost use Rattle.bay.specs.Told.{Told};
 
-use crate::bodies::{read_claims, read_records};
+use crate::bodies::{claim_in, read_both, record_in};
 use crate::gates::number_of;
-use crate::places::{FIRST_CLAIM, FIRST_STATUS, SECOND_CLAIM, SECOND_STATUS};
+use crate::places::SlotPair;
 use bay::{Bay, Fault};
 use status_table::{Claim, PstRecord};
 
@@ -30,7 +26,7 @@ pub struct Findings {
 }
 
 /// The epoch of the group's claim in a slot, or 0.
-fn epoch_in(id: u64, said: &Option<Option<Claim>>) -> u64
+fn epoch_of(id: u64, said: &Option<Option<Claim>>) -> u64
     ensures { result ≡ greatest_epoch (claims_of_group id (listed said.now)) }
 {
     match said {
@@ -44,11 +40,11 @@ fn epoch_in(id: u64, said: &Option<Option<Claim>>) -> u64
 fn epoch_in_both(id: u64, first: &Option<Option<Claim>>, second: &Option<Option<Claim>>) -> u64
     ensures { result ≡ greatest_epoch (claims_of_group id (listed first.now ++ listed second.now)) }
 {
-    epoch_in(id, first).max(epoch_in(id, second))
+    epoch_of(id, first).max(epoch_of(id, second))
 }
 
 /// The group's record in a slot.
-fn record_in(id: u64, said: Option<Option<PstRecord>>) -> Option<PstRecord>
+fn record_of(id: u64, said: Option<Option<PstRecord>>) -> Option<PstRecord>
     ensures { result ≡ greatest (of_group id (listed said)) }
 {
     match said {
@@ -85,11 +81,11 @@ fn record_in_both(
 ) -> Option<PstRecord>
     ensures { result ≡ greatest (of_group id (listed first ++ listed second)) }
 {
-    greater_of(record_in(id, first), record_in(id, second))
+    greater_of(record_of(id, first), record_of(id, second))
 }
 
-/// Whether a claim must stand there and doesn't.
-fn is_spoiled_claim(said: &Option<Option<Claim>>) -> bool
+/// Whether a value must stand there and doesn't.
+fn is_spoiled<T>(said: &Option<Option<T>>) -> bool
     ensures { result ≡ spoiled said.now }
 {
     match said {
@@ -99,41 +95,18 @@ fn is_spoiled_claim(said: &Option<Option<Claim>>) -> bool
     }
 }
 
-/// Whether a record must stand there and doesn't.
-fn is_spoiled_record(said: &Option<Option<PstRecord>>) -> bool
-    ensures { result ≡ spoiled said.now }
-{
-    match said {
-        None => false,
-        Some(None) => true,
-        Some(Some(_)) => false,
-    }
-}
-
-/// The block of the first claim that must stand there and doesn't.
-fn claim_damage(first: &Option<Option<Claim>>, second: &Option<Option<Claim>>) -> Option<u64>
-    ensures { result ≡ claim_damage first.now second.now }
-{
-    if is_spoiled_claim(first) {
-        Some(FIRST_CLAIM + 1)
-    } else if is_spoiled_claim(second) {
-        Some(SECOND_CLAIM + 1)
-    } else {
-        None
-    }
-}
-
-/// The block of the first record that must stand there and doesn't.
-fn status_damage(
-    first: &Option<Option<PstRecord>>,
-    second: &Option<Option<PstRecord>>,
+/// The block of the first body of a pair that must be a value and isn't.
+fn damage_in<T>(
+    pair: SlotPair,
+    first: &Option<Option<T>>,
+    second: &Option<Option<T>>,
 ) -> Option<u64>
-    ensures { result ≡ status_damage first.now second.now }
+    ensures { result ≡ damage_in pair first.now second.now }
 {
-    if is_spoiled_record(first) {
-        Some(FIRST_STATUS + 1)
-    } else if is_spoiled_record(second) {
-        Some(SECOND_STATUS + 1)
+    if is_spoiled(first) {
+        Some(pair.first_gate() + 1)
+    } else if is_spoiled(second) {
+        Some(pair.second_gate() + 1)
     } else {
         None
     }
@@ -142,25 +115,25 @@ fn status_damage(
 /// Reads what the slots of a disk say of a group.
 pub fn read_slots<B: Bay>(bay: &mut B, id: u64, slot: u32, sector: u32) -> Result<Findings, Fault>
     requires slots { HasSlots (B.state bay.old) slot sector }
-    ensures epoch { IfOk result (λ found. Told (B.state bay.old) (B.state bay.new) (λ image. greatest_epoch (claims_of_group id (disk_in image slot).claims) ≡ found.epoch)) }
-    ensures status { IfOk result (λ found. Told (B.state bay.old) (B.state bay.new) (λ image. greatest (of_group id (disk_in image slot).statuses) ≡ found.status)) }
     ensures own { IfOk result (λ found. IsOwnRecord id found.status) }
-    ensures damage { IfOk result (λ found. Told (B.state bay.old) (B.state bay.new) (λ image. body_damage (disk_bytes image slot) ≡ found.damage)) }
-    ensures attached { KeepsAttached (B.state bay.old) (B.state bay.new) }
-    ensures calls { (B.state bay.new).calls ≤ (B.state bay.old).calls + 8 }
-    ensures written { (B.state bay.new).written slot ≡ (B.state bay.old).written slot }
-    ensures runs { Runs (IsSlot slot) Same (B.state bay.old) (B.state bay.new) }
-    ensures cause { OnErr result (Rose ((B.state bay.old).faults slot) ((B.state bay.new).faults slot)) }
+    ensures call { Call result slot Same
+        (λ found s t. Told s t (SlotsSay id slot found.epoch found.status found.damage))
+        (cost 8 0) (B.state bay.old) (B.state bay.new) }
 {
-    let (first_claim, second_claim) = read_claims(bay, slot, sector)?;
-    let (first_status, second_status) = read_records(bay, slot, sector)?;
-    let damage = claim_damage(&first_claim, &second_claim).or(status_damage(
-        &first_status,
-        &second_status,
+    let claims = read_both(bay, SlotPair::Claims, slot, sector)?;
+    let records = read_both(bay, SlotPair::Records, slot, sector)?;
+    let first_claim = claim_in(&claims.0);
+    let second_claim = claim_in(&claims.1);
+    let first_record = record_in(&records.0);
+    let second_record = record_in(&records.1);
+    let damage = damage_in(SlotPair::Claims, &first_claim, &second_claim).or(damage_in(
+        SlotPair::Records,
+        &first_record,
+        &second_record,
     ));
     Ok(Findings {
         epoch: epoch_in_both(id, &first_claim, &second_claim),
-        status: record_in_both(id, first_status, second_status),
+        status: record_in_both(id, first_record, second_record),
         damage,
     })
 }

@@ -6,7 +6,8 @@ ghost use Rattle.asm_formats.specs.Following.{Follows, Holder, disks_of, sets};
 ghost use Rattle.asm_formats.specs.Status.{is_status, status_spelling};
 ghost use Rattle.asm_formats.specs.Among.{IsAmong};
 ghost use Rattle.bay.specs.State.{KeepsAttached};
-ghost use Rattle.bay.specs.Moments.{Ends, Runs};
+ghost use Rattle.bay.specs.Calls.{Calls};
+ghost use Rattle.bay.specs.Moments.{Ends};
 ghost use Rattle.status_register.specs.Elsewhere.{with_attached, without_attached};
 ghost use Rattle.status_register.specs.Holders.{HoldSlots, SlotsDiffer, attached_to, numbered};
 ghost use Rattle.status_register.specs.Keeping.{IsReady, KeepsFromFirst, KeepsStanding, KeepsWritten};
@@ -14,7 +15,7 @@ ghost use Rattle.status_register.specs.Reaching.{Reaches};
 ghost use Rattle.status_register.specs.Surveys.{is_there, missing};
 ghost use Rattle.status_register.specs.Writes.{FailedAlone, HoldersShow, IsDeadOf, IsWriteAnswer, ShowBut, after_write, first_holders, first_register};
 ghost use Rattle.status_register.specs.Registered.{AreNumbered, IsClaimAnswer, KeepsHistory, all_placed, next_epoch};
-ghost use Rattle.status_register.specs.Rows.{AreApart, PutsRow, RunsInOrder};
+ghost use Rattle.status_register.specs.Rows.{AreApart, PutsRow, RunsInOrder, cost_of_puts};
 ghost use Rattle.status_register.specs.Slots.{claim_gate, status_gate};
 ghost use Rattle.status_register.specs.Tallies.{HaveSlots, IsSlotOf};
 
@@ -225,9 +226,8 @@ pub fn claim_epoch<B: Bay>(
     requires apart { AreApart members }
     requires numbers { AreNumbered members }
     ensures answer { IsClaimAnswer (record { id = id; members = members; read = []; value = value; epoch = epoch }) result (B.state bay.old) (B.state bay.new) }
-    ensures attached { KeepsAttached (B.state bay.old) (B.state bay.new) }
-    ensures calls { (B.state bay.new).calls ≤ (B.state bay.old).calls + 13 * length members }
-    ensures runs { Runs (IsSlotOf members) (PutsRow (claim_gate id) members (claim_spelling (record { id = id; epoch = next_epoch epoch }))) (B.state bay.old) (B.state bay.new) }
+    ensures calls { Calls (IsSlotOf members) (PutsRow (claim_gate id) members (claim_spelling (record { id = id; epoch = next_epoch epoch })))
+        (cost_of_puts (length members)) (B.state bay.old) (B.state bay.new) }
     ensures history { KeepsHistory (record { id = id; members = members; read = []; value = value; epoch = epoch }) (B.state bay.old) (B.state bay.new) }
     ensures small { id < 2 ^ 64 }
 {

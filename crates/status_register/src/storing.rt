@@ -1,10 +1,11 @@
 // A claim or a record is put on one disk, and on the members one after another.
-ghost use Rattle.std.specs.Prelude.{◌≡◌, ◌<◌, ◌≤◌, ◌+◌, ◌*◌, length, OnErr, OnOk};
-ghost use Rattle.bay.specs.State.{KeepsAttached, IsSlot};
+ghost use Rattle.std.specs.Prelude.{◌<◌, ◌≤◌, ◌+◌, ◌*◌, length};
+ghost use Rattle.bay.specs.State.{IsSlot};
+ghost use Rattle.bay.specs.Calls.{Call, Calls, Done, cost};
 ghost use Rattle.bay.specs.Counts.{Rose};
 ghost use Rattle.bay.specs.Moments.{Runs, Ends};
 ghost use Rattle.status_register.specs.Places.{HasSlots};
-ghost use Rattle.status_register.specs.Rows.{AreApart, HaveBody, PutsRow, RunsInOrder, Takes};
+ghost use Rattle.status_register.specs.Rows.{AreApart, CallsInOrder, HaveBody, PutsRow, Takes};
 ghost use Rattle.status_register.specs.Slots.{MayFill, Fills, MayPutNext, PutsNext, first_gate, next_gate, second_gate};
 ghost use Rattle.status_register.specs.Surveys.{AreRead};
 ghost use Rattle.status_register.specs.Tallies.{HaveSlots, IsSlotOf};
@@ -27,12 +28,8 @@ fn fill_slot<B: Bay>(
 ) -> Result<(), Fault>
     requires slots { HasSlots (B.state bay.old) slot sector }
     requires gate { gate ≤ 8 }
-    ensures attached { KeepsAttached (B.state bay.old) (B.state bay.new) }
-    ensures calls { (B.state bay.new).calls ≤ (B.state bay.old).calls + 8 }
-    ensures written { (B.state bay.new).written slot ≤ (B.state bay.old).written slot + 2 * sector + 4096 }
-    ensures runs { Runs (IsSlot slot) (MayFill gate slot body.now.bytes) (B.state bay.old) (B.state bay.new) }
-    ensures done { OnOk result (Ends (Fills gate slot body.now.bytes) (B.state bay.old) (B.state bay.new)) }
-    ensures cause { OnErr result (Rose ((B.state bay.old).faults slot) ((B.state bay.new).faults slot)) }
+    ensures { Call result slot (MayFill gate slot body.now.bytes) (Done (Fills gate slot body.now.bytes))
+        (cost 8 (2 * sector + 4096)) (B.state bay.old) (B.state bay.new) }
 {
     put(bay, slot, place_at(gate, sector), &body.bytes[..])
 }
@@ -47,12 +44,9 @@ fn put_next<B: Bay>(
     body: &Block,
 ) -> Result<(), Fault>
     requires slots { HasSlots (B.state bay.old) slot sector }
-    ensures attached { KeepsAttached (B.state bay.old) (B.state bay.new) }
-    ensures calls { (B.state bay.new).calls ≤ (B.state bay.old).calls + 13 }
-    ensures written { (B.state bay.new).written slot ≤ (B.state bay.old).written slot + 2 * sector + 4096 }
-    ensures runs { Runs (IsSlot slot) (MayPutNext (next_gate pair id) slot body.now.bytes) (B.state bay.old) (B.state bay.new) }
-    ensures done { OnOk result (Ends (PutsNext (next_gate pair id) slot body.now.bytes) (B.state bay.old) (B.state bay.new)) }
-    ensures cause { OnErr result (Rose ((B.state bay.old).faults slot) ((B.state bay.new).faults slot)) }
+    ensures { Call result slot (MayPutNext (next_gate pair id) slot body.now.bytes)
+        (Done (PutsNext (next_gate pair id) slot body.now.bytes))
+        (cost 13 (2 * sector + 4096)) (B.state bay.old) (B.state bay.new) }
 {
     let gate = next_gate(bay, pair, id, slot, sector)?;
     fill_slot(bay, slot, gate, sector, body)
@@ -70,9 +64,8 @@ fn put_on<B: Bay>(
     requires slots { HasSlots (B.state bay.old) member.slot member.sector }
     requires room { length took < 512 }
     ensures takes { Takes (next_gate pair id) member body.now.bytes took result (B.state bay.old) (B.state bay.new) }
-    ensures attached { KeepsAttached (B.state bay.old) (B.state bay.new) }
-    ensures calls { (B.state bay.new).calls ≤ (B.state bay.old).calls + 13 }
-    ensures runs { Runs (IsSlot member.slot) (MayPutNext (next_gate pair id) member.slot body.now.bytes) (B.state bay.old) (B.state bay.new) }
+    ensures calls { Calls (IsSlot member.slot) (MayPutNext (next_gate pair id) member.slot body.now.bytes)
+        (cost 13 (2 * member.sector + 4096)) (B.state bay.old) (B.state bay.new) }
 {
     match put_next(bay, pair, id, member.slot, member.sector, body) {
         Ok(()) => took.with(member),
@@ -93,9 +86,7 @@ pub fn put_on_all<B: Bay>(
     requires apart { AreApart members.now }
     ensures took { AreRead (λ slot. Rose ((B.state bay.old).faults slot) ((B.state bay.new).faults slot)) members.now result }
     ensures done { Ends (HaveBody (first_gate pair) (second_gate pair) body.now.bytes result) (B.state bay.old) (B.state bay.new) }
-    ensures attached { KeepsAttached (B.state bay.old) (B.state bay.new) }
-    ensures calls { (B.state bay.new).calls ≤ (B.state bay.old).calls + 13 * length members.now }
-    ensures runs { RunsInOrder (next_gate pair id) members.now body.now.bytes (B.state bay.old) (B.state bay.new) }
+    ensures calls { CallsInOrder (next_gate pair id) members.now body.now.bytes (B.state bay.old) (B.state bay.new) }
     // Where their order doesn't matter.
     ensures row { Runs (IsSlotOf members.now) (PutsRow (next_gate pair id) members.now body.now.bytes) (B.state bay.old) (B.state bay.new) }
 {

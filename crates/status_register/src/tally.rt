@@ -1,15 +1,15 @@
 // The members are read one after another.
-ghost use Rattle.std.specs.Prelude.{◌≡◌, ◌<◌, ◌≤◌, ◌+◌, ◌*◌, All, length};
+ghost use Rattle.std.specs.Prelude.{◌≡◌, ◌<◌, ◌≤◌, ◌*◌, length};
 ghost use Rattle.std.specs.Option.{option_map, option_or};
 ghost use Rattle.bay.specs.Image.{Same};
-ghost use Rattle.bay.specs.State.{KeepsAttached, IsSlot};
+ghost use Rattle.bay.specs.State.{IsSlot};
+ghost use Rattle.bay.specs.Calls.{Calls, cost};
 ghost use Rattle.bay.specs.Counts.{Rose};
-ghost use Rattle.bay.specs.Moments.{Runs};
 ghost use Rattle.status_register.specs.Places.{HasSlots};
 ghost use Rattle.status_register.specs.Sayings.{IsOwnRecord};
 ghost use Rattle.status_register.specs.Surveys.{AreRead, Says};
 ghost use Rattle.status_register.specs.Tallies.{Adds, HaveSlots, IsSlotOf};
-ghost use Rattle.status_register.specs.Told.{Told};
+ghost use Rattle.bay.specs.Told.{Told};
 
 use crate::Member;
 use crate::members::MemberList;
@@ -46,9 +46,7 @@ fn read_one<B: Bay>(bay: &mut B, id: u64, member: Member, tally: Tally) -> Tally
     requires room { length tally.read < 512 }
     ensures own { IsOwnRecord id tally.status → IsOwnRecord id result.status }
     ensures adds { Adds id member (B.state bay.old) (B.state bay.new) tally result }
-    ensures attached { KeepsAttached (B.state bay.old) (B.state bay.new) }
-    ensures calls { (B.state bay.new).calls ≤ (B.state bay.old).calls + 8 }
-    ensures runs { Runs (IsSlot member.slot) Same (B.state bay.old) (B.state bay.new) }
+    ensures calls { Calls (IsSlot member.slot) Same (cost 8 0) (B.state bay.old) (B.state bay.new) }
 {
     match read_slots(bay, id, member.slot, member.sector) {
         Ok(found) => Tally {
@@ -68,9 +66,7 @@ pub fn read_all<B: Bay>(bay: &mut B, id: u64, members: &[Member]) -> Tally
     ensures read { AreRead (λ slot. Rose ((B.state bay.old).faults slot) ((B.state bay.new).faults slot)) members.now result.read }
     ensures own { IsOwnRecord id result.status }
     ensures says { Told (B.state bay.old) (B.state bay.new) (Says id result.read result.epoch result.status result.damage) }
-    ensures attached { KeepsAttached (B.state bay.old) (B.state bay.new) }
-    ensures calls { (B.state bay.new).calls ≤ (B.state bay.old).calls + 8 * length members.now }
-    ensures runs { Runs (IsSlotOf members.now) Same (B.state bay.old) (B.state bay.new) }
+    ensures calls { Calls (IsSlotOf members.now) Same (cost (8 * length members.now) 0) (B.state bay.old) (B.state bay.new) }
 {
     let mut tally = Tally {
         read: MemberList::empty(),

@@ -1,10 +1,9 @@
 // A record is written on the attached disks of its sets, and judged by those that took it.
-ghost use Rattle.std.specs.Prelude.{◌≡◌, ◌≤◌, ◌+◌, ◌*◌, length, true, IsTrue, None, Some, OnOk, IfErr};
+ghost use Rattle.std.specs.Prelude.{◌≡◌, ◌≤◌, length, true, IsTrue, None, Some, OnOk, IfErr};
 ghost use Rattle.asm_formats.specs.Status.{is_status, status_spelling};
-ghost use Rattle.bay.specs.State.{KeepsAttached};
 ghost use Rattle.bay.specs.Moments.{Ends};
 ghost use Rattle.status_register.specs.Holders.{AreHolders, HoldSlots, SlotsDiffer, attached_to};
-ghost use Rattle.status_register.specs.Rows.{AreApart, HaveBody, RunsInOrder};
+ghost use Rattle.status_register.specs.Rows.{AreApart, CallsInOrder, HaveStatus};
 ghost use Rattle.status_register.specs.Slots.{status_gate};
 ghost use Rattle.status_register.specs.Surveys.{missing};
 ghost use Rattle.status_register.specs.Tallies.{HaveSlots};
@@ -56,9 +55,7 @@ pub fn write_on_majorities<B: Bay>(
     requires holders { AreHolders status.now.entries holders.now }
     requires majority { missing holders.now (Some status.now) ≡ None }
     ensures answer { IsWriteAnswer holders.now status.now result (B.state bay.old) (B.state bay.new) }
-    ensures attached { KeepsAttached (B.state bay.old) (B.state bay.new) }
-    ensures calls { (B.state bay.new).calls ≤ (B.state bay.old).calls + 13 * length holders.now }
-    ensures runs { RunsInOrder (status_gate id) holders.now (status_spelling status.now) (B.state bay.old) (B.state bay.new) }
+    ensures calls { CallsInOrder (status_gate id) holders.now (status_spelling status.now) (B.state bay.old) (B.state bay.new) }
 {
     let body = body_of(status);
     let took = put_on_all(bay, SlotPair::Records, id, holders, &body);
@@ -79,11 +76,9 @@ pub fn write_on_all<B: Bay>(
     requires slots { HaveSlots (B.state bay.old) holders.now }
     requires few { length holders.now ≤ 512 }
     requires apart { AreApart holders.now }
-    ensures done { OnOk result (Ends (HaveBody 6 8 (status_spelling status.now) holders.now) (B.state bay.old) (B.state bay.new)) }
+    ensures done { OnOk result (Ends (HaveStatus (status_spelling status.now) holders.now) (B.state bay.old) (B.state bay.new)) }
     ensures cause { IfErr result (λ dead. IsDeadOf holders.now dead.slot (B.state bay.old) (B.state bay.new)) }
-    ensures attached { KeepsAttached (B.state bay.old) (B.state bay.new) }
-    ensures calls { (B.state bay.new).calls ≤ (B.state bay.old).calls + 13 * length holders.now }
-    ensures runs { RunsInOrder (status_gate id) holders.now (status_spelling status.now) (B.state bay.old) (B.state bay.new) }
+    ensures calls { CallsInOrder (status_gate id) holders.now (status_spelling status.now) (B.state bay.old) (B.state bay.new) }
 {
     let body = body_of(status);
     let took = put_on_all(bay, SlotPair::Records, id, holders, &body);
@@ -106,9 +101,7 @@ pub fn write_record<B: Bay>(
     requires apart { SlotsDiffer places.now }
     requires majority { missing (attached_to places.now status.now) (Some status.now) ≡ None }
     ensures answer { IsWriteAnswer (attached_to places.now status.now) status.now result (B.state bay.old) (B.state bay.new) }
-    ensures attached { KeepsAttached (B.state bay.old) (B.state bay.new) }
-    ensures calls { (B.state bay.new).calls ≤ (B.state bay.old).calls + 13 * length (attached_to places.now status.now) }
-    ensures runs { RunsInOrder (status_gate id) (attached_to places.now status.now) (status_spelling status.now) (B.state bay.old) (B.state bay.new) }
+    ensures calls { CallsInOrder (status_gate id) (attached_to places.now status.now) (status_spelling status.now) (B.state bay.old) (B.state bay.new) }
 {
     let holders = attached_to(places, status);
     write_on_majorities(bay, id, holders.members(), status)
@@ -124,11 +117,9 @@ pub fn write_first<B: Bay>(
     requires places { length places.now ≡ 64 }
     requires slots { HoldSlots (B.state bay.old) places.now }
     requires apart { SlotsDiffer places.now }
-    ensures done { OnOk result (Ends (HaveBody 6 8 (status_spelling status.now) (attached_to places.now status.now)) (B.state bay.old) (B.state bay.new)) }
+    ensures done { OnOk result (Ends (HaveStatus (status_spelling status.now) (attached_to places.now status.now)) (B.state bay.old) (B.state bay.new)) }
     ensures cause { IfErr result (λ dead. IsDeadOf (attached_to places.now status.now) dead.slot (B.state bay.old) (B.state bay.new)) }
-    ensures attached { KeepsAttached (B.state bay.old) (B.state bay.new) }
-    ensures calls { (B.state bay.new).calls ≤ (B.state bay.old).calls + 13 * length (attached_to places.now status.now) }
-    ensures runs { RunsInOrder (status_gate status.now.id) (attached_to places.now status.now) (status_spelling status.now) (B.state bay.old) (B.state bay.new) }
+    ensures calls { CallsInOrder (status_gate status.now.id) (attached_to places.now status.now) (status_spelling status.now) (B.state bay.old) (B.state bay.new) }
 {
     let holders = attached_to(places, status);
     write_on_all(bay, status.id, holders.members(), status)

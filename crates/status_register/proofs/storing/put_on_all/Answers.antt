@@ -1,6 +1,7 @@
-use Rattle.std.proofs.Common.{[], List, length, take, get_or, refl, sym, ap, subst, arith}
+use Rattle.std.proofs.Common.{◌≤◌, [], List, length, take, get_or, sym, ap, subst, arith}
 use Rattle.std.proofs.lemmas.List.{take_more, take_all}
-use Rattle.bay.proofs.Calls.{on_more, started, attached-trans}
+use Rattle.bay.proofs.Calls.{on_more, attached-trans}
+use Rattle.bay.proofs.OneCall.{no_call}
 use Rattle.bay.proofs.Images.{same-refl}
 use Rattle.bay.specs.Moments.{Ends, Runs}
 use Rattle.status_register.specs.Rows.{HaveBody, PutsInOrder}
@@ -8,10 +9,10 @@ use Rattle.status_register.specs.Slots.{first_gate, next_gate, second_gate}
 use Rattle.status_register.specs.Surveys.{AreRead, none_yet}
 use Rattle.status_register.specs.declared.member.Member.{Member}
 use Rattle.status_register.specs.Tallies.{IsSlotOf}
-use Rattle.status_register.proofs.Filling.{still_slots}
+use Rattle.status_register.proofs.Filling.{short_sector}
 use Rattle.status_register.proofs.Shown.{same_next_gate}
-use Rattle.status_register.proofs.Ordering.{AreTried, none_tried, row_runs, run_on, tried_on}
-use Rattle.status_register.proofs.Tallying.{RoseAt, among_get}
+use Rattle.status_register.proofs.Ordering.{AreTried, all_in_order, none_tried, row_runs, run_on, tried_on}
+use Rattle.status_register.proofs.Tallying.{RoseAt, among_get, member_slots}
 use Rattle.status_register.proofs.Taking.{none_have, takes_few, takes_kept, takes_more, kept_among, earlier_slot, next_gate_either}
 use Rattle.status_register.proofs.storing.put_on_all.Goals as goal
 
@@ -22,16 +23,14 @@ loop-member-init g c =
       few = omega (arith, ap length c.empty-took.ensures);
       took = subst (λ (l : List Member). AreRead (RoseAt s s) [] l) (sym c.empty-took.ensures) none_yet;
       done = subst (λ (l : List Member). Ends (HaveBody (first_gate c.args.pair) (second_gate c.args.pair) c.args.body.now.bytes l) s s) (sym c.empty-took.ensures) (none_have s (first_gate c.args.pair) (second_gate c.args.pair) c.args.body.now.bytes);
-      attached = record { same = λ slot. refl };
-      calls = omega arith;
       tried = none_tried s;
-      runs = started same-refl;
+      calls = no_call same-refl;
     }
 
 pub put_on-took-requires-clause-slots : goal.put_on-took-requires-clause-slots
 put_on-took-requires-clause-slots g c =
     let none : Member = record { slot = 0; number = 0; birth = 0; sector = 0 } in
-    still_slots (c.requires.slots (get_or c.args.members.now c.loop-member.member-index none) (among_get c.args.members.now c.loop-member.member-index none c.loop-member-test.true)) c.loop-member.invariant.attached
+    member_slots c.args.members.now c.loop-member.member-index none c.requires.slots c.loop-member.invariant.calls.attached c.loop-member-test.true
 
 pub loop-member-preserved : goal.loop-member-preserved
 loop-member-preserved g c =
@@ -46,8 +45,11 @@ loop-member-preserved g c =
     let none : Member = record { slot = 0; number = 0; birth = 0; sector = 0 } in
     let member = get_or ms i none in
     let among = among_get ms i none c.loop-member-test.true in
-    let first = c.loop-member.invariant.runs in
-    let next = c.put_on-took.ensures.runs in
+    let before = c.loop-member.invariant.calls in
+    let first = before.runs in
+    let more = c.put_on-took.ensures.calls in
+    let next = more.runs in
+    let short = short_sector member.sector (c.requires.slots member among).sector_size in
     let old = c.loop-member.took in
     let new = c.put_on-took.result in
     let takes = c.put_on-took.ensures.takes in
@@ -57,11 +59,14 @@ loop-member-preserved g c =
       took = subst (λ (l : List Member). AreRead (RoseAt s u) l new) (sym front) (takes_kept s t u first next gate member body old new takes (take i ms) c.loop-member.invariant.took);
       done = takes_more gate (first_gate c.args.pair) (second_gate c.args.pair) (next_gate_either c.args.pair c.args.id) body member old
           (λ n h. earlier_slot ms i none n c.requires.apart c.loop-member-test.true (kept_among (RoseAt s t) (take i ms) old c.loop-member.invariant.took n h)) new takes next c.loop-member.invariant.done;
-      attached = attached-trans c.loop-member.invariant.attached c.put_on-took.ensures.attached;
-      calls = omega (arith, c.loop-member.invariant.calls, c.put_on-took.ensures.calls);
       tried = subst (λ (l : List Member). Ends (AreTried gate body (RoseAt s u) l) s u) (sym front) (tried_on gate depends body s t u first member next old new takes (take i ms) c.loop-member.invariant.tried);
-      runs = subst (λ (l : List Member). Runs (IsSlotOf ms) (PutsInOrder gate body (RoseAt s u) l) s u) (sym front)
-          (run_on gate depends body s t u member (take i ms) first (on_more (λ slot is. (member, among, is)) next) next c.loop-member.invariant.tried);
+      calls = record {
+        attached = attached-trans before.attached more.attached;
+        runs = subst (λ (l : List Member). Runs (IsSlotOf ms) (PutsInOrder gate body (RoseAt s u) l) s u) (sym front)
+            (run_on gate depends body s t u member (take i ms) first (on_more (λ slot is. (member, among, is)) next) next c.loop-member.invariant.tried);
+        calls = omega (arith, before.calls, more.calls);
+        written = λ slot. omega (arith, before.written slot, more.written slot, short);
+      };
     }
 
 pub returns-clause-took : goal.returns-clause-took
@@ -69,17 +74,13 @@ returns-clause-took g c =
     subst (λ (l : List Member). AreRead (RoseAt (g.B.Bay.state c.args.bay.now) (g.B.Bay.state c.loop-member.bay)) l c.loop-member.took)
     (take_all c.loop-member.member-index c.args.members.now c.loop-member-test.false) c.loop-member.invariant.took
 
-pub returns-clause-runs : goal.returns-clause-runs
-returns-clause-runs g c =
-    let s = g.B.Bay.state c.args.bay.now in
-    let t = g.B.Bay.state c.loop-member.bay in
-    subst (λ (l : List Member). Runs (IsSlotOf c.args.members.now) (PutsInOrder (next_gate c.args.pair c.args.id) c.args.body.now.bytes (RoseAt s t) l) s t)
-    (take_all c.loop-member.member-index c.args.members.now c.loop-member-test.false) c.loop-member.invariant.runs
+pub returns-clause-calls : goal.returns-clause-calls
+returns-clause-calls g c =
+    let few : c.loop-member.member-index ≤ length c.args.members.now = omega arith in
+    all_in_order (next_gate c.args.pair c.args.id) c.args.body.now.bytes (take_all c.loop-member.member-index c.args.members.now c.loop-member-test.false) few c.loop-member.invariant.calls
 
 pub returns-clause-row : goal.returns-clause-row
 returns-clause-row g c =
-    let s = g.B.Bay.state c.args.bay.now in
-    let t = g.B.Bay.state c.loop-member.bay in
-    row_runs (next_gate c.args.pair c.args.id) c.args.members.now c.args.body.now.bytes s t
-    (subst (λ (l : List Member). Runs (IsSlotOf c.args.members.now) (PutsInOrder (next_gate c.args.pair c.args.id) c.args.body.now.bytes (RoseAt s t) l) s t)
-    (take_all c.loop-member.member-index c.args.members.now c.loop-member-test.false) c.loop-member.invariant.runs)
+    let few : c.loop-member.member-index ≤ length c.args.members.now = omega arith in
+    let all = all_in_order (next_gate c.args.pair c.args.id) c.args.body.now.bytes (take_all c.loop-member.member-index c.args.members.now c.loop-member-test.false) few c.loop-member.invariant.calls in
+    row_runs (next_gate c.args.pair c.args.id) c.args.members.now c.args.body.now.bytes (g.B.Bay.state c.args.bay.now) (g.B.Bay.state c.loop-member.bay) all.runs

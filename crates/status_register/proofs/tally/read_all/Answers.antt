@@ -1,12 +1,12 @@
-use Rattle.std.proofs.Common.{[], List, length, take, get_or, None, refl, sym, ap, subst, arith}
+use Rattle.std.proofs.Common.{◌≤◌, [], List, length, take, get_or, None, sym, ap, subst, arith}
 use Rattle.std.proofs.lemmas.List.{take_more, take_all}
-use Rattle.bay.proofs.Calls.{goes_on, stops, on_more, started, attached-trans}
+use Rattle.bay.proofs.Calls.{stops}
+use Rattle.bay.proofs.OneCall.{cheaper, joined, more_slots, no_call}
 use Rattle.bay.proofs.Images.{same-refl, same-trans}
 use Rattle.status_register.specs.Surveys.{AreRead, none_yet, Says}
 use Rattle.status_register.specs.declared.member.Member.{Member}
-use Rattle.status_register.proofs.Filling.{still_slots}
 use Rattle.status_register.proofs.Joining.{says_nothing}
-use Rattle.status_register.proofs.Tallying.{RoseAt, among_get, adds_read, adds_says, adds_few}
+use Rattle.status_register.proofs.Tallying.{RoseAt, among_get, member_slots, adds_read, adds_says, adds_few}
 use Rattle.status_register.proofs.tally.read_all.Goals as goal
 
 pub loop-member-init : goal.loop-member-init
@@ -17,15 +17,13 @@ loop-member-init g c =
       read = subst (λ (l : List Member). AreRead (RoseAt s s) [] l) (sym c.empty.ensures) none_yet;
       own = tt;
       says = λ now holds image was. subst (λ (l : List Member). Says c.args.id l 0 None None image) (sym c.empty.ensures) (says_nothing c.args.id image);
-      attached = record { same = λ slot. refl };
-      calls = omega arith;
-      runs = started same-refl;
+      calls = no_call same-refl;
     }
 
 pub read_one-tally-requires-clause-slots : goal.read_one-tally-requires-clause-slots
 read_one-tally-requires-clause-slots g c =
     let none : Member = record { slot = 0; number = 0; birth = 0; sector = 0 } in
-    still_slots (c.requires.slots (get_or c.args.members.now c.loop-member.member-index none) (among_get c.args.members.now c.loop-member.member-index none c.loop-member-test.true)) c.loop-member.invariant.attached
+    member_slots c.args.members.now c.loop-member.member-index none c.requires.slots c.loop-member.invariant.calls.attached c.loop-member-test.true
 
 pub loop-member-preserved : goal.loop-member-preserved
 loop-member-preserved g c =
@@ -36,8 +34,8 @@ loop-member-preserved g c =
     let i = c.loop-member.member-index in
     let none : Member = record { slot = 0; number = 0; birth = 0; sector = 0 } in
     let member = get_or ms i none in
-    let first = c.loop-member.invariant.runs in
-    let next = c.read_one-tally.ensures.runs in
+    let first = c.loop-member.invariant.calls.runs in
+    let next = c.read_one-tally.ensures.calls.runs in
     let old = c.loop-member.tally in
     let new = c.read_one-tally.result in
     let adds = c.read_one-tally.ensures.adds in
@@ -46,12 +44,16 @@ loop-member-preserved g c =
       read = subst (λ (l : List Member). AreRead (RoseAt s t) l new.read) (sym (take_more ms i none c.loop-member-test.true)) (adds_read s m t first next c.args.id member old new adds (take i ms) c.loop-member.invariant.read);
       own = c.read_one-tally.ensures.own c.loop-member.invariant.own;
       says = adds_says s m t first next c.args.id member old new adds c.loop-member.invariant.says;
-      attached = attached-trans c.loop-member.invariant.attached c.read_one-tally.ensures.attached;
-      calls = omega (arith, c.loop-member.invariant.calls, c.read_one-tally.ensures.calls);
-      runs = goes_on same-trans first (stops first) (on_more (λ slot is. (member, among_get ms i none c.loop-member-test.true, is)) next);
+      calls = cheaper (record { calls = omega arith; bytes = λ slot. omega arith })
+          (joined same-trans c.loop-member.invariant.calls (stops first) (more_slots (λ slot is. (member, among_get ms i none c.loop-member-test.true, is)) c.read_one-tally.ensures.calls));
     }
 
 pub returns-clause-read : goal.returns-clause-read
 returns-clause-read g c =
     subst (λ (l : List Member). AreRead (RoseAt (g.B.Bay.state c.args.bay.now) (g.B.Bay.state c.loop-member.bay)) l c.loop-member.tally.read)
     (take_all c.loop-member.member-index c.args.members.now c.loop-member-test.false) c.loop-member.invariant.read
+
+pub returns-clause-calls : goal.returns-clause-calls
+returns-clause-calls g c =
+    let few : c.loop-member.member-index ≤ length c.args.members.now = omega arith in
+    cheaper (record { calls = omega (arith, few); bytes = λ slot. omega arith }) c.loop-member.invariant.calls

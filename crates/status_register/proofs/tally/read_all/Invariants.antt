@@ -1,8 +1,7 @@
-use Rattle.std.proofs.Common.{◌≤◌, ◌+◌, ◌*◌, length, take}
+use Rattle.std.proofs.Common.{◌≤◌, ◌*◌, length, take}
 use Rattle.bay.specs.Image.{Same}
-use Rattle.bay.specs.State.{KeepsAttached}
-use Rattle.bay.specs.Moments.{Runs}
-use Rattle.status_register.specs.Told.{Told}
+use Rattle.bay.specs.Calls.{Calls, cost}
+use Rattle.bay.specs.Told.{Told}
 use Rattle.status_register.specs.Surveys.{AreRead, Says}
 use Rattle.status_register.specs.Tallies.{IsSlotOf}
 use Rattle.status_register.specs.Sayings.{IsOwnRecord}
@@ -15,7 +14,5 @@ invariant-loop-member g l = record {
   read : AreRead (RoseAt (g.B.Bay.state l.fn.bay) (g.B.Bay.state l.bay)) (take l.member-index l.members) l.tally.read;
   own : IsOwnRecord l.id l.tally.status;
   says : Told (g.B.Bay.state l.fn.bay) (g.B.Bay.state l.bay) (Says l.id l.tally.read l.tally.epoch l.tally.status l.tally.damage);
-  attached : KeepsAttached (g.B.Bay.state l.fn.bay) (g.B.Bay.state l.bay);
-  calls : (g.B.Bay.state l.bay).calls ≤ (g.B.Bay.state l.fn.bay).calls + 8 * l.member-index;
-  runs : Runs (IsSlotOf l.members) Same (g.B.Bay.state l.fn.bay) (g.B.Bay.state l.bay);
+  calls : Calls (IsSlotOf l.members) Same (cost (8 * l.member-index) 0) (g.B.Bay.state l.fn.bay) (g.B.Bay.state l.bay);
 }

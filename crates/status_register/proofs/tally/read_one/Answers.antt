@@ -12,10 +12,6 @@ returns-in-Ok-clause-adds g c = inr (
   c.in-Ok.found.epoch,
   c.in-Ok.found.status,
   c.in-Ok.found.damage,
-  (λ now holds image was. record {
-    epoch_is = c.in-Ok.ensures.epoch now holds image was;
-    status_is = c.in-Ok.ensures.status now holds image was;
-    damage_is = c.in-Ok.ensures.damage now holds image was;
-  }),
+  c.in-Ok.ensures.call.done,
   (λ i. record { read = c.with.ensures i; epoch = c.max.ensures i; status = c.greater_of.ensures i; damage = c.first_of.ensures i }),
 )

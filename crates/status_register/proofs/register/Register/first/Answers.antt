@@ -5,7 +5,7 @@ use Rattle.status_register.specs.Holders.{attached_to, HoldSlots, SlotsDiffer}
 use Rattle.status_register.specs.Keeping.{Keeps}
 use Rattle.status_register.specs.Reaching.{Reaches}
 use Rattle.status_register.specs.Registered.{Registered, all_placed}
-use Rattle.status_register.specs.Rows.{HaveBody, RunsInOrder}
+use Rattle.status_register.specs.Rows.{HaveStatus, RunsInOrder}
 use Rattle.status_register.specs.Slots.{status_gate}
 use Rattle.status_register.specs.Writes.{IsDeadOf, first_holders, first_register}
 use Rattle.status_register.specs.declared.member.Member.{Member}
@@ -13,14 +13,20 @@ use Rattle.status_register.proofs.Ordering.{row_runs}
 use Rattle.status_register.proofs.Placing.{places_hold, places_differ, places_ready, first_slot, holders_show}
 use Rattle.status_register.proofs.Reaching.{placed_reach}
 use Rattle.status_register.proofs.Written.{first_fits, first_completed}
+use Rattle.status_register.proofs.register.Register.first.Given.{Over}
+use Rattle.status_register.proofs.register.Register.first.Goals.{After-by_number-places}
 use Rattle.status_register.proofs.register.Register.first.Goals as goal
+
+-- the members by their numbers
+places_are : (g : Over) (c : After-by_number-places g) → c.by_number-places.result ≡ all_placed c.args.value.now.entries (replicate 64 None) c.args.members.now
+places_are g c = c.by_number-places.ensures.places ∙ ap (λ (es : List Entry). all_placed es (replicate 64 None) c.args.members.now) c.entries.ensures.entries
 
 pub write_first-requires-clause-slots : goal.write_first-requires-clause-slots
 write_first-requires-clause-slots g c =
     let s = g.B.Bay.state c.args.bay.now in
     let r = c.args.value.now in
     let ms = c.args.members.now in
-    let places = c.by_number-places.ensures.places ∙ ap (λ (es : List Entry). all_placed es (replicate 64 None) ms) c.entries.ensures.entries in
+    let places = places_are g (goal.at.write_first-requires-clause-slots g c).After-by_number-places in
     subst (λ (l : List (Option Member)). HoldSlots s l) (sym places) (places_hold r.entries ms c.requires.numbers s c.requires.slots)
 
 pub write_first-requires-clause-apart : goal.write_first-requires-clause-apart
@@ -28,7 +34,7 @@ write_first-requires-clause-apart g c =
     let s = g.B.Bay.state c.args.bay.now in
     let r = c.args.value.now in
     let ms = c.args.members.now in
-    let places = c.by_number-places.ensures.places ∙ ap (λ (es : List Entry). all_placed es (replicate 64 None) ms) c.entries.ensures.entries in
+    let places = places_are g (goal.at.write_first-requires-clause-apart g c).After-by_number-places in
     subst SlotsDiffer (sym places) (places_differ r.entries ms c.requires.numbers c.requires.apart)
 
 pub returns-in-Err-clause-cause : goal.returns-in-Err-clause-cause
@@ -36,7 +42,7 @@ returns-in-Err-clause-cause g c =
     let s = g.B.Bay.state c.args.bay.now in
     let r = c.args.value.now in
     let ms = c.args.members.now in
-    let places = c.by_number-places.ensures.places ∙ ap (λ (es : List Entry). all_placed es (replicate 64 None) ms) c.entries.ensures.entries in
+    let places = places_are g (goal.at.returns-in-Err-clause-cause g c).After-by_number-places in
     let t = g.B.Bay.state c.write_first.new.bay in
     let dead = subst (λ (l : List (Option Member)). IsDeadOf (attached_to l r) c.in-Err.dead.slot s t) places c.in-Err.ensures.cause in
     (first_slot r ms c.requires.numbers c.in-Err.dead.slot dead.0, dead.1)
@@ -46,18 +52,18 @@ returns-in-Err-clause-runs g c =
     let s = g.B.Bay.state c.args.bay.now in
     let r = c.args.value.now in
     let ms = c.args.members.now in
-    let places = c.by_number-places.ensures.places ∙ ap (λ (es : List Entry). all_placed es (replicate 64 None) ms) c.entries.ensures.entries in
+    let places = places_are g (goal.at.returns-in-Err-clause-runs g c).After-by_number-places in
     let t = g.B.Bay.state c.write_first.new.bay in
-    subst (λ (l : List (Option Member)). RunsInOrder (status_gate r.id) (attached_to l r) (status_spelling r) s t) places c.write_first.ensures.runs
+    subst (λ (l : List (Option Member)). RunsInOrder (status_gate r.id) (attached_to l r) (status_spelling r) s t) places c.write_first.ensures.calls.runs
 
 pub returns-in-Err-clause-history : goal.returns-in-Err-clause-history
 returns-in-Err-clause-history g c =
     let s = g.B.Bay.state c.args.bay.now in
     let r = c.args.value.now in
     let ms = c.args.members.now in
-    let places = c.by_number-places.ensures.places ∙ ap (λ (es : List Entry). all_placed es (replicate 64 None) ms) c.entries.ensures.entries in
+    let places = places_are g (goal.at.returns-in-Err-clause-history g c).After-by_number-places in
     let t = g.B.Bay.state c.write_first.new.bay in
-    let run = row_runs (status_gate r.id) (first_holders r ms) (status_spelling r) s t (subst (λ (l : List (Option Member)). RunsInOrder (status_gate r.id) (attached_to l r) (status_spelling r) s t) places c.write_first.ensures.runs) in
+    let run = row_runs (status_gate r.id) (first_holders r ms) (status_spelling r) s t (subst (λ (l : List (Option Member)). RunsInOrder (status_gate r.id) (attached_to l r) (status_spelling r) s t) places c.write_first.ensures.calls.runs) in
     λ slots enough before. record { moments = first_fits s t (g.met.B.Bay.sound c.args.bay.now) r c.requires.status ms c.requires.numbers c.requires.slots run slots before; after = tt }
 
 pub returns-in-Ok-clause-ready : goal.returns-in-Ok-clause-ready
@@ -65,16 +71,16 @@ returns-in-Ok-clause-ready g c =
     let s = g.B.Bay.state c.args.bay.now in
     let r = c.args.value.now in
     let ms = c.args.members.now in
-    let places = c.by_number-places.ensures.places ∙ ap (λ (es : List Entry). all_placed es (replicate 64 None) ms) c.entries.ensures.entries in
+    let places = places_are g (goal.at.returns-in-Ok-clause-ready g c).After-by_number-places in
     let t = g.B.Bay.state c.write_first.new.bay in
     let made : Registered = record { id = c.value.inside.id; members = c.by_number-places.result; value = c.copy.result; epoch = c.value.inside.epoch; turn = c.value.inside.turn; is_fresh = false } in
-    places_ready r.entries ms c.requires.numbers s t made places c.requires.slots c.requires.apart c.write_first.ensures.attached
+    places_ready r.entries ms c.requires.numbers s t made places c.requires.slots c.requires.apart c.write_first.ensures.calls.attached
 
 pub returns-in-Ok-clause-reaches : goal.returns-in-Ok-clause-reaches
 returns-in-Ok-clause-reaches g c =
     let r = c.args.value.now in
     let ms = c.args.members.now in
-    let places = c.by_number-places.ensures.places ∙ ap (λ (es : List Entry). all_placed es (replicate 64 None) ms) c.entries.ensures.entries in
+    let places = places_are g (goal.at.returns-in-Ok-clause-reaches g c).After-by_number-places in
     λ enough. subst (λ (v : Status). Reaches c.by_number-places.result v) (sym c.copy.ensures)
     (subst (λ (l : List (Option Member)). Reaches l r) (sym places) (placed_reach r ms ms c.requires.numbers (λ m h. h) enough))
 
@@ -83,19 +89,19 @@ returns-in-Ok-clause-shown g c =
     let s = g.B.Bay.state c.args.bay.now in
     let r = c.args.value.now in
     let ms = c.args.members.now in
-    let places = c.by_number-places.ensures.places ∙ ap (λ (es : List Entry). all_placed es (replicate 64 None) ms) c.entries.ensures.entries in
+    let places = places_are g (goal.at.returns-in-Ok-clause-shown g c).After-by_number-places in
     let t = g.B.Bay.state c.write_first.new.bay in
-    holders_show r ms c.requires.numbers s t c.requires.holders (subst (λ (l : List (Option Member)). Ends (HaveBody 6 8 (status_spelling r) (attached_to l r)) s t) places c.in-Ok.ensures.done)
+    holders_show r ms c.requires.numbers s t c.requires.holders (subst (λ (l : List (Option Member)). Ends (HaveStatus (status_spelling r) (attached_to l r)) s t) places c.in-Ok.ensures.done)
 
 pub returns-in-Ok-clause-history : goal.returns-in-Ok-clause-history
 returns-in-Ok-clause-history g c =
     let s = g.B.Bay.state c.args.bay.now in
     let r = c.args.value.now in
     let ms = c.args.members.now in
-    let places = c.by_number-places.ensures.places ∙ ap (λ (es : List Entry). all_placed es (replicate 64 None) ms) c.entries.ensures.entries in
+    let places = places_are g (goal.at.returns-in-Ok-clause-history g c).After-by_number-places in
     let t = g.B.Bay.state c.write_first.new.bay in
-    let run = row_runs (status_gate r.id) (first_holders r ms) (status_spelling r) s t (subst (λ (l : List (Option Member)). RunsInOrder (status_gate r.id) (attached_to l r) (status_spelling r) s t) places c.write_first.ensures.runs) in
-    let done = subst (λ (l : List (Option Member)). Ends (HaveBody 6 8 (status_spelling r) (attached_to l r)) s t) places c.in-Ok.ensures.done in
+    let run = row_runs (status_gate r.id) (first_holders r ms) (status_spelling r) s t (subst (λ (l : List (Option Member)). RunsInOrder (status_gate r.id) (attached_to l r) (status_spelling r) s t) places c.write_first.ensures.calls.runs) in
+    let done = subst (λ (l : List (Option Member)). Ends (HaveStatus (status_spelling r) (attached_to l r)) s t) places c.in-Ok.ensures.done in
     let made : Registered = record { id = c.value.inside.id; members = c.by_number-places.result; value = c.copy.result; epoch = c.value.inside.epoch; turn = c.value.inside.turn; is_fresh = false } in
     let made_is : made ≡ first_register r ms = λ i. record { id = (c.value.view_is i).id; members = places i; value = c.copy.ensures i; epoch = (c.value.view_is i).epoch; turn = (c.value.view_is i).turn; is_fresh = false } in
     λ slots enough before. record {

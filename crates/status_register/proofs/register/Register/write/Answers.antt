@@ -1,4 +1,5 @@
-use Rattle.std.proofs.Common.{◌≡◌, ◌∙◌, Ok, Err, IsTrue, List, Option, false, sym, ap, subst}
+use Rattle.std.proofs.Common.{◌≡◌, ◌∙◌, Ok, Err, IsTrue, false, sym, ap, subst, List, Option}
+use Rattle.bay.specs.State.{BayState}
 use Rattle.asm_formats.specs.Status.{Status, is_status, status_spelling}
 use Rattle.status_register.specs.Holders.{HoldSlots, attached_to, next_turn, numbered}
 use Rattle.status_register.specs.Keeping.{KeepsOn}
@@ -12,205 +13,112 @@ use Rattle.status_register.proofs.Holding.{are_holders}
 use Rattle.status_register.proofs.Losing.{failed_alone}
 use Rattle.status_register.proofs.Ordering.{row_runs}
 use Rattle.status_register.proofs.Reaching.{written_reaches}
-use Rattle.status_register.proofs.Rewriting.{same_majority, same_calls, same_answer, same_runs}
+use Rattle.status_register.proofs.Rewriting.{IsRewritten, rewritten}
 use Rattle.status_register.proofs.Written.{written}
+use Rattle.status_register.proofs.register.Register.write.Given.{Over}
+use Rattle.status_register.proofs.register.Register.write.Goals.{After-renumbered-status}
 use Rattle.status_register.proofs.register.Register.write.Goals as goal
+
+-- ---- the record under its number
+
+turn_is : (g : Over) (c : After-renumbered-status g) → c.saturating_add-turn.result ≡ next_turn c.args.self.now.turn
+turn_is g c = c.saturating_add-turn.ensures ∙ ap (λ (r : Registered). next_turn r.turn) c.self.view_is
+
+status_is : (g : Over) (c : After-renumbered-status g) → c.renumbered-status.result ≡ numbered c.args.self.now c.args.next.now
+status_is g c = c.renumbered-status.ensures.value ∙ (λ i. record c.args.next.now { epoch = (c.self.view_is i).epoch; turn = turn_is g c i })
+
+allowed : (g : Over) (c : After-renumbered-status g) → IsTrue (is_status (numbered c.args.self.now c.args.next.now))
+allowed g c = subst (λ (r : Status). IsTrue (is_status r)) (status_is g c) (c.renumbered-status.ensures.kept c.requires.status)
+
+given : (g : Over) (c : After-renumbered-status g) (t : BayState)
+    → IsRewritten (g.B.Bay.state c.args.bay.now) t c.args.self.now c.args.next.now c.renumbered-status.result c.self.inside.members c.self.inside.id
+given g c t = rewritten (g.B.Bay.state c.args.bay.now) t c.args.self.now c.args.next.now c.renumbered-status.result c.self.inside.members c.self.inside.id
+    (ap (λ (r : Registered). r.members) c.self.view_is) (status_is g c) (ap (λ (r : Registered). r.id) c.self.view_is)
+
+-- ---- the answers
 
 pub write_record-requires-clause-slots : goal.write_record-requires-clause-slots
 write_record-requires-clause-slots g c = subst (λ (l : List (Option Member)). HoldSlots (g.B.Bay.state c.args.bay.now) l) (sym (ap (λ (r : Registered). r.members) c.self.view_is)) c.requires.slots
 
 pub write_record-requires-clause-majority : goal.write_record-requires-clause-majority
 write_record-requires-clause-majority g c =
-    let s = g.B.Bay.state c.args.bay.now in
-    let old = c.args.self.now in
-    let next = c.args.next.now in
-    let status = c.renumbered-status.result in
-    let places = c.self.inside.members in
-    let there = ap (λ (r : Registered). r.members) c.self.view_is in
-    let id_is = ap (λ (r : Registered). r.id) c.self.view_is in
-    let turn : c.saturating_add-turn.result ≡ next_turn old.turn = c.saturating_add-turn.ensures ∙ ap (λ (r : Registered). next_turn r.turn) c.self.view_is in
-    let is : status ≡ numbered old next = c.renumbered-status.ensures.value ∙ (λ i. record next { epoch = (c.self.view_is i).epoch; turn = turn i }) in
-    same_majority s s old next status places c.self.inside.id there is id_is c.requires.majority
+    (given g (goal.at.write_record-requires-clause-majority g c).After-renumbered-status (g.B.Bay.state c.args.bay.now)).majority c.requires.majority
 
 pub returns-in-Err-clause-answer : goal.returns-in-Err-clause-answer
 returns-in-Err-clause-answer g c =
-    let s = g.B.Bay.state c.args.bay.now in
-    let old = c.args.self.now in
-    let next = c.args.next.now in
-    let status = c.renumbered-status.result in
-    let places = c.self.inside.members in
-    let there = ap (λ (r : Registered). r.members) c.self.view_is in
-    let id_is = ap (λ (r : Registered). r.id) c.self.view_is in
-    let turn : c.saturating_add-turn.result ≡ next_turn old.turn = c.saturating_add-turn.ensures ∙ ap (λ (r : Registered). next_turn r.turn) c.self.view_is in
-    let is : status ≡ numbered old next = c.renumbered-status.ensures.value ∙ (λ i. record next { epoch = (c.self.view_is i).epoch; turn = turn i }) in
-    let t = g.B.Bay.state c.write_record.new.bay in
-    same_answer s t old next status places c.self.inside.id there is id_is (Err c.in-Err.dead) c.in-Err.ensures.answer
+    (given g (goal.at.returns-in-Err-clause-answer g c).After-renumbered-status (g.B.Bay.state c.write_record.new.bay)).answer (Err c.in-Err.dead) c.in-Err.ensures.answer
 
 pub returns-in-Err-clause-calls : goal.returns-in-Err-clause-calls
 returns-in-Err-clause-calls g c =
-    let s = g.B.Bay.state c.args.bay.now in
-    let old = c.args.self.now in
-    let next = c.args.next.now in
-    let status = c.renumbered-status.result in
-    let places = c.self.inside.members in
-    let there = ap (λ (r : Registered). r.members) c.self.view_is in
-    let id_is = ap (λ (r : Registered). r.id) c.self.view_is in
-    let turn : c.saturating_add-turn.result ≡ next_turn old.turn = c.saturating_add-turn.ensures ∙ ap (λ (r : Registered). next_turn r.turn) c.self.view_is in
-    let is : status ≡ numbered old next = c.renumbered-status.ensures.value ∙ (λ i. record next { epoch = (c.self.view_is i).epoch; turn = turn i }) in
-    let t = g.B.Bay.state c.write_record.new.bay in
-    same_calls s t old next status places c.self.inside.id there is id_is t.calls s.calls c.write_record.ensures.calls
+    ((given g (goal.at.returns-in-Err-clause-calls g c).After-renumbered-status (g.B.Bay.state c.write_record.new.bay)).calls c.write_record.ensures.calls).calls
 
 pub returns-in-Err-clause-runs : goal.returns-in-Err-clause-runs
 returns-in-Err-clause-runs g c =
-    let s = g.B.Bay.state c.args.bay.now in
-    let old = c.args.self.now in
-    let next = c.args.next.now in
-    let status = c.renumbered-status.result in
-    let places = c.self.inside.members in
-    let there = ap (λ (r : Registered). r.members) c.self.view_is in
-    let id_is = ap (λ (r : Registered). r.id) c.self.view_is in
-    let turn : c.saturating_add-turn.result ≡ next_turn old.turn = c.saturating_add-turn.ensures ∙ ap (λ (r : Registered). next_turn r.turn) c.self.view_is in
-    let is : status ≡ numbered old next = c.renumbered-status.ensures.value ∙ (λ i. record next { epoch = (c.self.view_is i).epoch; turn = turn i }) in
-    let t = g.B.Bay.state c.write_record.new.bay in
-    same_runs s t old next status places c.self.inside.id there is id_is c.write_record.ensures.runs
+    ((given g (goal.at.returns-in-Err-clause-runs g c).After-renumbered-status (g.B.Bay.state c.write_record.new.bay)).calls c.write_record.ensures.calls).runs
+
+pub returns-in-Err-clause-allowed : goal.returns-in-Err-clause-allowed
+returns-in-Err-clause-allowed g c = allowed g (goal.at.returns-in-Err-clause-allowed g c).After-renumbered-status
 
 pub returns-in-Err-clause-history : goal.returns-in-Err-clause-history
 returns-in-Err-clause-history g c =
     let s = g.B.Bay.state c.args.bay.now in
+    let t = g.B.Bay.state c.write_record.new.bay in
     let old = c.args.self.now in
     let next = c.args.next.now in
-    let status = c.renumbered-status.result in
-    let places = c.self.inside.members in
-    let there = ap (λ (r : Registered). r.members) c.self.view_is in
-    let id_is = ap (λ (r : Registered). r.id) c.self.view_is in
-    let turn : c.saturating_add-turn.result ≡ next_turn old.turn = c.saturating_add-turn.ensures ∙ ap (λ (r : Registered). next_turn r.turn) c.self.view_is in
-    let is : status ≡ numbered old next = c.renumbered-status.ensures.value ∙ (λ i. record next { epoch = (c.self.view_is i).epoch; turn = turn i }) in
-    let t = g.B.Bay.state c.write_record.new.bay in
-    let answer = same_answer s t old next status places c.self.inside.id there is id_is (Err c.in-Err.dead) c.in-Err.ensures.answer in
-    let run = row_runs (status_gate old.id) (attached_to old.members next) (status_spelling (numbered old next)) s t (same_runs s t old next status places c.self.inside.id there is id_is c.write_record.ensures.runs) in
-    let allowed = subst (λ (r : Status). IsTrue (is_status r)) is (c.renumbered-status.ensures.kept c.requires.status) in
+    let place = (goal.at.returns-in-Err-clause-history g c).After-renumbered-status in
+    let said = given g place t in
+    let run = row_runs (status_gate old.id) (attached_to old.members next) (status_spelling (numbered old next)) s t (said.calls c.write_record.ensures.calls).runs in
     let made : Registered = record { id = c.self.inside.id; members = c.self.inside.members; value = c.self.inside.value; epoch = c.self.inside.epoch; turn = c.saturating_add-turn.result; is_fresh = c.self.inside.is_fresh } in
-    let made_is : made ≡ after_write old next (Err c.in-Err.dead) = λ i. record (c.self.view_is i) { turn = turn i } in
+    let made_is : made ≡ after_write old next (Err c.in-Err.dead) = λ i. record (c.self.view_is i) { turn = turn_is g place i } in
     λ slots completed begun room keeps. subst (λ (r : Registered). KeepsOn old next (Err c.in-Err.dead) r s t slots completed begun) (sym made_is)
-    (written s t (g.met.B.Bay.sound c.args.bay.now) old next allowed c.requires.group c.requires.follows c.requires.fresh c.requires.slots run slots completed begun room keeps (Err c.in-Err.dead) answer)
+    (written s t (g.met.B.Bay.sound c.args.bay.now) old next (allowed g place) c.requires.group c.requires.follows c.requires.fresh c.requires.slots run slots completed begun room keeps (Err c.in-Err.dead) (said.answer (Err c.in-Err.dead) c.in-Err.ensures.answer))
 
 pub returns-in-Ok-clause-answer : goal.returns-in-Ok-clause-answer
 returns-in-Ok-clause-answer g c =
-    let s = g.B.Bay.state c.args.bay.now in
-    let old = c.args.self.now in
-    let next = c.args.next.now in
-    let status = c.renumbered-status.result in
-    let places = c.self.inside.members in
-    let there = ap (λ (r : Registered). r.members) c.self.view_is in
-    let id_is = ap (λ (r : Registered). r.id) c.self.view_is in
-    let turn : c.saturating_add-turn.result ≡ next_turn old.turn = c.saturating_add-turn.ensures ∙ ap (λ (r : Registered). next_turn r.turn) c.self.view_is in
-    let is : status ≡ numbered old next = c.renumbered-status.ensures.value ∙ (λ i. record next { epoch = (c.self.view_is i).epoch; turn = turn i }) in
-    let t = g.B.Bay.state c.write_record.new.bay in
-    same_answer s t old next status places c.self.inside.id there is id_is (Ok c.in-Ok.failed) c.in-Ok.ensures.answer
+    (given g (goal.at.returns-in-Ok-clause-answer g c).After-renumbered-status (g.B.Bay.state c.write_record.new.bay)).answer (Ok c.in-Ok.failed) c.in-Ok.ensures.answer
 
 pub returns-in-Ok-clause-calls : goal.returns-in-Ok-clause-calls
 returns-in-Ok-clause-calls g c =
-    let s = g.B.Bay.state c.args.bay.now in
-    let old = c.args.self.now in
-    let next = c.args.next.now in
-    let status = c.renumbered-status.result in
-    let places = c.self.inside.members in
-    let there = ap (λ (r : Registered). r.members) c.self.view_is in
-    let id_is = ap (λ (r : Registered). r.id) c.self.view_is in
-    let turn : c.saturating_add-turn.result ≡ next_turn old.turn = c.saturating_add-turn.ensures ∙ ap (λ (r : Registered). next_turn r.turn) c.self.view_is in
-    let is : status ≡ numbered old next = c.renumbered-status.ensures.value ∙ (λ i. record next { epoch = (c.self.view_is i).epoch; turn = turn i }) in
-    let t = g.B.Bay.state c.write_record.new.bay in
-    same_calls s t old next status places c.self.inside.id there is id_is t.calls s.calls c.write_record.ensures.calls
+    ((given g (goal.at.returns-in-Ok-clause-calls g c).After-renumbered-status (g.B.Bay.state c.write_record.new.bay)).calls c.write_record.ensures.calls).calls
 
 pub returns-in-Ok-clause-runs : goal.returns-in-Ok-clause-runs
 returns-in-Ok-clause-runs g c =
-    let s = g.B.Bay.state c.args.bay.now in
-    let old = c.args.self.now in
-    let next = c.args.next.now in
-    let status = c.renumbered-status.result in
-    let places = c.self.inside.members in
-    let there = ap (λ (r : Registered). r.members) c.self.view_is in
-    let id_is = ap (λ (r : Registered). r.id) c.self.view_is in
-    let turn : c.saturating_add-turn.result ≡ next_turn old.turn = c.saturating_add-turn.ensures ∙ ap (λ (r : Registered). next_turn r.turn) c.self.view_is in
-    let is : status ≡ numbered old next = c.renumbered-status.ensures.value ∙ (λ i. record next { epoch = (c.self.view_is i).epoch; turn = turn i }) in
-    let t = g.B.Bay.state c.write_record.new.bay in
-    same_runs s t old next status places c.self.inside.id there is id_is c.write_record.ensures.runs
+    ((given g (goal.at.returns-in-Ok-clause-runs g c).After-renumbered-status (g.B.Bay.state c.write_record.new.bay)).calls c.write_record.ensures.calls).runs
 
-pub returns-in-Ok-clause-shown : goal.returns-in-Ok-clause-shown
-returns-in-Ok-clause-shown g c =
-    let s = g.B.Bay.state c.args.bay.now in
-    let old = c.args.self.now in
-    let next = c.args.next.now in
-    let status = c.renumbered-status.result in
-    let places = c.self.inside.members in
-    let there = ap (λ (r : Registered). r.members) c.self.view_is in
-    let id_is = ap (λ (r : Registered). r.id) c.self.view_is in
-    let turn : c.saturating_add-turn.result ≡ next_turn old.turn = c.saturating_add-turn.ensures ∙ ap (λ (r : Registered). next_turn r.turn) c.self.view_is in
-    let is : status ≡ numbered old next = c.renumbered-status.ensures.value ∙ (λ i. record next { epoch = (c.self.view_is i).epoch; turn = turn i }) in
-    let t = g.B.Bay.state c.write_record.new.bay in
-    let answer = same_answer s t old next status places c.self.inside.id there is id_is (Ok c.in-Ok.failed) c.in-Ok.ensures.answer in
-    show_but s t (numbered old next) (attached_to old.members next) answer.0 c.in-Ok.failed (λ m h. (are_holders old.members next m h).0) answer.2 answer.3.1
-
-pub returns-in-Ok-clause-failed : goal.returns-in-Ok-clause-failed
-returns-in-Ok-clause-failed g c =
-    let s = g.B.Bay.state c.args.bay.now in
-    let old = c.args.self.now in
-    let next = c.args.next.now in
-    let status = c.renumbered-status.result in
-    let places = c.self.inside.members in
-    let there = ap (λ (r : Registered). r.members) c.self.view_is in
-    let id_is = ap (λ (r : Registered). r.id) c.self.view_is in
-    let turn : c.saturating_add-turn.result ≡ next_turn old.turn = c.saturating_add-turn.ensures ∙ ap (λ (r : Registered). next_turn r.turn) c.self.view_is in
-    let is : status ≡ numbered old next = c.renumbered-status.ensures.value ∙ (λ i. record next { epoch = (c.self.view_is i).epoch; turn = turn i }) in
-    let t = g.B.Bay.state c.write_record.new.bay in
-    let answer = same_answer s t old next status places c.self.inside.id there is id_is (Ok c.in-Ok.failed) c.in-Ok.ensures.answer in
-    failed_alone s t (attached_to old.members next) answer.0 c.in-Ok.failed answer.1 answer.3.1
+pub returns-in-Ok-clause-allowed : goal.returns-in-Ok-clause-allowed
+returns-in-Ok-clause-allowed g c = allowed g (goal.at.returns-in-Ok-clause-allowed g c).After-renumbered-status
 
 pub returns-in-Ok-clause-history : goal.returns-in-Ok-clause-history
 returns-in-Ok-clause-history g c =
     let s = g.B.Bay.state c.args.bay.now in
-    let old = c.args.self.now in
-    let next = c.args.next.now in
-    let status = c.renumbered-status.result in
-    let places = c.self.inside.members in
-    let there = ap (λ (r : Registered). r.members) c.self.view_is in
-    let id_is = ap (λ (r : Registered). r.id) c.self.view_is in
-    let turn : c.saturating_add-turn.result ≡ next_turn old.turn = c.saturating_add-turn.ensures ∙ ap (λ (r : Registered). next_turn r.turn) c.self.view_is in
-    let is : status ≡ numbered old next = c.renumbered-status.ensures.value ∙ (λ i. record next { epoch = (c.self.view_is i).epoch; turn = turn i }) in
     let t = g.B.Bay.state c.write_record.new.bay in
-    let answer = same_answer s t old next status places c.self.inside.id there is id_is (Ok c.in-Ok.failed) c.in-Ok.ensures.answer in
-    let run = row_runs (status_gate old.id) (attached_to old.members next) (status_spelling (numbered old next)) s t (same_runs s t old next status places c.self.inside.id there is id_is c.write_record.ensures.runs) in
-    let allowed = subst (λ (r : Status). IsTrue (is_status r)) is (c.renumbered-status.ensures.kept c.requires.status) in
-    let made : Registered = record { id = c.self.inside.id; members = c.self.inside.members; value = status; epoch = c.self.inside.epoch; turn = c.saturating_add-turn.result; is_fresh = false } in
-    let made_is : made ≡ after_write old next (Ok c.in-Ok.failed) = λ i. record (c.self.view_is i) { value = is i; turn = turn i; is_fresh = false } in
+    let old = c.args.self.now in
+    let next = c.args.next.now in
+    let place = (goal.at.returns-in-Ok-clause-history g c).After-renumbered-status in
+    let said = given g place t in
+    let run = row_runs (status_gate old.id) (attached_to old.members next) (status_spelling (numbered old next)) s t (said.calls c.write_record.ensures.calls).runs in
+    let made : Registered = record { id = c.self.inside.id; members = c.self.inside.members; value = c.renumbered-status.result; epoch = c.self.inside.epoch; turn = c.saturating_add-turn.result; is_fresh = false } in
+    let made_is : made ≡ after_write old next (Ok c.in-Ok.failed) = λ i. record (c.self.view_is i) { value = status_is g place i; turn = turn_is g place i; is_fresh = false } in
     λ slots completed begun room keeps. subst (λ (r : Registered). KeepsOn old next (Ok c.in-Ok.failed) r s t slots completed begun) (sym made_is)
-    (written s t (g.met.B.Bay.sound c.args.bay.now) old next allowed c.requires.group c.requires.follows c.requires.fresh c.requires.slots run slots completed begun room keeps (Ok c.in-Ok.failed) answer)
+    (written s t (g.met.B.Bay.sound c.args.bay.now) old next (allowed g place) c.requires.group c.requires.follows c.requires.fresh c.requires.slots run slots completed begun room keeps (Ok c.in-Ok.failed) (said.answer (Ok c.in-Ok.failed) c.in-Ok.ensures.answer))
 
-pub returns-in-Err-clause-allowed : goal.returns-in-Err-clause-allowed
-returns-in-Err-clause-allowed g c =
+pub returns-in-Ok-clause-shown : goal.returns-in-Ok-clause-shown
+returns-in-Ok-clause-shown g c =
     let old = c.args.self.now in
     let next = c.args.next.now in
-    let status = c.renumbered-status.result in
-    let turn : c.saturating_add-turn.result ≡ next_turn old.turn = c.saturating_add-turn.ensures ∙ ap (λ (r : Registered). next_turn r.turn) c.self.view_is in
-    let is : status ≡ numbered old next = c.renumbered-status.ensures.value ∙ (λ i. record next { epoch = (c.self.view_is i).epoch; turn = turn i }) in
-    subst (λ (r : Status). IsTrue (is_status r)) is (c.renumbered-status.ensures.kept c.requires.status)
+    let answer = (given g (goal.at.returns-in-Ok-clause-shown g c).After-renumbered-status (g.B.Bay.state c.write_record.new.bay)).answer (Ok c.in-Ok.failed) c.in-Ok.ensures.answer in
+    show_but (g.B.Bay.state c.args.bay.now) (g.B.Bay.state c.write_record.new.bay) (numbered old next) (attached_to old.members next) answer.0 c.in-Ok.failed (λ m h. (are_holders old.members next m h).0) answer.2 answer.3.1
 
-pub returns-in-Ok-clause-allowed : goal.returns-in-Ok-clause-allowed
-returns-in-Ok-clause-allowed g c =
-    let old = c.args.self.now in
-    let next = c.args.next.now in
-    let status = c.renumbered-status.result in
-    let turn : c.saturating_add-turn.result ≡ next_turn old.turn = c.saturating_add-turn.ensures ∙ ap (λ (r : Registered). next_turn r.turn) c.self.view_is in
-    let is : status ≡ numbered old next = c.renumbered-status.ensures.value ∙ (λ i. record next { epoch = (c.self.view_is i).epoch; turn = turn i }) in
-    subst (λ (r : Status). IsTrue (is_status r)) is (c.renumbered-status.ensures.kept c.requires.status)
+pub returns-in-Ok-clause-failed : goal.returns-in-Ok-clause-failed
+returns-in-Ok-clause-failed g c =
+    let answer = (given g (goal.at.returns-in-Ok-clause-failed g c).After-renumbered-status (g.B.Bay.state c.write_record.new.bay)).answer (Ok c.in-Ok.failed) c.in-Ok.ensures.answer in
+    failed_alone (g.B.Bay.state c.args.bay.now) (g.B.Bay.state c.write_record.new.bay) (attached_to c.args.self.now.members c.args.next.now) answer.0 c.in-Ok.failed answer.1 answer.3.1
 
 pub returns-in-Ok-clause-reaches : goal.returns-in-Ok-clause-reaches
 returns-in-Ok-clause-reaches g c =
     let old = c.args.self.now in
     let next = c.args.next.now in
-    let status = c.renumbered-status.result in
-    let turn : c.saturating_add-turn.result ≡ next_turn old.turn = c.saturating_add-turn.ensures ∙ ap (λ (r : Registered). next_turn r.turn) c.self.view_is in
-    let is : status ≡ numbered old next = c.renumbered-status.ensures.value ∙ (λ i. record next { epoch = (c.self.view_is i).epoch; turn = turn i }) in
-    let made : Registered = record { id = c.self.inside.id; members = c.self.inside.members; value = status; epoch = c.self.inside.epoch; turn = c.saturating_add-turn.result; is_fresh = false } in
-    let made_is : made ≡ after_write old next (Ok c.in-Ok.failed) = λ i. record (c.self.view_is i) { value = is i; turn = turn i; is_fresh = false } in
+    let place = (goal.at.returns-in-Ok-clause-reaches g c).After-renumbered-status in
+    let made : Registered = record { id = c.self.inside.id; members = c.self.inside.members; value = c.renumbered-status.result; epoch = c.self.inside.epoch; turn = c.saturating_add-turn.result; is_fresh = false } in
+    let made_is : made ≡ after_write old next (Ok c.in-Ok.failed) = λ i. record (c.self.view_is i) { value = status_is g place i; turn = turn_is g place i; is_fresh = false } in
     subst (λ (r : Registered). Reaches r.members r.value) (sym made_is) (written_reaches old next c.requires.majority)

@@ -23,8 +23,8 @@ returns-clause-ready g c =
     let t = g.B.Bay.state c.claim_epoch.new.bay in
     let small = subst (λ (v : Surveyed). v.id < 2 ^ 64) c.self.view_is c.claim_epoch.ensures.small in
     let answer = subst (λ (v : Surveyed). IsClaimAnswer v c.claim_epoch.result s t) c.self.view_is c.claim_epoch.ensures.answer in
-    let run = subst (λ (v : Surveyed). Runs (IsSlotOf v.members) (PutsRow (claim_gate v.id) v.members (claim_spelling (claim_of v))) s t) c.self.view_is c.claim_epoch.ensures.runs in
-    ready_claim s t (g.met.B.Bay.sound c.args.bay.now) c.args.self (next_claim_allowed c.args.self.id c.args.self.epoch small) c.requires.numbers c.requires.slots run c.requires.apart c.claim_epoch.ensures.attached c.claim_epoch.result answer
+    let run = subst (λ (v : Surveyed). Runs (IsSlotOf v.members) (PutsRow (claim_gate v.id) v.members (claim_spelling (claim_of v))) s t) c.self.view_is c.claim_epoch.ensures.calls.runs in
+    ready_claim s t (g.met.B.Bay.sound c.args.bay.now) c.args.self (next_claim_allowed c.args.self.id c.args.self.epoch small) c.requires.numbers c.requires.slots run c.requires.apart c.claim_epoch.ensures.calls.attached c.claim_epoch.result answer
 
 pub returns-clause-kept : goal.returns-clause-kept
 returns-clause-kept g c =
@@ -32,7 +32,7 @@ returns-clause-kept g c =
     let t = g.B.Bay.state c.claim_epoch.new.bay in
     let small = subst (λ (v : Surveyed). v.id < 2 ^ 64) c.self.view_is c.claim_epoch.ensures.small in
     let answer = subst (λ (v : Surveyed). IsClaimAnswer v c.claim_epoch.result s t) c.self.view_is c.claim_epoch.ensures.answer in
-    let run = subst (λ (v : Surveyed). Runs (IsSlotOf v.members) (PutsRow (claim_gate v.id) v.members (claim_spelling (claim_of v))) s t) c.self.view_is c.claim_epoch.ensures.runs in
+    let run = subst (λ (v : Surveyed). Runs (IsSlotOf v.members) (PutsRow (claim_gate v.id) v.members (claim_spelling (claim_of v))) s t) c.self.view_is c.claim_epoch.ensures.calls.runs in
     kept_claim s t (g.met.B.Bay.sound c.args.bay.now) c.args.self (next_claim_allowed c.args.self.id c.args.self.epoch small) c.requires.numbers c.requires.slots run c.claim_epoch.result answer
 
 pub returns-clause-reaches : goal.returns-clause-reaches
