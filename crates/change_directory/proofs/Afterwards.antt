@@ -3,7 +3,7 @@ use Rattle.std.proofs.Common.{◌≡◌, ◌⊎◌, inl, inr, ⊎_elim, ℕ, ◌
 use Rattle.std.specs.Prelude.{find, nat_le, nat_lt, ◌==◌}
 use Rattle.std.specs.List.{list_all}
 use Rattle.std.specs.Option.{option_map, option_or, unwrap_or}
-use Rattle.std.proofs.lemmas.Bool.{and_parts, and_from, leb-true, cases_eq, eq-eqb, ne_eqb}
+use Rattle.std.proofs.lemmas.Bool.{and_parts, and_from, cases_eq, eq-eqb, ne_eqb}
 use Rattle.bay.specs.Image.{Image, Same, window}
 use Rattle.asm_base.specs.declared.block.Block.{Block}
 use Rattle.asm_group.specs.Names.{Bytes}
@@ -26,6 +26,7 @@ use Rattle.asm_base.specs.Blocks.{image_of_page}
 use Rattle.change_directory.specs.Changes.{disk, IsAtHome, MayLog, HasLogged}
 use Rattle.change_directory.specs.Homes.{AreDue, HasHomed}
 use Rattle.change_directory.specs.Laws.{IsReady, ArePut}
+use Rattle.change_directory.proofs.Homing.{above}
 use Rattle.change_directory.proofs.Keeping.{in_homes, listed, other_page}
 use Rattle.change_directory.proofs.Runs.{holds_logged, put_logged, put_logging}
 
@@ -52,13 +53,6 @@ image_case (q ∷ pages) n = ⊎_elim
     inr (miss ∙ none.0, λ p among e. ⊎_elim (λ (here : p ≡ q). differ (sym (ap (λ (r : Page). r.0) here) ∙ e)) (λ there. none.1 p there e) among))
     (image_case pages n))
     (cases_eq q.0 n)
-
-above : (m : ℕ) (zs : List Page) → ascends_from m (map (λ (p : Page). p.0) zs) ≡ true → (q : Page) → IsAmong zs q → m ≤ q.0
-above m [] up q among = absurd among
-above m (z ∷ zs) up q (inl same) = omega (arith, ap (λ (r : Page). r.0) same, leb-true m z.0 (and_parts (nat_le m z.0) (ascends_from (z.0 + 1) (map (λ (p : Page). p.0) zs)) up).0)
-above m (z ∷ zs) up q (inr there) =
-    let parts = and_parts (nat_le m z.0) (ascends_from (z.0 + 1) (map (λ (p : Page). p.0) zs)) up in
-    omega (arith, leb-true m z.0 parts.0, above (z.0 + 1) zs parts.1 q there)
 
 -- one number is one page, where it is so behind the first
 one_of : (x : Page) (pages : List Page) (p q : Page) → ascends_from (x.0 + 1) (map (λ (p : Page). p.0) pages) ≡ true → p.0 ≡ q.0 → (IsAmong pages p → IsAmong pages q → p ≡ q)

@@ -1,12 +1,15 @@
 -- Pages that are written home.
 use Rattle.std.proofs.Common.{◌≡◌, ◌⊎◌, inl, inr, ⊎_elim, ℕ, zero, suc, ◌+◌, ◌-◌, ◌*◌, ◌<◌, ◌≤◌, Bool, true, List, [], ◌∷◌, ◌++◌, length, map, take, drop, get_or, refl, sym, ap, subst, ◌∙◌, arith, length-append, length-drop}
-use Rattle.std.specs.Prelude.{nat_lt, nat_le, ◌==◌}
+use Rattle.std.specs.Prelude.{nat_lt, nat_le, ◌==◌, Result}
 use Rattle.std.specs.List.{list_all, flat_map, All}
 use Rattle.std.proofs.lemmas.Bool.{cases_lt, and_parts, and_from, leb-true, ltb-true, eqb-true, eq-eqb}
 use Rattle.std.proofs.lemmas.List.{take-append-drop, length-take-le, take_all}
 use Rattle.bay.specs.Image.{Image, ChangesOnly, Range, Puts, window}
 use Rattle.bay.specs.State.{BayState}
 use Rattle.bay.specs.Moments.{Holds}
+use Rattle.bay.specs.Calls.{Call, Held, cost}
+use Rattle.bay.proofs.Calls.{both_held}
+use Rattle.bay.proofs.OneCall.{afforded, on_region, wider}
 use Rattle.bay.proofs.Images.{changes-within, changes-trans, changes-window}
 use Rattle.asm_base.specs.declared.block.Block.{Block}
 use Rattle.asm_group.specs.Names.{Bytes}
@@ -17,6 +20,7 @@ use Rattle.asm_formats.specs.Status.{ascends_from}
 use Rattle.change_directory.specs.declared.copy.DirCopy.{DirCopy}
 use Rattle.change_directory.specs.Logs.{bytes_of_page, are_pages}
 use Rattle.change_directory.specs.Homes.{HomesOf, AreHome, HasHomed, is_row, first_number}
+use Rattle.change_directory.specs.Works.{WentHeld}
 use Rattle.change_directory.proofs.Windows.{window-parts}
 
 abbrev pub Page : Type 0
@@ -134,19 +138,20 @@ gathered_len (p ∷ run) blocks =
 
 -- ---- run after run
 
+-- where numbers ascend, none is below the least
+pub above : (m : ℕ) (zs : List Page) → ascends_from m (map (λ (p : Page). p.0) zs) ≡ true → (q : Page) → IsAmong zs q → m ≤ q.0
+above m [] up q among = absurd among
+above m (z ∷ zs) up q (inl same) = omega (arith, ap (λ (r : Page). r.0) same, leb-true m z.0 (and_parts (nat_le m z.0) (ascends_from (z.0 + 1) (map (λ (p : Page). p.0) zs)) up).0)
+above m (z ∷ zs) up q (inr there) =
+    let parts = and_parts (nat_le m z.0) (ascends_from (z.0 + 1) (map (λ (p : Page). p.0) zs)) up in
+    omega (arith, leb-true m z.0 parts.0, above (z.0 + 1) zs parts.1 q there)
+
 -- numbers ascend from front to back
 ascends_over : (least : ℕ) (xs ys : List Page) → ascends_from least (map (λ (p : Page). p.0) (xs ++ ys)) ≡ true → (p q : Page) → IsAmong xs p → IsAmong ys q → p.0 < q.0
 ascends_over least [] ys up p q mine yours = absurd mine
 ascends_over least (x ∷ xs) ys up p q (inl same) yours =
     let parts = and_parts (nat_le least x.0) (ascends_from (x.0 + 1) (map (λ (p : Page). p.0) (xs ++ ys))) up in
     omega (arith, ap (λ (r : Page). r.0) same, above (x.0 + 1) (xs ++ ys) parts.1 q (among_behind xs ys q yours))
-  where
-    above : (m : ℕ) (zs : List Page) → ascends_from m (map (λ (p : Page). p.0) zs) ≡ true → (q : Page) → IsAmong zs q → m ≤ q.0
-    above m [] up q among = absurd among
-    above m (z ∷ zs) up q (inl same) = omega (arith, ap (λ (r : Page). r.0) same, leb-true m z.0 (and_parts (nat_le m z.0) (ascends_from (z.0 + 1) (map (λ (p : Page). p.0) zs)) up).0)
-    above m (z ∷ zs) up q (inr there) =
-        let parts = and_parts (nat_le m z.0) (ascends_from (z.0 + 1) (map (λ (p : Page). p.0) zs)) up in
-        omega (arith, leb-true m z.0 parts.0, above (z.0 + 1) zs parts.1 q there)
 ascends_over least (x ∷ xs) ys up p q (inr there) yours =
     let parts = and_parts (nat_le least x.0) (ascends_from (x.0 + 1) (map (λ (p : Page). p.0) (xs ++ ys))) up in
     ascends_over (x.0 + 1) xs ys parts.1 p q there yours
@@ -189,21 +194,6 @@ module _ (copy : DirCopy) (run : List Page) (row : is_row (first_number run) run
   }
 
 -- ---- one run more
-
--- the pages up to a place, those of the next run among them
-pub up_to : (copy : DirCopy) (at count : ℕ) (pages : List Page) (x y z : Image) → ChangesOnly (HomesOf copy (take at pages)) x y → ChangesOnly (HomesOf copy (take count (drop at pages))) y z
-    → ChangesOnly (HomesOf copy (take (at + count) pages)) x z
-up_to copy at count pages x y z first second =
-    subst (λ (l : List Page). ChangesOnly (HomesOf copy l) x z) (sym (front_more at count pages))
-    (changes-trans (HomesOf copy (take at pages ++ take count (drop at pages))) x y z
-    (changes-within (HomesOf copy (take at pages ++ take count (drop at pages))) (HomesOf copy (take at pages)) x y (homes_front copy (take at pages) (take count (drop at pages))) first)
-    (changes-within (HomesOf copy (take at pages ++ take count (drop at pages))) (HomesOf copy (take count (drop at pages))) y z (homes_behind copy (take at pages) (take count (drop at pages))) second))
-
--- a front lies among a longer one
-pub front_in : (copy : DirCopy) (at count : ℕ) (pages : List Page) (x y : Image) → ChangesOnly (HomesOf copy (take at pages)) x y → ChangesOnly (HomesOf copy (take (at + count) pages)) x y
-front_in copy at count pages x y step =
-    subst (λ (l : List Page). ChangesOnly (HomesOf copy l) x y) (sym (front_more at count pages))
-    (changes-within (HomesOf copy (take at pages ++ take count (drop at pages))) (HomesOf copy (take at pages)) x y (homes_front copy (take at pages) (take count (drop at pages))) step)
 
 -- a front lies among all
 pub in_all : (copy : DirCopy) (n : ℕ) (pages : List Page) (x y : Image) → ChangesOnly (HomesOf copy (take n pages)) x y → ChangesOnly (HomesOf copy pages) x y
@@ -290,3 +280,22 @@ next_run d at count pages ok lt some inside row =
       among = within;
       run = is_run d at count pages ok positive within (subst (λ (l : List Page). is_row (first_number l) (take count l) ≡ true) whole row);
     }
+
+-- a run lies among all pages
+run_in : (copy : DirCopy) (at count : ℕ) (pages : List Page) (x y : Image) → ChangesOnly (HomesOf copy (take count (drop at pages))) x y → ChangesOnly (HomesOf copy pages) x y
+run_in copy at count pages x y step =
+    subst (λ (l : List Page). ChangesOnly (HomesOf copy l) x y) (take-append-drop at pages)
+    (changes-within (HomesOf copy (take at pages ++ drop at pages)) (HomesOf copy (drop at pages)) x y (homes_behind copy (take at pages) (drop at pages)) (in_all copy count (drop at pages) x y step))
+
+-- the pages up to a place were written, and then the next run
+pub one_run : {E : Type 0} {result : Result (Unit {0}) E} (copy : DirCopy) (d at count n : ℕ) (pages : List Page) → n ≡ count → are_pages d pages ≡ true → NextRun d at count pages → {a b c : BayState}
+    → WentHeld copy.slot (ChangesOnly (HomesOf copy pages)) (HasHomed copy (take at pages)) (cost at (at * 4096)) a b
+    → Call result copy.slot (ChangesOnly (HomesOf copy (take n (drop at pages)))) (Held (HasHomed copy (take n (drop at pages)))) (cost 1 (length (take n (drop at pages)) * 4096)) b c
+    → Call result copy.slot (ChangesOnly (HomesOf copy pages)) (Held (HasHomed copy (take (at + count) pages))) (cost (at + count) ((at + count) * 4096)) a c
+one_run {result = result} copy d at count n pages same ok next {a} {b} {c} went call =
+    let run = subst (λ (m : ℕ). Call result copy.slot (ChangesOnly (HomesOf copy (take m (drop at pages)))) (Held (HasHomed copy (take m (drop at pages)))) (cost 1 (length (take m (drop at pages)) * 4096)) b c) same call in
+    let long : length (take count (drop at pages)) ≡ count = length-take-le count (drop at pages) next.among in
+    afforded (record { calls = omega (arith, next.some); bytes = λ s. omega (arith, long) })
+    (on_region {last = Held (HasHomed copy (take count (drop at pages)))} {does = Held (HasHomed copy (take (at + count) pages))} went.calls
+    (λ value homed. both_held (run_homed copy d at count pages ok) went.done homed)
+    (record { calls = wider (run_in copy at count pages) run.calls; done = run.done; cause = run.cause }))

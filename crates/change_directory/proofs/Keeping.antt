@@ -4,8 +4,8 @@ use Rattle.std.specs.Prelude.{nat_lt}
 use Rattle.std.specs.List.{list_all}
 use Rattle.std.proofs.lemmas.Bool.{and_parts, ltb-true}
 use Rattle.std.proofs.lemmas.Option.{none-some}
-use Rattle.bay.specs.Image.{Image, Same, ChangesOnly, window}
-use Rattle.bay.proofs.Images.{window-same, changes-within, changes-same, changes-trans, changes-window}
+use Rattle.bay.specs.Image.{Image, ChangesOnly, window}
+use Rattle.bay.proofs.Images.{window-same, changes-within, changes-window}
 use Rattle.asm_base.specs.declared.block.Block.{Block}
 use Rattle.asm_formats.specs.Bytes.{block_size, is_open}
 use Rattle.asm_formats.specs.Among.{IsAmong}
@@ -34,9 +34,6 @@ homed_as_held copy pages x y h held change did same = record {
   homes = λ p among. window-same (held.byte copy.slot) (y.byte copy.slot) ((region_start + p.0) * block_size) block_size (λ k low high. same k) ∙ did.homes p among;
   elsewhere = change;
 }
-
-pub homes_same : (copy : DirCopy) (pages : List (ℕ × Block)) (x y z : Image) → ChangesOnly (HomesOf copy pages) x y → Same y z → ChangesOnly (HomesOf copy pages) x z
-homes_same copy pages x y z step same = changes-trans (HomesOf copy pages) x y z step (changes-same (HomesOf copy pages) y z same)
 
 module _ (copy : DirCopy) (pages : List (ℕ × Block)) (ok : are_pages copy.dir_blocks pages ≡ true) where
   below : (p : ℕ × Block) → IsAmong pages p → p.0 < copy.dir_blocks

@@ -5,6 +5,7 @@ pub mod Spares
 pub mod Usable
 pub mod Contents
 pub mod Runs
+pub mod Works
 pub mod Settled
 pub mod Homing
 pub mod Keeping
@@ -29,3 +30,4 @@ pub mod LoadRows
 pub mod Loaded
 pub mod Formats
 pub mod Orders
+pub mod LoadPieces

@@ -18,7 +18,7 @@ use Rattle.change_directory.specs.declared.open_log.OpenLog.{OpenLog}
 use Rattle.change_directory.specs.declared.open_log.OpenLogs.{OpenLogs}
 use Rattle.change_directory.specs.Places.{IsCopy, gate_of}
 use Rattle.change_directory.specs.Changes.{disk}
-use Rattle.change_directory.specs.Told.{Told}
+use Rattle.bay.specs.Told.{Told}
 use Rattle.change_directory.specs.Loads.{IsLoaded, newest_slots, slot_in}
 use Rattle.change_directory.specs.Slots.{ArePages, IsLogRead, IsPageDamage, all_due, all_filled, all_slots, damage_of, damaged_page, first_bad, has_slots, open_homes, slots_of}
 use Rattle.change_directory.proofs.Runs.{same_disk}

@@ -9,7 +9,7 @@ use Rattle.change_directory.specs.declared.copy.DirCopy.{DirCopy}
 use Rattle.change_directory.specs.declared.loading.Pages.{Pages}
 use Rattle.change_directory.specs.declared.open_log.OpenLogs.{OpenLogs}
 use Rattle.asm_base.specs.Blocks.{image_of_page}
-use Rattle.change_directory.specs.Told.{Told}
+use Rattle.bay.specs.Told.{Told}
 use Rattle.change_directory.specs.Loads.{OpenSlot}
 use Rattle.change_directory.specs.Slots.{ArePages, AreTaken, IsPageDamage, all_due, all_filled, all_slots, blocks_at, cut, damaged_page, first_bad, homes_in, number_in, open_homes}
 use Rattle.change_directory.proofs.BlockRows.{blocks_len, blocks_more, blocks_same, cut_window}

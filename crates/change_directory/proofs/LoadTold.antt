@@ -1,7 +1,7 @@
 -- What is told of a log slot while it is read.
-use Rattle.std.proofs.Common.{◌≡◌, ℕ, ◌+◌, ◌*◌, Bool, true, false, cond, List, length, Some, None, ap, ◌∙◌}
+use Rattle.std.proofs.Common.{◌≡◌, ℕ, ◌+◌, ◌*◌, Bool, true, false, cond, List, length, Option, Some, None, refl, sym, ap, ◌∙◌}
 use Rattle.std.specs.Prelude.{zip, ◌==◌}
-use Rattle.std.specs.Option.{ForSome}
+use Rattle.std.specs.Option.{ForSome, option_map}
 use Rattle.bay.specs.Image.{Image, Same, window}
 use Rattle.bay.specs.State.{BayState, IsSound}
 use Rattle.bay.specs.Moments.{Runs}
@@ -9,16 +9,17 @@ use Rattle.bay.proofs.Images.{window-same}
 use Rattle.gate_slot.specs.declared.place.Place.{Place}
 use Rattle.gate_slot.specs.Slot.{is_open_in}
 use Rattle.asm_group.specs.Names.{Bytes}
-use Rattle.asm_formats.specs.Logs.{PageImage, decoded_log_head, images_at}
+use Rattle.asm_formats.specs.Logs.{PageImage, decoded_log_head, images_at, log_head_at}
 use Rattle.asm_formats.specs.Damage.{head_damage}
 use Rattle.change_directory.specs.declared.copy.DirCopy.{DirCopy}
 use Rattle.change_directory.specs.declared.copy.LogSlot.{LogSlot}
 use Rattle.change_directory.specs.declared.open_log.OpenLog.{OpenLog}
 use Rattle.change_directory.specs.Places.{IsCopy, gate_of, log_place}
-use Rattle.change_directory.specs.Logs.{is_open_at}
-use Rattle.change_directory.specs.Told.{Told}
+use Rattle.change_directory.specs.Logs.{is_open_at, number_at, open_number}
+use Rattle.bay.specs.Told.{Told}
 use Rattle.change_directory.specs.Slots.{IsLogRead, IsRestRead, cut, head_in, images_in}
 use Rattle.change_directory.proofs.Runs.{same_disk}
+use Rattle.change_directory.proofs.Spares.{same_number}
 use Rattle.change_directory.proofs.LoadSteps.{read_blocks}
 use Rattle.change_directory.proofs.SlotLaws.{log_is_read, log_is_shut}
 use Rattle.change_directory.proofs.Telling.{told_before, told_both, told_later, told_sized}
@@ -77,3 +78,14 @@ log_told copy log s m t run next sound is head read shown rest =
 pub none_told : (copy : DirCopy) (log : LogSlot) (s t : BayState) → IsSound s → IsCopy s copy → Told s t (λ image. None ≡ head_in copy log image) → Told s t (IsLogRead copy log None)
 none_told copy log s t sound is shown =
     told_sized s t (λ image. None ≡ head_in copy log image) (IsLogRead copy log None) copy sound is (λ image sized p. log_is_shut copy is.least log image sized p) shown
+
+-- the number of an open log slot, of its head
+pub number_told : (copy : DirCopy) (log : LogSlot) {slots : ℕ → Type 0} {s t : BayState} (head : Option Bytes) (number : Option ℕ) → number ≡ option_map (λ h. (log_head_at h).commit) head
+    → Runs slots Same s t → Told s t (λ image. head ≡ head_in copy log image) → ForSome t.holds (λ image. number ≡ open_number copy log image)
+number_told copy log {slots} {s} {t} head number is run told = λ image holds.
+    let from = run.held image holds in
+    is ∙ ap (option_map (λ h. (log_head_at h).commit)) (told image holds from.0 from.1) ∙ of_head from.0 (is_open_at copy log from.0) ∙ sym (same_number copy log from.0 image from.2)
+  where
+    of_head : (x : Image) (b : Bool) → option_map (λ h. (log_head_at h).commit) (cond b (Some (window (x.byte copy.slot) ((gate_of copy log + 1) * 4096) 4096)) None) ≡ cond b (Some (number_at copy log x)) None
+    of_head x true = refl
+    of_head x false = refl

@@ -1,12 +1,16 @@
 -- The content while a copy is formatted.
 use Rattle.std.proofs.Common.{◌≡◌, inl, inr, ⊎_elim, ℕ, ◌+◌, ◌*◌, ◌<◌, ◌≤◌, true, false, refl, sym, ap, subst, ◌∙◌, Some, None, arith}
+use Rattle.std.specs.Prelude.{Result, Ok}
 use Rattle.std.proofs.lemmas.Bool.{cases_Bool, cond-true, cond-false}
 use Rattle.std.proofs.lemmas.Option.{none-some}
 use Rattle.bay.specs.Image.{Image, Same, ChangesOnly, Range}
-use Rattle.bay.specs.State.{BayState}
+use Rattle.bay.specs.State.{BayState, IsSound}
+use Rattle.bay.specs.Calls.{Call, Done, cost}
+use Rattle.bay.proofs.Calls.{stops}
+use Rattle.bay.proofs.OneCall.{Follows, afforded, wider}
 use Rattle.bay.proofs.Images.{changes-within}
 use Rattle.gate_slot.specs.declared.place.Place.{Place}
-use Rattle.gate_slot.specs.Slot.{GateOf, MayClose, WaitsFor, shown, body_in}
+use Rattle.gate_slot.specs.Slot.{GateOf, MayClose, Closes, FromHeld, WaitsFor, shown, body_in}
 use Rattle.gate_slot.proofs.Steps.{shown-closed}
 use Rattle.asm_group.specs.Names.{Bytes}
 use Rattle.asm_formats.specs.Logs.{logs_decode}
@@ -26,10 +30,12 @@ use Rattle.change_directory.specs.Places.{gate_of, other_of, log_place}
 use Rattle.change_directory.specs.Logs.{is_open_at, spare_in}
 use Rattle.change_directory.specs.Changes.{disk, content_in, IsAtHome, DecodesIn}
 use Rattle.change_directory.specs.Places.{HomesAt}
-use Rattle.change_directory.specs.Formatting.{AreShut, HasShutSpare, HasShut, IsWhole, Loses}
+use Rattle.change_directory.specs.Formatting.{AreShut, HasShutSpare, HasShut, IsWhole, Loses, Zeroes, HasFormatted, ShutsSafely, FormatsSafely}
+use Rattle.change_directory.specs.Works.{ReadCall, TellsNow}
 use Rattle.change_directory.proofs.Spares.{spare_same, gate_listed, may_close}
 use Rattle.change_directory.proofs.Runs.{same_disk, same_content}
-use Rattle.change_directory.proofs.Shutting.{either_log, stays_shut, still_shut}
+use Rattle.change_directory.proofs.Shutting.{either_log, stays_shut, still_shut, same_shut, shuts_from_held, shut_from_held, then_shuts, both_shut, erasing, erased}
+use Rattle.change_directory.proofs.Works.{then_told}
 
 module _ (copy : DirCopy) (least : 128 ≤ copy.dir_blocks) (short : copy.sector ≤ 4096) where
   -- without an open log slot there is no content
@@ -142,3 +148,40 @@ module _ (copy : DirCopy) (least : 128 ≤ copy.dir_blocks) (short : copy.sector
   erasing_loses x y z shut step whole =
       let sized : region_end copy.dir_blocks * block_size ≤ z.size copy.slot = omega (arith, whole.sized, shut.elsewhere.size copy.slot, step.size copy.slot) in
       inr (shut_none copy least short z sized (still_shut copy short some y z shut.shut step))
+
+  -- ---- with the order in which they are closed
+
+  pub same_safely : (x y : Image) → Same x y → ShutsSafely copy x y
+  same_safely x y same = record { shuts = same_shut copy short some x y same; loses = same_loses copy x y same }
+
+  -- it was read which slot is the spare one, and that one is closed
+  pub spare_shuts : {E F : Type 0} {result : Result (Unit {0}) E} (log : LogSlot) (place : Place) → place ≡ log_place copy log 65 → {a b c : BayState} → IsSound b
+      → ReadCall {E = F} (Ok log) copy.slot (λ l. TellsNow (λ image. l ≡ spare_in copy image)) 4 a b
+      → Call result copy.slot (WaitsFor b copy.slot (MayClose place copy.slot)) (Done (FromHeld b copy.slot (Closes place copy.slot))) (cost 4 place.sector) b c
+      → Call result copy.slot (ShutsSafely copy) (Done (HasShutSpare copy log)) (cost 8 copy.sector) a c
+  spare_shuts log place at sound read close =
+      let sector : place.sector ≡ copy.sector = ap (λ (p : Place). p.sector) at in
+      afforded (record { calls = omega arith; bytes = λ s. omega (arith, sector) })
+      (then_told sound (wider same_safely read.reads.calls) (stops read.reads.calls.runs) close
+      (λ held is x w y same waits. record {
+        shuts = shuts_from_held copy short some held is log place (read.done held is) at x w y same waits;
+        loses = loses_from_held held is log place (read.done held is) at x w y same waits;
+      })
+      (λ held is. shut_from_held copy short some held is log place (read.done held is) at))
+
+  -- the other slot is closed behind it
+  pub other_shuts : (log : LogSlot) (place : Place) → place ≡ log_place copy (other_of log) 65
+      → Follows (ShutsSafely copy) (HasShutSpare copy log) (MayClose place copy.slot) (Closes place copy.slot) (ShutsSafely copy) (HasShut copy)
+  other_shuts log place at = record {
+    starts = λ x y step. step;
+    goes = λ x y z first step. record { shuts = then_shuts copy short some log place at x y z first step; loses = other_loses log place at x y z first step };
+    ends = both_shut copy short some log place at;
+  }
+
+  -- the pages are zeroed behind both
+  pub then_erases : Follows (ShutsSafely copy) (HasShut copy) (ChangesOnly (HomesAt copy)) (Zeroes copy (copy.dir_blocks * 4096)) (FormatsSafely copy) (HasFormatted copy)
+  then_erases = record {
+    starts = λ x y step. record { formats = inl step.shuts; loses = step.loses };
+    goes = λ x y z shut step. record { formats = erasing copy short some x y z shut step; loses = erasing_loses x y z shut step };
+    ends = erased copy short some;
+  }

@@ -1,9 +1,12 @@
 -- Log slots that each image has as they are held: how it comes, over which calls it stays, and what a put of a log does then.
-use Rattle.std.proofs.Common.{◌≡◌, inr, ℕ, ◌+◌, ◌<◌, List, length, sym, subst, ◌∙◌, Some}
+use Rattle.std.proofs.Common.{◌≡◌, inl, inr, ℕ, ◌+◌, ◌<◌, List, length, sym, subst, ◌∙◌, Some}
+use Rattle.std.specs.Prelude.{Ok}
 use Rattle.bay.specs.Image.{Image, Same, ChangesOnly}
 use Rattle.bay.specs.State.{BayState, IsSound}
 use Rattle.bay.specs.Moments.{Runs, Ends, Durable}
+use Rattle.bay.specs.Calls.{Went, cost}
 use Rattle.bay.proofs.Calls.{stops}
+use Rattle.bay.proofs.OneCall.{Follows}
 use Rattle.gate_slot.specs.declared.place.Place.{Place}
 use Rattle.gate_slot.specs.Slot.{IsGateSettled, MayPut, HasPut}
 use Rattle.asm_base.specs.declared.block.Block.{Block}
@@ -13,6 +16,7 @@ use Rattle.change_directory.specs.declared.copy.LogSlot.{LogSlot}
 use Rattle.change_directory.specs.Places.{log_place}
 use Rattle.change_directory.specs.Logs.{AreLogsSettled, SameLogSlots, spare_in, log_of, log_body}
 use Rattle.change_directory.specs.Changes.{MayLog, HasLogged}
+use Rattle.change_directory.specs.Works.{ReadCall, TellsNow}
 use Rattle.change_directory.proofs.Spares.{same_logs, spare_logs}
 use Rattle.change_directory.proofs.Runs.{same_put, same_has}
 
@@ -74,6 +78,11 @@ found_spare copy log {slots} a b sound settled read spare = record {
     still : (x y : Image) → Same x y → spare_in copy y ≡ spare_in copy x
     still x y same = spare_logs copy x y (same_logs copy x y (λ k. same.byte copy.slot k))
 
+-- the same as a call
+pub found_call : {E : Type 0} (copy : DirCopy) (log : LogSlot) {a b : BayState} → IsSound b → AreLogsSettled copy a
+    → ReadCall {E = E} (Ok log) copy.slot (λ l. TellsNow (λ image. l ≡ spare_in copy image)) 4 a b → Went copy.slot Same (FoundSpare copy log) (cost 4 0) a b
+found_call copy log {a} {b} sound settled read = record { calls = read.reads.calls; done = found_spare copy log a b sound settled read.reads.calls.runs read.done; cause = tt }
+
 module _ (copy : DirCopy) (number : ℕ) (pages : List (ℕ × Block)) (some : 0 < copy.sector) (log : LogSlot) (place : Place) (body : Bytes) (at : place ≡ log_place copy log (length pages + 1))
     (has : body ≡ log_body (log_of number pages)) where
   pub logs_found : (x w y : Image) → FoundSpare copy log x w → MayPut place copy.slot body w y → MayLog copy number pages x y
@@ -87,3 +96,6 @@ module _ (copy : DirCopy) (number : ℕ) (pages : List (ℕ × Block)) (some : 0
       subst (λ (l : LogSlot). HasPut (log_place copy l (length pages + 1)) copy.slot (log_body (log_of number pages)) x y) found.is
       (same_has copy number pages log x w y found.same
       (subst (λ (p : Place). HasPut p copy.slot (log_body (log_of number pages)) w y) at (subst (λ (b : Bytes). HasPut place copy.slot b w y) has put)))
+
+  pub then_logs : Follows Same (FoundSpare copy log) (MayPut place copy.slot body) (HasPut place copy.slot body) (MayLog copy number pages) (HasLogged copy number pages)
+  then_logs = record { starts = λ x y same. inl same; goes = logs_found; ends = logged_found }

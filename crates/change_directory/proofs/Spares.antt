@@ -2,7 +2,7 @@
 use Rattle.std.proofs.Common.{◌≡◌, ◌⊎◌, inl, inr, ⊎_elim, ℕ, ◌+◌, ◌*◌, ◌<◌, ◌≤◌, Bool, true, false, cond, List, refl, sym, ap, subst, ◌∙◌, Option, Some, None, arith}
 use Rattle.std.specs.Prelude.{◌==◌}
 use Rattle.std.proofs.lemmas.Bool.{cases_lt, lt-ltb, le-ltb}
-use Rattle.bay.specs.Image.{Image, Same, window}
+use Rattle.bay.specs.Image.{Image, Same}
 use Rattle.bay.proofs.Images.{window-same}
 use Rattle.asm_formats.specs.Bytes.{block_size, is_open}
 use Rattle.asm_formats.specs.Regions.{region_start, region_end, first_log, second_log}
@@ -49,24 +49,12 @@ spare_same copy x held same = spare_logs copy held x (same_logs copy held x same
 
 -- ---- as it is read
 
-same_number : (copy : DirCopy) (log : LogSlot) (old image : Image) → Same old image → open_number copy log image ≡ open_number copy log old
+pub same_number : (copy : DirCopy) (log : LogSlot) (old image : Image) → Same old image → open_number copy log image ≡ open_number copy log old
 same_number copy log old image same =
     let opens : is_open_at copy log image ≡ is_open_at copy log old = ap (λ (b : ℕ). b == 165) (same.byte copy.slot (gate_of copy log * block_size)) in
     let numbers : number_at copy log image ≡ number_at copy log old =
     ap (λ (l : List ℕ). (log_head_at l).commit) (window-same (old.byte copy.slot) (image.byte copy.slot) ((gate_of copy log + 1) * block_size) block_size (λ k low high. same.byte copy.slot k)) in
     λ i. cond (opens i) (Some (numbers i)) None
-
--- a closed slot has no number
-pub number_shut : (copy : DirCopy) (log : LogSlot) (old image : Image) → Same old image → false ≡ is_open_at copy log old → None ≡ open_number copy log image
-number_shut copy log old image same shut = ap (λ (b : Bool). cond b (Some (number_at copy log old)) None) shut ∙ sym (same_number copy log old image same)
-
--- an open one has that of the head that was read
-pub number_read : (copy : DirCopy) (log : LogSlot) (old mid image : Image) → Same old mid → Same mid image → true ≡ is_open_at copy log old
-    → (head : List ℕ) → head ≡ window (mid.byte copy.slot) ((gate_of copy log + 1) * block_size) block_size → (n : ℕ) → n ≡ (log_head_at head).commit → Some n ≡ open_number copy log image
-number_read copy log old mid image first second opened head read n is =
-    ap Some (is ∙ ap (λ (l : List ℕ). (log_head_at l).commit) read)
-    ∙ ap (λ (b : Bool). cond b (Some (number_at copy log mid)) None) (opened ∙ ap (λ (b : ℕ). b == 165) (sym (first.byte copy.slot (gate_of copy log * block_size))))
-    ∙ sym (same_number copy log mid image second)
 
 -- the slot that is spare by the two numbers, of which the first was read before
 pub spare_read : (copy : DirCopy) (mid image : Image) (first second : Option ℕ) → Same mid image → first ≡ open_number copy First mid → second ≡ open_number copy Second image

@@ -8,7 +8,7 @@ use Rattle.asm_formats.specs.Bytes.{block_size}
 use Rattle.asm_formats.specs.Regions.{region_end}
 use Rattle.change_directory.specs.declared.copy.DirCopy.{DirCopy}
 use Rattle.change_directory.specs.Places.{IsCopy}
-use Rattle.change_directory.specs.Told.{Told}
+use Rattle.bay.specs.Told.{Told}
 use Rattle.change_directory.proofs.Runs.{has_size}
 
 module _ (s m t : BayState) (P : Image → Type 0) {slots : ℕ → Type 0} {step : Image → Image → Type 0} where

@@ -74,3 +74,13 @@ pub record IsWhole (copy : DirCopy) (x : Image) : Type 0 where
 -- the content of a whole copy stays, or is gone
 abbrev pub Loses : DirCopy → Image → Image → Type 0
 Loses copy old new = IsWhole copy old → MayLoseContent copy old new
+
+-- a step of the closing of both log slots, by which the content of a whole copy stays or is gone
+pub record ShutsSafely (copy : DirCopy) (old new : Image) : Type 0 where
+  pub shuts : MayShut copy old new
+  pub loses : Loses copy old new
+
+-- and one of a format
+pub record FormatsSafely (copy : DirCopy) (old new : Image) : Type 0 where
+  pub formats : MayFormat copy old new
+  pub loses : Loses copy old new

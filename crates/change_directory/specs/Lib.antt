@@ -4,7 +4,8 @@ pub mod Changes
 pub mod Homes
 pub mod Formatting
 pub mod Laws
-pub mod Told
 pub mod Loads
 pub mod Slots
 pub mod StoreLaws
+pub mod Works
+pub mod LoadCalls

@@ -4,6 +4,7 @@ ghost use Rattle.std.specs.List.{list_all};
 ghost use Rattle.bay.specs.State.{KeepsAttached, IsSlot};
 ghost use Rattle.bay.specs.Counts.{Rose};
 ghost use Rattle.bay.specs.Moments.{Runs, Ends, NowOnly};
+ghost use Rattle.bay.specs.Calls.{Call, Done, cost};
 ghost use Rattle.asm_formats.specs.Content.{is_page};
 ghost use Rattle.asm_formats.specs.Logs.{head_of, is_log_head};
 ghost use Rattle.change_directory.specs.Places.{IsCopy};
@@ -57,12 +58,10 @@ fn put_log<B: Bay>(
     requires copy { IsCopy (B.state bay.old) copy }
     requires pages { length pages.now ≤ 64 }
     requires logs { AreLogsSettled copy (B.state bay.old) }
-    ensures attached { KeepsAttached (B.state bay.old) (B.state bay.new) }
-    ensures calls { (B.state bay.new).calls ≤ (B.state bay.old).calls + 11 }
-    ensures written { (B.state bay.new).written copy.slot ≤ (B.state bay.old).written copy.slot + 2 * copy.sector + (length pages.now + 1) * 4096 }
-    ensures runs { Runs (IsSlot copy.slot) (MayLog copy number pages.now) (B.state bay.old) (B.state bay.new) }
-    ensures done { OnOk result (Ends (HasLogged copy number pages.now) (B.state bay.old) (B.state bay.new)) }
-    ensures cause { OnErr result (Rose ((B.state bay.old).faults copy.slot) ((B.state bay.new).faults copy.slot)) }
+    ensures { Call result copy.slot (MayLog copy number pages.now)
+        (Done (HasLogged copy number pages.now))
+        (cost 11 (2 * copy.sector + (length pages.now + 1) * 4096))
+        (B.state bay.old) (B.state bay.new) }
 {
     let log = spare_slot(bay, copy)?;
     let mut body = [0; LOG_BODY];

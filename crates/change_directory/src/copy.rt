@@ -2,13 +2,8 @@
 ghost use Rattle.std.specs.Prelude.{◌≡◌, ◌≤◌};
 ghost use Rattle.change_directory.specs.Places.{gate_of, other_of, log_place};
 
+use asm_base::{BLOCK, REGION_START};
 use gate_slot::Place;
-
-/// Bytes in a block.
-pub(crate) const BLOCK: u64 = 4096;
-
-/// The block of the first page.
-pub(crate) const REGION_START: u32 = 10;
 
 /// Blocks in a log slot: its gate, its head and 64 images.
 const LOG_BLOCKS: u32 = 66;

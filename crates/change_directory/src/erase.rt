@@ -1,15 +1,18 @@
 // A format: both log slots are closed, and the pages are zeroed.
-ghost use Rattle.std.specs.Prelude.{◌≡◌, ◌≤◌, ◌<◌, ◌+◌, ◌*◌, ◌/◌, IfOk, OnOk, OnErr, length, get_or, ℕ};
+ghost use Rattle.std.specs.Prelude.{◌≡◌, ◌≤◌, ◌<◌, ◌+◌, ◌*◌, ◌/◌, OnOk, OnErr, length, get_or, ℕ};
 ghost use Rattle.bay.specs.Image.{ChangesOnly};
 ghost use Rattle.bay.specs.State.{KeepsAttached, IsSlot};
 ghost use Rattle.bay.specs.Counts.{Rose};
-ghost use Rattle.bay.specs.Moments.{Runs, Ends, Holds, Durable, NowOnly};
+ghost use Rattle.bay.specs.Moments.{Runs, Ends, Durable, NowOnly};
+ghost use Rattle.bay.specs.Calls.{Call, Done, Held, cost};
 ghost use Rattle.change_directory.specs.Places.{IsCopy, HomesAt};
 ghost use Rattle.change_directory.specs.Changes.{IsAtHome, DecodesIn};
-ghost use Rattle.change_directory.specs.Formatting.{MayShut, HasShutSpare, HasShut, MayFormat, HasFormatted, Zeroes, MayLoseContent, Loses};
+ghost use Rattle.change_directory.specs.Formatting.{HasShutSpare, HasShut, MayFormat, HasFormatted, Zeroes, MayLoseContent, ShutsSafely, FormatsSafely};
+ghost use Rattle.change_directory.specs.Works.{DoneSynced};
 
-use crate::copy::{BLOCK, DirCopy, LogSlot, log_place, other_slot};
+use crate::copy::{DirCopy, LogSlot, log_place, other_slot};
 use crate::spare::spare_slot;
+use asm_base::BLOCK;
 use bay::{Bay, Fault};
 use gate_slot::close_gate;
 
@@ -42,14 +45,10 @@ pub fn format<B: Bay>(bay: &mut B, copy: DirCopy) -> Result<(), Fault>
 /// Closes both log slots, and zeroes all pages.
 fn erase<B: Bay>(bay: &mut B, copy: DirCopy) -> Result<(), Fault>
     requires { IsCopy (B.state bay.old) copy }
-    ensures attached { KeepsAttached (B.state bay.old) (B.state bay.new) }
-    ensures calls { (B.state bay.new).calls ≤ (B.state bay.old).calls + (copy.dir_blocks * 4096) / 262144 + 14 }
-    ensures written { (B.state bay.new).written copy.slot ≤ (B.state bay.old).written copy.slot + 2 * copy.sector + copy.dir_blocks * 4096 }
-    ensures runs { Runs (IsSlot copy.slot) (MayFormat copy) (B.state bay.old) (B.state bay.new) }
-    ensures loses { Runs (IsSlot copy.slot) (Loses copy) (B.state bay.old) (B.state bay.new) }
-    ensures done { OnOk result (Ends (HasFormatted copy) (B.state bay.old) (B.state bay.new)) }
-    ensures durable { OnOk result (Durable copy.slot (B.state bay.new)) }
-    ensures cause { OnErr result (Rose ((B.state bay.old).faults copy.slot) ((B.state bay.new).faults copy.slot)) }
+    ensures { Call result copy.slot (FormatsSafely copy)
+        (DoneSynced copy.slot (HasFormatted copy))
+        (cost ((copy.dir_blocks * 4096) / 262144 + 14) (2 * copy.sector + copy.dir_blocks * 4096))
+        (B.state bay.old) (B.state bay.new) }
 {
     close_logs(bay, copy)?;
     zero_pages(bay, copy)
@@ -58,13 +57,8 @@ fn erase<B: Bay>(bay: &mut B, copy: DirCopy) -> Result<(), Fault>
 /// Closes the log slot that doesn't hold the content, and then the other one.
 fn close_logs<B: Bay>(bay: &mut B, copy: DirCopy) -> Result<(), Fault>
     requires { IsCopy (B.state bay.old) copy }
-    ensures attached { KeepsAttached (B.state bay.old) (B.state bay.new) }
-    ensures calls { (B.state bay.new).calls ≤ (B.state bay.old).calls + 12 }
-    ensures written { (B.state bay.new).written copy.slot ≤ (B.state bay.old).written copy.slot + 2 * copy.sector }
-    ensures runs { Runs (IsSlot copy.slot) (MayShut copy) (B.state bay.old) (B.state bay.new) }
-    ensures loses { Runs (IsSlot copy.slot) (Loses copy) (B.state bay.old) (B.state bay.new) }
-    ensures done { OnOk result (Ends (HasShut copy) (B.state bay.old) (B.state bay.new)) }
-    ensures cause { OnErr result (Rose ((B.state bay.old).faults copy.slot) ((B.state bay.new).faults copy.slot)) }
+    ensures { Call result copy.slot (ShutsSafely copy) (Done (HasShut copy))
+        (cost 12 (2 * copy.sector)) (B.state bay.old) (B.state bay.new) }
 {
     let spare = close_spare(bay, copy)?;
     let other = other_slot(spare);
@@ -74,13 +68,8 @@ fn close_logs<B: Bay>(bay: &mut B, copy: DirCopy) -> Result<(), Fault>
 /// Closes the log slot that doesn't hold the content, and tells which it is.
 fn close_spare<B: Bay>(bay: &mut B, copy: DirCopy) -> Result<LogSlot, Fault>
     requires { IsCopy (B.state bay.old) copy }
-    ensures attached { KeepsAttached (B.state bay.old) (B.state bay.new) }
-    ensures calls { (B.state bay.new).calls ≤ (B.state bay.old).calls + 8 }
-    ensures written { (B.state bay.new).written copy.slot ≤ (B.state bay.old).written copy.slot + copy.sector }
-    ensures runs { Runs (IsSlot copy.slot) (MayShut copy) (B.state bay.old) (B.state bay.new) }
-    ensures loses { Runs (IsSlot copy.slot) (Loses copy) (B.state bay.old) (B.state bay.new) }
-    ensures done { IfOk result (λ log. Ends (HasShutSpare copy log) (B.state bay.old) (B.state bay.new)) }
-    ensures cause { OnErr result (Rose ((B.state bay.old).faults copy.slot) ((B.state bay.new).faults copy.slot)) }
+    ensures { Call result copy.slot (ShutsSafely copy) (λ log. Ends (HasShutSpare copy log))
+        (cost 8 copy.sector) (B.state bay.old) (B.state bay.new) }
 {
     let spare = spare_slot(bay, copy)?;
     close_gate(bay, copy.slot, log_place(copy, spare, LOG_BLOCKS))?;
@@ -90,13 +79,10 @@ fn close_spare<B: Bay>(bay: &mut B, copy: DirCopy) -> Result<LogSlot, Fault>
 /// Zeroes all pages, and syncs.
 fn zero_pages<B: Bay>(bay: &mut B, copy: DirCopy) -> Result<(), Fault>
     requires { IsCopy (B.state bay.old) copy }
-    ensures attached { KeepsAttached (B.state bay.old) (B.state bay.new) }
-    ensures calls { (B.state bay.new).calls ≤ (B.state bay.old).calls + (copy.dir_blocks * 4096) / 262144 + 2 }
-    ensures written { (B.state bay.new).written copy.slot ≤ (B.state bay.old).written copy.slot + copy.dir_blocks * 4096 }
-    ensures runs { Runs (IsSlot copy.slot) (ChangesOnly (HomesAt copy)) (B.state bay.old) (B.state bay.new) }
-    ensures done { OnOk result (Ends (Zeroes copy (copy.dir_blocks * 4096)) (B.state bay.old) (B.state bay.new)) }
-    ensures durable { OnOk result (Durable copy.slot (B.state bay.new)) }
-    ensures cause { OnErr result (Rose ((B.state bay.old).faults copy.slot) ((B.state bay.new).faults copy.slot)) }
+    ensures { Call result copy.slot (ChangesOnly (HomesAt copy))
+        (DoneSynced copy.slot (Zeroes copy (copy.dir_blocks * 4096)))
+        (cost ((copy.dir_blocks * 4096) / 262144 + 2) (copy.dir_blocks * 4096))
+        (B.state bay.old) (B.state bay.new) }
 {
     let zeros = [0; PIECE];
     zero_with(bay, copy, &zeros)?;
@@ -108,12 +94,10 @@ fn zero_with<B: Bay>(bay: &mut B, copy: DirCopy, zeros: &[u8]) -> Result<(), Fau
     requires copy { IsCopy (B.state bay.old) copy }
     requires piece { length zeros.now ≡ 262144 }
     requires zeros { (k : ℕ) → k < length zeros.now → get_or zeros.now k 0 ≡ 0 }
-    ensures attached { KeepsAttached (B.state bay.old) (B.state bay.new) }
-    ensures calls { (B.state bay.new).calls ≤ (B.state bay.old).calls + (copy.dir_blocks * 4096) / 262144 + 1 }
-    ensures written { (B.state bay.new).written copy.slot ≤ (B.state bay.old).written copy.slot + copy.dir_blocks * 4096 }
-    ensures runs { Runs (IsSlot copy.slot) (ChangesOnly (HomesAt copy)) (B.state bay.old) (B.state bay.new) }
-    ensures held { OnOk result (Holds (Zeroes copy (copy.dir_blocks * 4096)) (B.state bay.old) (B.state bay.new)) }
-    ensures cause { OnErr result (Rose ((B.state bay.old).faults copy.slot) ((B.state bay.new).faults copy.slot)) }
+    ensures { Call result copy.slot (ChangesOnly (HomesAt copy))
+        (Held (Zeroes copy (copy.dir_blocks * 4096)))
+        (cost ((copy.dir_blocks * 4096) / 262144 + 1) (copy.dir_blocks * 4096))
+        (B.state bay.old) (B.state bay.new) }
 {
     let len = copy.dir_blocks as usize * BLOCK as usize;
     let pieces = len.div_ceil(PIECE);

@@ -3,14 +3,16 @@ ghost use Rattle.std.specs.Prelude.{◌≡◌, ◌≤◌, ◌<◌, ◌+◌, ◌*
 ghost use Rattle.bay.specs.Image.{ChangesOnly};
 ghost use Rattle.bay.specs.State.{KeepsAttached, IsSlot};
 ghost use Rattle.bay.specs.Counts.{Rose};
-ghost use Rattle.bay.specs.Moments.{Runs, Ends, Holds, Durable, NowOnly};
+ghost use Rattle.bay.specs.Moments.{Runs, Ends, Durable, NowOnly};
+ghost use Rattle.bay.specs.Calls.{Call, Held, cost};
 ghost use Rattle.change_directory.specs.Places.{IsCopy};
 ghost use Rattle.change_directory.specs.Logs.{are_pages};
 ghost use Rattle.change_directory.specs.Homes.{HomesOf, HasHomed, AreDue, KeepsContent, is_row, first_number};
+ghost use Rattle.change_directory.specs.Works.{DoneSynced};
 
-use crate::copy::{BLOCK, DirCopy, REGION_START};
+use crate::copy::DirCopy;
 use crate::pages::gather;
-use asm_base::Block;
+use asm_base::{BLOCK, Block, REGION_START};
 use bay::{Bay, Fault};
 
 /// The most pages in one write.
@@ -41,13 +43,10 @@ pub fn checkpoint<B: Bay>(bay: &mut B, copy: DirCopy, pages: &[(u32, Block)]) ->
 fn write_synced<B: Bay>(bay: &mut B, copy: DirCopy, pages: &[(u32, Block)]) -> Result<(), Fault>
     requires copy { IsCopy (B.state bay.old) copy }
     requires pages { IsTrue (are_pages copy.dir_blocks pages.now) }
-    ensures attached { KeepsAttached (B.state bay.old) (B.state bay.new) }
-    ensures calls { (B.state bay.new).calls ≤ (B.state bay.old).calls + length pages.now + 1 }
-    ensures written { (B.state bay.new).written copy.slot ≤ (B.state bay.old).written copy.slot + length pages.now * 4096 }
-    ensures runs { Runs (IsSlot copy.slot) (ChangesOnly (HomesOf copy pages.now)) (B.state bay.old) (B.state bay.new) }
-    ensures done { OnOk result (Ends (HasHomed copy pages.now) (B.state bay.old) (B.state bay.new)) }
-    ensures durable { OnOk result (Durable copy.slot (B.state bay.new)) }
-    ensures cause { OnErr result (Rose ((B.state bay.old).faults copy.slot) ((B.state bay.new).faults copy.slot)) }
+    ensures { Call result copy.slot (ChangesOnly (HomesOf copy pages.now))
+        (DoneSynced copy.slot (HasHomed copy pages.now))
+        (cost (length pages.now + 1) (length pages.now * 4096))
+        (B.state bay.old) (B.state bay.new) }
 {
     write_home(bay, copy, pages)?;
     bay.sync(copy.slot)
@@ -57,12 +56,9 @@ fn write_synced<B: Bay>(bay: &mut B, copy: DirCopy, pages: &[(u32, Block)]) -> R
 fn write_home<B: Bay>(bay: &mut B, copy: DirCopy, pages: &[(u32, Block)]) -> Result<(), Fault>
     requires copy { IsCopy (B.state bay.old) copy }
     requires pages { IsTrue (are_pages copy.dir_blocks pages.now) }
-    ensures attached { KeepsAttached (B.state bay.old) (B.state bay.new) }
-    ensures calls { (B.state bay.new).calls ≤ (B.state bay.old).calls + length pages.now }
-    ensures written { (B.state bay.new).written copy.slot ≤ (B.state bay.old).written copy.slot + length pages.now * 4096 }
-    ensures runs { Runs (IsSlot copy.slot) (ChangesOnly (HomesOf copy pages.now)) (B.state bay.old) (B.state bay.new) }
-    ensures held { OnOk result (Holds (HasHomed copy pages.now) (B.state bay.old) (B.state bay.new)) }
-    ensures cause { OnErr result (Rose ((B.state bay.old).faults copy.slot) ((B.state bay.new).faults copy.slot)) }
+    ensures { Call result copy.slot (ChangesOnly (HomesOf copy pages.now))
+        (Held (HasHomed copy pages.now)) (cost (length pages.now) (length pages.now * 4096))
+        (B.state bay.old) (B.state bay.new) }
 {
     let mut at = 0;
     while at < pages.len() {
@@ -108,12 +104,9 @@ fn write_run<B: Bay>(bay: &mut B, copy: DirCopy, run: &[(u32, Block)]) -> Result
     requires few { length run.now ≤ 64 }
     requires row { IsTrue (is_row (first_number run.now) run.now) }
     requires inside { first_number run.now + length run.now ≤ copy.dir_blocks }
-    ensures attached { KeepsAttached (B.state bay.old) (B.state bay.new) }
-    ensures calls { (B.state bay.new).calls ≤ (B.state bay.old).calls + 1 }
-    ensures written { (B.state bay.new).written copy.slot ≤ (B.state bay.old).written copy.slot + length run.now * 4096 }
-    ensures runs { Runs (IsSlot copy.slot) (ChangesOnly (HomesOf copy run.now)) (B.state bay.old) (B.state bay.new) }
-    ensures held { OnOk result (Holds (HasHomed copy run.now) (B.state bay.old) (B.state bay.new)) }
-    ensures cause { OnErr result (Rose ((B.state bay.old).faults copy.slot) ((B.state bay.new).faults copy.slot)) }
+    ensures { Call result copy.slot (ChangesOnly (HomesOf copy run.now))
+        (Held (HasHomed copy run.now)) (cost 1 (length run.now * 4096))
+        (B.state bay.old) (B.state bay.new) }
 {
     let mut bytes = [0; RUN_BYTES];
     gather(run, &mut bytes);

@@ -10,15 +10,16 @@ ghost use Rattle.asm_formats.specs.Content.{is_empty_page, is_page};
 ghost use Rattle.asm_formats.specs.Damage.{directory_damage};
 ghost use Rattle.change_directory.specs.Places.{IsCopy};
 ghost use Rattle.change_directory.specs.Changes.{disk};
-ghost use Rattle.change_directory.specs.Told.{Told};
+ghost use Rattle.bay.specs.Told.{Told};
 ghost use Rattle.change_directory.specs.Loads.{AreInOrder, IsLoaded, damaged_block};
-ghost use Rattle.change_directory.specs.Slots.{ArePages, AreTaken, AreUpTo, GoesUpTo, IsPageDamage, Takes, all_slots, cut, damage_of, damaged_page, filled, homes_in, number_in};
+ghost use Rattle.change_directory.specs.Slots.{AreTaken, GoesUpTo, IsPageDamage, Takes, all_slots, cut, damage_of, damaged_page, filled, number_in};
+ghost use Rattle.change_directory.specs.LoadCalls.{Damages, IsPieceDamage, LoadCall, PagesAreRead, TakesPiece, piece_of};
 ghost use Rattle.change_directory.specs.declared.loading.LoadFault.TheVariants.{Fault as DiskFault, NoMemory as OutOfMemory};
 
-use crate::copy::{BLOCK, DirCopy, LogSlot, REGION_START};
+use crate::copy::{DirCopy, LogSlot};
 use crate::open_log::{OpenLog, OpenLogs};
 use crate::slots::{block_at, counted_image, in_order, read_log};
-use asm_base::{Block, NoMemory};
+use asm_base::{BLOCK, Block, NoMemory, REGION_START};
 use bay::{Bay, Fault};
 use directory_page::is_page;
 use std::alloc::Global;
@@ -125,14 +126,9 @@ fn load_pages<B: Bay>(
     logs: &OpenLogs,
 ) -> Result<Pages, LoadFault>
     requires { IsCopy (B.state bay.old) copy }
-    ensures pages { IfOk result (λ pages. Told (B.state bay.old) (B.state bay.new) (ArePages copy logs.now pages)) }
-    ensures up_to { IfOk result (AreUpTo (all_slots logs.now) copy.dir_blocks) }
-    ensures damage { IfErr result (λ e. IfSome (damaged_block e) (λ block. Told (B.state bay.old) (B.state bay.new) (IsPageDamage copy logs.now block))) }
-    ensures attached { KeepsAttached (B.state bay.old) (B.state bay.new) }
-    ensures calls { (B.state bay.new).calls ≤ (B.state bay.old).calls + copy.dir_blocks / 64 + 1 }
-    ensures written { (B.state bay.new).written copy.slot ≡ (B.state bay.old).written copy.slot }
-    ensures runs { Runs (IsSlot copy.slot) Same (B.state bay.old) (B.state bay.new) }
-    ensures cause { IsErrOf result LoadFault.Fault → Rose ((B.state bay.old).faults copy.slot) ((B.state bay.new).faults copy.slot) }
+    ensures { LoadCall result copy.slot (PagesAreRead copy logs.now)
+        (Damages (IsPageDamage copy logs.now)) (copy.dir_blocks / 64 + 1)
+        (B.state bay.old) (B.state bay.new) }
 {
     let mut pages = Pages {
         number: number_of(logs),
@@ -154,14 +150,10 @@ fn read_pages<B: Bay>(
     pages: &mut Pages,
 ) -> Result<(), LoadFault>
     requires { IsCopy (B.state bay.old) copy }
-    ensures taken { OnOk result (Told (B.state bay.old) (B.state bay.new) (λ image. AreTaken (all_slots logs.now) 0 (homes_in copy 0 copy.dir_blocks image) pages.old pages.new)) }
-    ensures up_to { OnOk result (GoesUpTo (all_slots logs.now) 0 copy.dir_blocks pages.old pages.new) }
-    ensures damage { IfErr result (λ e. IfSome (damaged_block e) (λ block. Told (B.state bay.old) (B.state bay.new) (λ image. damaged_page (all_slots logs.now) 0 (homes_in copy 0 copy.dir_blocks image) ≡ Some block))) }
-    ensures attached { KeepsAttached (B.state bay.old) (B.state bay.new) }
-    ensures calls { (B.state bay.new).calls ≤ (B.state bay.old).calls + copy.dir_blocks / 64 + 1 }
-    ensures written { (B.state bay.new).written copy.slot ≡ (B.state bay.old).written copy.slot }
-    ensures runs { Runs (IsSlot copy.slot) Same (B.state bay.old) (B.state bay.new) }
-    ensures cause { IsErrOf result LoadFault.Fault → Rose ((B.state bay.old).faults copy.slot) ((B.state bay.new).faults copy.slot) }
+    ensures { LoadCall result copy.slot
+        (λ done. TakesPiece (piece_of copy logs.now 0 copy.dir_blocks) pages.old pages.new)
+        (Damages (IsPieceDamage (piece_of copy logs.now 0 copy.dir_blocks)))
+        (copy.dir_blocks / 64 + 1) (B.state bay.old) (B.state bay.new) }
 {
     let pieces = copy.dir_blocks.div_ceil(PIECE_PAGES);
     for piece in 0..pieces {
@@ -184,14 +176,10 @@ fn read_piece<B: Bay>(
     requires copy { IsCopy (B.state bay.old) copy }
     requires few { count ≤ 64 }
     requires inside { first + count ≤ copy.dir_blocks }
-    ensures taken { OnOk result (Told (B.state bay.old) (B.state bay.new) (λ image. AreTaken (all_slots logs.now) first (homes_in copy first count image) pages.old pages.new)) }
-    ensures up_to { OnOk result (GoesUpTo (all_slots logs.now) first (first + count) pages.old pages.new) }
-    ensures damage { IfErr result (λ e. IfSome (damaged_block e) (λ block. Told (B.state bay.old) (B.state bay.new) (λ image. damaged_page (all_slots logs.now) first (homes_in copy first count image) ≡ Some block))) }
-    ensures attached { KeepsAttached (B.state bay.old) (B.state bay.new) }
-    ensures calls { (B.state bay.new).calls ≤ (B.state bay.old).calls + 1 }
-    ensures written { (B.state bay.new).written copy.slot ≡ (B.state bay.old).written copy.slot }
-    ensures runs { Runs (IsSlot copy.slot) Same (B.state bay.old) (B.state bay.new) }
-    ensures cause { IsErrOf result LoadFault.Fault → Rose ((B.state bay.old).faults copy.slot) ((B.state bay.new).faults copy.slot) }
+    ensures { LoadCall result copy.slot
+        (λ done. TakesPiece (piece_of copy logs.now first count) pages.old pages.new)
+        (Damages (IsPieceDamage (piece_of copy logs.now first count))) 1
+        (B.state bay.old) (B.state bay.new) }
 {
     let mut all = [0; PIECE];
     fill_piece(bay, copy, logs, first, count, &mut all, pages)
@@ -211,14 +199,10 @@ fn fill_piece<B: Bay>(
     requires few { count ≤ 64 }
     requires inside { first + count ≤ copy.dir_blocks }
     requires room { length all.old ≡ 262144 }
-    ensures taken { OnOk result (Told (B.state bay.old) (B.state bay.new) (λ image. AreTaken (all_slots logs.now) first (homes_in copy first count image) pages.old pages.new)) }
-    ensures up_to { OnOk result (GoesUpTo (all_slots logs.now) first (first + count) pages.old pages.new) }
-    ensures damage { IfErr result (λ e. IfSome (damaged_block e) (λ block. Told (B.state bay.old) (B.state bay.new) (λ image. damaged_page (all_slots logs.now) first (homes_in copy first count image) ≡ Some block))) }
-    ensures attached { KeepsAttached (B.state bay.old) (B.state bay.new) }
-    ensures calls { (B.state bay.new).calls ≤ (B.state bay.old).calls + 1 }
-    ensures written { (B.state bay.new).written copy.slot ≡ (B.state bay.old).written copy.slot }
-    ensures runs { Runs (IsSlot copy.slot) Same (B.state bay.old) (B.state bay.new) }
-    ensures cause { IsErrOf result LoadFault.Fault → Rose ((B.state bay.old).faults copy.slot) ((B.state bay.new).faults copy.slot) }
+    ensures { LoadCall result copy.slot
+        (λ done. TakesPiece (piece_of copy logs.now first count) pages.old pages.new)
+        (Damages (IsPieceDamage (piece_of copy logs.now first count))) 1
+        (B.state bay.old) (B.state bay.new) }
 {
     let bytes = &mut all[..count as usize * 4096];
     let at = (REGION_START as u64 + first as u64) * BLOCK;

@@ -1,22 +1,19 @@
 // The log slots, read.
-ghost use Rattle.std.specs.Prelude.{◌≡◌, ◌≤◌, ◌<◌, ◌+◌, ◌*◌, ◌^◌, ◌++◌, ◌∷◌, [], length, map, zip, take, drop, vec_len, IfOk, IfErr, OnOk, OnErr, IsErrOf};
+ghost use Rattle.std.specs.Prelude.{◌≡◌, ◌≤◌, ◌<◌, ◌+◌, ◌*◌, ◌^◌, ◌++◌, ◌∷◌, [], length, map, zip, take, drop, vec_len, IfOk, OnOk};
 ghost use Rattle.std.specs.Option.{is_some, option_map};
-ghost use Rattle.bay.specs.Image.{Same};
-ghost use Rattle.bay.specs.State.{KeepsAttached, IsSlot};
-ghost use Rattle.bay.specs.Counts.{Rose};
-ghost use Rattle.bay.specs.Moments.{Runs};
 ghost use Rattle.asm_formats.specs.Logs.{image_in, image_of};
 ghost use Rattle.change_directory.specs.Places.{IsCopy};
 ghost use Rattle.asm_base.specs.Blocks.{image_of_page};
-ghost use Rattle.change_directory.specs.Told.{Told};
-ghost use Rattle.change_directory.specs.Loads.{counted_block, newest_slots, damaged_block};
-ghost use Rattle.change_directory.specs.Slots.{IsLogRead, IsRestRead, IsSoundRead, all_slots, bad_image, cut, has_slots, head_in, images_in, logs_of, place_in, slots_of};
+ghost use Rattle.change_directory.specs.Loads.{counted_block, newest_slots};
+ghost use Rattle.change_directory.specs.Slots.{all_slots, bad_image, cut, has_slots, head_in, logs_of, place_in, slots_of};
+ghost use Rattle.change_directory.specs.Works.{ReadCall, ToldOver};
+ghost use Rattle.change_directory.specs.LoadCalls.{ImagesAreRead, LoadCall, LogIsRead, NoDamage, RestIsRead};
 
-use crate::copy::{BLOCK, DirCopy, LogSlot, gate_block, log_place};
+use crate::copy::{DirCopy, LogSlot, gate_block, log_place};
 use crate::loading::LoadFault;
 use crate::numbers::{head_number, head_pages};
 use crate::open_log::{OpenLog, OpenLogs};
-use asm_base::{Block, NoMemory};
+use asm_base::{BLOCK, Block, NoMemory};
 use bay::{Bay, Fault};
 use directory_page::is_page;
 use gate_slot::is_open;
@@ -33,14 +30,8 @@ pub(crate) fn read_log<B: Bay>(
     log: LogSlot,
 ) -> Result<Option<OpenLog>, LoadFault>
     requires { IsCopy (B.state bay.old) copy }
-    ensures log { IfOk result (λ read. Told (B.state bay.old) (B.state bay.new) (IsLogRead copy log read)) }
-    ensures sound { IfOk result IsSoundRead }
-    ensures attached { KeepsAttached (B.state bay.old) (B.state bay.new) }
-    ensures calls { (B.state bay.new).calls ≤ (B.state bay.old).calls + 3 }
-    ensures written { (B.state bay.new).written copy.slot ≡ (B.state bay.old).written copy.slot }
-    ensures runs { Runs (IsSlot copy.slot) Same (B.state bay.old) (B.state bay.new) }
-    ensures no_damage { IfErr result (λ e. damaged_block e ≡ None) }
-    ensures cause { IsErrOf result LoadFault.Fault → Rose ((B.state bay.old).faults copy.slot) ((B.state bay.new).faults copy.slot) }
+    ensures { LoadCall result copy.slot (LogIsRead copy log) NoDamage 3
+        (B.state bay.old) (B.state bay.new) }
 {
     match read_head(bay, copy, log)? {
         None => Ok(None),
@@ -52,14 +43,15 @@ pub(crate) fn read_log<B: Bay>(
 }
 
 /// Reads the head of a log slot, where its gate is open.
-fn read_head<B: Bay>(bay: &mut B, copy: DirCopy, log: LogSlot) -> Result<Option<Block>, Fault>
+pub(crate) fn read_head<B: Bay>(
+    bay: &mut B,
+    copy: DirCopy,
+    log: LogSlot,
+) -> Result<Option<Block>, Fault>
     requires { IsCopy (B.state bay.old) copy }
-    ensures head { IfOk result (λ head. Told (B.state bay.old) (B.state bay.new) (λ image. option_map (λ b. b.bytes) head ≡ head_in copy log image)) }
-    ensures attached { KeepsAttached (B.state bay.old) (B.state bay.new) }
-    ensures calls { (B.state bay.new).calls ≤ (B.state bay.old).calls + 2 }
-    ensures written { (B.state bay.new).written copy.slot ≡ (B.state bay.old).written copy.slot }
-    ensures runs { Runs (IsSlot copy.slot) Same (B.state bay.old) (B.state bay.new) }
-    ensures cause { OnErr result (Rose ((B.state bay.old).faults copy.slot) ((B.state bay.new).faults copy.slot)) }
+    ensures { ReadCall result copy.slot
+        (λ head. ToldOver (λ image. option_map (λ b. b.bytes) head ≡ head_in copy log image)) 2
+        (B.state bay.old) (B.state bay.new) }
 {
     if !is_open(bay, copy.slot, log_place(copy, log, 65))? {
         return Ok(None);
@@ -80,14 +72,8 @@ fn read_rest<B: Bay>(
 ) -> Result<OpenLog, LoadFault>
     requires copy { IsCopy (B.state bay.old) copy }
     requires head { length head.now ≡ 4096 }
-    ensures rest { IfOk result (λ read. Told (B.state bay.old) (B.state bay.new) (IsRestRead copy log head.now read)) }
-    ensures sound { IfOk result (λ read. IsSoundRead (Some read)) }
-    ensures attached { KeepsAttached (B.state bay.old) (B.state bay.new) }
-    ensures calls { (B.state bay.new).calls ≤ (B.state bay.old).calls + 1 }
-    ensures written { (B.state bay.new).written copy.slot ≡ (B.state bay.old).written copy.slot }
-    ensures runs { Runs (IsSlot copy.slot) Same (B.state bay.old) (B.state bay.new) }
-    ensures no_damage { IfErr result (λ e. damaged_block e ≡ None) }
-    ensures cause { IsErrOf result LoadFault.Fault → Rose ((B.state bay.old).faults copy.slot) ((B.state bay.new).faults copy.slot) }
+    ensures { LoadCall result copy.slot (RestIsRead copy log head.now) NoDamage 1
+        (B.state bay.old) (B.state bay.new) }
 {
     let gate = gate_block(copy, log) as u64;
     let number = head_number(head);
@@ -119,14 +105,8 @@ fn read_images<B: Bay>(
 ) -> Result<Vec<(u32, Block)>, LoadFault>
     requires copy { IsCopy (B.state bay.old) copy }
     requires few { length pages.now ≤ 64 }
-    ensures len { IfOk result (λ images. vec_len images ≡ length pages.now) }
-    ensures images { IfOk result (λ images. Told (B.state bay.old) (B.state bay.new) (λ image. map image_of_page images.items ≡ images_in copy log pages.now image)) }
-    ensures attached { KeepsAttached (B.state bay.old) (B.state bay.new) }
-    ensures calls { (B.state bay.new).calls ≤ (B.state bay.old).calls + 1 }
-    ensures written { (B.state bay.new).written copy.slot ≡ (B.state bay.old).written copy.slot }
-    ensures runs { Runs (IsSlot copy.slot) Same (B.state bay.old) (B.state bay.new) }
-    ensures no_damage { IfErr result (λ e. damaged_block e ≡ None) }
-    ensures cause { IsErrOf result LoadFault.Fault → Rose ((B.state bay.old).faults copy.slot) ((B.state bay.new).faults copy.slot) }
+    ensures { LoadCall result copy.slot (ImagesAreRead copy log pages.now) NoDamage 1
+        (B.state bay.old) (B.state bay.new) }
 {
     let mut all = [0; IMAGES];
     fill_images(alloc, bay, copy, log, pages, &mut all)
@@ -144,14 +124,8 @@ fn fill_images<B: Bay>(
     requires copy { IsCopy (B.state bay.old) copy }
     requires few { length pages.now ≤ 64 }
     requires room { length all.old ≡ 262144 }
-    ensures len { IfOk result (λ images. vec_len images ≡ length pages.now) }
-    ensures images { IfOk result (λ images. Told (B.state bay.old) (B.state bay.new) (λ image. map image_of_page images.items ≡ images_in copy log pages.now image)) }
-    ensures attached { KeepsAttached (B.state bay.old) (B.state bay.new) }
-    ensures calls { (B.state bay.new).calls ≤ (B.state bay.old).calls + 1 }
-    ensures written { (B.state bay.new).written copy.slot ≡ (B.state bay.old).written copy.slot }
-    ensures runs { Runs (IsSlot copy.slot) Same (B.state bay.old) (B.state bay.new) }
-    ensures no_damage { IfErr result (λ e. damaged_block e ≡ None) }
-    ensures cause { IsErrOf result LoadFault.Fault → Rose ((B.state bay.old).faults copy.slot) ((B.state bay.new).faults copy.slot) }
+    ensures { LoadCall result copy.slot (ImagesAreRead copy log pages.now) NoDamage 1
+        (B.state bay.old) (B.state bay.new) }
 {
     let bytes = &mut all[..pages.len() * 4096];
     let at = (gate_block(copy, log) as u64 + 2) * BLOCK;

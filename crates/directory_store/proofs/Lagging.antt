@@ -1,14 +1,17 @@
 -- A copy that is brought up: how it is read.
-use Rattle.std.proofs.Common.{◌≡◌, inl, inr, ⊎_elim, ℕ, ◌+◌, ◌≤◌, Bool, true, false, List, [], ◌∷◌, length, map, refl, sym, ap, subst, ◌∙◌, Option, Some, None, arith}
-use Rattle.std.specs.Prelude.{◌&&◌, nat_le, nat_lt, IsSome, IsTrue}
+use Rattle.std.proofs.Common.{◌≡◌, inl, inr, ⊎_elim, ℕ, ◌+◌, ◌/◌, ◌≤◌, Bool, true, false, List, [], ◌∷◌, length, map, refl, sym, ap, subst, ◌∙◌, Option, Some, None, arith}
+use Rattle.std.specs.Prelude.{◌&&◌, nat_le, nat_lt, IsSome, IsTrue, Ok, Vec}
+use Rattle.std.specs.declared.alloc.Global.{Global}
 use Rattle.std.specs.List.{flat_map, list_all, range_with_len}
 use Rattle.std.proofs.lemmas.Bool.{true≢false, and_parts, leb-true, ltb-true}
 use Rattle.std.proofs.lemmas.Option.{none-some}
 use Rattle.bay.specs.Image.{Image, Same, ChangesOnly, window}
-use Rattle.bay.specs.State.{BayState, IsSound, IsSlot}
+use Rattle.bay.specs.State.{BayState, IsSound, IsSlot, KeepsAttached}
 use Rattle.bay.specs.Moments.{Runs, Ends, Durable, NowOnly}
-use Rattle.bay.proofs.Calls.{both_done, goes_on, stops, widened}
-use Rattle.bay.proofs.Images.{changes-same, changes-trans, window-same}
+use Rattle.bay.specs.Calls.{Calls, cost}
+use Rattle.bay.proofs.Calls.{attached-trans, both_done, goes_on, stops, widened}
+use Rattle.bay.proofs.Images.{changes-same, changes-trans, same-trans, window-same}
+use Rattle.bay.proofs.OneCall.{of_parts}
 use Rattle.asm_group.specs.Names.{Bytes}
 use Rattle.asm_base.specs.declared.block.Block.{Block}
 use Rattle.asm_formats.specs.Damage.{directory_damage}
@@ -25,16 +28,19 @@ use Rattle.change_directory.specs.Logs.{are_pages}
 use Rattle.asm_base.specs.Blocks.{image_of_page}
 use Rattle.change_directory.specs.Places.{IsCopy}
 use Rattle.change_directory.specs.StoreLaws.{HasDue, HasOpen, HasRegion, IsReadAs, IsShaped, RegionOf, SameCopy, due_images, shown_by}
-use Rattle.change_directory.specs.Told.{Told}
+use Rattle.bay.specs.Told.{Told}
 use Rattle.change_directory.proofs.Keeping.{keeps_content}
 use Rattle.change_directory.proofs.Loaded.{loaded_is_content, loaded_is_due}
 use Rattle.change_directory.proofs.Regions.{steps_stay_inside}
 use Rattle.change_directory.proofs.Runs.{same_disk, same_content}
-use Rattle.directory_store.specs.Copies.{MayMake}
-use Rattle.directory_store.specs.Copying.{IsReadable, IsRenewable, MayRenew}
+use Rattle.change_directory.proofs.Usable.{still_copy}
+use Rattle.directory_store.specs.Copies.{MayMakeCopy}
+use Rattle.directory_store.specs.Copying.{IsReadable, IsRenewable, MayRenewCopy}
+use Rattle.directory_store.specs.Renewals.{ReadsDue}
 use Rattle.directory_store.proofs.CopyLaws.{homed_settles}
-use Rattle.directory_store.proofs.Renewing.{ends_knowing, knowing, shut_is}
+use Rattle.directory_store.proofs.Renewing.{ends_knowing, knowing, shut_is, sized_now}
 use Rattle.directory_store.proofs.Rows.{copy_stays}
+use Rattle.directory_store.proofs.Steps.{shaped}
 
 -- ---- pages in order
 
@@ -204,12 +210,12 @@ module _ (copy : DirCopy) where
         }) (stops run) (ends_knowing {P = λ y. HasRegion copy y × IsRenewable copy due y} sound (known sized renewable) ends)
 
   module _ (number : ℕ) (page : ℕ → Bytes) where
-    pub homes_renew : {s u : BayState} → Runs (IsSlot copy.slot) (MayHome copy) s u → Runs (IsSlot copy.slot) (MayRenew copy number page) s u
-    homes_renew {s} {u} run = widened {step = MayHome copy} {whole = MayRenew copy number page} (λ x y step. record { elsewhere = step.elsewhere; content = λ readable. inl step.content }) run
+    pub homes_renew : {s u : BayState} → Runs (IsSlot copy.slot) (MayHome copy) s u → Runs (IsSlot copy.slot) (MayRenewCopy copy number page) s u
+    homes_renew {s} {u} run = widened {step = MayHome copy} {whole = MayRenewCopy copy number page} (λ x y step. record { elsewhere = step.elsewhere; content = λ readable. inl step.content }) run
 
-    pub renews : {s u v : BayState} → Runs (IsSlot copy.slot) (MayHome copy) s u → Ends (IsReadied copy) s u → Runs (IsSlot copy.slot) (MayMake copy number page) u v
-        → Runs (IsSlot copy.slot) (MayRenew copy number page) s v
-    renews {s} {u} {v} run ends next = goes_on {done = IsReadied copy} {step = MayMake copy number page} {whole = MayRenew copy number page}
+    pub renews : {s u v : BayState} → Runs (IsSlot copy.slot) (MayHome copy) s u → Ends (IsReadied copy) s u → Runs (IsSlot copy.slot) (MayMakeCopy copy number page) u v
+        → Runs (IsSlot copy.slot) (MayRenewCopy copy number page) s v
+    renews {s} {u} {v} run ends next = goes_on {done = IsReadied copy} {step = MayMakeCopy copy number page} {whole = MayRenewCopy copy number page}
         (λ x y z readied step. record {
           elsewhere = changes-trans (RegionOf copy) x y z readied.home.elsewhere step.elsewhere;
           content = λ readable.
@@ -217,5 +223,31 @@ module _ (copy : DirCopy) where
               ⊎_elim (λ (same : content_in copy z ≡ content_in copy y). inl (same ∙ readied.home.content)) (λ new. inr new) (step.content ready.0 ready.1);
         }) (homes_renew run) ends next
 
-    pub renews_inside : {s v : BayState} → Runs (IsSlot copy.slot) (MayRenew copy number page) s v → Runs (IsSlot copy.slot) (ChangesOnly (RegionOf copy)) s v
-    renews_inside {s} {v} run = widened {step = MayRenew copy number page} {whole = ChangesOnly (RegionOf copy)} (λ x y step. step.elsewhere) run
+    pub renews_inside : {s v : BayState} → Runs (IsSlot copy.slot) (MayRenewCopy copy number page) s v → Runs (IsSlot copy.slot) (ChangesOnly (RegionOf copy)) s v
+    renews_inside {s} {v} run = widened {step = MayRenewCopy copy number page} {whole = ChangesOnly (RegionOf copy)} (λ x y step. step.elsewhere) run
+
+-- ---- the calls
+
+-- a sync, and then a read of the copy
+pub synced_reads : (copy : DirCopy) {a b c : BayState} → KeepsAttached a b → b.calls ≤ a.calls + 1 → b.written copy.slot ≡ a.written copy.slot → Runs (IsSlot copy.slot) Same a b
+    → KeepsAttached b c → c.calls ≤ b.calls + copy.dir_blocks / 64 + 7 → c.written copy.slot ≡ b.written copy.slot → Runs (IsSlot copy.slot) Same b c
+    → Calls (IsSlot copy.slot) Same (cost (copy.dir_blocks / 64 + 8) 0) a c
+synced_reads copy one synced same run two read still next = of_parts (copy.dir_blocks / 64 + 8) 0 (attached-trans one two) (omega (arith, synced, read)) (omega (arith, same, still)) (goes_on same-trans run (stops run) next)
+
+-- the due pages of a copy were read
+module _ {copy : DirCopy} {list : Vec (ℕ × Block) Global} {due : List (ℕ × Block)} (is : due ≡ list.items) {s t : BayState} (sound : IsSound t) (here : IsCopy s copy)
+    (read : ReadsDue (Ok list) copy s t) where
+  pub due_are_pages : IsTrue (are_pages copy.dir_blocks due)
+  due_are_pages = subst (λ (l : List (ℕ × Block)). IsTrue (are_pages copy.dir_blocks l)) (sym is) read.pages
+
+  pub due_are_renewable : NowOnly t (IsRenewable copy due)
+  due_are_renewable = subst (λ (l : List (ℕ × Block)). NowOnly t (IsRenewable copy l)) (sym is) read.read
+
+  sized_still : NowOnly t (HasRegion copy)
+  sized_still = sized_now sound (still_copy here read.calls.attached)
+
+  pub due_homes : {u : BayState} → Runs (IsSlot copy.slot) (ChangesOnly (HomesOf copy due)) t u → Runs (IsSlot copy.slot) (MayHome copy) s u
+  due_homes run = homes copy due (shaped here) due_are_pages sound sized_still due_are_renewable read.calls.runs run
+
+  pub due_homed : {u : BayState} → Ends (HasHomed copy due) t u → Ends (IsReadied copy) s u
+  due_homed ends = is_ready copy due (shaped here) due_are_pages sound sized_still due_are_renewable read.calls.runs ends

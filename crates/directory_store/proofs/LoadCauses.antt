@@ -12,9 +12,9 @@ use Rattle.change_directory.specs.declared.copy.DirCopy.{DirCopy}
 use Rattle.change_directory.specs.Changes.{disk}
 use Rattle.change_directory.specs.Loads.{open_slots}
 use Rattle.change_directory.specs.StoreLaws.{IsShaped, counted, zero_page}
-use Rattle.directory_store.specs.Copies.{AreNamed}
+use Rattle.directory_store.specs.Copies.{AreNamedCopies}
 use Rattle.directory_store.specs.Loading.{HasTwins, LoadCause}
-use Rattle.directory_store.specs.Reading.{AreRead, HasTwin, IsBuildFault, IsMapFault, IsNewest, IsReadFault, IsReading, WasRead, block_in, copies_of}
+use Rattle.directory_store.specs.Reading.{AreCopiesRead, HasTwin, IsBuildFault, IsMapFault, IsNewest, IsReadFault, IsReading, WasRead, block_in, copies_of}
 use Rattle.directory_store.specs.declared.error.LoadError.{LoadError}
 use Rattle.directory_store.specs.declared.error.LoadError.TheVariants.{DirectoriesLost, Damaged, NoMemory}
 use Rattle.directory_store.specs.declared.reading.Reading.{Reading}
@@ -27,7 +27,7 @@ use Rattle.directory_store.proofs.Steps.{shaped}
 none_of : (readings : List Reading) (q : Reading) → readings ≡ [] → IsAmong readings q → ⊥
 none_of readings q e among = subst (λ (l : List Reading). IsAmong l q) e among
 
-module _ (copies : List DirCopy) (readings : List Reading) (s t : BayState) (named : AreNamed copies [] s) (read : AreRead copies readings s t) where
+module _ (copies : List DirCopy) (readings : List Reading) (s t : BayState) (named : AreNamedCopies copies [] s) (read : AreCopiesRead copies readings s t) where
   given_copy : (q : Reading) → IsAmong readings q → IsAmong copies q.copy
   given_copy q among = part_among (copies_of readings) copies read.parts q.copy (copy_among readings q among)
 

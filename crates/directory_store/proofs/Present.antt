@@ -4,7 +4,7 @@ use Rattle.std.specs.Prelude.{◌==◌, ◌||◌}
 use Rattle.std.proofs.lemmas.Bool.{eq-eqb, eqb-true, true≢false}
 use Rattle.asm_formats.specs.Among.{IsAmong}
 use Rattle.change_directory.specs.declared.copy.DirCopy.{DirCopy}
-use Rattle.directory_store.specs.Copies.{AreApart, IsApartFrom}
+use Rattle.directory_store.specs.Copies.{AreCopiesApart, IsCopyApart}
 use Rattle.directory_store.specs.Stores.{has_disk}
 
 pub disk_has : (number : ℕ) (copies : List DirCopy) (c : DirCopy) → IsAmong copies c → c.number ≡ number → has_disk number copies ≡ true
@@ -28,7 +28,7 @@ has_of_disk number (d ∷ copies) has = go (λ there. has_of_disk number copies 
         (later.0, inr later.1, later.2)
 
 -- two copies are one, or apart
-one_or_apart : (copies : List DirCopy) → AreApart copies → (c d : DirCopy) → IsAmong copies c → IsAmong copies d → (c ≡ d) ⊎ ((c.slot ≢ d.slot) × (c.number ≢ d.number))
+one_or_apart : (copies : List DirCopy) → AreCopiesApart copies → (c d : DirCopy) → IsAmong copies c → IsAmong copies d → (c ≡ d) ⊎ ((c.slot ≢ d.slot) × (c.number ≢ d.number))
 one_or_apart [] apart c d mine yours = absurd mine
 one_or_apart (x ∷ copies) apart c d (inl a) (inl b) = inl (a ∙ sym b)
 one_or_apart (x ∷ copies) apart c d (inl a) (inr there) =
@@ -38,8 +38,8 @@ one_or_apart (x ∷ copies) apart c d (inr there) (inl b) =
     inr (subst (λ (k : DirCopy). (c.slot ≢ k.slot) × (c.number ≢ k.number)) (sym b) ((λ e. from.0 (sym e)), (λ e. from.1 (sym e))))
 one_or_apart (x ∷ copies) apart c d (inr there) (inr yonder) = one_or_apart copies apart.1 c d there yonder
 
-pub absent_is_apart : (some copies : List DirCopy) (c : DirCopy) → AreApart copies → ((d : DirCopy) → IsAmong some d → IsAmong copies d) → IsAmong copies c → has_disk c.number some ≡ false
-    → IsApartFrom c some
+pub absent_is_apart : (some copies : List DirCopy) (c : DirCopy) → AreCopiesApart copies → ((d : DirCopy) → IsAmong some d → IsAmong copies d) → IsAmong copies c → has_disk c.number some ≡ false
+    → IsCopyApart c some
 absent_is_apart some copies c apart within mine absent d yours = ⊎_elim
     (λ (one : c ≡ d). absurd (true≢false (sym (disk_has c.number some d yours (sym (ap (λ (k : DirCopy). k.number) one))) ∙ absent)))
     (λ from. from)

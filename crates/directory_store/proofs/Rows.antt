@@ -1,6 +1,6 @@
 -- A commit on one copy more.
 use Rattle.std.proofs.Common.{◌≡◌, ◌≢◌, ◌⊎◌, inl, inr, ⊎_elim, ℕ, zero, suc, ◌+◌, ◌-◌, ◌*◌, ◌/◌, ◌%◌, ◌^◌, ◌<◌, ◌≤◌, Bool, true, false, List, [], ◌∷◌, length, map, take, drop, get_or, refl, sym, ap, subst, ◌∙◌, arith}
-use Rattle.std.specs.Prelude.{◌||◌, ◌==◌}
+use Rattle.std.specs.Prelude.{◌||◌, ◌==◌, Result, Ok, Err}
 use Rattle.std.proofs.lemmas.Bool.{true≢false, eq-eqb, eqb-true, ne_eqb}
 use Rattle.std.proofs.lemmas.List.{take_all}
 use Rattle.std.proofs.Math.Nat.{zero-div}
@@ -22,7 +22,8 @@ use Rattle.asm_base.specs.Blocks.{image_of_page}
 use Rattle.change_directory.specs.StoreLaws.{IsShaped, HasRegion, SameRegion, SameCopy, RegionOf, content_with}
 use Rattle.change_directory.proofs.Settled.{logs_off}
 use Rattle.change_directory.proofs.Usable.{still_copy}
-use Rattle.directory_store.specs.Copies.{AllLogsSettled, AreApart, AreKept, AreNamed, AreSettledBut, FailedAlone, HasEither, HaveEither, IsApartFrom, IsKept, IsSettled, IsSlotOf, LogsSettledBut, RegionsOf, WritesFew, calls_for, due_of}
+use Rattle.directory_store.specs.Commits.{Commits, CommitsOne, HasTaken}
+use Rattle.directory_store.specs.Copies.{AllLogsSettled, AreCopiesApart, AreKept, AreNamedCopies, AreSettledBut, Earlier, HasOnlyFailedCopies, HasEither, HaveEither, IsCopyApart, IsKept, IsSettled, IsSlotOfCopy, LogsSettledBut, MayPutOn, RegionsOf, WritesFew, calls_for, due_of}
 use Rattle.directory_store.specs.declared.due.Due.{Due}
 use Rattle.directory_store.proofs.CopyLaws.{region_is_same}
 use Rattle.directory_store.proofs.Steps.{both_run, shaped}
@@ -51,7 +52,7 @@ copy_stays copy region x y shape sized apart step =
 off_region : (copy other : DirCopy) → copy.slot ≢ other.slot → (k : ℕ) → RegionOf other copy.slot k → ⊥
 off_region copy other apart k inside = apart inside.0
 
-off_regions : (copy : DirCopy) (others : List DirCopy) → IsApartFrom copy others → (k : ℕ) → RegionsOf others copy.slot k → ⊥
+off_regions : (copy : DirCopy) (others : List DirCopy) → IsCopyApart copy others → (k : ℕ) → RegionsOf others copy.slot k → ⊥
 off_regions copy others apart k inside = (apart inside.0 inside.1).0 inside.2.0
 
 -- ---- sets
@@ -70,17 +71,6 @@ no_bit k = ne_eqb (0 / 2 ^ k % 2) 1 (λ e. omega (arith, e, ap (λ (n : ℕ). n 
 
 -- ---- what commits on several copies do
 
-pub record Commits (copies : List DirCopy) (dues : List Due) (number : ℕ) (pages : List (ℕ × Block)) (failed : ℕ) (s t : BayState) : Type 0 where
-  pub attached : KeepsAttached s t
-  pub calls : t.calls ≤ s.calls + calls_for copies dues (length pages)
-  pub written : WritesFew copies dues (length pages) s t
-  pub runs : Runs (IsSlotOf copies) (ChangesOnly (RegionsOf copies)) s t
-  pub moments : (before : ℕ) (page : ℕ → Bytes) → before < number → NowOnly s (AreKept copies dues before page)
-      → LeavesOnly s t (HaveEither copies before number page (with_images (map image_of_page pages) page))
-  pub done : (before : ℕ) (page : ℕ → Bytes) → before < number → NowOnly s (AreKept copies dues before page)
-      → NowOnly t (AreSettledBut copies failed number (with_images (map image_of_page pages) page))
-  pub failed_alone : FailedAlone copies failed s t
-
 -- no copies
 pub no_commits : (dues : List Due) (number : ℕ) (pages : List (ℕ × Block)) (failed : ℕ) (s : BayState) → ((k : ℕ) → k < 64 → has_bit failed k ≡ false) → Commits [] dues number pages failed s s
 no_commits dues number pages failed s none = record {
@@ -90,20 +80,15 @@ no_commits dues number pages failed s none = record {
   runs = started (λ x. changes-same (RegionsOf []) x x (same-refl x));
   moments = λ before page less now. leaves_begin (record { now = λ x left c among. absurd among });
   done = λ before page less now. record { now = λ x left c among. absurd among };
+  logs = λ c among. absurd among;
   failed_alone = λ k small is. absurd (true≢false (sym is ∙ none k small));
 }
 
--- what a commit on one copy does
-pub record CommitsOne (copy : DirCopy) (due : List (ℕ × Block)) (number : ℕ) (pages : List (ℕ × Block)) (s t : BayState) : Type 0 where
-  pub attached : KeepsAttached s t
-  pub calls : t.calls ≤ s.calls + length due + length pages + 14
-  pub written : t.written copy.slot ≤ s.written copy.slot + 2 * copy.sector + (2 * length pages + 1) * 4096 + length due * 4096
-  pub runs : Runs (IsSlot copy.slot) (ChangesOnly (RegionOf copy)) s t
-  pub moments : (before : ℕ) (page : ℕ → Bytes) → before < number → NowOnly s (IsKept copy due before page)
-      → LeavesOnly s t (HasEither copy before number page (with_images (map image_of_page pages) page))
-
 module _ (first : DirCopy) (rest : List DirCopy) (dues : List Due) (number : ℕ) (pages : List (ℕ × Block)) (s t u : BayState)
-    (named : AreNamed (first ∷ rest) dues s) (apart : AreApart (first ∷ rest)) (one : CommitsOne first (due_of dues first.slot) number pages s t) where
+    (named : AreNamedCopies (first ∷ rest) dues s) (apart : AreCopiesApart (first ∷ rest)) {T E : Type 0} (result : Result T E) (one : CommitsOne result first (due_of dues first.slot) number pages s t) where
+  run : Runs (IsSlot first.slot) (ChangesOnly (RegionOf first)) s t
+  run = one.call.calls.runs
+
   shape_of : (c : DirCopy) → IsAmong (first ∷ rest) c → IsShaped c
   shape_of c among = shaped (named c among).copy_is
 
@@ -115,36 +100,36 @@ module _ (first : DirCopy) (rest : List DirCopy) (dues : List Due) (number : ℕ
       record { content = same.has_content before page here.content; due_are = same.has_due (due_of dues c.slot) here.due_are }
 
   pub rest_kept : (before : ℕ) (page : ℕ → Bytes) → NowOnly s (AreKept (first ∷ rest) dues before page) → NowOnly t (AreKept rest dues before page)
-  rest_kept before page now = now_only {P = AreKept (first ∷ rest) dues before page} {Q = AreKept rest dues before page} (stays_kept before page) (stops one.runs) now
+  rest_kept before page now = now_only {P = AreKept (first ∷ rest) dues before page} {Q = AreKept rest dues before page} (stays_kept before page) (stops run) now
 
   pub first_kept : (before : ℕ) (page : ℕ → Bytes) → NowOnly s (AreKept (first ∷ rest) dues before page) → NowOnly s (IsKept first (due_of dues first.slot) before page)
   first_kept before page now = record { now = λ x left. now.now x left first (inl refl) }
 
   -- so are their log slots settled
   pub rest_logs : AllLogsSettled (first ∷ rest) s → AllLogsSettled rest t
-  rest_logs logs c among = logs_off c (off_region c first (λ e. (apart.0 c among).0 (sym e))) one.runs (logs c (inr among))
+  rest_logs logs c among = logs_off c (off_region c first (λ e. (apart.0 c among).0 (sym e))) run (logs c (inr among))
 
-  pub rest_named : AreNamed rest dues t
+  pub rest_named : AreNamedCopies rest dues t
   rest_named c among =
       let is = named c (inr among) in
-      record { copy_is = still_copy is.copy_is one.attached; number = is.number; due = is.due }
+      record { copy_is = still_copy is.copy_is one.call.calls.attached; number = is.number; due = is.due }
 
   module _ (failed_rest : ℕ) (others : Commits rest dues number pages failed_rest t u) where
     pub all_attached : KeepsAttached s u
-    all_attached = attached-trans one.attached others.attached
+    all_attached = attached-trans one.call.calls.attached others.attached
 
-    pub all_runs : Runs (IsSlotOf (first ∷ rest)) (ChangesOnly (RegionsOf (first ∷ rest))) s u
+    pub all_runs : Runs (IsSlotOfCopy (first ∷ rest)) (ChangesOnly (RegionsOf (first ∷ rest))) s u
     all_runs = both_run
-        (on_more (λ slot is. (first, inl refl, is)) (widened (λ x y h. changes-within (RegionsOf (first ∷ rest)) (RegionOf first) x y (λ slot k inside. (first, inl refl, inside)) h) one.runs))
+        (on_more (λ slot is. (first, inl refl, is)) (widened (λ x y h. changes-within (RegionsOf (first ∷ rest)) (RegionOf first) x y (λ slot k inside. (first, inl refl, inside)) h) run))
         (on_more (λ slot is. (is.0, inr is.1, is.2)) (widened (λ x y h. changes-within (RegionsOf (first ∷ rest)) (RegionsOf rest) x y (λ slot k inside. (inside.0, inr inside.1, inside.2)) h) others.runs))
 
     pub all_calls : u.calls ≤ s.calls + calls_for (first ∷ rest) dues (length pages)
-    all_calls = omega (arith, one.calls, others.calls)
+    all_calls = omega (arith, one.call.calls.calls, others.calls)
 
     pub all_written : WritesFew (first ∷ rest) dues (length pages) s u
     all_written c (inl same) = subst (λ (d : DirCopy). u.written d.slot ≤ s.written d.slot + 2 * d.sector + (2 * length pages + 1) * 4096 + length (due_of dues d.slot) * 4096) (sym same)
-        (omega (arith, one.written, others.runs.other_written first.slot (λ is. (apart.0 is.0 is.1).0 is.2)))
-    all_written c (inr among) = omega (arith, others.written c among, one.runs.other_written c.slot (λ is. (apart.0 c among).0 (sym is)))
+        (omega (arith, one.call.calls.written first.slot, others.runs.other_written first.slot (λ is. (apart.0 is.0 is.1).0 is.2)))
+    all_written c (inr among) = omega (arith, others.written c among, run.other_written c.slot (λ is. (apart.0 c among).0 (sym is)))
 
     module _ (before : ℕ) (page : ℕ → Bytes) (less : before < number) (now : NowOnly s (AreKept (first ∷ rest) dues before page)) where
       first_moments : LeavesOnly s t (HasEither first before number page (with_images (map image_of_page pages) page))
@@ -152,11 +137,11 @@ module _ (first : DirCopy) (rest : List DirCopy) (dues : List Due) (number : ℕ
 
       first_sized : NowOnly t (HasRegion first)
       first_sized = now_only {P = AreKept (first ∷ rest) dues before page} {Q = HasRegion first}
-          (λ x y kept step. omega (arith, (kept first (inl refl)).content.pages.sized, step.size first.slot)) (stops one.runs) now
+          (λ x y kept step. omega (arith, (kept first (inl refl)).content.pages.sized, step.size first.slot)) (stops run) now
 
       rest_before : LeavesOnly s t (λ x. (c : DirCopy) → IsAmong rest c → content_in c x ≡ content_with c before page)
       rest_before = leaves_only {P = AreKept (first ∷ rest) dues before page} {Q = λ x. (c : DirCopy) → IsAmong rest c → content_in c x ≡ content_with c before page}
-          (λ x y kept step c among. (stays_kept before page x y kept step c among).content.content) one.runs now
+          (λ x y kept step c among. (stays_kept before page x y kept step c among).content.content) run now
 
       each_either : (x : Image) → HasEither first before number page (with_images (map image_of_page pages) page) x
           → HaveEither rest before number page (with_images (map image_of_page pages) page) x → HaveEither (first ∷ rest) before number page (with_images (map image_of_page pages) page) x
@@ -200,28 +185,26 @@ module _ (first : DirCopy) (rest : List DirCopy) (dues : List Due) (number : ℕ
         bits c.number (named c (inl same)).number ∙ ap (λ (b : Bool). b || has_bit failed_rest c.number) (eq-eqb c.number first.number (ap (λ (d : DirCopy). d.number) same))
 
     -- the log slots of those that took it are settled
-    pub all_logs : AreLogsSettled first t → LogsSettledBut rest failed_rest u → LogsSettledBut (first ∷ rest) failed_rest u
-    all_logs here there c among out = ⊎_elim
+    all_logs : AreLogsSettled first t → LogsSettledBut (first ∷ rest) failed_rest u
+    all_logs here c among out = ⊎_elim
         (λ (same : c ≡ first). subst (λ (d : DirCopy). AreLogsSettled d u) (sym same) (logs_off first (off_regions first rest apart.0) others.runs here))
-        (λ (inside : IsAmong rest c). there c inside out) among
+        (λ (inside : IsAmong rest c). others.logs c inside out) among
 
-    pub other_logs : (failed : ℕ) → ((k : ℕ) → k < 64 → has_bit failed k ≡ ((k == first.number) || has_bit failed_rest k)) → LogsSettledBut rest failed_rest u → LogsSettledBut (first ∷ rest) failed u
-    other_logs failed bits there c among out = ⊎_elim
+    other_logs : (failed : ℕ) → ((k : ℕ) → k < 64 → has_bit failed k ≡ ((k == first.number) || has_bit failed_rest k)) → LogsSettledBut (first ∷ rest) failed u
+    other_logs failed bits c among out = ⊎_elim
         (λ (same : c ≡ first). absurd (true≢false (sym (set_first failed bits c same) ∙ out)))
-        (λ (inside : IsAmong rest c). there c inside (still_out first.number c.number (has_bit failed_rest c.number) (sym (bits c.number (named c (inr inside)).number) ∙ out))) among
+        (λ (inside : IsAmong rest c). others.logs c inside (still_out first.number c.number (has_bit failed_rest c.number) (sym (bits c.number (named c (inr inside)).number) ∙ out))) among
 
     later_rose : (c : DirCopy) → Rose (t.faults c.slot) (u.faults c.slot) → Rose (s.faults c.slot) (u.faults c.slot)
-    later_rose c rose = omega (arith, rose, one.runs.faults c.slot)
+    later_rose c rose = omega (arith, rose, run.faults c.slot)
 
-    rest_failed : FailedAlone (first ∷ rest) failed_rest s u
+    rest_failed : HasOnlyFailedCopies (first ∷ rest) failed_rest s u
     rest_failed k small is =
         let one_of = others.failed_alone k small is in
         (one_of.0, inr one_of.1, one_of.2, later_rose one_of.0 one_of.3)
 
     -- the first copy took it
-    pub one_more : ((before : ℕ) (page : ℕ → Bytes) → before < number → NowOnly s (IsKept first (due_of dues first.slot) before page)
-        → NowOnly t (IsSettled first number (with_images (map image_of_page pages) page)))
-        → Commits (first ∷ rest) dues number pages failed_rest s u
+    pub one_more : HasTaken first (IsKept first (due_of dues first.slot)) number pages s t → Commits (first ∷ rest) dues number pages failed_rest s u
     one_more taken = record {
       attached = all_attached;
       calls = all_calls;
@@ -232,7 +215,8 @@ module _ (first : DirCopy) (rest : List DirCopy) (dues : List Due) (number : ℕ
           {P = IsSettled first number (with_images (map image_of_page pages) page)} {Q = AreSettledBut rest failed_rest number (with_images (map image_of_page pages) page)}
           {R = AreSettledBut (first ∷ rest) failed_rest number (with_images (map image_of_page pages) page)}
           (λ x here there c among out. ⊎_elim (λ (same : c ≡ first). subst (λ (d : DirCopy). IsSettled d number (with_images (map image_of_page pages) page) x) (sym same) here) (λ (inside : IsAmong rest c). there c inside out) among)
-          (first_settled before page less now (taken before page less (first_kept before page now))) (rest_settled before page less now);
+          (first_settled before page less now (taken.done before page less (first_kept before page now))) (rest_settled before page less now);
+      logs = all_logs taken.logs;
       failed_alone = rest_failed;
     }
 
@@ -251,6 +235,7 @@ module _ (first : DirCopy) (rest : List DirCopy) (dues : List Due) (number : ℕ
             (λ (inside : IsAmong rest c). (rest_settled before page less now).now x left c inside
             (still_out first.number c.number (has_bit failed_rest c.number) (sym (bits c.number (named c (inr inside)).number) ∙ out))) among;
       };
+      logs = other_logs failed bits;
       failed_alone = λ k small is. ⊎_elim
           (λ (here : (k == first.number) ≡ true). (first, inl refl, sym (same_number k here), omega (arith, rose, others.runs.faults first.slot)))
           (λ (there : has_bit failed_rest k ≡ true). rest_failed k small there)
@@ -261,6 +246,10 @@ module _ (first : DirCopy) (rest : List DirCopy) (dues : List Due) (number : ℕ
         same_number k is = eqb-true k first.number is
 
 -- ---- the first of several copies
+
+-- what stands for the first of none
+abbrev pub no_copy : DirCopy
+no_copy = record { number = 0; slot = 0; dir_blocks = 0; sector = 0 }
 
 pub split_first : {A : Type 0} (xs : List A) (d : A) → 1 ≤ length xs → xs ≡ get_or xs 0 d ∷ take (length xs - 1) (drop 1 xs)
 split_first [] d some = absurd (omega arith)
@@ -276,3 +265,52 @@ first_among (x ∷ xs) d some = inl refl
 pub some_of : (n : ℕ) → (n == 0) ≡ false → 1 ≤ n
 some_of zero e = absurd (true≢false e)
 some_of (suc n) e = omega arith
+
+-- ---- the copies that are split into the first and the rest
+
+module _ {copies : List DirCopy} {first : DirCopy} {rest : List DirCopy} (split : copies ≡ first ∷ rest) where
+  pub all_named : {dues : List Due} {s : BayState} → AreNamedCopies copies dues s → AreNamedCopies (first ∷ rest) dues s
+  all_named {dues} {s} named = subst (λ (l : List DirCopy). AreNamedCopies l dues s) split named
+
+  pub all_apart : AreCopiesApart copies → AreCopiesApart (first ∷ rest)
+  all_apart apart = subst AreCopiesApart split apart
+
+  pub rest_may_put : {number : ℕ} {pages : List (ℕ × Block)} → MayPutOn copies number pages → MayPutOn rest number pages
+  rest_may_put {number} {pages} may copy among = subst (λ (l : List DirCopy). MayPutOn l number pages) split may copy (inr among)
+
+  module _ {dues : List Due} {due : List (ℕ × Block)} (due_is : due ≡ due_of dues first.slot) (number : ℕ) (pages : List (ℕ × Block)) {s t : BayState}
+      (named : AreNamedCopies copies dues s) (apart : AreCopiesApart copies) {T E : Type 0} where
+    one_is : (result : Result T E) → CommitsOne result first due number pages s t → CommitsOne result first (due_of dues first.slot) number pages s t
+    one_is result one = subst (λ (d : List (ℕ × Block)). CommitsOne result first d number pages s t) due_is one
+
+    -- what the commits on the rest ask for stands after that on the first
+    module _ (result : Result T E) (one : CommitsOne result first due number pages s t) where
+      pub named_still : AreNamedCopies rest dues t
+      named_still = rest_named first rest dues number pages s t t (all_named named) (all_apart apart) result (one_is result one)
+
+      pub kept_still : Earlier number (λ before page. NowOnly s (AreKept copies dues before page)) → Earlier number (λ before page. NowOnly t (AreKept rest dues before page))
+      kept_still was = record {
+        before = was.before;
+        page = was.page;
+        smaller = was.smaller;
+        holds = rest_kept first rest dues number pages s t t (all_named named) (all_apart apart) result (one_is result one) was.before was.page
+            (subst (λ (l : List DirCopy). NowOnly s (AreKept l dues was.before was.page)) split was.holds);
+      }
+
+      pub logs_still : {settled : Bool} → (settled ≡ true → AllLogsSettled copies s) → settled ≡ true → AllLogsSettled rest t
+      logs_still logs is = rest_logs first rest dues number pages s t t (all_named named) (all_apart apart) result (one_is result one) (subst (λ (l : List DirCopy). AllLogsSettled l s) split (logs is))
+
+    -- the first copy took it, and then the rest
+    pub took_first : {u : BayState} {value : T} {failed : ℕ} → CommitsOne {E = E} (Ok value) first due number pages s t → Commits rest dues number pages failed t u → Commits copies dues number pages failed s u
+    took_first {u} {value} {failed} one others =
+        let took = one_is (Ok value) one in
+        subst (λ (l : List DirCopy). Commits l dues number pages failed s u) (sym split)
+        (one_more first rest dues number pages s t u (all_named named) (all_apart apart) (Ok value) took failed others took.call.done)
+
+    -- the first copy failed
+    pub missed_first : {u : BayState} {e : E} {failed_rest failed : ℕ} → CommitsOne {T = T} (Err e) first due number pages s t → Commits rest dues number pages failed_rest t u
+        → ((k : ℕ) → k < 64 → has_bit failed k ≡ ((k == first.number) || has_bit failed_rest k)) → Commits copies dues number pages failed s u
+    missed_first {u} {e} {failed_rest} {failed} one others bits =
+        let missed = one_is (Err e) one in
+        subst (λ (l : List DirCopy). Commits l dues number pages failed s u) (sym split)
+        (one_failed first rest dues number pages s t u (all_named named) (all_apart apart) (Err e) missed failed_rest others failed bits missed.call.cause)

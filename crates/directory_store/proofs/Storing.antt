@@ -3,7 +3,7 @@ use Rattle.std.proofs.Common.{◌≡◌, inl, inr, ⊎_elim, ℕ, ◌+◌, ◌-�
 use Rattle.std.specs.Prelude.{not, ◌==◌, filter, nat_lt, IfErr, IsErrAnd, Result, Ok, Err}
 use Rattle.std.specs.List.{list_all}
 use Rattle.std.proofs.lemmas.Bool.{true≢false}
-use Rattle.bay.specs.Image.{Image}
+use Rattle.bay.specs.Image.{Image, ChangesOnly}
 use Rattle.bay.specs.State.{BayState, KeepsAttached}
 use Rattle.bay.specs.Counts.{Rose}
 use Rattle.bay.specs.Moments.{Runs, NowOnly, LeavesOnly}
@@ -29,13 +29,13 @@ use Rattle.page_map.specs.Applying.{Applies, IsCause}
 use Rattle.page_map.specs.declared.change.PageError.{PageError}
 use Rattle.page_map.specs.declared.change.PageError.TheVariants.{Full as PageFull, NoMemory as PageNoMemory}
 use Rattle.directory_store.specs.Answers.{IsFirstRefusal, NoCalls, refusal_of}
+use Rattle.directory_store.specs.Commits.{Commits}
 use Rattle.directory_store.specs.Contents.{ArePutItems}
-use Rattle.directory_store.specs.Copies.{AreApart, AreKept, AreNamed, Earlier, FailedAlone, HaveEither, LogsSettledBut, MayPutOn, WritesFew, calls_for, due_of}
+use Rattle.directory_store.specs.Copies.{AreCopiesApart, AreKept, AreNamedCopies, Earlier, HasOnlyFailedCopies, HaveEither, IsSlotOfCopy, MayPutOn, RegionsOf, WritesFew, calls_for, due_of}
 use Rattle.directory_store.specs.Stores.{Stored, IsEmpty, Keeps, HaveRecords, HaveEitherRecords, off, others, without}
 use Rattle.directory_store.specs.declared.due.Due.{Due}
 use Rattle.directory_store.proofs.Records.{items_after, pages_decode, is_head, has_records}
 use Rattle.directory_store.proofs.CopyLaws.{region_is_same}
-use Rattle.directory_store.proofs.Rows.{Commits}
 use Rattle.directory_store.proofs.Steps.{shaped}
 
 -- ---- the copies that are left
@@ -62,16 +62,16 @@ left_is failed copies c among = (
 pub is_left : (failed : ℕ) (copies : List DirCopy) (c : DirCopy) → IsAmong copies c → has_bit failed c.number ≡ false → IsAmong (others failed copies) c
 is_left failed copies c among away = filter_among (λ (c : DirCopy). not (has_bit failed c.number)) copies c (ap not away) among
 
-apart_left : (test : DirCopy → Bool) (copies : List DirCopy) → AreApart copies → AreApart (filter test copies)
+apart_left : (test : DirCopy → Bool) (copies : List DirCopy) → AreCopiesApart copies → AreCopiesApart (filter test copies)
 apart_left test [] apart = tt
 apart_left test (c ∷ copies) apart = go (apart_left test copies apart.1) (test c)
   where
-    go : AreApart (filter test copies) → (b : Bool) → AreApart (cond b (c ∷ filter test copies) (filter test copies))
+    go : AreCopiesApart (filter test copies) → (b : Bool) → AreCopiesApart (cond b (c ∷ filter test copies) (filter test copies))
     go before true = ((λ d among. apart.0 d (among_filter test copies d among)), before)
     go before false = before
 
 -- copies of one number are one
-same_copy : (copies : List DirCopy) → AreApart copies → (c d : DirCopy) → IsAmong copies c → IsAmong copies d → c.number ≡ d.number → c ≡ d
+same_copy : (copies : List DirCopy) → AreCopiesApart copies → (c d : DirCopy) → IsAmong copies c → IsAmong copies d → c.number ≡ d.number → c ≡ d
 same_copy [] apart c d mine yours e = absurd mine
 same_copy (x ∷ copies) apart c d (inl a) (inl b) e = a ∙ sym b
 same_copy (x ∷ copies) apart c d (inl a) (inr there) e = absurd ((apart.0 d there).1 (sym (ap (λ (k : DirCopy). k.number) a) ∙ e))
@@ -79,7 +79,7 @@ same_copy (x ∷ copies) apart c d (inr there) (inl b) e = absurd ((apart.0 c th
 same_copy (x ∷ copies) apart c d (inr there) (inr yonder) e = same_copy copies apart.1 c d there yonder e
 
 -- where no copy is left, the slots of all failed
-pub all_failed : (copies : List DirCopy) (dues : List Due) (failed : ℕ) (s t : BayState) → AreApart copies → AreNamed copies dues s → FailedAlone copies failed s t → others failed copies ≡ []
+pub all_failed : (copies : List DirCopy) (dues : List Due) (failed : ℕ) (s t : BayState) → AreCopiesApart copies → AreNamedCopies copies dues s → HasOnlyFailedCopies copies failed s t → others failed copies ≡ []
     → (c : DirCopy) → IsAmong copies c → Rose (s.faults c.slot) (t.faults c.slot)
 all_failed copies dues failed s t apart named alone none c among = go (has_bit failed c.number) refl
   where
@@ -165,7 +165,7 @@ module _ (old : Stored) (table : PageTable) (put : List Entry) (gone : List Key)
   pub earlier : Earlier next (λ before page. NowOnly s (AreKept old.copies old.due before page))
   earlier = record { before = old.number; page = keeps.page; smaller = less; holds = keeps.now }
 
-  module _ (failed : ℕ) (t : BayState) (commits : Commits old.copies old.due next pages failed s t) (logs : LogsSettledBut old.copies failed t) where
+  module _ (failed : ℕ) (t : BayState) (commits : Commits old.copies old.due next pages failed s t) where
     pub commit_keeps : Keeps (record { table = table; number = next; copies = others failed old.copies; due = []; read = old.read; settled = true }) t
     commit_keeps = record {
       table = sound;
@@ -184,7 +184,7 @@ module _ (old : Stored) (table : PageTable) (put : List Entry) (gone : List Key)
               due_are = record { ascend = refl; due = inr (λ p inside. absurd inside); others = λ p lt none. settled.home p lt };
             };
       };
-      logs = λ settled c among. let left_in = left_is failed old.copies c among in logs c left_in.0 left_in.1;
+      logs = λ settled c among. let left_in = left_is failed old.copies c among in commits.logs c left_in.0 left_in.1;
     }
 
     pub commit_moments : (copies : List DirCopy) (due : List Due) → LeavesOnly s t (HaveEitherRecords old (record { table = table; number = next; copies = copies; due = due; read = old.read; settled = true }))
@@ -202,7 +202,7 @@ few_calls : (copies : List DirCopy) (dues : List Due) (a b : ℕ) → a ≤ b �
 few_calls [] dues a b le = omega arith
 few_calls (c ∷ copies) dues a b le = omega (arith, few_calls copies dues a b le)
 
-pub commits_are : (copies copies' : List DirCopy) (dues dues' : List Due) (number : ℕ) (pages pages' : List (ℕ × Block)) (failed : ℕ) (s t : BayState)
+commits_are : (copies copies' : List DirCopy) (dues dues' : List Due) (number : ℕ) (pages pages' : List (ℕ × Block)) (failed : ℕ) (s t : BayState)
     → copies ≡ copies' → dues ≡ dues' → pages ≡ pages' → Commits copies dues number pages failed s t → Commits copies' dues' number pages' failed s t
 commits_are copies copies' dues dues' number pages pages' failed s t e d p h =
     subst (λ (l : List DirCopy). Commits l dues' number pages' failed s t) e
@@ -213,9 +213,6 @@ pub may_put_are : (copies copies' : List DirCopy) (number : ℕ) (pages pages' :
 may_put_are copies copies' number pages pages' e p h =
     subst (λ (l : List DirCopy). MayPutOn l number pages') (sym e) (subst (λ (l : List (ℕ × Block)). MayPutOn copies number l) (sym p) h)
 
-pub logs_are : (copies copies' : List DirCopy) (failed : ℕ) (t : BayState) → copies ≡ copies' → LogsSettledBut copies failed t → LogsSettledBut copies' failed t
-logs_are copies copies' failed t e h = subst (λ (l : List DirCopy). LogsSettledBut l failed t) e h
-
 -- what a commit has done to the store and its copies, some of which may have failed
 pub record HasCommitted (old new : Stored) (keys failed : ℕ) (s t : BayState) : Type 0 where
   pub keeps : Keeps new t
@@ -223,25 +220,41 @@ pub record HasCommitted (old new : Stored) (keys failed : ℕ) (s t : BayState) 
   pub done : NowOnly t (HaveRecords new)
   pub calls : t.calls ≤ s.calls + calls_for old.copies old.due keys
   pub written : WritesFew old.copies old.due keys s t
+  pub attached : KeepsAttached s t
+  pub runs : Runs (IsSlotOfCopy old.copies) (ChangesOnly (RegionsOf old.copies)) s t
+  pub alone : HasOnlyFailedCopies old.copies failed s t
   pub gone : others failed old.copies ≡ [] → (c : DirCopy) → IsAmong old.copies c → Rose (s.faults c.slot) (t.faults c.slot)
 
-pub has_committed : (old was : Stored) (table : PageTable) (put : List Entry) (gone : List Key) (pages : List (ℕ × Block)) (s t : BayState) (next failed : ℕ) (copies : List DirCopy)
+has_committed : (old was : Stored) (table : PageTable) (put : List Entry) (gone : List Key) (pages : List (ℕ × Block)) (s t : BayState) (next failed : ℕ) (copies : List DirCopy)
     → was ≡ old → Keeps old s → Applies was.table table put gone pages → IsTable table → ArePutItems put → length put + length gone ≤ 64 → was.number < next → next < 2 ^ 64 - 1
-    → Commits was.copies was.due next pages failed s t → LogsSettledBut was.copies failed t → copies ≡ others failed was.copies
+    → Commits was.copies was.due next pages failed s t → copies ≡ others failed was.copies
     → HasCommitted old (record { table = table; number = next; copies = copies; due = []; read = was.read; settled = true }) (length put + length gone) failed s t
-has_committed old was table put gone pages s t next failed copies is keeps applies sound puts few less small commits logs left =
+has_committed old was table put gone pages s t next failed copies is keeps applies sound puts few less small commits left =
     let keeps_was = subst (λ (o : Stored). Keeps o s) (sym is) keeps in
     let kept = subst (λ (l : List DirCopy). Keeps (record { table = table; number = next; copies = l; due = []; read = was.read; settled = true }) t) (sym left)
-    (commit_keeps was table put gone pages s next keeps_was applies sound puts few less small failed t commits logs) in
+    (commit_keeps was table put gone pages s next keeps_was applies sound puts few less small failed t commits) in
     subst (λ (o : Stored). HasCommitted o (record { table = table; number = next; copies = copies; due = []; read = was.read; settled = true }) (length put + length gone) failed s t) is
     (record {
       keeps = kept;
-      moments = commit_moments was table put gone pages s next keeps_was applies sound puts few less small failed t commits logs copies [];
+      moments = commit_moments was table put gone pages s next keeps_was applies sound puts few less small failed t commits copies [];
       done = kept_have_records (record { table = table; number = next; copies = copies; due = []; read = was.read; settled = true }) t kept;
       calls = omega (arith, commits.calls, few_calls was.copies was.due (length pages) (length put + length gone) applies.few);
       written = λ c among. omega (arith, commits.written c among, applies.few);
+      attached = commits.attached;
+      runs = commits.runs;
+      alone = commits.failed_alone;
       gone = λ none. all_failed was.copies was.due failed s t keeps_was.apart keeps_was.named commits.failed_alone none;
     })
+
+-- the same of what the call was given, and of the due pages that are left
+pub whole_commit : {old was : Stored} {table : PageTable} {put : List Entry} {gone : List Key} {pages given : List (ℕ × Block)} {s t : BayState} {failed : ℕ} {copies left : List DirCopy} {dues due : List Due}
+    → was ≡ old → Keeps old s → Applies was.table table put gone pages → IsTable table → ArePutItems put → length put + length gone ≤ 64 → was.number + 1 < 2 ^ 64 - 1
+    → copies ≡ was.copies → dues ≡ was.due → given ≡ pages → Commits copies dues (was.number + 1) given failed s t → left ≡ others failed was.copies → due ≡ []
+    → HasCommitted old (record { table = table; number = was.number + 1; copies = left; due = due; read = was.read; settled = true }) (length put + length gone) failed s t
+whole_commit {old} {was} {table} {put} {gone} {pages} {given} {s} {t} {failed} {copies} {left} {dues} is keeps applies sound puts few small same_copies same_dues same_pages commits left_is none =
+    subst (λ (l : List Due). HasCommitted old (record { table = table; number = was.number + 1; copies = left; due = l; read = was.read; settled = true }) (length put + length gone) failed s t) (sym none)
+    (has_committed old was table put gone pages s t (was.number + 1) failed left is keeps applies sound puts few (omega arith) small
+    (commits_are copies was.copies dues was.due (was.number + 1) given pages failed s t same_copies same_dues same_pages commits) left_is)
 
 pub may_put_on : (old was : Stored) (table : PageTable) (put : List Entry) (gone : List Key) (pages : List (ℕ × Block)) (s : BayState) (next : ℕ)
     → was ≡ old → Keeps old s → Applies was.table table put gone pages → IsTable table → ArePutItems put → length put + length gone ≤ 64 → was.number < next → next < 2 ^ 64 - 1 → MayPutOn was.copies next pages

@@ -10,11 +10,11 @@ use Rattle.change_directory.specs.declared.copy.DirCopy.{DirCopy}
 use Rattle.change_directory.specs.Formatting.{AreShut}
 use Rattle.change_directory.specs.Loads.{AreInOrder}
 use Rattle.change_directory.specs.StoreLaws.{HasContent, IsShaped, shown_by}
-use Rattle.change_directory.specs.Told.{Told}
+use Rattle.bay.specs.Told.{Told}
 use Rattle.change_directory.proofs.Copies.{not_shut}
-use Rattle.directory_store.specs.Copies.{AreNamed}
+use Rattle.directory_store.specs.Copies.{AreNamedCopies}
 use Rattle.directory_store.specs.Loading.{HasBehind, IsLeastOf, KeepsEqual, ShareContent, TakesLeast}
-use Rattle.directory_store.specs.Reading.{AreRead, IsBehind, IsBuilt, IsNewest, IsUnread, RoseOn, WasRead, are_same, copies_of, same_pages}
+use Rattle.directory_store.specs.Reading.{AreCopiesRead, IsBehind, IsBuilt, IsNewest, IsCopyUnread, RoseOnCopy, WasRead, are_same, copies_of, same_pages}
 use Rattle.directory_store.specs.Stores.{HaveOneSize, Stored}
 use Rattle.directory_store.specs.declared.reading.Reading.{Reading}
 use Rattle.directory_store.proofs.Building.{filled_by_order}
@@ -23,7 +23,7 @@ use Rattle.directory_store.proofs.Loads.{copy_among, kept_has, read_content}
 use Rattle.directory_store.proofs.ReadingCopies.{part_among}
 use Rattle.directory_store.proofs.Steps.{shaped}
 
-module _ (copies : List DirCopy) (readings : List Reading) (s t : BayState) (named : AreNamed copies [] s) (read : AreRead copies readings s t) where
+module _ (copies : List DirCopy) (readings : List Reading) (s t : BayState) (named : AreNamedCopies copies [] s) (read : AreCopiesRead copies readings s t) where
   given : (q : Reading) → IsAmong readings q → IsAmong copies q.copy
   given q among = part_among (copies_of readings) copies read.parts q.copy (copy_among readings q among)
 
@@ -88,7 +88,7 @@ module _ (copies : List DirCopy) (readings : List Reading) (s t : BayState) (nam
           sym (mine.pages.pages k lt) ∙ share.one.pages.pages k lt ∙ sym (share.other.pages.pages k below) ∙ taken.pages.pages k below)
 
       -- a reading with the content that is taken is one of the kept
-      of_reading : (q : Reading) → IsAmong readings q → (b : Bool) → are_same built.taken q ≡ b → IsAmong store.copies q.copy ⊎ (RoseOn s t q.copy ⊎ Told s t (λ x. ShareContent q.copy built.taken.copy x → ⊥))
+      of_reading : (q : Reading) → IsAmong readings q → (b : Bool) → are_same built.taken q ≡ b → IsAmong store.copies q.copy ⊎ (RoseOnCopy s t q.copy ⊎ Told s t (λ x. ShareContent q.copy built.taken.copy x → ⊥))
       of_reading q among true same =
           inl (subst (λ (l : List DirCopy). IsAmong l q.copy) (sym built.copies) (copy_among built.kept q (kept_has built.taken readings built.kept built.are_kept q among same)))
       of_reading q among false differ = inr (inr (λ now holds image was share.
@@ -98,10 +98,10 @@ module _ (copies : List DirCopy) (readings : List Reading) (s t : BayState) (nam
           (eq-eqb q.number built.taken.number (number_same q image share mine taken)) (blocks_same q among image share mine taken) in
           true≢false (sym same ∙ differ)))
 
-      each : (c : DirCopy) → IsAmong copies c → IsAmong store.copies c ⊎ (RoseOn s t c ⊎ Told s t (λ x. ShareContent c built.taken.copy x → ⊥))
+      each : (c : DirCopy) → IsAmong copies c → IsAmong store.copies c ⊎ (RoseOnCopy s t c ⊎ Told s t (λ x. ShareContent c built.taken.copy x → ⊥))
       each c among = ⊎_elim
           (λ (was : WasRead readings c).
-          subst (λ (d : DirCopy). IsAmong store.copies d ⊎ (RoseOn s t d ⊎ Told s t (λ x. ShareContent d built.taken.copy x → ⊥))) was.2 (of_reading was.0 was.1 (are_same built.taken was.0) refl))
-          (λ (unread : IsUnread c s t). inr (⊎_elim (λ rose. inl rose)
+          subst (λ (d : DirCopy). IsAmong store.copies d ⊎ (RoseOnCopy s t d ⊎ Told s t (λ x. ShareContent d built.taken.copy x → ⊥))) was.2 (of_reading was.0 was.1 (are_same built.taken was.0) refl))
+          (λ (unread : IsCopyUnread c s t). inr (⊎_elim (λ rose. inl rose)
           (λ (shut : Told s t (AreShut c)). inr (λ now holds image was share. not_shut c (shaped (named c among).copy_is) share.number share.page image share.one (shut now holds image was))) unread))
           (read.others c among)

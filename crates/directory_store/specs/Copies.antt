@@ -35,16 +35,16 @@ HasEither copy before next page after x = (content_in copy x ≡ content_with co
 -- ---- several copies
 
 -- no two of the copies have one slot or one disk number
-abbrev pub IsApartFrom : DirCopy → List DirCopy → Type 0
-IsApartFrom copy copies = (c : DirCopy) → IsAmong copies c → (copy.slot ≢ c.slot) × (copy.number ≢ c.number)
+abbrev pub IsCopyApart : DirCopy → List DirCopy → Type 0
+IsCopyApart copy copies = (c : DirCopy) → IsAmong copies c → (copy.slot ≢ c.slot) × (copy.number ≢ c.number)
 
-abbrev pub AreApart : List DirCopy → Type 0
-AreApart [] = Unit {0}
-AreApart (copy ∷ copies) = IsApartFrom copy copies × AreApart copies
+abbrev pub AreCopiesApart : List DirCopy → Type 0
+AreCopiesApart [] = Unit {0}
+AreCopiesApart (copy ∷ copies) = IsCopyApart copy copies × AreCopiesApart copies
 
 -- the slot is that of one of the copies
-abbrev pub IsSlotOf : List DirCopy → ℕ → Type 0
-IsSlotOf copies slot = (c : DirCopy) × IsAmong copies c × (slot ≡ c.slot)
+abbrev pub IsSlotOfCopy : List DirCopy → ℕ → Type 0
+IsSlotOfCopy copies slot = (c : DirCopy) × IsAmong copies c × (slot ≡ c.slot)
 
 -- the bytes of the directory regions of the copies
 abbrev pub RegionsOf : List DirCopy → ℕ → ℕ → Type 0
@@ -76,8 +76,8 @@ abbrev pub LogsSettledBut : List DirCopy → ℕ → BayState → Type 0
 LogsSettledBut copies failed state = (c : DirCopy) → IsAmong copies c → has_bit failed c.number ≡ false → AreLogsSettled c state
 
 -- a disk is in the set only where it is that of one of the copies and its slot failed
-abbrev pub FailedAlone : List DirCopy → ℕ → BayState → BayState → Type 0
-FailedAlone copies failed s t =
+abbrev pub HasOnlyFailedCopies : List DirCopy → ℕ → BayState → BayState → Type 0
+HasOnlyFailedCopies copies failed s t =
     (k : ℕ) → k < 64 → has_bit failed k ≡ true → (c : DirCopy) × IsAmong copies c × (c.number ≡ k) × Rose (s.faults c.slot) (t.faults c.slot)
 
 -- ---- copies that are made
@@ -92,7 +92,7 @@ pub record MayEmpty (copy : DirCopy) (old new : Image) : Type 0 where
   pub content : DecodesIn copy old → IsAtHome copy old → MayLoseContent copy old new
 
 -- the same while a copy is made of these pages, whose content may also be there then
-pub record MayMake (copy : DirCopy) (number : ℕ) (page : ℕ → Bytes) (old new : Image) : Type 0 where
+pub record MayMakeCopy (copy : DirCopy) (number : ℕ) (page : ℕ → Bytes) (old new : Image) : Type 0 where
   pub elsewhere : ChangesOnly (RegionOf copy) old new
   pub content : DecodesIn copy old → IsAtHome copy old → MayBecome copy number page old new
 
@@ -119,18 +119,18 @@ first_size (copy ∷ copies) = copy.dir_blocks
 
 -- the slot of a copy that failed
 abbrev pub IsFailedSlot : List DirCopy → BayState → BayState → ℕ → Type 0
-IsFailedSlot copies s t slot = IsSlotOf copies slot × Rose (s.faults slot) (t.faults slot)
+IsFailedSlot copies s t slot = IsSlotOfCopy copies slot × Rose (s.faults slot) (t.faults slot)
 
 -- ---- the conditions of a commit
 
 -- the copy may take a commit: it is attached, its disk has a number, and its due pages are pages of it
-pub record IsNamed (dues : List Due) (state : BayState) (copy : DirCopy) : Type 0 where
+pub record IsNamedCopy (dues : List Due) (state : BayState) (copy : DirCopy) : Type 0 where
   pub copy_is : IsCopy state copy
   pub number : copy.number < 64
   pub due : IsTrue (are_pages copy.dir_blocks (due_of dues copy.slot))
 
-abbrev pub AreNamed : List DirCopy → List Due → BayState → Type 0
-AreNamed copies dues state = (c : DirCopy) → IsAmong copies c → IsNamed dues state c
+abbrev pub AreNamedCopies : List DirCopy → List Due → BayState → Type 0
+AreNamedCopies copies dues state = (c : DirCopy) → IsAmong copies c → IsNamedCopy dues state c
 
 -- the pages may be put under the number on each copy
 abbrev pub MayPutOn : List DirCopy → ℕ → List (ℕ × Block) → Type 0

@@ -9,7 +9,7 @@ use Rattle.change_directory.specs.Changes.{disk, content_in, DecodesIn, IsAtHome
 use Rattle.change_directory.specs.Homes.{AreDue, HasHomed}
 use Rattle.change_directory.specs.StoreLaws.{RegionOf}
 use Rattle.page_map.specs.Tables.{PageTable}
-use Rattle.directory_store.specs.Contents.{HasRecords}
+use Rattle.directory_store.specs.Contents.{HasCopyRecords}
 use Rattle.directory_store.specs.Copies.{MayBecome}
 use Rattle.directory_store.specs.declared.due.Due.{Due}
 
@@ -25,7 +25,7 @@ pub record IsRenewable (copy : DirCopy) (due : List (ℕ × Block)) (x : Image) 
 
 -- the content stays, is gone, or is that of these records
 abbrev pub MayTakeRecords : PageTable → ℕ → DirCopy → Image → Image → Type 0
-MayTakeRecords table number copy old new = (content_in copy new ≡ content_in copy old) ⊎ ((content_in copy new ≡ None) ⊎ HasRecords table number copy new)
+MayTakeRecords table number copy old new = (content_in copy new ≡ content_in copy old) ⊎ ((content_in copy new ≡ None) ⊎ HasCopyRecords table number copy new)
 
 -- While a copy is brought up nothing outside its directory region changes, and of a readable one the content stays, is gone, or is that of these records.
 pub record MayBringUp (table : PageTable) (number : ℕ) (copy : DirCopy) (old new : Image) : Type 0 where
@@ -33,7 +33,7 @@ pub record MayBringUp (table : PageTable) (number : ℕ) (copy : DirCopy) (old n
   pub content : IsReadable copy old → MayTakeRecords table number copy old new
 
 -- the same, of the content of these pages
-pub record MayRenew (copy : DirCopy) (number : ℕ) (page : ℕ → Bytes) (old new : Image) : Type 0 where
+pub record MayRenewCopy (copy : DirCopy) (number : ℕ) (page : ℕ → Bytes) (old new : Image) : Type 0 where
   pub elsewhere : ChangesOnly (RegionOf copy) old new
   pub content : IsReadable copy old → MayBecome copy number page old new
 

@@ -3,7 +3,7 @@ use Rattle.std.specs.Prelude.{◌≡◌, ℕ, false, true, List, ◌↔◌}
 use Rattle.asm_formats.specs.Among.{IsAmong}
 use Rattle.asm_formats.specs.Sets.{has_bit}
 use Rattle.change_directory.specs.declared.copy.DirCopy.{DirCopy}
-use Rattle.directory_store.specs.Copies.{AreApart, IsApartFrom}
+use Rattle.directory_store.specs.Copies.{AreCopiesApart, IsCopyApart}
 use Rattle.directory_store.specs.Reading.{ArePartOf}
 use Rattle.directory_store.specs.Stores.{has_disk, others}
 
@@ -22,5 +22,5 @@ DiskHasCopy = (number : ℕ) (copies : List DirCopy) → (has_disk number copies
 -- Of copies that are apart, one whose disk has none among some of them is apart from these.
 abbrev pub AbsentIsApart : Type 0
 AbsentIsApart =
-    (some copies : List DirCopy) (c : DirCopy) → AreApart copies → ((d : DirCopy) → IsAmong some d → IsAmong copies d) → IsAmong copies c → has_disk c.number some ≡ false
-    → IsApartFrom c some
+    (some copies : List DirCopy) (c : DirCopy) → AreCopiesApart copies → ((d : DirCopy) → IsAmong some d → IsAmong copies d) → IsAmong copies c → has_disk c.number some ≡ false
+    → IsCopyApart c some

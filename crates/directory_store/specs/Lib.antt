@@ -7,3 +7,6 @@ pub mod Reading
 pub mod Loading
 pub mod Places
 pub mod Laws
+pub mod Commits
+pub mod Making
+pub mod Renewals

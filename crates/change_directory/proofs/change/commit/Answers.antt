@@ -1,3 +1,4 @@
+use Rattle.std.proofs.Common.{arith}
 use Rattle.std.proofs.lemmas.Result.{on_ok_weaker}
 use Rattle.change_directory.specs.Laws.{IsReady}
 use Rattle.change_directory.proofs.Usable.{few_pages, short_sector}
@@ -13,7 +14,7 @@ returns-clause-content g c = λ below pages decode.
     widened_from (IsReady c.args.copy c.args.number) (g.met.B.Bay.sound c.args.bay.now)
     (λ image left. record { sized = has_size (g.met.B.Bay.sound c.args.bay.now) c.requires.copy image left; home = c.requires.home.now image left; decodes = decode.now image left; above = (c.requires.above below).now image left })
     (λ x y ready step. may_commit c.args.copy c.requires.copy.least c.requires.copy.most (short_sector _ c.requires.copy.sector_size) c.args.number c.args.pages.now (c.requires.pages, all_images _ pages) x y ready step)
-    c.put_log.ensures.runs
+    c.put_log.ensures.calls.runs
 
 pub returns-clause-committed : goal.returns-clause-committed
 returns-clause-committed g c = λ below pages decode.
@@ -21,3 +22,6 @@ returns-clause-committed g c = λ below pages decode.
     (λ image left. record { sized = has_size (g.met.B.Bay.sound c.args.bay.now) c.requires.copy image left; home = c.requires.home.now image left; decodes = decode.now image left; above = (c.requires.above below).now image left })
     (λ x y ready step. has_committed c.args.copy c.requires.copy.least c.requires.copy.most (short_sector _ c.requires.copy.sector_size) c.args.number c.args.pages.now (c.requires.pages, all_images _ pages) x y ready step))
     c.put_log.ensures.done
+
+pub returns-clause-written : goal.returns-clause-written
+returns-clause-written g c = omega (arith, c.put_log.ensures.calls.written c.args.copy.slot)

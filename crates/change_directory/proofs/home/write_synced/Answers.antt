@@ -1,8 +1,10 @@
-use Rattle.std.proofs.lemmas.Result.{on_ok_weaker}
-use Rattle.bay.proofs.Calls.{synced}
-use Rattle.change_directory.proofs.Keeping.{homes_same, homed_as_held}
+use Rattle.std.proofs.Common.{rules, arith}
+use Rattle.bay.proofs.OneCall.{afforded, call_of_parts}
+use Rattle.change_directory.proofs.Keeping.{homed_as_held}
+use Rattle.change_directory.proofs.Works.{settled}
 use Rattle.change_directory.proofs.home.write_synced.Goals as goal
 
-pub returns-clause-done : goal.returns-clause-done
-returns-clause-done g c = on_ok_weaker c.sync.result (λ durable.
-    synced (g.met.B.Bay.sound c.sync.new.self) (homes_same c.args.copy c.args.pages.now) (homed_as_held c.args.copy c.args.pages.now) c.write_home.ensures.runs c.in_ok-write_home.ensures.held c.sync.ensures.runs durable) c.sync.ensures.durable
+pub returns : goal.returns
+returns g c =
+    let sync = call_of_parts 1 0 c.sync.ensures.attached (omega arith) (omega arith) c.sync.ensures.runs c.sync.ensures.done c.sync.ensures.cause in
+    afforded (search rules) (settled (g.met.B.Bay.sound c.sync.new.self) (homed_as_held c.args.copy c.args.pages.now) c.in_ok-write_home.ensures sync)

@@ -1,17 +1,26 @@
-use Rattle.std.proofs.lemmas.Result.{on_ok_weaker}
+use Rattle.std.proofs.Common.{rules, ◌+◌, ◌*◌, length, arith}
 use Rattle.bay.proofs.Calls.{widened}
+use Rattle.bay.proofs.OneCall.{afforded, call_of_parts, of_parts, on_region}
 use Rattle.change_directory.proofs.Afterwards.{head_pages}
 use Rattle.change_directory.proofs.Regions.{steps_stay_inside}
+use Rattle.change_directory.proofs.Runs.{on_ok_both}
 use Rattle.change_directory.proofs.Settled.{durable_logs}
-use Rattle.directory_store.proofs.Steps.{shaped, both_run, logging_moments, logged_now, commit_moments, commit_done}
+use Rattle.directory_store.specs.Commits.{HasTaken}
+use Rattle.directory_store.specs.Copies.{IsSettled}
+use Rattle.directory_store.proofs.Steps.{shaped, logging_moments, logged_now, commit_moments, commit_done}
 use Rattle.directory_store.proofs.commit.log_and_home.Goals as goal
 
-pub returns-in_err-commit-clause-runs : goal.returns-in_err-commit-clause-runs
-returns-in_err-commit-clause-runs g c = widened (λ x y h. steps_stay_inside.logging c.args.copy c.args.number c.args.pages.now x y c.requires.put h) c.commit.ensures.runs
-
-pub returns-in_err-commit-clause-moments : goal.returns-in_err-commit-clause-moments
-returns-in_err-commit-clause-moments g c = λ before page less now.
-    logging_moments c.args.copy c.args.number c.args.pages.now (shaped c.requires.copy) c.requires.put before page less c.commit.ensures.runs now
+pub returns-in_err-commit : goal.returns-in_err-commit
+returns-in_err-commit g c =
+    let e = c.commit.ensures in
+    let copy = c.args.copy in
+    let pages = c.args.pages.now in
+    let calls = of_parts (length pages + 13) (2 * copy.sector + (2 * length pages + 1) * 4096) e.attached (omega (arith, e.calls)) (omega (arith, e.written))
+    (widened (λ x y h. steps_stay_inside.logging copy c.args.number pages x y c.requires.put h) e.runs) in
+    record {
+      call = search rules;
+      moments = λ before page less now. logging_moments copy c.args.number pages (shaped c.requires.copy) c.requires.put before page less e.runs now;
+    }
 
 pub checkpoint-requires-clause-pages : goal.checkpoint-requires-clause-pages
 checkpoint-requires-clause-pages g c = head_pages c.args.copy.dir_blocks c.args.number c.args.pages.now c.requires.put.head
@@ -22,19 +31,24 @@ checkpoint-requires-clause-due g c =
     let logged = logged_now c.args.copy c.args.number c.args.pages.now (shaped c.requires.copy) c.requires.put e.before e.page e.smaller c.in_ok-commit.ensures.done e.holds in
     record { now = λ x left. (logged.now x left).due_are.due }
 
-pub returns-clause-runs : goal.returns-clause-runs
-returns-clause-runs g c =
-    let ok = head_pages c.args.copy.dir_blocks c.args.number c.args.pages.now c.requires.put.head in
-    both_run (widened (λ x y h. steps_stay_inside.logging c.args.copy c.args.number c.args.pages.now x y c.requires.put h) c.commit.ensures.runs)
-    (widened (λ x y h. steps_stay_inside.homing c.args.copy c.args.pages.now x y ok h) c.checkpoint.ensures.runs)
-
-pub returns-clause-moments : goal.returns-clause-moments
-returns-clause-moments g c = λ before page less now.
-    commit_moments c.args.copy c.args.number c.args.pages.now (shaped c.requires.copy) c.requires.put before page less c.commit.ensures.runs c.in_ok-commit.ensures.done c.checkpoint.ensures.runs now
-
-pub returns-clause-done : goal.returns-clause-done
-returns-clause-done g c = on_ok_weaker c.checkpoint.result
-    (λ ends before page less now. commit_done c.args.copy c.args.number c.args.pages.now (shaped c.requires.copy) c.requires.put before page less c.in_ok-commit.ensures.done ends now) c.checkpoint.ensures.done
-
-pub returns-clause-logs : goal.returns-clause-logs
-returns-clause-logs g c = on_ok_weaker c.checkpoint.result (durable_logs c.args.copy _) c.checkpoint.ensures.durable
+pub returns : goal.returns
+returns g c =
+    let e = c.commit.ensures in
+    let h = c.checkpoint.ensures in
+    let copy = c.args.copy in
+    let number = c.args.number in
+    let pages = c.args.pages.now in
+    let ok = head_pages copy.dir_blocks number pages c.requires.put.head in
+    record {
+      call = afforded (search rules)
+          (on_region {last = λ value m t. HasTaken copy (IsSettled copy) number pages (g.B.Bay.state c.args.bay.now) t}
+          (of_parts 11 (2 * copy.sector + (length pages + 1) * 4096) e.attached (omega (arith, e.calls)) (omega (arith, e.written)) (widened (λ x y h. steps_stay_inside.logging copy number pages x y c.requires.put h) e.runs))
+          (λ _ taken. taken)
+          (call_of_parts (length pages + 1) (length pages * 4096) h.attached (omega (arith, h.calls)) h.written (widened (λ x y h. steps_stay_inside.homing copy pages x y ok h) h.runs)
+          (on_ok_both {R = HasTaken copy (IsSettled copy) number pages (g.B.Bay.state c.args.bay.now) (g.B.Bay.state c.checkpoint.new.bay)} c.checkpoint.result
+          (λ ends durable. record {
+            done = λ before page less now. commit_done copy number pages (shaped c.requires.copy) c.requires.put before page less c.in_ok-commit.ensures.done ends now;
+            logs = durable_logs copy _ durable;
+          }) h.done h.durable) h.cause));
+      moments = λ before page less now. commit_moments copy number pages (shaped c.requires.copy) c.requires.put before page less e.runs c.in_ok-commit.ensures.done h.runs now;
+    }

@@ -1,31 +1,55 @@
-use Rattle.std.proofs.Common.{◌≡◌, ◌∙◌, [], length, sym}
-use Rattle.std.proofs.lemmas.Result.{on_ok_weaker}
+use Rattle.std.proofs.Common.{◌≡◌, ◌∙◌, ◌+◌, ◌*◌, [], length, sym, arith}
 use Rattle.std.proofs.lemmas.Bool.{eqb-true}
-use Rattle.bay.proofs.Calls.{widened}
+use Rattle.std.proofs.lemmas.Result.{on_ok_weaker}
+use Rattle.bay.specs.State.{IsSlot}
+use Rattle.bay.proofs.Calls.{widened, started}
+use Rattle.bay.proofs.Images.{changes-same, same-refl}
+use Rattle.bay.proofs.OneCall.{call_of_parts, no_call}
+use Rattle.change_directory.specs.StoreLaws.{RegionOf}
 use Rattle.change_directory.proofs.Regions.{steps_stay_inside}
+use Rattle.change_directory.proofs.Runs.{on_ok_both}
 use Rattle.change_directory.proofs.Settled.{durable_logs}
+use Rattle.directory_store.specs.Commits.{HasSettled}
 use Rattle.directory_store.proofs.Steps.{shaped, homing_moments, homing_done, empty_list, reading_moments, reading_done}
 use Rattle.directory_store.proofs.commit.settle.Goals as goal
 
 pub checkpoint-requires-clause-due : goal.checkpoint-requires-clause-due
 checkpoint-requires-clause-due g c = record { now = λ x left. (c.requires.kept.2.now x left).due_are.due }
 
-pub returns-then-not-is_empty-clause-runs : goal.returns-then-not-is_empty-clause-runs
-returns-then-not-is_empty-clause-runs g c = widened (λ x y h. steps_stay_inside.homing c.args.copy c.args.due.now x y c.requires.pages h) c.checkpoint.ensures.runs
+pub returns-then-not-is_empty : goal.returns-then-not-is_empty
+returns-then-not-is_empty g c =
+    let e = c.checkpoint.ensures in
+    let copy = c.args.copy in
+    let due = c.args.due.now in
+    record {
+      call = call_of_parts (length due + 1) (length due * 4096) e.attached (omega (arith, e.calls)) e.written
+          (widened (λ x y h. steps_stay_inside.homing copy due x y c.requires.pages h) e.runs)
+          (on_ok_both {R = HasSettled copy due (g.B.Bay.state c.args.bay.now) (g.B.Bay.state c.checkpoint.new.bay)} c.checkpoint.result (λ ends durable. record { pages = homing_done copy due (shaped c.requires.copy) ends; logs = durable_logs copy _ durable }) e.done e.durable) e.cause;
+      moments = λ number page now. homing_moments copy due (shaped c.requires.copy) number page e.runs now;
+    }
 
-pub returns-then-not-is_empty-clause-moments : goal.returns-then-not-is_empty-clause-moments
-returns-then-not-is_empty-clause-moments g c = λ number page now. homing_moments c.args.copy c.args.due.now (shaped c.requires.copy) number page c.checkpoint.ensures.runs now
+pub returns-then-is_settled : goal.returns-then-is_settled
+returns-then-is_settled g c =
+    let copy = c.args.copy in
+    let due = c.args.due.now in
+    let none : due ≡ [] = empty_list due (eqb-true (length due) 0 (sym c.is_empty.ensures ∙ c.if-not-is_empty.false)) in
+    record {
+      call = record {
+        calls = no_call (λ x. changes-same (RegionOf copy) x x (same-refl x));
+        done = record { pages = λ number page now. reading_done copy due (shaped c.requires.copy) {slots = IsSlot copy.slot} none (started same-refl) number page now; logs = c.requires.logs c.if-is_settled.true };
+        cause = tt;
+      };
+      moments = λ number page now. reading_moments copy due (shaped c.requires.copy) {slots = IsSlot copy.slot} number page (started same-refl) now;
+    }
 
-pub returns-then-not-is_empty-clause-done : goal.returns-then-not-is_empty-clause-done
-returns-then-not-is_empty-clause-done g c = on_ok_weaker c.checkpoint.result (λ ends. homing_done c.args.copy c.args.due.now (shaped c.requires.copy) ends) c.checkpoint.ensures.done
-
-pub returns-then-not-is_empty-clause-logs : goal.returns-then-not-is_empty-clause-logs
-returns-then-not-is_empty-clause-logs g c = on_ok_weaker c.checkpoint.result (durable_logs c.args.copy _) c.checkpoint.ensures.durable
-
-pub returns-clause-moments : goal.returns-clause-moments
-returns-clause-moments g c = λ number page now. reading_moments c.args.copy c.args.due.now (shaped c.requires.copy) number page c.sync.ensures.runs now
-
-pub returns-clause-done : goal.returns-clause-done
-returns-clause-done g c =
-    let none : c.args.due.now ≡ [] = empty_list c.args.due.now (eqb-true (length c.args.due.now) 0 (sym c.is_empty.ensures ∙ c.if-not-is_empty.false)) in
-    on_ok_weaker c.sync.result (λ durable number page now. reading_done c.args.copy c.args.due.now (shaped c.requires.copy) none c.sync.ensures.runs number page now) c.sync.ensures.durable
+pub returns : goal.returns
+returns g c =
+    let e = c.sync.ensures in
+    let copy = c.args.copy in
+    let due = c.args.due.now in
+    let none : due ≡ [] = empty_list due (eqb-true (length due) 0 (sym c.is_empty.ensures ∙ c.if-not-is_empty.false)) in
+    record {
+      call = call_of_parts (length due + 1) (length due * 4096) e.attached (omega (arith, e.count)) (omega (arith, e.written)) (widened (λ x y same. changes-same (RegionOf copy) x y same) e.runs)
+          (on_ok_weaker {Q = HasSettled copy due (g.B.Bay.state c.args.bay.now) (g.B.Bay.state c.sync.new.self)} c.sync.result (λ durable. record { pages = λ number page now. reading_done copy due (shaped c.requires.copy) none e.runs number page now; logs = durable_logs copy _ durable }) e.done) e.cause;
+      moments = λ number page now. reading_moments copy due (shaped c.requires.copy) number page e.runs now;
+    }
