@@ -4,6 +4,7 @@ pub mod Sharing
 pub mod HomeLists
 pub mod Verdicts
 pub mod OwnCopies
+pub mod Finding
 pub mod Passing
 pub mod Following
 pub mod Falling

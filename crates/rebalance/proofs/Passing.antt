@@ -1,7 +1,7 @@
 -- Chunks with nothing due say nothing, so the search may pass over them.
 use Rattle.std.proofs.Common.{◌≡◌, ℕ, zero, suc, ◌*◌, Bool, true, false, cond, ◌&&◌, List, [], ◌∷◌, refl, sym, ap, subst, ◌∙◌, Option, Some, None, inl, inr}
 use Rattle.std.specs.Prelude.{find, nat_lt, ◌^◌}
-use Rattle.std.specs.Option.{is_some, option_map, option_or}
+use Rattle.std.specs.Option.{option_map, option_or}
 use Rattle.std.specs.Ordering.{is_lt, ordering_reverse}
 use Rattle.std.specs.declared.cmp.Ordering.{Ordering}
 use Rattle.std.specs.declared.cmp.Ordering.TheVariants.{Less, Equal, Greater}
@@ -9,9 +9,9 @@ use Rattle.std.proofs.lemmas.Bool.{or_parts}
 use Rattle.asm_group.specs.Shape.{Shape}
 use Rattle.asm_formats.specs.Among.{IsAmong}
 use Rattle.asm_formats.specs.Status.{Entry}
-use Rattle.asm_formats.specs.Items.{FileHead, Home, Homes}
+use Rattle.asm_formats.specs.Items.{FileHead, Homes}
 use Rattle.asm_base.specs.Records.{Ascend}
-use Rattle.asm_placement.specs.Rebalancing.{Next, move, shift, when}
+use Rattle.asm_placement.specs.Rebalancing.{Next, when}
 use Rattle.allocator.specs.UnitMaps.{UnitMap}
 use Rattle.extent_map.specs.Extents.{Chunked, chunks_from, has_home}
 use Rattle.asm_base.specs.Chunks.{Chunk, chunk_cmp, is_before}
@@ -22,28 +22,18 @@ use Rattle.catalog_tables.proofs.TableItems.{among_found, below, chunks_exact, f
 use Rattle.extent_copies.specs.declared.extent.Extent.{Extent}
 use Rattle.rebalance.specs.declared.moves.Next.{Next as CodeNext}
 use Rattle.rebalance.specs.declared.stages.Stage.{Stage}
-use Rattle.rebalance.specs.declared.stages.Stage.TheVariants as stage
 use Rattle.rebalance.specs.Sums.{Sums}
 use Rattle.rebalance.specs.Extents.{any_from, first_from}
 use Rattle.rebalance.specs.Moves.{next_meant}
-use Rattle.rebalance.specs.Stages.{balancing_at, said_at}
+use Rattle.rebalance.specs.Stages.{answer_at, is_due_at, said_at}
 use Rattle.rebalance.specs.Searching.{extent_of, extent_says, first_of_chunk, first_of_extents, group_says, said_there, says_of, with_copies}
-use Rattle.rebalance.specs.Due.{any_of_chunk, any_of_extents, any_with, first_due, first_due_of, is_due, is_due_at, is_due_in, passes_there}
+use Rattle.rebalance.specs.Due.{any_of_chunk, any_of_extents, any_with, first_due, first_due_of, is_due, is_due_in, passes_there}
 use Rattle.rebalance.specs.Cursors.{IsClearBefore, is_passed}
 
 -- ---- where nothing is due, nothing is said
 
-quiet_home : (f : Home → Next) (o : Option Home) → is_some o ≡ false → option_map f o ≡ None
-quiet_home f None e = refl
-quiet_home f (Some h) e = absurd cc
-
 quiet_at : (at : Stage) (es : List Entry) (ms : List UnitMap) (t : Sums) (x : Extent) (k : ℕ) → is_due_at at es ms t x k ≡ false → said_at at es ms t x k ≡ None
-quiet_at stage.Recopy es ms t x k e = rw e refl
-quiet_at stage.Fill es ms t x k e = rw e refl
-quiet_at stage.Shift es ms t x k e = rw e refl
-quiet_at stage.Lost es ms t x k e = rw e refl
-quiet_at stage.NoSpace es ms t x k e = rw e refl
-quiet_at stage.Balance es ms t x k e = quiet_home (λ h. move (shift x.id.file x.id.index k h)) (balancing_at es ms t x k) e
+quiet_at at es ms t x k e = ap (λ (b : Bool). when b (answer_at at es ms t x k)) e
 
 quiet_from : (test : ℕ → Bool) (says : ℕ → Option Next) → ((j : ℕ) → test j ≡ false → says j ≡ None) → (k n : ℕ) → any_from test k n ≡ false → first_from says k n ≡ None
 quiet_from test says quiet k zero e = refl
@@ -183,6 +173,28 @@ module _ (at : Stage) (es : List Entry) (c : Catalogued) (t : Sums) (tables : Ar
   pub said_some : (place : Option Chunk) (p : Chunk) (next : Option CodeNext) → place ≡ Some p → IsClearBefore at es c t place → option_map next_meant next ≡ says_of at es c t (chunks_from c.tables.extents p) → option_map next_meant next ≡ group_says at es c t
   said_some place p next here clear is = said_is_first p next (subst (λ (o : Option Chunk). IsClearBefore at es c t o) here clear) is
 
--- the same of equal entries and sums
-pub along : (P : List Entry → Sums → Type 0) (es fs : List Entry) (t u : Sums) → es ≡ fs → t ≡ u → P es t → P fs u
-along P es fs t u e f p = subst (λ (s : Sums). P fs s) f (subst (λ (xs : List Entry). P xs t) e p)
+-- ---- one stage after the other
+
+pub none_on : (a b said : Option Next) → said ≡ option_or a b → a ≡ None → b ≡ None → said ≡ None
+none_on a b said is first second = is ∙ ap (λ (o : Option Next). option_or o b) first ∙ second
+
+pub both_none : (a b : Option Next) → option_or a b ≡ None → (a ≡ None) × (b ≡ None)
+both_none None b e = (refl, e)
+both_none (Some next) b e = absurd cc
+
+-- what is said so far after each stage, and what is said by all
+in_turn : (a b c d e f g : Option Next) → option_or (option_or (option_or (option_or (option_or (option_or a b) c) d) e) f) g ≡ option_or (option_or a (option_or b c)) (option_or d (option_or e (option_or f g)))
+in_turn (Some x) b c d e f g = refl
+in_turn None (Some x) c d e f g = refl
+in_turn None None (Some x) d e f g = refl
+in_turn None None None (Some x) e f g = refl
+in_turn None None None None (Some x) f g = refl
+in_turn None None None None None f g = refl
+
+pub all_in_turn : (a b c d e f g one two three four five six all : Option Next) → one ≡ a → two ≡ option_or one b → three ≡ option_or two c → four ≡ option_or three d → five ≡ option_or four e → six ≡ option_or five f → all ≡ option_or six g
+    → all ≡ option_or (option_or a (option_or b c)) (option_or d (option_or e (option_or f g)))
+all_in_turn a b c d e f g one two three four five six all e1 e2 e3 e4 e5 e6 e7 = rw (e7, e6, e5, e4, e3, e2, e1) (in_turn a b c d e f g)
+
+-- the same of equal catalogs, entries and sums
+pub along : (P : Catalogued → List Entry → Sums → Type 0) (c d : Catalogued) (es fs : List Entry) (t u : Sums) → c ≡ d → es ≡ fs → t ≡ u → P c es t → P d fs u
+along P c d es fs t u same e f p = subst (λ (s : Sums). P d fs s) f (subst (λ (xs : List Entry). P d xs t) e (subst (λ (k : Catalogued). P k es t) same p))

@@ -2,7 +2,7 @@
 use Rattle.std.proofs.Common.{◌≡◌, ◌⊎◌, inl, inr, ⊎_elim, ℕ, zero, suc, ◌+◌, ◌-◌, ◌*◌, ◌/◌, ◌%◌, ◌^◌, ◌<◌, ◌≤◌, Bool, true, false, cond, not, ◌&&◌, ◌||◌, List, [], ◌∷◌, length, get_or, eqb, refl, sym, ap, ◌∙◌, subst, Option, Some, None, arith}
 use Rattle.std.specs.Prelude.{IsSomeAnd, IsTrue, nat_le, nat_lt, slice_index_or, slice_set, filter}
 use Rattle.std.specs.List.{find, list_all, range_with_len, slice_get}
-use Rattle.std.specs.Option.{is_some, is_none, option_or, unwrap_or}
+use Rattle.std.specs.Option.{is_some, is_none, option_map, option_or, unwrap_or}
 use Rattle.std.proofs.lemmas.Bool.{and_parts, both_ways, eqb-true, lt-ltb, ltb-true, ne_eqb}
 use Rattle.std.proofs.lemmas.Nat.{div-add-mod', mod_below}
 use Rattle.std.proofs.lemmas.Option.{same_Some, none-some}
@@ -15,7 +15,7 @@ use Rattle.asm_placement.specs.Choices.{holds_copy, home_on, is_eligible, replac
 use Rattle.asm_placement.specs.Copies.{Copy, all_copies, entry_at_home, file_copies, has_other_source, has_source, home, is_marked, is_on, units, wants_fill, wants_shift}
 use Rattle.asm_placement.specs.Modes.{is_online}
 use Rattle.asm_placement.specs.Moves.{items_after, record_after}
-use Rattle.asm_placement.specs.Rebalancing.{Move, Next, above_or_none, balancing, directory, done, fill, lost, move, new_home, next, next_balancing, next_directory, next_fill, next_lost, next_no_space, next_recopy, next_shift, next_tables, no_space, recopy, shift, tables}
+use Rattle.asm_placement.specs.Rebalancing.{Move, Next, above_or_none, balancing, directory, done, fill, first_of, lost, move, new_home, next, next_balancing, next_directory, next_fill, next_lost, next_no_space, next_recopy, next_shift, next_tables, no_space, recopy, shift, tables, when}
 use Rattle.asm_placement.specs.Space.{has_room, is_above, is_below, lowest_run, tried_first}
 use Rattle.asm_placement.specs.TableDisks.{directory_target, status_target}
 use Rattle.asm_placement.specs.Tables.{is_stale}
@@ -247,23 +247,22 @@ module _ (c : Catalogued) (r : Status) (items : List Item) (cat : IsCatalog c) (
       let there = and_parts (is_some (home x)) (is_stale items x.file x.index x.copy) b.0 in
       subst IsReady (move_is (recopy x.file x.index x.copy) m (same_Some _ (move m) w.1)) (recopy_ready x p.1 there.0)
 
-  by_fill : (m : Move) → next_fill c.shape r.entries items (all_copies items) ≡ Some (move m) → IsReady m
+  -- what gives a copy another home
+  by_home : (test : Copy → Bool) (to : Copy → Home → Move) (m : Move) → ((x : Copy) (h : Home) → IsMove x h → IsReady (to x h))
+      → first_of (λ x. when (test x) (option_map (λ h. move (to x h)) (new_home c.shape r.entries items x))) (all_copies items) ≡ Some (move m) → IsReady m
   unfolding replacement
-  by_fill m e =
-      let p = said_by _ (all_copies items) (move m) e in
+  by_home test to m ready e =
+      let p = said_by (λ x. when (test x) (option_map (λ h. move (to x h)) (new_home c.shape r.entries items x))) (all_copies items) (move m) e in
       let x : Copy = p.0 in
-      let w = when_said (wants_fill r.entries x && has_source r.entries items (all_copies items) x) _ (move m) p.2 in
-      let h = mapped (λ h. move (fill x.file x.index x.copy h)) (new_home c.shape r.entries items x) (move m) w.1 in
-      subst IsReady (move_is (fill x.file x.index x.copy h.0) m h.2) (fill_ready x h.0 (may_move (λ e. true) x h.0 p.1 h.1))
+      let w = when_said (test x) _ (move m) p.2 in
+      let h = mapped (λ h. move (to x h)) (new_home c.shape r.entries items x) (move m) w.1 in
+      subst IsReady (move_is (to x h.0) m h.2) (ready x h.0 (may_move (λ e. true) x h.0 p.1 h.1))
+
+  by_fill : (m : Move) → next_fill c.shape r.entries items (all_copies items) ≡ Some (move m) → IsReady m
+  by_fill m e = by_home (λ x. wants_fill r.entries x && has_source r.entries items (all_copies items) x) (λ x h. fill x.file x.index x.copy h) m fill_ready e
 
   by_shift : (m : Move) → next_shift c.shape r.entries items (all_copies items) ≡ Some (move m) → IsReady m
-  unfolding replacement
-  by_shift m e =
-      let p = said_by _ (all_copies items) (move m) e in
-      let x : Copy = p.0 in
-      let w = when_said (wants_shift r.entries x && has_source r.entries items (all_copies items) x) _ (move m) p.2 in
-      let h = mapped (λ h. move (shift x.file x.index x.copy h)) (new_home c.shape r.entries items x) (move m) w.1 in
-      subst IsReady (move_is (shift x.file x.index x.copy h.0) m h.2) (shift_ready x h.0 (may_move (λ e. true) x h.0 p.1 h.1))
+  by_shift m e = by_home (λ x. wants_shift r.entries x && has_source r.entries items (all_copies items) x) (λ x h. shift x.file x.index x.copy h) m shift_ready e
 
   by_directory : (m : Move) → next_directory c.shape r ≡ Some (move m) → IsReady m
   by_directory m e =
@@ -275,25 +274,19 @@ module _ (c : Catalogued) (r : Status) (items : List Item) (cat : IsCatalog c) (
       let d = mapped (λ d. move (tables d)) (status_target c.shape.kind r) (move m) e in
       subst IsReady (move_is (tables d.0) m d.2) (record { may = tt; after = is; regular = of.regular })
 
+  -- what ends a rebalance is no move
+  by_end : (test : Copy → Bool) (end : Copy → Next) (m : Move) → ((x : Copy) → end x ≡ move m → ⊥) → first_of (λ x. when (test x) (Some (end x))) (all_copies items) ≡ Some (move m) → IsReady m
+  by_end test end m differ e =
+      let p = said_by (λ x. when (test x) (Some (end x))) (all_copies items) (move m) e in
+      let w = when_said (test p.0) _ (move m) p.2 in
+      absurd (differ p.0 (same_Some (end p.0) (move m) w.1))
+
   by_lost : (m : Move) → next_lost r.entries items (all_copies items) ≡ Some (move m) → IsReady m
-  by_lost m e =
-      let p = said_by _ (all_copies items) (move m) e in
-      let x : Copy = p.0 in
-      let w = when_said (not (has_source r.entries items (all_copies items) x)) _ (move m) p.2 in
-      absurd (differ x.file x.index (same_Some (lost x.file x.index) (move m) w.1))
-    where
-      differ : (f i : ℕ) → lost f i ≡ move m → ⊥
-      differ f i k = cc
+  by_lost m e = by_end (λ x. not (has_source r.entries items (all_copies items) x)) (λ x. lost x.file x.index) m (λ x k. cc) e
 
   by_space : (m : Move) → next_no_space c.shape r.entries items (all_copies items) ≡ Some (move m) → IsReady m
   by_space m e =
-      let p = said_by _ (all_copies items) (move m) e in
-      let x : Copy = p.0 in
-      let w = when_said ((wants_fill r.entries x || wants_shift r.entries x) && is_none (new_home c.shape r.entries items x)) _ (move m) p.2 in
-      absurd (differ x.file x.index (same_Some (no_space x.file x.index) (move m) w.1))
-    where
-      differ : (f i : ℕ) → no_space f i ≡ move m → ⊥
-      differ f i k = cc
+      by_end (λ x. (wants_fill r.entries x || wants_shift r.entries x) && is_none (new_home c.shape r.entries items x)) (λ x. no_space x.file x.index) m (λ x k. cc) e
 
   by_balancing : (m : Move) → next_balancing c.shape r.entries items (all_copies items) ≡ Some (move m) → IsReady m
   unfolding balancing

@@ -24,7 +24,6 @@ use Rattle.extent_map.proofs.Laws.{chunk_total}
 use Rattle.file_directory.specs.Files.{head_at}
 use Rattle.catalog_tables.specs.Tables.{AreTables, Catalogued, Tables}
 use Rattle.catalog_tables.specs.Items.{AreItemsOf, SayTables, chunk_copies}
-use Rattle.catalog_tables.specs.Rules.{marks_of}
 use Rattle.catalog_tables.specs.Faults.{IsCatalog}
 use Rattle.catalog.proofs.ExtentCounts.{few_extents}
 use Rattle.catalog_laws.proofs.ItemLists.{items_say}
@@ -41,28 +40,11 @@ use Rattle.rebalance.specs.Moves.{next_meant}
 use Rattle.partnership.specs.Selections.{AreNumbered}
 use Rattle.rebalance.specs.Sums.{Sums, sums_at, sums_of}
 use Rattle.rebalance.specs.Stages.{StagesAreNext, first_said, said}
-use Rattle.rebalance.specs.Searching.{IsStatusOf, all_said, extent_of, extent_says, first_of_chunk, first_of_chunks, first_of_extents, group_says, next_in, rest_said, with_copies}
+use Rattle.rebalance.specs.Searching.{IsStatusOf, extent_of, extent_says, first_of_chunk, first_of_chunks, first_of_extents, group_says, next_in, rest_said, with_copies}
 use Rattle.rebalance.proofs.OwnCopies.{own_copies}
 use Rattle.partnership.proofs.Selected.{status_numbered}
 use Rattle.rebalance.proofs.Sharing.{sums_placed}
 use Rattle.rebalance.proofs.Verdicts.{first_parts, said_agrees}
-
--- ---- what is given
-
-pub said_by : (at : Stage) (es : List Entry) (ms given : List UnitMap) (t : Sums) (s : Shape) (c : Tables) (f n i marks units : ℕ) (hs : Homes) (next : Option CodeNext) → given ≡ ms → marks ≡ marks_of c f i → units ≡ units_of s.step i
-    → option_map next_meant next ≡ extent_says at es given t (record { id = record { file = f; index = i }; homes = hs; marks = marks; copies = n; units = units })
-    → option_map next_meant next ≡ extent_says at es ms t (extent_of s c f n i hs)
-said_by at es ms given t s c f n i marks units hs next maps marked long e =
-    e ∙ ap (λ (xs : List UnitMap). extent_says at es xs t (record { id = record { file = f; index = i }; homes = hs; marks = marks; copies = n; units = units })) maps
-    ∙ ap (λ (m : ℕ). extent_says at es ms t (record { id = record { file = f; index = i }; homes = hs; marks = m; copies = n; units = units })) marked
-    ∙ ap (λ (u : ℕ). extent_says at es ms t (record { id = record { file = f; index = i }; homes = hs; marks = marks_of c f i; copies = n; units = u })) long
-
-pub ended : (c : Catalogued) (r : Status) (es : List Entry) (t : Sums) (said : Option Next) (n : Next) → n ≡ unwrap_or said done → said ≡ all_said c r es t → es ≡ r.entries → t ≡ sums_at c.units r.entries → n ≡ next_in c r
-ended c r es t said n is e entries sums =
-    is ∙ ap (λ (x : Option Next). unwrap_or x done) (e ∙ ap (λ (l : List Entry). all_said c r l t) entries ∙ ap (λ (u : Sums). all_said c r r.entries u) sums)
-
-pub sums_given : (ms given : List UnitMap) (es : List Entry) (t : Sums) → given ≡ ms → t ≡ sums_at given es → t ≡ sums_at ms es
-sums_given ms given es t same is = is ∙ ap (λ (xs : List UnitMap). sums_at xs es) same
 
 -- ---- by the items
 

@@ -2,7 +2,7 @@
 use Rattle.std.proofs.Common.{◌≡◌, ℕ, zero, suc, ◌+◌, ◌-◌, ◌<◌, ◌≤◌, Bool, true, false, not, ◌&&◌, ◌||◌, List, [], ◌∷◌, ◌++◌, filter, refl, sym, ap, ◌∙◌, Option, Some, None, arith, add-one, eqb}
 use Rattle.std.specs.Prelude.{IsSomeAnd, slice_get}
 use Rattle.std.specs.List.{list_any, AllByRecursion}
-use Rattle.std.specs.Option.{is_some, option_or, option_map, option_and_then}
+use Rattle.std.specs.Option.{is_none, is_some, option_or, option_map, option_and_then}
 use Rattle.std.proofs.lemmas.List.Elements.{recursion_from_All}
 use Rattle.asm_group.specs.Shape.{Shape}
 use Rattle.asm_formats.specs.Status.{Entry, entry_of}
@@ -12,8 +12,8 @@ use Rattle.asm_placement.specs.Layout.{units_of}
 use Rattle.asm_placement.specs.Modes.{serves}
 use Rattle.asm_placement.specs.Space.{is_above, is_below, has_room, tried_first}
 use Rattle.asm_placement.specs.Choices.{home_on, is_eligible, replacement, replacement_on}
-use Rattle.asm_placement.specs.Copies.{Copy, home, units, copies_at, entry_at_home, is_on, is_marked, can_be_read, has_source, has_other_source}
-use Rattle.asm_placement.specs.Rebalancing.{Next, first_of, when, new_home, above_or_none, balancing}
+use Rattle.asm_placement.specs.Copies.{Copy, home, units, copies_at, entry_at_home, is_on, is_marked, can_be_read, has_source, has_other_source, wants_fill, wants_shift}
+use Rattle.asm_placement.specs.Rebalancing.{Next, first_of, move, no_space, shift, when, new_home, above_or_none, balancing}
 use Rattle.asm_placement.proofs.Bits.{passing_is}
 use Rattle.partnership.specs.Candidates.{is_within}
 use Rattle.partnership.specs.UnitsOf.{AreUnits, AreUnitsOf, held, kept}
@@ -164,6 +164,14 @@ balancing_is s items all es ms t x k small long units is are = by (home (copy_of
     by None = refl
     by (Some h) = above_is s items all es ms t x k h (entry_of es h.disk) refl small long units is are
 
+when_both : (a b : Bool) (o : Option Next) → when a (when b o) ≡ when (a && b) o
+when_both true b o = refl
+when_both false b o = refl
+
+when_some : (f : Home → Next) (o : Option Home) → when (is_some o) (option_map f o) ≡ option_map f o
+when_some f None = refl
+when_some f (Some h) = refl
+
 -- what a copy says by its number is what it says by the records
 said_copy : (stage : Stage) (s : Shape) (items : List Item) (all : List Copy) (es : List Entry) (ms : List UnitMap) (t : Sums) (x : Extent) (k : ℕ) → AreNumbered es → 0 < x.units → AreUnitsOf s items es ms → t ≡ sums_of s items es → IsExtentOf s items all x → k < x.copies
     → said_at stage es ms t x k ≡ said stage s es items all (copy_of x k)
@@ -174,8 +182,11 @@ said_copy stage.Fill s items all es ms t x k small long units is are less =
 said_copy stage.Shift s items all es ms t x k small long units is are less =
     rw (source_is s items all es x k are, home_is s items all es ms x k long units are) refl
 said_copy stage.Lost s items all es ms t x k small long units is are less = rw (source_is s items all es x k are) refl
-said_copy stage.NoSpace s items all es ms t x k small long units is are less = rw (home_is s items all es ms x k long units are) refl
-said_copy stage.Balance s items all es ms t x k small long units is are less = rw (balancing_is s items all es ms t x k small long units is are) refl
+said_copy stage.NoSpace s items all es ms t x k small long units is are less =
+    rw (home_is s items all es ms x k long units are)
+    (when_both (wants_fill es (copy_of x k) || wants_shift es (copy_of x k)) (is_none (new_home s es items (copy_of x k))) (Some (no_space x.id.file x.id.index)))
+said_copy stage.Balance s items all es ms t x k small long units is are less =
+    rw (balancing_is s items all es ms t x k small long units is are) (when_some (λ h. move (shift x.id.file x.id.index k h)) (balancing s es items (copy_of x k)))
 
 pub said_agrees : (stage : Stage) (s : Shape) (items : List Item) (all : List Copy) (es : List Entry) (ms : List UnitMap) (t : Sums) (x : Extent) → AreNumbered es → 0 < x.units → AreUnitsOf s items es ms → t ≡ sums_of s items es → IsExtentOf s items all x
     → first_from (said_at stage es ms t x) 0 x.copies ≡ first_of (said stage s es items all) (copies_of x)

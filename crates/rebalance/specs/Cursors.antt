@@ -17,7 +17,7 @@ use Rattle.rebalance.specs.Searching.{group_says, tables_said, work_said}
 use Rattle.rebalance.specs.Due.{first_due, is_due_in}
 
 -- where the search of each stage begins: at a file's chunk, or at the end
-pub record Places : Type 0 where
+pub record SearchPlaces : Type 0 where
   pub recopy : Option Chunk
   pub fill : Option Chunk
   pub shift : Option Chunk
@@ -35,7 +35,7 @@ abbrev pub IsClearBefore : Stage → List Entry → Catalogued → Sums → Opti
 IsClearBefore at es c t place = (p : Chunk) (homes : List Homes) → chunk_at c.tables.extents p ≡ Some homes → is_passed place p ≡ true → is_due_in at es c t (p, homes) ≡ false
 
 -- so is it at each stage, before its place
-pub record AreClear (es : List Entry) (c : Catalogued) (t : Sums) (k : Places) : Type 0 where
+pub record AreClear (es : List Entry) (c : Catalogued) (t : Sums) (k : SearchPlaces) : Type 0 where
   pub recopy : IsClearBefore stage.Recopy es c t k.recopy
   pub fill : IsClearBefore stage.Fill es c t k.fill
   pub shift : IsClearBefore stage.Shift es c t k.shift
@@ -44,35 +44,29 @@ pub record AreClear (es : List Entry) (c : Catalogued) (t : Sums) (k : Places) :
   pub balance : IsClearBefore stage.Balance es c t k.balance
 
 -- the places are those of a cursor of the group
-abbrev pub IsCursor : Catalogued → Status → Places → Type 0
+abbrev pub IsCursor : Catalogued → Status → SearchPlaces → Type 0
 IsCursor c r k = AreClear r.entries c (sums_at c.units r.entries) k
 
 -- all places at the first chunk
-abbrev pub start : Places
+abbrev pub start : SearchPlaces
 start = record { recopy = Some (0, 0); fill = Some (0, 0); shift = Some (0, 0); lost = Some (0, 0); no_space = Some (0, 0); balance = Some (0, 0) }
 
 -- ---- after a search
 
 -- the first three stages were asked, each where those before it say nothing: its place is the first chunk in which something is due
-pub record HasAskedWork (es : List Entry) (c : Catalogued) (t : Sums) (k : Places) : Type 0 where
+pub record HasAskedWork (es : List Entry) (c : Catalogued) (t : Sums) (k : SearchPlaces) : Type 0 where
   pub recopy : k.recopy ≡ first_due stage.Recopy es c t
   pub fill : group_says stage.Recopy es c t ≡ None → k.fill ≡ first_due stage.Fill es c t
   pub shift : group_says stage.Recopy es c t ≡ None → group_says stage.Fill es c t ≡ None → k.shift ≡ first_due stage.Shift es c t
 
 -- so were the others
-pub record HasAskedRest (es : List Entry) (c : Catalogued) (t : Sums) (k : Places) : Type 0 where
+pub record HasAskedRest (es : List Entry) (c : Catalogued) (t : Sums) (k : SearchPlaces) : Type 0 where
   pub lost : k.lost ≡ first_due stage.Lost es c t
   pub no_space : group_says stage.Lost es c t ≡ None → k.no_space ≡ first_due stage.NoSpace es c t
   pub balance : group_says stage.Lost es c t ≡ None → group_says stage.NoSpace es c t ≡ None → k.balance ≡ first_due stage.Balance es c t
 
--- the places of the first three are the same
-pub record KeepsWork (old new : Places) : Type 0 where
-  pub recopy : new.recopy ≡ old.recopy
-  pub fill : new.fill ≡ old.fill
-  pub shift : new.shift ≡ old.shift
-
 -- all stages were asked that the search came to
-pub record HasGoneOn (es : List Entry) (c : Catalogued) (r : Status) (t : Sums) (k : Places) : Type 0 where
+pub record HasGoneOn (es : List Entry) (c : Catalogued) (r : Status) (t : Sums) (k : SearchPlaces) : Type 0 where
   pub work : HasAskedWork es c t k
   pub rest : work_said es c t ≡ None → tables_said c r ≡ None → HasAskedRest es c t k
 
@@ -91,7 +85,7 @@ abbrev pub place_after : (Chunked → Bool) → List Chunked → Chunk → Optio
 place_after due table at place = if is_passed place at && passes_at due table at then Some at else place
 
 -- the places once the chunk has changed: those that are behind it go back to it where something is due there, and the last one to the first chunk
-abbrev pub followed : List Entry → Catalogued → Sums → Places → Chunk → Places
+abbrev pub followed : List Entry → Catalogued → Sums → SearchPlaces → Chunk → SearchPlaces
 followed es c t k at = record {
   recopy = place_after (is_due_in stage.Recopy es c t) c.tables.extents at k.recopy;
   fill = place_after (is_due_in stage.Fill es c t) c.tables.extents at k.fill;
@@ -112,7 +106,7 @@ pub record IsSameBut (at : Chunk) (old new : Tables) : Type 0 where
   pub copies : (f : ℕ) → copies_at new f ≡ copies_at old f
 
 -- What is a cursor of a group is followed to one of each group of the same shape and entries in which all chunks but one are the same.
-abbrev pub IsFollowed : Chunk → Places → Catalogued → Status → Places → Type 0
+abbrev pub IsFollowed : Chunk → SearchPlaces → Catalogued → Status → SearchPlaces → Type 0
 IsFollowed at k c r later = (old : Catalogued) (q : Status) → IsCursor old q k → c.shape ≡ old.shape → r.entries ≡ q.entries → IsSameBut at old.tables c.tables → IsCursor c r later
 
 -- The plan of a copy's move leads to such tables.

@@ -1,11 +1,9 @@
 -- What is due at each stage of the search for the next move.
-use Rattle.std.specs.Prelude.{ℕ, suc, ◌*◌, ◌^◌, Bool, false, ◌&&◌, ◌||◌, not, nat_lt, List, [], ◌∷◌, find, Option, Some, None}
-use Rattle.std.specs.Option.{is_some, option_map}
+use Rattle.std.specs.Prelude.{ℕ, suc, ◌*◌, ◌^◌, Bool, false, ◌&&◌, ◌||◌, nat_lt, List, [], ◌∷◌, find, Option, Some, None}
+use Rattle.std.specs.Option.{option_map}
 use Rattle.asm_group.specs.Shape.{Shape}
 use Rattle.asm_formats.specs.Status.{Entry}
 use Rattle.asm_formats.specs.Items.{FileHead, Homes, chunk_len}
-use Rattle.asm_placement.specs.Modes.{is_online}
-use Rattle.asm_placement.specs.Copies.{is_on, wants_fill, wants_shift}
 use Rattle.allocator.specs.UnitMaps.{UnitMap}
 use Rattle.extent_map.specs.Extents.{Chunked, has_home}
 use Rattle.asm_base.specs.Chunks.{Chunk}
@@ -13,23 +11,12 @@ use Rattle.file_directory.specs.Files.{head_at}
 use Rattle.catalog_tables.specs.Tables.{Catalogued, Tables}
 use Rattle.extent_copies.specs.declared.extent.Extent.{Extent}
 use Rattle.rebalance.specs.declared.stages.Stage.{Stage}
-use Rattle.rebalance.specs.declared.stages.Stage.TheVariants as stage
 use Rattle.rebalance.specs.Sums.{Sums}
-use Rattle.extent_copies.specs.Extents.{copy_of}
-use Rattle.rebalance.specs.Extents.{any_from, has_other_at, has_source_at, is_marked_at}
-use Rattle.rebalance.specs.Stages.{balancing_at}
+use Rattle.rebalance.specs.Extents.{any_from}
+use Rattle.rebalance.specs.Stages.{is_due_at}
 use Rattle.rebalance.specs.Searching.{extent_of}
 
--- copy k of an extent lacks what the stage is about, whether or not a disk has room for another
-abbrev pub is_due_at : Stage → List Entry → List UnitMap → Sums → Extent → ℕ → Bool
-is_due_at stage.Recopy es ms t x k = is_marked_at x k && is_on is_online es (copy_of x k) && has_other_at es x k
-is_due_at stage.Fill es ms t x k = wants_fill es (copy_of x k) && has_source_at es x
-is_due_at stage.Shift es ms t x k = wants_shift es (copy_of x k) && has_source_at es x
-is_due_at stage.Lost es ms t x k = not (has_source_at es x)
-is_due_at stage.NoSpace es ms t x k = wants_fill es (copy_of x k) || wants_shift es (copy_of x k)
-is_due_at stage.Balance es ms t x k = is_some (balancing_at es ms t x k)
-
--- one of its copies does
+-- a copy of the extent lacks what the stage is about
 abbrev pub is_due : Stage → List Entry → List UnitMap → Sums → Extent → Bool
 is_due at es ms t x = any_from (is_due_at at es ms t x) 0 x.copies
 

@@ -4,5 +4,6 @@ pub mod Moves
 pub mod Stages
 pub mod Searching
 pub mod Due
+pub mod Finding
 pub mod Cursors
 pub mod Falling

@@ -40,7 +40,7 @@ abbrev pub first_of_extents : (Extent → Option Next) → Shape → Tables → 
 first_of_extents says s t f copies i [] = None
 first_of_extents says s t f copies i (homes ∷ more) = option_or (said_there says s t f copies i homes) (first_of_extents says s t f copies (suc i) more)
 
-abbrev pub with_copies : (ℕ → Option Next) → Option ℕ → Option Next
+abbrev pub with_copies : {A : Type 0} → (ℕ → Option A) → Option ℕ → Option A
 with_copies says None = None
 with_copies says (Some copies) = says copies
 

@@ -1,6 +1,6 @@
 -- What each copy says at each stage of the search for the next move.
-use Rattle.std.specs.Prelude.{◌≡◌, ℕ, ◌&&◌, ◌||◌, not, List, ◌++◌, if◌then◌else◌, slice_get, unwrap_or, Option, Some, None}
-use Rattle.std.specs.Option.{is_none, option_map, option_or}
+use Rattle.std.specs.Prelude.{◌≡◌, ℕ, Bool, ◌&&◌, ◌||◌, not, List, if◌then◌else◌, slice_get, unwrap_or, Option, Some, None}
+use Rattle.std.specs.Option.{is_none, is_some, option_map, option_or}
 use Rattle.asm_group.specs.Shape.{Shape}
 use Rattle.asm_formats.specs.Status.{Status, Entry}
 use Rattle.asm_formats.specs.Items.{Item, Home}
@@ -54,28 +54,23 @@ below_if_above es ms t x k (Some e) = if is_above_at t x.units (slice_get ms e.n
 abbrev pub balancing_at : List Entry → List UnitMap → Sums → Extent → ℕ → Option Home
 balancing_at es ms t x k = below_if_above es ms t x k (entry_at_home es (home (copy_of x k)))
 
-abbrev pub recopied_at : List Entry → Extent → ℕ → Option Next
-recopied_at es x k = when (is_marked_at x k && is_on is_online es (copy_of x k) && has_other_at es x k) (Some (move (recopy x.id.file x.id.index k)))
+-- it lacks what the stage is about, whether or not a disk has room for another
+abbrev pub is_due_at : Stage → List Entry → List UnitMap → Sums → Extent → ℕ → Bool
+is_due_at stage.Recopy es ms t x k = is_marked_at x k && is_on is_online es (copy_of x k) && has_other_at es x k
+is_due_at stage.Fill es ms t x k = wants_fill es (copy_of x k) && has_source_at es x
+is_due_at stage.Shift es ms t x k = wants_shift es (copy_of x k) && has_source_at es x
+is_due_at stage.Lost es ms t x k = not (has_source_at es x)
+is_due_at stage.NoSpace es ms t x k = wants_fill es (copy_of x k) || wants_shift es (copy_of x k)
+is_due_at stage.Balance es ms t x k = is_some (balancing_at es ms t x k)
 
-abbrev pub filled_at : List Entry → List UnitMap → Extent → ℕ → Option Next
-filled_at es ms x k = when (wants_fill es (copy_of x k) && has_source_at es x) (option_map (λ h. move (fill x.id.file x.id.index k h)) (home_for es ms x k))
-
-abbrev pub shifted_at : List Entry → List UnitMap → Extent → ℕ → Option Next
-shifted_at es ms x k = when (wants_shift es (copy_of x k) && has_source_at es x) (option_map (λ h. move (shift x.id.file x.id.index k h)) (home_for es ms x k))
-
-abbrev pub lost_at : List Entry → Extent → Option Next
-lost_at es x = when (not (has_source_at es x)) (Some (lost x.id.file x.id.index))
-
-abbrev pub without_space_at : List Entry → List UnitMap → Extent → ℕ → Option Next
-without_space_at es ms x k = when ((wants_fill es (copy_of x k) || wants_shift es (copy_of x k)) && is_none (home_for es ms x k)) (Some (no_space x.id.file x.id.index))
-
-abbrev pub balanced_at : List Entry → List UnitMap → Sums → Extent → ℕ → Option Next
-balanced_at es ms t x k = option_map (λ h. move (shift x.id.file x.id.index k h)) (balancing_at es ms t x k)
+-- what is said of it then
+abbrev pub answer_at : Stage → List Entry → List UnitMap → Sums → Extent → ℕ → Option Next
+answer_at stage.Recopy es ms t x k = Some (move (recopy x.id.file x.id.index k))
+answer_at stage.Fill es ms t x k = option_map (λ h. move (fill x.id.file x.id.index k h)) (home_for es ms x k)
+answer_at stage.Shift es ms t x k = option_map (λ h. move (shift x.id.file x.id.index k h)) (home_for es ms x k)
+answer_at stage.Lost es ms t x k = Some (lost x.id.file x.id.index)
+answer_at stage.NoSpace es ms t x k = when (is_none (home_for es ms x k)) (Some (no_space x.id.file x.id.index))
+answer_at stage.Balance es ms t x k = option_map (λ h. move (shift x.id.file x.id.index k h)) (balancing_at es ms t x k)
 
 abbrev pub said_at : Stage → List Entry → List UnitMap → Sums → Extent → ℕ → Option Next
-said_at stage.Recopy es ms t x k = recopied_at es x k
-said_at stage.Fill es ms t x k = filled_at es ms x k
-said_at stage.Shift es ms t x k = shifted_at es ms x k
-said_at stage.Lost es ms t x k = lost_at es x
-said_at stage.NoSpace es ms t x k = without_space_at es ms x k
-said_at stage.Balance es ms t x k = balanced_at es ms t x k
+said_at at es ms t x k = when (is_due_at at es ms t x k) (answer_at at es ms t x k)

@@ -7,12 +7,11 @@ ghost use Rattle.rebalance.specs.Cursors.{IsCursor, IsFollowed, followed, is_pas
 ghost use Rattle.rebalance.specs.Due.{is_due_in};
 ghost use Rattle.rebalance.specs.Sums.{sums_at};
 
-use crate::due::is_due_in;
-use crate::shares::Shares;
+use crate::search::Search;
 use crate::stages::Stage;
 use asm_base::ExtentId;
 use catalog::Catalog;
-use status_table::{PstEntry, PstRecord};
+use status_table::PstRecord;
 use std::marker::Model;
 
 /// For each stage of the search for the next move the chunk of extents at which it begins, by file and number; none where
@@ -29,9 +28,9 @@ pub struct Cursor {
 }
 
 impl Model for Cursor {
-    ghost use Rattle.rebalance.specs.Cursors.{Places};
+    ghost use Rattle.rebalance.specs.Cursors.{SearchPlaces};
 
-    ghost Value = { Places };
+    ghost Value = { SearchPlaces };
 
     ghost view = { λ k. record { recopy = k.recopy; fill = k.fill; shift = k.shift; lost = k.lost; no_space = k.no_space; balance = k.balance } };
 
@@ -81,27 +80,19 @@ impl Cursor {
         requires { AreTables catalog.now.tables }
         ensures { result ≡ followed status.now.entries catalog.now (sums_at catalog.now.units status.now.entries) self.now at }
     {
-        let disks = status.entries();
-        let shares = Shares::of(status, catalog.units());
-        self.followed_by(catalog, disks, &shares, at)
+        self.followed_by(&Search::of(catalog, status), at)
     }
 
-    fn followed_by(
-        &self,
-        catalog: &Catalog,
-        disks: &[PstEntry],
-        shares: &Shares,
-        at: (u32, u32),
-    ) -> Cursor
-        requires { AreTables catalog.now.tables }
-        ensures { result ≡ followed disks.now catalog.now shares.now self.now at }
+    fn followed_by(&self, search: &Search<'_>, at: (u32, u32)) -> Cursor
+        requires { AreTables search.now.catalog.now.tables }
+        ensures { result ≡ followed search.now.disks.now search.now.catalog.now search.now.shares self.now at }
     {
         Cursor {
-            recopy: place_after(catalog, disks, shares, Stage::Recopy, at, self.recopy),
-            fill: place_after(catalog, disks, shares, Stage::Fill, at, self.fill),
-            shift: place_after(catalog, disks, shares, Stage::Shift, at, self.shift),
-            lost: place_after(catalog, disks, shares, Stage::Lost, at, self.lost),
-            no_space: place_after(catalog, disks, shares, Stage::NoSpace, at, self.no_space),
+            recopy: place_after(search, Stage::Recopy, at, self.recopy),
+            fill: place_after(search, Stage::Fill, at, self.fill),
+            shift: place_after(search, Stage::Shift, at, self.shift),
+            lost: place_after(search, Stage::Lost, at, self.lost),
+            no_space: place_after(search, Stage::NoSpace, at, self.no_space),
             balance: FIRST,
         }
     }
@@ -109,17 +100,15 @@ impl Cursor {
 
 /// The place of a stage once a chunk has changed.
 fn place_after(
-    catalog: &Catalog,
-    disks: &[PstEntry],
-    shares: &Shares,
+    search: &Search<'_>,
     stage: Stage,
     at: (u32, u32),
     place: Option<(u32, u32)>,
 ) -> Option<(u32, u32)>
-    requires { AreTables catalog.now.tables }
-    ensures { result ≡ place_after (is_due_in stage disks.now catalog.now shares.now) catalog.now.tables.extents at place }
+    requires { AreTables search.now.catalog.now.tables }
+    ensures { result ≡ place_after (is_due_in stage search.now.disks.now search.now.catalog.now search.now.shares) search.now.catalog.now.tables.extents at place }
 {
-    if is_passed(place, at) && is_due_there(catalog, disks, shares, stage, at) {
+    if is_passed(place, at) && is_due_there(search, stage, at) {
         Some(at)
     } else {
         place
@@ -137,20 +126,13 @@ fn is_passed(place: Option<(u32, u32)>, at: (u32, u32)) -> bool
 }
 
 /// Whether something is due in a chunk, where it is there.
-fn is_due_there(
-    catalog: &Catalog,
-    disks: &[PstEntry],
-    shares: &Shares,
-    stage: Stage,
-    at: (u32, u32),
-) -> bool
-    requires { AreTables catalog.now.tables }
-    ensures { result ≡ passes_at (is_due_in stage disks.now catalog.now shares.now) catalog.now.tables.extents at }
+fn is_due_there(search: &Search<'_>, stage: Stage, at: (u32, u32)) -> bool
+    requires { AreTables search.now.catalog.now.tables }
+    ensures { result ≡ passes_at (is_due_in stage search.now.disks.now search.now.catalog.now search.now.shares) search.now.catalog.now.tables.extents at }
 {
-    match catalog.chunks_from(at).next() {
+    match search.catalog.chunks_from(at).next() {
         Some((first, chunk)) => {
-            at.cmp(first).is_eq()
-                && is_due_in(catalog, disks, shares, stage, *first, chunk.as_slice())
+            at.cmp(first).is_eq() && search.is_due_in(stage, *first, chunk.as_slice())
         }
         None => false,
     }

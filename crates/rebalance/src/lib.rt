@@ -2,12 +2,12 @@
 #![tactic(auto)]
 
 mod cursor;
-mod due;
 mod extent;
 mod homes;
 mod laws;
 mod moves;
 mod next;
+mod search;
 mod shares;
 mod stages;
 

@@ -1,4 +1,4 @@
-//! What an extent says at each stage of the search for the next move.
+//! What is due of an extent at each stage of the search for the next move, and what it says.
 
 ghost use Rattle.std.specs.Prelude.{◌≡◌, ◌<◌, ◌≤◌, IsTrue};
 ghost use Rattle.std.specs.Option.{option_map, option_or};
@@ -6,9 +6,12 @@ ghost use Rattle.asm_group.specs.Shape.{Shape};
 ghost use Rattle.asm_formats.specs.Status.{is_status};
 ghost use Rattle.asm_placement.specs.TableDisks.{directory_target, status_target};
 ghost use Rattle.asm_placement.specs.Rebalancing.{directory, move, next_directory, next_tables, tables};
+ghost use Rattle.rebalance.specs.Due.{is_due};
 ghost use Rattle.rebalance.specs.Extents.{first_from};
+ghost use Rattle.rebalance.specs.Finding.{IsWhole};
 ghost use Rattle.rebalance.specs.Moves.{next_meant};
-ghost use Rattle.rebalance.specs.Stages.{balanced_at, balancing_at, filled_at, home_below, home_for, lost_at, recopied_at, said_at, shifted_at, without_space_at};
+ghost use Rattle.rebalance.specs.Searching.{extent_says};
+ghost use Rattle.rebalance.specs.Stages.{answer_at, balancing_at, home_below, home_for, is_due_at, said_at};
 
 use crate::extent::{has_other_source, has_source, is_stale_online, wants_fill, wants_shift};
 use crate::homes::{HomeList, entry_at};
@@ -59,7 +62,6 @@ fn table_move(kind: GroupKind, status: &PstRecord) -> Option<Next>
 }
 
 /// What the first copy of an extent says at a stage, by its number. `units` has the map of disk k at place k.
-#[tactic(auto, using(crate::proofs::Verdicts::said_more, crate::proofs::Verdicts::said_found, crate::proofs::Verdicts::said_start, crate::proofs::Verdicts::said_end))]
 pub fn said_first(
     disks: &[PstEntry],
     units: &[Units],
@@ -71,167 +73,164 @@ pub fn said_first(
     requires long { 0 < extent.now.units }
     ensures { option_map next_meant result ≡ first_from (said_at stage disks.now units.now shares.now extent.now) 0 extent.now.copies }
 {
-    for copy in 0..extent.copies {
-        let next = said_by(disks, units, shares, extent, stage, copy);
-        if next.is_some() {
-            return next;
-        }
-    }
-    None
-}
-
-/// What a copy says at a stage.
-fn said_by(
-    disks: &[PstEntry],
-    units: &[Units],
-    shares: &Shares,
-    extent: &Extent,
-    stage: Stage,
-    copy: u8,
-) -> Option<Next>
-    requires number { copy < 3 }
-    requires copies { extent.now.copies ≤ 3 }
-    requires long { 0 < extent.now.units }
-    ensures { option_map next_meant result ≡ said_at stage disks.now units.now shares.now extent.now copy }
-{
-    match stage {
-        Stage::Recopy => recopied(disks, extent, copy),
-        Stage::Fill => filled(disks, units, extent, copy),
-        Stage::Shift => shifted(disks, units, extent, copy),
-        Stage::Lost => lost(disks, extent),
-        Stage::NoSpace => without_space(disks, units, extent, copy),
-        Stage::Balance => balanced(disks, units, shares, extent, copy),
-    }
-}
-
-fn recopied(disks: &[PstEntry], extent: &Extent, copy: u8) -> Option<Next>
-    requires number { copy < 3 }
-    requires copies { extent.now.copies ≤ 3 }
-    ensures { option_map next_meant result ≡ recopied_at disks.now extent.now copy }
-{
-    if !is_stale_online(disks, extent, copy) || !has_other_source(disks, extent, copy) {
-        return None;
-    }
-    let x = extent.id;
-    Some(Next::Move(Move::Recopy { x, copy }))
-}
-
-fn filled(disks: &[PstEntry], units: &[Units], extent: &Extent, copy: u8) -> Option<Next>
-    requires number { copy < 3 }
-    requires copies { extent.now.copies ≤ 3 }
-    requires long { 0 < extent.now.units }
-    ensures { option_map next_meant result ≡ filled_at disks.now units.now extent.now copy }
-{
-    if !wants_fill(disks, extent, copy) || !has_source(disks, extent) {
-        return None;
-    }
-    let x = extent.id;
-    let to = new_home(disks, units, extent, copy)?;
-    Some(Next::Move(Move::Fill { x, copy, to }))
-}
-
-fn shifted(disks: &[PstEntry], units: &[Units], extent: &Extent, copy: u8) -> Option<Next>
-    requires number { copy < 3 }
-    requires copies { extent.now.copies ≤ 3 }
-    requires long { 0 < extent.now.units }
-    ensures { option_map next_meant result ≡ shifted_at disks.now units.now extent.now copy }
-{
-    if !wants_shift(disks, extent, copy) || !has_source(disks, extent) {
-        return None;
-    }
-    let x = extent.id;
-    let to = new_home(disks, units, extent, copy)?;
-    Some(Next::Move(Move::Shift { x, copy, to }))
-}
-
-fn lost(disks: &[PstEntry], extent: &Extent) -> Option<Next>
-    requires { extent.now.copies ≤ 3 }
-    ensures { option_map next_meant result ≡ lost_at disks.now extent.now }
-{
-    if has_source(disks, extent) {
-        None
-    } else {
-        Some(Next::Lost(extent.id))
-    }
-}
-
-fn without_space(disks: &[PstEntry], units: &[Units], extent: &Extent, copy: u8) -> Option<Next>
-    requires number { copy < 3 }
-    requires long { 0 < extent.now.units }
-    ensures { option_map next_meant result ≡ without_space_at disks.now units.now extent.now copy }
-{
-    if (wants_fill(disks, extent, copy) || wants_shift(disks, extent, copy))
-        && new_home(disks, units, extent, copy).is_none()
-    {
-        Some(Next::NoSpace(extent.id))
-    } else {
-        None
-    }
-}
-
-fn balanced(
-    disks: &[PstEntry],
-    units: &[Units],
-    shares: &Shares,
-    extent: &Extent,
-    copy: u8,
-) -> Option<Next>
-    requires { 0 < extent.now.units }
-    ensures { option_map next_meant result ≡ balanced_at disks.now units.now shares.now extent.now copy }
-{
-    let x = extent.id;
-    let to = balancing(disks, units, shares, extent, copy)?;
-    Some(Next::Move(Move::Shift { x, copy, to }))
-}
-
-/// The home that a copy gets in place of its own.
-fn new_home(disks: &[PstEntry], units: &[Units], extent: &Extent, copy: u8) -> Option<Home>
-    requires { 0 < extent.now.units }
-    ensures { result ≡ home_for disks.now units.now extent.now copy }
-{
-    let kept = HomeList::kept(disks, &extent.homes, copy);
-    let held = HomeList::held(&extent.homes);
-    choose_copy(disks, units, kept.as_slice(), held.as_slice(), extent.units)
-}
-
-/// The home to which a copy shifts to balance the disks, where its own is on a disk above its share: on one below.
-pub fn balancing(
-    disks: &[PstEntry],
-    units: &[Units],
-    shares: &Shares,
-    extent: &Extent,
-    copy: u8,
-) -> Option<Home>
-    requires { 0 < extent.now.units }
-    ensures { result ≡ balancing_at disks.now units.now shares.now extent.now copy }
-{
-    let disk = entry_at(disks, extent.home(copy))?;
-    if !shares.is_above(units, disk.number, extent.units) {
-        return None;
-    }
-    home_below(disks, units, shares, extent, copy)
-}
-
-/// The home that a copy gets on a disk below its share.
-fn home_below(
-    disks: &[PstEntry],
-    units: &[Units],
-    shares: &Shares,
-    extent: &Extent,
-    copy: u8,
-) -> Option<Home>
-    requires { 0 < extent.now.units }
-    ensures { result ≡ home_below disks.now units.now shares.now extent.now copy }
-{
-    let kept = HomeList::kept(disks, &extent.homes, copy);
-    let held = HomeList::held(&extent.homes);
-    let below = shares.below(units, extent.units);
-    choose_copy_on(
+    let asked = AskedExtent {
         disks,
         units,
-        kept.as_slice(),
-        held.as_slice(),
-        below,
-        extent.units,
-    )
+        shares,
+        extent,
+    };
+    asked.first_said(stage)
+}
+
+/// An extent, and what it is asked by: `units` has the map of disk k at place k.
+#[derive(Clone, Copy)]
+pub struct AskedExtent<'a> {
+    pub disks: &'a [PstEntry],
+    pub units: &'a [Units],
+    pub shares: &'a Shares,
+    pub extent: &'a Extent,
+}
+
+impl AskedExtent<'_> {
+    /// Whether something is due of a copy of it.
+    #[tactic(auto, using(crate::proofs::Verdicts::any_more, crate::proofs::Verdicts::any_found, crate::proofs::Verdicts::any_start, crate::proofs::Verdicts::any_end))]
+    pub fn is_due(&self, stage: Stage) -> bool
+        requires { IsWhole self.now.extent.now }
+        ensures { result ≡ is_due stage self.now.disks.now self.now.units.now self.now.shares.now self.now.extent.now }
+    {
+        for copy in 0..self.extent.copies {
+            if self.is_due_at(stage, copy) {
+                return true;
+            }
+        }
+        false
+    }
+
+    /// What the first of its copies says.
+    #[tactic(auto, using(crate::proofs::Verdicts::said_more, crate::proofs::Verdicts::said_found, crate::proofs::Verdicts::said_start, crate::proofs::Verdicts::said_end))]
+    pub fn first_said(&self, stage: Stage) -> Option<Next>
+        requires { IsWhole self.now.extent.now }
+        ensures { option_map next_meant result ≡ extent_says stage self.now.disks.now self.now.units.now self.now.shares.now self.now.extent.now }
+    {
+        for copy in 0..self.extent.copies {
+            let next = self.said_by(stage, copy);
+            if next.is_some() {
+                return next;
+            }
+        }
+        None
+    }
+
+    /// What a copy says: nothing where nothing is due.
+    fn said_by(&self, stage: Stage, copy: u8) -> Option<Next>
+        requires number { copy < 3 }
+        requires whole { IsWhole self.now.extent.now }
+        ensures { option_map next_meant result ≡ said_at stage self.now.disks.now self.now.units.now self.now.shares.now self.now.extent.now copy }
+    {
+        if self.is_due_at(stage, copy) {
+            self.answer(stage, copy)
+        } else {
+            None
+        }
+    }
+
+    /// Whether a copy lacks what the stage is about, whether or not a disk has room for it.
+    fn is_due_at(&self, stage: Stage, copy: u8) -> bool
+        requires number { copy < 3 }
+        requires whole { IsWhole self.now.extent.now }
+        ensures { result ≡ is_due_at stage self.now.disks.now self.now.units.now self.now.shares.now self.now.extent.now copy }
+    {
+        let disks = self.disks;
+        let extent = self.extent;
+        match stage {
+            Stage::Recopy => {
+                is_stale_online(disks, extent, copy) && has_other_source(disks, extent, copy)
+            }
+            Stage::Fill => wants_fill(disks, extent, copy) && has_source(disks, extent),
+            Stage::Shift => wants_shift(disks, extent, copy) && has_source(disks, extent),
+            Stage::Lost => !has_source(disks, extent),
+            Stage::NoSpace => wants_fill(disks, extent, copy) || wants_shift(disks, extent, copy),
+            Stage::Balance => self.balancing(copy).is_some(),
+        }
+    }
+
+    /// What is said of a copy of which something is due.
+    fn answer(&self, stage: Stage, copy: u8) -> Option<Next>
+        requires { IsWhole self.now.extent.now }
+        ensures { option_map next_meant result ≡ answer_at stage self.now.disks.now self.now.units.now self.now.shares.now self.now.extent.now copy }
+    {
+        let x = self.extent.id;
+        match stage {
+            Stage::Recopy => Some(Next::Move(Move::Recopy { x, copy })),
+            Stage::Fill => {
+                let to = self.new_home(copy)?;
+                Some(Next::Move(Move::Fill { x, copy, to }))
+            }
+            Stage::Shift => {
+                let to = self.new_home(copy)?;
+                Some(Next::Move(Move::Shift { x, copy, to }))
+            }
+            Stage::Lost => Some(Next::Lost(x)),
+            Stage::NoSpace => match self.new_home(copy) {
+                Some(_) => None,
+                None => Some(Next::NoSpace(x)),
+            },
+            Stage::Balance => {
+                let to = self.balancing(copy)?;
+                Some(Next::Move(Move::Shift { x, copy, to }))
+            }
+        }
+    }
+
+    /// The home that a copy gets in place of its own.
+    fn new_home(&self, copy: u8) -> Option<Home>
+        requires { 0 < self.now.extent.now.units }
+        ensures { result ≡ home_for self.now.disks.now self.now.units.now self.now.extent.now copy }
+    {
+        let disks = self.disks;
+        let extent = self.extent;
+        let kept = HomeList::kept(disks, &extent.homes, copy);
+        let held = HomeList::held(&extent.homes);
+        choose_copy(
+            disks,
+            self.units,
+            kept.as_slice(),
+            held.as_slice(),
+            extent.units,
+        )
+    }
+
+    /// The home to which a copy shifts to balance the disks, where its own is on a disk above its share: on one below.
+    fn balancing(&self, copy: u8) -> Option<Home>
+        requires { 0 < self.now.extent.now.units }
+        ensures { result ≡ balancing_at self.now.disks.now self.now.units.now self.now.shares.now self.now.extent.now copy }
+    {
+        let extent = self.extent;
+        let disk = entry_at(self.disks, extent.home(copy))?;
+        if !self.shares.is_above(self.units, disk.number, extent.units) {
+            return None;
+        }
+        self.home_below(copy)
+    }
+
+    /// The home that a copy gets on a disk below its share.
+    fn home_below(&self, copy: u8) -> Option<Home>
+        requires { 0 < self.now.extent.now.units }
+        ensures { result ≡ home_below self.now.disks.now self.now.units.now self.now.shares.now self.now.extent.now copy }
+    {
+        let disks = self.disks;
+        let units = self.units;
+        let extent = self.extent;
+        let kept = HomeList::kept(disks, &extent.homes, copy);
+        let held = HomeList::held(&extent.homes);
+        let below = self.shares.below(units, extent.units);
+        choose_copy_on(
+            disks,
+            units,
+            kept.as_slice(),
+            held.as_slice(),
+            below,
+            extent.units,
+        )
+    }
 }

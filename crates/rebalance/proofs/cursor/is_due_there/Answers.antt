@@ -9,20 +9,20 @@ use Rattle.rebalance.proofs.cursor.is_due_there.Goals as goal
 
 pub returns-then-is_eq : goal.returns-then-is_eq
 returns-then-is_eq c =
-    let due = λ (x : Chunked). is_due_in c.args.stage c.args.disks.now c.args.catalog.now c.args.shares.now x in
+    let due = λ (x : Chunked). is_due_in c.args.stage c.args.search.now.disks.now c.args.search.now.catalog.now c.args.search.now.shares x in
     let first : Chunked = (c.in-Some.first.now, c.in-Some.chunk.now) in
     let here : is_at (chunk_cmp c.args.at) first.0 ≡ true = sym (c.is_eq.ensures ∙ ap is_eq c.cmp.ensures) ∙ c.if-is_eq.true in
     c.is_due_in.ensures ∙ ap (λ (hs : List Homes). due (c.in-Some.first.now, hs)) c.as_slice.ensures.homes ∙ sym (ap (λ (b : Bool). b && due first) here)
-    ∙ due_some due c.args.at c.args.catalog.now.tables.extents c.chunks_from.result first c.next.new.self c.requires.extents.0.0 c.chunks_from.ensures c.in-Some.ensures.steps
+    ∙ due_some due c.args.at c.args.search.now.catalog.now.tables.extents c.chunks_from.result first c.next.new.self c.requires.extents.0.0 c.chunks_from.ensures c.in-Some.ensures.steps
 
 pub returns-else-is_eq : goal.returns-else-is_eq
 returns-else-is_eq c =
-    let due = λ (x : Chunked). is_due_in c.args.stage c.args.disks.now c.args.catalog.now c.args.shares.now x in
+    let due = λ (x : Chunked). is_due_in c.args.stage c.args.search.now.disks.now c.args.search.now.catalog.now c.args.search.now.shares x in
     let first : Chunked = (c.in-Some.first.now, c.in-Some.chunk.now) in
     let other : is_at (chunk_cmp c.args.at) first.0 ≡ false = sym (c.is_eq.ensures ∙ ap is_eq c.cmp.ensures) ∙ c.if-is_eq.false in
     c.if-is_eq.false ∙ sym (ap (λ (b : Bool). b && due first) other)
-    ∙ due_some due c.args.at c.args.catalog.now.tables.extents c.chunks_from.result first c.next.new.self c.requires.extents.0.0 c.chunks_from.ensures c.in-Some.ensures.steps
+    ∙ due_some due c.args.at c.args.search.now.catalog.now.tables.extents c.chunks_from.result first c.next.new.self c.requires.extents.0.0 c.chunks_from.ensures c.in-Some.ensures.steps
 
 pub returns-in-None : goal.returns-in-None
 returns-in-None c =
-    due_none (is_due_in c.args.stage c.args.disks.now c.args.catalog.now c.args.shares.now) c.args.at c.args.catalog.now.tables.extents c.chunks_from.result c.requires.extents.0.0 c.chunks_from.ensures c.in-None.ensures.steps.0
+    due_none (is_due_in c.args.stage c.args.search.now.disks.now c.args.search.now.catalog.now c.args.search.now.shares) c.args.at c.args.search.now.catalog.now.tables.extents c.chunks_from.result c.requires.extents.0.0 c.chunks_from.ensures c.in-None.ensures.steps.0

@@ -1,0 +1,13 @@
+use Rattle.extent_map.specs.Extents.{chunks_from}
+use Rattle.rebalance.proofs.Finding.{due_found, due_none}
+use Rattle.rebalance.proofs.search.Search.first_due.Goals as goal
+
+pub returns-in_err-found : goal.returns-in_err-found
+returns-in_err-found c =
+    let s = c.args.self.now in
+    record { due = due_none c.args.stage s.disks.now s.catalog.now s.shares (chunks_from s.catalog.now.tables.extents c.args.first) c.first_from.result c.from_residual.result (cc) (cc) c.first_from.ensures.found }
+
+pub returns : goal.returns
+returns c =
+    let s = c.args.self.now in
+    record { due = due_found c.args.stage s.disks.now s.catalog.now s.shares (chunks_from s.catalog.now.tables.extents c.args.first) c.first_from.result c.in_ok-found.found (cc) c.first_from.ensures.found }
