@@ -21,8 +21,8 @@ use Rattle.serving.specs.Acts.{scene}
 use Rattle.serving.specs.Manners.{AreTold}
 use Rattle.session.specs.Quiet.{quiet}
 use Rattle.session.specs.Sessions.{Roster, SessionView, roster, roster_of}
-use Rattle.serving.specs.Serves.{limit, IsFront, IsAnswered, Serves, is_whole}
-use Rattle.asm_run.specs.Headline.{first_state, status_number, GeneratedRun, Outcome, Transcript}
+use Rattle.serving.specs.Serves.{limit, IsFront, AreCommandsAnswered, Serves, is_whole}
+use Rattle.asm_run.specs.Headline.{first_state, status_number, GeneratedRun, RunOutcome, Transcript}
 use Rattle.asm_run.proofs.Counting.{count-generated}
 use Rattle.asm_run.proofs.Cuts.{commands-are}
 use Rattle.command_line.specs.Paths.{has_quote}
@@ -53,7 +53,7 @@ front-at script script' commands commands' left e f front =
 
 outcome-ok : (status : ℕ) (script : List ℕ) (history : List (Entry Counts)) (left : Option Bytes) (end : State Counts) → status ≤ 1 →
     length script ≤ limit → IsAtEnd left → answered history ≡ commands_of script → IsPrinted history → end.phase ≡ Resting →
-    (status ≡ 0 → has_refusal history ≡ false) → (status ≡ 1 → has_refusal history ≡ true) → Outcome status script history left end
+    (status ≡ 0 → has_refusal history ≡ false) → (status ≡ 1 → has_refusal history ≡ true) → RunOutcome status script history left end
 outcome-ok status script history left end low short at_end all printed rest none some =
     let same : script ≡ take limit script = sym (take_all limit script short) in
     record {
@@ -73,7 +73,7 @@ outcome-ok status script history left end low short at_end all printed rest none
     }
 
 outcome-fault : (script : List ℕ) (history : List (Entry Counts)) (left : Option Bytes) (end : State Counts) →
-    length script ≤ limit → answered history ≡ ended_commands script → IsPrinted history → end.phase ≡ Resting → Outcome 3 script history left end
+    length script ≤ limit → answered history ≡ ended_commands script → IsPrinted history → end.phase ≡ Resting → RunOutcome 3 script history left end
 outcome-fault script history left end short all printed rest = record {
   usage = λ e. absurd (omega (arith, e));
   short = omega arith;
@@ -91,7 +91,7 @@ outcome-fault script history left end short all printed rest = record {
 }
 
 outcome-long : (script : List ℕ) (history : List (Entry Counts)) (left : Option Bytes) (end : State Counts) →
-    length script ≡ limit + 1 → answered history ≡ ended_commands (take limit script) → IsPrinted history → end.phase ≡ Resting → Outcome 6 script history left end
+    length script ≡ limit + 1 → answered history ≡ ended_commands (take limit script) → IsPrinted history → end.phase ≡ Resting → RunOutcome 6 script history left end
 outcome-long script history left end long all printed rest = record {
   usage = λ e. absurd (omega (arith, e));
   short = omega arith;
@@ -109,7 +109,7 @@ outcome-long script history left end long all printed rest = record {
 }
 
 pub outcome-cut : (status : ℕ) (script : List ℕ) (history : List (Entry Counts)) (left : Option Bytes) (end : State Counts) → (status ≡ 4) ⊎ (status ≡ 5) →
-    length script ≤ limit → IsFront script (answered history) left → Outcome status script history left end
+    length script ≤ limit → IsFront script (answered history) left → RunOutcome status script history left end
 outcome-cut status script history left end is short front =
     let big : 4 ≤ status = elim is [ inl e ↦ omega (arith, e) | inr e ↦ omega (arith, e) ] in
     let small : status ≤ 5 = elim is [ inl e ↦ omega (arith, e) | inr e ↦ omega (arith, e) ] in
@@ -130,8 +130,8 @@ outcome-cut status script history left end is short front =
     }
 
 pub outcome-of : (served : Result (Unit {0}) Stop) (refused : Bool) (script : List ℕ) (commands : List Bytes) (history : List (Entry Counts)) (left : Option Bytes) (end : State Counts) →
-    IsAnswered served script commands left → answered history ≡ commands → MatchBool (is_whole served) (IsPrinted history) (IsPrintedToCut history) →
-    (is_whole served ≡ true → end.phase ≡ Resting) → refused ≡ has_refusal history → Outcome (status_number served refused) script history left end
+    AreCommandsAnswered served script commands left → answered history ≡ commands → MatchBool (is_whole served) (IsPrinted history) (IsPrintedToCut history) →
+    (is_whole served ≡ true → end.phase ≡ Resting) → refused ≡ has_refusal history → RunOutcome (status_number served refused) script history left end
 outcome-of (Ok u) false script commands history left end a e printed rest refusal =
     outcome-ok 0 script history left end (omega arith) a.0 a.1 (e ∙ a.2) printed (rest refl) (λ _. sym refusal) (λ f. absurd (omega (arith, f)))
 outcome-of (Ok u) true script commands history left end a e printed rest refusal =
@@ -164,7 +164,7 @@ transcript-of gives paths Told served status marks left left' taken taken' clock
     let end : State Counts = record { world = w'; below = below'; phase = phase; time = time'; calls = new.calls; counts = counts_of new } in
     let all : marks ≡ marks_of p.history = is_marks ∙ p.marks_grow in
     let P : List ℕ → Type 0 = λ ms. RisesFrom old.calls ms in
-    let Q : ℕ → Type 0 = λ n. Outcome n s.taken p.history left' end in
+    let Q : ℕ → Type 0 = λ n. RunOutcome n s.taken p.history left' end in
     record {
       script = s.taken;
       history = p.history;

@@ -38,7 +38,7 @@ abbrev pub number_given : List Text → Option ℕ
 number_given words = option_map (digits_value 10) (number_in words)
 
 -- no group is in the session, and its place is `+`
-pub record IsFirst (w : World) : Type 0 where
+pub record IsFirstWorld (w : World) : Type 0 where
   pub no_entries : w.session ≡ []
   pub at_top : w.place ≡ []
 
@@ -47,7 +47,7 @@ abbrev pub first_state : World → BayState → State Counts
 first_state w bay = record { world = w; below = quiet; phase = Resting; time = 0; calls = bay.calls; counts = counts_of bay }
 
 -- what a status says of the script's bytes, of the commands that were answered, and of the state at the end
-pub record Outcome (status : ℕ) (script : Bytes) (history : List (Entry Counts)) (left' : Option Bytes) (end : State Counts) : Type 0 where
+pub record RunOutcome (status : ℕ) (script : Bytes) (history : List (Entry Counts)) (left' : Option Bytes) (end : State Counts) : Type 0 where
   -- 2: nothing was read, and nothing done
   pub usage : status ≡ 2 → (script ≡ []) × (history ≡ [])
   -- 6: one byte past the limit was taken, and only then
@@ -101,7 +101,7 @@ pub record Transcript {C : Type 0} (gives : C → ℕ → C → Type 0) (paths :
       → AreHeld paths new.leaves (first_state w old) before
   -- the same of all moves, and of what a stop now leaves
   pub crash : (known : ℕ → Bool) → StartsAs known old w → AllFrom (IsProvedApartIn known) (first_state w old) history → IsCrashSafe paths new.leaves (first_state w old) history
-  pub outcome : Outcome status script history left' end
+  pub outcome : RunOutcome status script history left' end
 
 -- Under --generate the generator's text stands for the bytes that a source has left, and a rest of it for those that are left at the
 -- end. Each text is short, but the reply to the last command.

@@ -6,7 +6,7 @@ ghost use Rattle.asm_world.specs.Generator.{generated_script};
 ghost use Rattle.asm_world.specs.World.{World};
 ghost use Rattle.command_line.specs.Paths.{has_quote};
 ghost use Rattle.generated_script.specs.Source.{left_in};
-ghost use Rattle.asm_run.specs.Headline.{IsFirst, GeneratedRun};
+ghost use Rattle.asm_run.specs.Headline.{IsFirstWorld, GeneratedRun};
 
 use crate::report::{Report, ended, nothing_done};
 use asm_base::{NoMemory, Text};
@@ -31,7 +31,7 @@ pub fn generate<B: Bay, H: Host, K: Sink, C: Clock>(
 ) -> Report<B, H, K, C>
     requires four { length images.items ≡ 4 }
     requires unquoted { has_quote (map string_bytes images.items) ≡ false }
-    ensures transcript { (w : World) → IsFirst w → GeneratedRun C.gives number (map string_bytes images.items) result.status result.marks.items
+    ensures transcript { (w : World) → IsFirstWorld w → GeneratedRun C.gives number (map string_bytes images.items) result.status result.marks.items
         (K.taken sink) (K.taken result.sink) clock result.clock (B.state bay) (B.state result.bay) w }
     ensures replies { result.replies ≡ length result.marks.items }
     ensures status { result.status ≤ 6 }

@@ -6,7 +6,7 @@ ghost use Rattle.asm_world.specs.Run.{IsFull};
 ghost use Rattle.asm_world.specs.World.{World};
 ghost use Rattle.command_line.specs.Command.{IsRead, images_in};
 ghost use Rattle.command_line.specs.Paths.{Text};
-ghost use Rattle.asm_run.specs.Headline.{IsFirst, GeneratedRun, Transcript, number_given};
+ghost use Rattle.asm_run.specs.Headline.{IsFirstWorld, GeneratedRun, Transcript, number_given};
 
 use crate::generating::generate;
 use crate::report::{Report, ended, nothing_done};
@@ -30,10 +30,10 @@ pub fn run<B: Bay, H: Host, S: Source, K: Sink, C: Clock>(
     sink: K,
     clock: C,
 ) -> Report<B, H, K, C>
-    ensures transcript { number_given (map string_bytes words.now) ≡ None → (w : World) → IsFirst w
+    ensures transcript { number_given (map string_bytes words.now) ≡ None → (w : World) → IsFirstWorld w
         → Transcript C.gives (images_in (map string_bytes words.now)) IsFull result.status result.marks.items
         (S.left source.old) (S.left source.new) (K.taken sink) (K.taken result.sink) clock result.clock (B.state bay) (B.state result.bay) w }
-    ensures generated { (number : ℕ) → number_given (map string_bytes words.now) ≡ Some number → (w : World) → IsFirst w
+    ensures generated { (number : ℕ) → number_given (map string_bytes words.now) ≡ Some number → (w : World) → IsFirstWorld w
         → GeneratedRun C.gives number (images_in (map string_bytes words.now)) result.status result.marks.items
         (K.taken sink) (K.taken result.sink) clock result.clock (B.state bay) (B.state result.bay) w }
     ensures unread { (number : ℕ) → number_given (map string_bytes words.now) ≡ Some number → source.new ≡ source.old }

@@ -22,7 +22,7 @@ use Rattle.asm_world.specs.VerbMeaning.{SaysVerb, verb_of}
 use Rattle.asm_world.specs.Verbs as g
 use Rattle.asm_world.proofs.Commands.{verb_read, longest}
 use Rattle.asm_world.proofs.FirstWords.{verbs_alone}
-use Rattle.asmcmd.specs.Exact.{asked, placed, IsRead, IsNoVerb, IsExact, IsCommand}
+use Rattle.asmcmd.specs.Exact.{asked, placed, IsVerbRead, IsNoVerb, IsExact, IsCommand}
 use Rattle.asmcmd.specs.Verbs.{said}
 use Rattle.asmcmd.specs.declared.verb.Verb.{Verb}
 use Rattle.asmcmd.specs.declared.verb.ReadError.{ReadError}
@@ -87,7 +87,7 @@ asked_none text front left f within e =
     rw (← f) (refused front (whole g.verb End text) (length text - left) m)
 
 pub asked_refused : (text : Bytes) (front : ℕ) (e : Unread) → front ≡ keyword_front text → front ≤ length text
-    → Refuses e (mapped verb_of (closed End (parse g.verb text (length text - front)))) → IsRead (Err (placed (length text) e)) text
+    → Refuses e (mapped verb_of (closed End (parse g.verb text (length text - front)))) → IsVerbRead (Err (placed (length text) e)) text
 asked_refused text front unread.NoMemory f within r = tt
 asked_refused text front (unread.Syntax left) f within r = asked_none text front left f within r
 
@@ -111,13 +111,13 @@ is_none text at (Err n) e k = record {
   place = let q : max (keyword_front text) n ≡ at = cc in sym q;
 }
 
-pub exact : (r : Result Verb ReadError) (text : Bytes) → IsRead r text → IsExact r text
+pub exact : (r : Result Verb ReadError) (text : Bytes) → IsVerbRead r text → IsExact r text
 unfolding asked
 exact (Ok x) text e = says_verb text (said x) (whole g.verb End text) refl e
 exact (Err NoMemory) text e = tt
 exact (Err (Miss at)) text e = is_none text at (whole g.verb End text) refl e
 
-pub command : (r : Result Verb ReadError) (text : Bytes) → IsRead r text → opens_statement text ≡ false → begins_blank text ≡ false → IsCommand r text
+pub command : (r : Result Verb ReadError) (text : Bytes) → IsVerbRead r text → opens_statement text ≡ false → begins_blank text ≡ false → IsCommand r text
 unfolding asked
 command (Ok x) text e o b = verbs_alone text o b ∙ e
 command (Err NoMemory) text e o b = tt

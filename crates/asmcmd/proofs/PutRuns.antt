@@ -4,14 +4,14 @@ use Rattle.std.proofs.lemmas.Bool.{ne_eqb}
 use Rattle.std.proofs.lemmas.List.{replicate-append-replicate}
 use Rattle.asm_group.specs.Names.{Bytes}
 use Rattle.asm_world.specs.Text.{read_lines}
-use Rattle.asmcmd.specs.Runs.{Holds, RunsView, equal_front, first_run, lines_with, run_line}
+use Rattle.asmcmd.specs.Runs.{HoldsRun, RunsView, equal_front, first_run, lines_with, run_line}
 use Rattle.asmcmd.proofs.EqualBytes.{first_is, no_run, run_ends}
 
 -- nothing is in a run that begins where it ends
 none_in : (at b : ℕ) (more : Bytes) → replicate (at - at) b ++ more ≡ more
 none_in at b more = let none : at - at ≡ 0 = omega arith in rw none refl
 
-pub none_yet : (at b : ℕ) → Holds (record { lines = []; at = at; end = at; byte = b }) at []
+pub none_yet : (at b : ℕ) → HoldsRun (record { lines = []; at = at; end = at; byte = b }) at []
 none_yet at b = λ more. ap (read_lines at) (none_in at b more)
 
 -- the last run ends: another byte comes next
@@ -61,13 +61,13 @@ puts_run old mid new bytes rest behind b n first so_far put more =
 
 -- all were put
 pub holds_more : (old new : RunsView) (bytes rest : Bytes) → first_run rest ≡ None → ((more : Bytes) → lines_with new (rest ++ more) ≡ lines_with old (bytes ++ more))
-    → (at : ℕ) (before : Bytes) → Holds old at before → Holds new at (before ++ bytes)
+    → (at : ℕ) (before : Bytes) → HoldsRun old at before → HoldsRun new at (before ++ bytes)
 holds_more old new bytes rest none all at before holds = λ more.
     ap (λ (xs : Bytes). lines_with new (xs ++ more)) (sym (no_run rest none)) ∙ all more ∙ holds (bytes ++ more) ∙ ap (read_lines at) (sym (append_assoc before bytes more))
 
 -- the lines are those of all bytes
 pub all_lines : (old new : RunsView) → ((more : Bytes) → equal_front old.byte more ≡ 0 → lines_with new more ≡ lines_with old more) → new.at ≡ new.end
-    → (at : ℕ) (bytes : Bytes) → Holds old at bytes → new.lines ≡ read_lines at bytes
+    → (at : ℕ) (bytes : Bytes) → HoldsRun old at bytes → new.lines ≡ read_lines at bytes
 all_lines old new same still at bytes holds =
     sym (append-nil new.lines) ∙ ap (λ (xs : Bytes). new.lines ++ read_lines new.at (xs ++ [])) (sym none) ∙ same [] refl ∙ holds [] ∙ ap (read_lines at) (append-nil bytes) where
       none : replicate (new.end - new.at) new.byte ≡ []

@@ -43,10 +43,10 @@ unfoldable pub asked : Bytes → c.Command
 asked text = verb_or_none (keyword_front text) (whole g.verb End text)
 
 -- A verb is read where the line asks for it, and else where it is unreadable is told, unless memory ran out.
-abbrev pub IsRead : Result Verb ReadError → Bytes → Type 0
-IsRead (Ok verb) text = asked text ≡ c.Asked (said verb)
-IsRead (Err NoMemory) text = Unit {0}
-IsRead (Err (Miss at)) text = asked text ≡ c.Unreadable at
+abbrev pub IsVerbRead : Result Verb ReadError → Bytes → Type 0
+IsVerbRead (Ok verb) text = asked text ≡ c.Asked (said verb)
+IsVerbRead (Err NoMemory) text = Unit {0}
+IsVerbRead (Err (Miss at)) text = asked text ≡ c.Unreadable at
 
 -- A line is no verb. So many bytes of it begin one, or one of the words CREATE, DROP and ALTER, and no more do.
 pub record IsNoVerb (text : Bytes) (at : ℕ) : Type 0 where

@@ -31,5 +31,5 @@ abbrev pub lines_with : RunsView → Bytes → List Bytes
 lines_with r more = r.lines ++ read_lines r.at (replicate (r.end - r.at) r.byte ++ more)
 
 -- These bytes were put, from this offset on: whatever comes behind them, the lines are those of all.
-abbrev pub Holds : RunsView → ℕ → Bytes → Type 0
-Holds r at bytes = (more : Bytes) → lines_with r more ≡ read_lines at (bytes ++ more)
+abbrev pub HoldsRun : RunsView → ℕ → Bytes → Type 0
+HoldsRun r at bytes = (more : Bytes) → lines_with r more ≡ read_lines at (bytes ++ more)

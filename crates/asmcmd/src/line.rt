@@ -7,7 +7,7 @@ ghost use Rattle.asm_grammar.specs.Word.{End};
 ghost use Rattle.asm_world.specs.FirstWord.{opens_statement, begins_blank, keyword_front};
 ghost use Rattle.asm_world.specs.VerbMeaning.{verb_of};
 ghost use Rattle.asm_world.specs.Verbs as g;
-ghost use Rattle.asmcmd.specs.Exact.{other_verbs, other_of, last_verbs, last_of, placed, IsRead, IsExact, IsCommand};
+ghost use Rattle.asmcmd.specs.Exact.{other_verbs, other_of, last_verbs, last_of, placed, IsVerbRead, IsExact, IsCommand};
 ghost use Rattle.asmcmd.specs.Verbs.{said};
 
 use crate::files::file_verb;
@@ -97,7 +97,7 @@ fn place_of(error: Unread, text: &[u8]) -> ReadError
 }
 
 fn read_whole(alloc: Global, text: &[u8]) -> Result<Verb, ReadError>
-    ensures { IsRead result text.now }
+    ensures { IsVerbRead result text.now }
 {
     let place = Place {
         rest: text,
@@ -112,7 +112,7 @@ fn read_whole(alloc: Global, text: &[u8]) -> Result<Verb, ReadError>
 /// Reads a line as a verb. Spaces and tabs part its words, and may stand before and behind them. Of a line that is
 /// none the error says how many bytes begin a verb, or one of the words CREATE, DROP and ALTER.
 pub fn read_line(alloc: Global, text: &[u8]) -> Result<Verb, ReadError>
-    ensures reads { IsRead result text.now }
+    ensures reads { IsVerbRead result text.now }
     ensures exact { IsExact result text.now }
     ensures command { opens_statement text.now ≡ false → begins_blank text.now ≡ false → IsCommand result text.now }
 {

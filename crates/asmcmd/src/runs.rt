@@ -4,7 +4,7 @@ ghost use Rattle.std.specs.Option.{option_map};
 ghost use Rattle.std.specs.Prelude.{◌≡◌, ◌≤◌, ◌<◌, ℕ, ◌+◌, ◌^◌, ◌++◌, ◌∷◌, [], length, drop, replicate, IfOk, IsTrue, OnOk};
 ghost use Rattle.asm_group.specs.Names.{Bytes};
 ghost use Rattle.asm_world.specs.Text.{hex, hex_digit, read_lines};
-ghost use Rattle.asmcmd.specs.Runs.{Holds, equal_front, first_run, lines_with, run_line};
+ghost use Rattle.asmcmd.specs.Runs.{HoldsRun, equal_front, first_run, lines_with, run_line};
 
 use crate::text::{Field, line_of};
 use asm_base::{List, NoMemory, Text};
@@ -124,7 +124,7 @@ impl Runs {
     /// No bytes, which stand from this offset on.
     #[tactic(auto, using(crate::proofs::PutRuns::none_yet))]
     pub fn new(alloc: Global, at: u64) -> Runs
-        ensures holds { Holds result at [] }
+        ensures holds { HoldsRun result at [] }
         ensures end { result.end ≡ at }
     {
         Runs {
@@ -171,7 +171,7 @@ impl Runs {
     /// Puts bytes behind the others. All offsets are numbers of 64 bits.
     pub fn put(&mut self, bytes: &[u8]) -> Result<(), NoMemory>
         requires room { self.old.end + length bytes.now < 2 ^ 64 }
-        ensures holds { OnOk result ((at : ℕ) (before : Bytes) → Holds self.old at before → Holds self.new at (before ++ bytes.now)) }
+        ensures holds { OnOk result ((at : ℕ) (before : Bytes) → HoldsRun self.old at before → HoldsRun self.new at (before ++ bytes.now)) }
         ensures end { OnOk result (self.new.end ≡ self.old.end + length bytes.now) }
     {
         let mut rest = bytes;
@@ -184,7 +184,7 @@ impl Runs {
 
     /// The lines of all runs: where each begins, how many bytes it has, and its byte in hexadecimal digits.
     pub fn into_lines(mut self) -> Result<List<Text>, NoMemory>
-        ensures { IfOk result (λ lines. (at : ℕ) (bytes : Bytes) → Holds self at bytes → lines ≡ read_lines at bytes) }
+        ensures { IfOk result (λ lines. (at : ℕ) (bytes : Bytes) → HoldsRun self at bytes → lines ≡ read_lines at bytes) }
     {
         self.end_run()?;
         Ok(self.lines)

@@ -11,12 +11,12 @@ use Rattle.asm_formats.specs.Values.{value}
 use Rattle.asm_base.specs.Records.{Entry}
 use Rattle.asm_base.specs.declared.refusal.Refusal.TheVariants as cause
 use Rattle.page_map.specs.Changes.{last_put}
-use Rattle.catalog_tables.specs.Disks.{Disk, IsTable, info_at, record_of, with_info}
+use Rattle.disk_directory.specs.Disks.{Disk, IsTable, info_at, record_of, with_info}
 use Rattle.catalog_tables.specs.Faults.{IsCatalog, disk_key}
 use Rattle.catalog.specs.Plans.{IsAddRefusal, IsPlan, MayAdd, are_new, with_records}
 use Rattle.catalog_tables.specs.Rules.{blocks_used}
 use Rattle.catalog_tables.specs.Tables.{Catalogued, Tables, records_of}
-use Rattle.catalog_tables.proofs.DiskLaws.{put_keeps_table}
+use Rattle.disk_directory.proofs.DiskLaws.{put_keeps_table}
 use Rattle.catalog.proofs.DiskPlans.{disk_rules, put_at, with_disks}
 use Rattle.catalog_tables.proofs.NewRecords.{at_most}
 use Rattle.catalog_tables.proofs.NumberedLists.{new_longer}

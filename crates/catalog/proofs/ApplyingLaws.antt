@@ -9,10 +9,10 @@ use Rattle.asm_formats.specs.Items.{Key}
 use Rattle.asm_formats.specs.Status as status
 use Rattle.asm_group.specs.Shape.{Shape}
 use Rattle.allocator.specs.UnitMaps.{UnitMap}
-use Rattle.catalog.specs.Applying.{AreDisksReady, IsReady, Leaves, next_maps}
+use Rattle.catalog.specs.Applying.{AreDisksReady, IsChangeReady, Leaves, next_maps}
 use Rattle.catalog_tables.specs.Changing.{IsAfter}
-use Rattle.catalog_tables.specs.Placing.{HasUnits, OthersStay, after_chunks, put_maps}
-use Rattle.catalog.specs.Spares.{IsKept, IsSpareOf, ready_tables, units_in}
+use Rattle.catalog_tables.specs.Placing.{HasUnits, OtherMapsStay, after_chunks, put_maps}
+use Rattle.catalog.specs.Spares.{IsCatalogWithSpare, IsSpareOf, ready_tables, units_in}
 use Rattle.catalog_tables.specs.Tables.{AreTables, Catalogued, Tables}
 use Rattle.catalog.specs.declared.spare.Spare.{Spare}
 use Rattle.catalog.specs.declared.spare.Spare.TheVariants.{Absent, Behind, Ready}
@@ -26,7 +26,7 @@ made t s ms o d = record { tables = t; shape = s; units = ms; next = o; next_uni
 
 -- the tables that a change leaves are the ones that keep the rules
 pub ready_is : (t u : Tables) (s : Shape) (ms : List UnitMap) (o : Option Tables) (d e : Units) (put : List Entry) (gone : List Key) → (v : Tables) × Leaves (made t s ms o d) put gone v → IsAfter t put gone u
-    → IsReady (made t s ms (Some u) e) put gone
+    → IsChangeReady (made t s ms (Some u) e) put gone
 ready_is t u s ms o d e put gone leaves after =
     let same : leaves.0 ≡ u = one_after t leaves.0 u put gone leaves.1.after after in
     let l = subst (λ (x : Tables). Leaves (made t s ms o d) put gone x) same leaves.1 in
@@ -45,14 +45,14 @@ units_after t u s old new o d put gone leaves follows entries has =
     let there = leaves.units entries has in
     there.1 ∙ ap (λ (xs : List UnitMap). Some xs) (follows _ there.0 has there.1)
 
-leaves_next : (t u : Tables) (s : Shape) (old : List UnitMap) (o : Option Tables) (d : Units) (put : List Entry) (gone : List Key) → IsReady (made t s old o d) put gone → o ≡ Some u → Leaves (made t s old o d) put gone u
+leaves_next : (t u : Tables) (s : Shape) (old : List UnitMap) (o : Option Tables) (d : Units) (put : List Entry) (gone : List Key) → IsChangeReady (made t s old o d) put gone → o ≡ Some u → Leaves (made t s old o d) put gone u
 leaves_next t u s old o d put gone ready is =
     subst (λ (x : Tables). Leaves (made t s old o d) put gone x) (some_is ready.tables u (sym ready.next ∙ is)) ready.leaves
 
-pub leaves_seen : (c : Catalogued) (t u : Tables) (s : Shape) (old : List UnitMap) (o : Option Tables) (d : Units) (put : List Entry) (gone : List Key) → made t s old o d ≡ c → IsReady c put gone → o ≡ Some u → Leaves (made t s old o d) put gone u
-leaves_seen c t u s old o d put gone view ready is = leaves_next t u s old o d put gone (subst (λ (x : Catalogued). IsReady x put gone) (sym view) ready) is
+pub leaves_seen : (c : Catalogued) (t u : Tables) (s : Shape) (old : List UnitMap) (o : Option Tables) (d : Units) (put : List Entry) (gone : List Key) → made t s old o d ≡ c → IsChangeReady c put gone → o ≡ Some u → Leaves (made t s old o d) put gone u
+leaves_seen c t u s old o d put gone view ready is = leaves_next t u s old o d put gone (subst (λ (x : Catalogued). IsChangeReady x put gone) (sym view) ready) is
 
-pub units_follow : (c : Catalogued) (t u : Tables) (s : Shape) (old new : List UnitMap) (o : Option Tables) (d : Units) (put : List Entry) (gone : List Key) → made t s old o d ≡ c → IsReady c put gone → o ≡ Some u
+pub units_follow : (c : Catalogued) (t u : Tables) (s : Shape) (old new : List UnitMap) (o : Option Tables) (d : Units) (put : List Entry) (gone : List Key) → made t s old o d ≡ c → IsChangeReady c put gone → o ≡ Some u
     → ((first after : List UnitMap) → after_chunks s.step first t.extents ≡ Some old → after_chunks s.step first u.extents ≡ Some after → after ≡ new)
     → (entries : List status.Entry) → HasUnits c.shape entries c.tables c.units → HasUnits s entries u new
 units_follow c t u s old new o d put gone view ready is follows entries has =
@@ -66,21 +66,21 @@ pub ready_seen : (spare : Spare) (u : Tables) (kept : Change) → spare ≡ Read
 ready_seen spare u kept is = ap ready_tables is
 
 -- the tables before the change are kept beside those after it
-pub kept_after : (c : Catalogued) (t u was is : Tables) (s : Shape) (old new : List UnitMap) (spare : Spare) (d e : Units) (kept : Change) (put : List Entry) (gone : List Key) → made t s old (ready_tables spare) d ≡ c → IsReady c put gone → spare ≡ Ready u kept
-    → was ≡ t → is ≡ u → IsKept (made t s old (ready_tables spare) d) spare
+pub kept_after : (c : Catalogued) (t u was is : Tables) (s : Shape) (old new : List UnitMap) (spare : Spare) (d e : Units) (kept : Change) (put : List Entry) (gone : List Key) → made t s old (ready_tables spare) d ≡ c → IsChangeReady c put gone → spare ≡ Ready u kept
+    → was ≡ t → is ≡ u → IsCatalogWithSpare (made t s old (ready_tables spare) d) spare
     → ((first after : List UnitMap) → after_chunks s.step first t.extents ≡ Some old → after_chunks s.step first u.extents ≡ Some after → after ≡ new)
-    → IsKept (made is s new None e) (Behind was kept)
+    → IsCatalogWithSpare (made is s new None e) (Behind was kept)
 kept_after c t u was is s old new spare d e kept put gone view ready ahead same_old same_new own follows =
     let leaves = leaves_seen c t u s old (ready_tables spare) d put gone view ready (ready_seen spare u kept ahead) in
-    let whole : IsKept (made u s new None e) (Behind t kept) = record {
+    let whole : IsCatalogWithSpare (made u s new None e) (Behind t kept) = record {
       catalog = record { rules = leaves.rules; entries = own.catalog.entries; units = units_after t u s old new (ready_tables spare) d put gone leaves follows own.catalog.entries own.catalog.units };
       shape = own.shape;
       kept = (own.catalog.rules.tables, ready_leads spare t u kept ahead own.kept);
     } in
-    let one : IsKept (made is s new None e) (Behind t kept) = subst (λ (x : Tables). IsKept (made x s new None e) (Behind t kept)) (sym same_new) whole in
-    subst (λ (x : Tables). IsKept (made is s new None e) (Behind x kept)) (sym same_old) one
+    let one : IsCatalogWithSpare (made is s new None e) (Behind t kept) = subst (λ (x : Tables). IsCatalogWithSpare (made x s new None e) (Behind t kept)) (sym same_new) whole in
+    subst (λ (x : Tables). IsCatalogWithSpare (made is s new None e) (Behind x kept)) (sym same_old) one
 
-pub units_kept : (c : Catalogued) (t u is : Tables) (s : Shape) (old new : List UnitMap) (spare : Spare) (d : Units) (kept : Change) (put : List Entry) (gone : List Key) → made t s old (ready_tables spare) d ≡ c → IsReady c put gone → spare ≡ Ready u kept → is ≡ u
+pub units_kept : (c : Catalogued) (t u is : Tables) (s : Shape) (old new : List UnitMap) (spare : Spare) (d : Units) (kept : Change) (put : List Entry) (gone : List Key) → made t s old (ready_tables spare) d ≡ c → IsChangeReady c put gone → spare ≡ Ready u kept → is ≡ u
     → ((first after : List UnitMap) → after_chunks s.step first t.extents ≡ Some old → after_chunks s.step first u.extents ≡ Some after → after ≡ new)
     → (entries : List status.Entry) → HasUnits c.shape entries c.tables c.units → HasUnits s entries is new
 units_kept c t u is s old new spare d kept put gone view ready ahead same follows entries has =
@@ -95,12 +95,12 @@ behind_now spare parts t kept is own = subst (λ (x : Spare). IsSpareOf x t) is 
 -- ---- what a catalog keeps
 
 -- no tables are kept
-pub kept_none : (t : Tables) (s : Shape) (ms : List UnitMap) (o : Option Tables) (d e : Units) (spare : Spare) → IsKept (made t s ms o d) spare → IsKept (made t s ms None e) Absent
+pub kept_none : (t : Tables) (s : Shape) (ms : List UnitMap) (o : Option Tables) (d e : Units) (spare : Spare) → IsCatalogWithSpare (made t s ms o d) spare → IsCatalogWithSpare (made t s ms None e) Absent
 kept_none t s ms o d e spare own = record { catalog = record { rules = own.catalog.rules; entries = own.catalog.entries; units = own.catalog.units }; shape = own.shape; kept = tt }
 
 -- the tables after a change are kept, with an equal change
-pub kept_ready : (t equal u : Tables) (s : Shape) (ms : List UnitMap) (o : Option Tables) (d e : Units) (spare : Spare) (kept : Change) (put : List Entry) (gone : List Key) → IsKept (made t s ms o d) spare → equal ≡ t → IsAfter equal put gone u
-    → kept.put ≡ put → kept.gone ≡ gone → IsKept (made t s ms (Some u) e) (Ready u kept)
+pub kept_ready : (t equal u : Tables) (s : Shape) (ms : List UnitMap) (o : Option Tables) (d e : Units) (spare : Spare) (kept : Change) (put : List Entry) (gone : List Key) → IsCatalogWithSpare (made t s ms o d) spare → equal ≡ t → IsAfter equal put gone u
+    → kept.put ≡ put → kept.gone ≡ gone → IsCatalogWithSpare (made t s ms (Some u) e) (Ready u kept)
 kept_ready t equal u s ms o d e spare kept put gone own same after puts goes =
     let one : IsAfter t put gone u = subst (λ (x : Tables). IsAfter x put gone u) same after in
     let two : IsAfter t kept.put gone u = subst (λ (p : List Entry). IsAfter t p gone u) (sym puts) one in
@@ -111,7 +111,7 @@ kept_ready t equal u s ms o d e spare kept put gone own same after puts goes =
     }
 
 -- the units are others for which the homes have units too
-pub kept_units : (t : Tables) (s : Shape) (ms new : List UnitMap) (o : Option Tables) (d e : Units) (spare : Spare) (entries : List status.Entry) → IsKept (made t s ms o d) spare → HasUnits s entries t new → IsKept (made t s new o e) spare
+pub kept_units : (t : Tables) (s : Shape) (ms new : List UnitMap) (o : Option Tables) (d e : Units) (spare : Spare) (entries : List status.Entry) → IsCatalogWithSpare (made t s ms o d) spare → HasUnits s entries t new → IsCatalogWithSpare (made t s new o e) spare
 kept_units t s ms new o d e spare entries own has = record { catalog = record { rules = own.catalog.rules; entries = entries; units = has }; shape = own.shape; kept = own.kept }
 
 -- the units that were made ready are those of the homes
@@ -130,8 +130,8 @@ disks_taken c t s ms new o next changed entries view ready is put =
     let made_is : new ≡ next_maps ms (units_in next) = put ∙ ap (λ (n : Option (Vec (ℕ × UnitMap) Global)). next_maps ms (units_in n)) is in
     subst (λ (xs : List UnitMap). HasUnits s entries t xs) (sym made_is) (disks_seen c t s ms o next entries view ready).homes
 
-pub disks_others : (c : Catalogued) (new : List UnitMap) (entries : List status.Entry) → AreDisksReady c entries → new ≡ next_maps c.units c.next_units → OthersStay entries c.units new
-disks_others c new entries ready is = subst (λ (xs : List UnitMap). OthersStay entries c.units xs) (sym is) ready.others
+pub disks_others : (c : Catalogued) (new : List UnitMap) (entries : List status.Entry) → AreDisksReady c entries → new ≡ next_maps c.units c.next_units → OtherMapsStay entries c.units new
+disks_others c new entries ready is = subst (λ (xs : List UnitMap). OtherMapsStay entries c.units xs) (sym is) ready.others
 
 -- where none were, those of now are
 pub disks_stay : (c : Catalogued) (t : Tables) (s : Shape) (ms : List UnitMap) (o : Option Tables) (next : Option (Vec (ℕ × UnitMap) Global)) (entries : List status.Entry) → made t s ms o (units_in next) ≡ c → AreDisksReady c entries → None ≡ next → HasUnits s entries t ms

@@ -1,24 +1,21 @@
 -- Plans of a disk's record.
-use Rattle.std.proofs.Common.{◌≡◌, ◌<◌, ◌≤◌, ◌+◌, ◌^◌, ℕ, zero, suc, true, cond, ltb, List, [], ◌∷◌, Option, Some, None, refl, sym, subst, ◌∙◌, arith, inl, inr}
-use Rattle.std.specs.Prelude.{◌&&◌}
+use Rattle.std.proofs.Common.{◌≡◌, ◌<◌, ◌≤◌, ◌+◌, ℕ, zero, suc, true, cond, List, [], ◌∷◌, Option, Some, None, refl, sym, subst, ◌∙◌, arith, inl, inr}
 use Rattle.std.specs.Ordering.{nat_cmp}
 use Rattle.std.specs.BTreeMap.{is_at}
 use Rattle.std.specs.FinMap.{nat_cmp-IsAntisymmetric}
-use Rattle.std.proofs.lemmas.Bool.{and_parts, lt-ltb}
 use Rattle.std.proofs.lemmas.Option.{none-some}
-use Rattle.asm_group.specs.Names.{Bytes, is_name}
 use Rattle.asm_group.specs.Shape.{Shape}
 use Rattle.asm_formats.specs.Items.{DiskInfo, Key, disk_item, is_item}
 use Rattle.asm_formats.specs.Values.{value}
 use Rattle.asm_base.specs.Records.{Entry}
 use Rattle.asm_base.specs.Tables.{item_record}
 use Rattle.extent_map.proofs.Lookups.{put_here, put_other}
-use Rattle.catalog_tables.specs.Disks.{Disk, IsTable, info_at, value_at, with_info, without_disk}
+use Rattle.disk_directory.specs.Disks.{Disk, IsTable, info_at, value_at, with_info, without_disk}
 use Rattle.catalog_tables.specs.Faults.{IsCatalog, disk_key}
 use Rattle.catalog.specs.Plans.{IsPlan, LacksBlock}
 use Rattle.catalog_tables.specs.Rules.{KeepsRules, blocks_used}
 use Rattle.catalog_tables.specs.Tables.{AreTables, Catalogued, Tables}
-use Rattle.catalog_tables.proofs.DiskLaws.{put_keeps_table, record_gone, removed_keeps_table}
+use Rattle.disk_directory.proofs.DiskLaws.{put_keeps_table, record_gone, removed_keeps_table}
 use Rattle.catalog_tables.proofs.NewRecords.{no_disk, nothing_room, one_room}
 use Rattle.catalog_tables.proofs.NumberedLists.{either, gone_at, gone_few, new_longer, not_at, number_is, number_itself, there_as_long}
 use Rattle.catalog.proofs.PlanLaws.{after_gone, after_put}
@@ -109,18 +106,3 @@ has_room c free room some = omega (arith, room, positive free some) where
   positive : (n : ℕ) → (n ≡ 0 → ⊥) → 0 < n
   positive zero apart = absurd (apart refl)
   positive (suc n) apart = omega arith
-
--- ---- the names that a record says
-
-names_of : (d : ℕ) (info : DiskInfo) → is_item (disk_item d info) ≡ true → (is_name info.name ≡ true) × (is_name info.failgroup ≡ true)
-unfolding is_item
-names_of d info ok =
-    let p = and_parts (ltb d 64) _ ok in
-    let q = and_parts (ltb info.birth (2 ^ 64)) _ p.1 in
-    and_parts (is_name info.name) (is_name info.failgroup) q.1
-
-pub disk_name : (d birth : ℕ) (info : DiskInfo) (name failgroup : Bytes) → record { birth = birth; name = name; failgroup = failgroup } ≡ info → is_item (disk_item d info) ≡ true → is_name name ≡ true
-disk_name d birth info name failgroup is ok = subst (λ (i : DiskInfo). is_name i.name ≡ true) (sym is) (names_of d info ok).0
-
-pub disk_failgroup : (d birth : ℕ) (info : DiskInfo) (name failgroup : Bytes) → record { birth = birth; name = name; failgroup = failgroup } ≡ info → is_item (disk_item d info) ≡ true → is_name failgroup ≡ true
-disk_failgroup d birth info name failgroup is ok = subst (λ (i : DiskInfo). is_name i.failgroup ≡ true) (sym is) (names_of d info ok).1

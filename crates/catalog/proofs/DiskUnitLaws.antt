@@ -7,8 +7,8 @@ use Rattle.asm_formats.specs.Status as status
 use Rattle.asm_group.specs.Shape.{Shape}
 use Rattle.allocator.specs.UnitMaps.{UnitMap}
 use Rattle.catalog.specs.Applying.{AreDisksReady}
-use Rattle.catalog_tables.specs.Placing.{AreFit, HasUnits, HaveSameUnits, OthersStay, changed_maps, have_units, put_maps, resized_maps}
-use Rattle.catalog.specs.Spares.{IsKept}
+use Rattle.catalog_tables.specs.Placing.{AreFit, HasUnits, HaveSameUnits, OtherMapsStay, changed_maps, have_units, put_maps, resized_maps}
+use Rattle.catalog.specs.Spares.{IsCatalogWithSpare}
 use Rattle.catalog_tables.specs.Tables.{Catalogued, Tables}
 use Rattle.catalog.specs.declared.spare.Spare.{Spare}
 use Rattle.catalog.proofs.ApplyingLaws.{made}
@@ -22,7 +22,7 @@ covered c t s ms o d entries given view same there =
     (there.0, subst (λ (es : List status.Entry). HasUnits s es t there.0) (sym same) one)
 
 -- the maps that were made for the disks that change are, with the others, those of the homes
-pub made_ready : (t : Tables) (s : Shape) (ms : List UnitMap) (changed : List (ℕ × UnitMap)) (o : Option Tables) (d : Option (List (ℕ × UnitMap))) (spare : Spare) (entries given : List status.Entry) → given ≡ entries → IsKept (made t s ms o d) spare → (x : List UnitMap) × HasUnits s given t x
+pub made_ready : (t : Tables) (s : Shape) (ms : List UnitMap) (changed : List (ℕ × UnitMap)) (o : Option Tables) (d : Option (List (ℕ × UnitMap))) (spare : Spare) (entries given : List status.Entry) → given ≡ entries → IsCatalogWithSpare (made t s ms o d) spare → (x : List UnitMap) × HasUnits s given t x
     → changed ≡ changed_maps ms given → AreDisksReady (made t s ms o (Some changed)) entries
 made_ready t s ms changed o d spare entries given same own there is =
     let before = own.catalog.entries in
@@ -32,17 +32,17 @@ made_ready t s ms changed o d spare entries given same own there is =
     let found : there.0 ≡ put_maps ms changed = (units_are_resized s before given t ms there.0 has there.1).1 ∙ sym put in
     subst (λ (es : List status.Entry). AreDisksReady (made t s ms o (Some changed)) es) same (record {
       homes = subst (λ (xs : List UnitMap). HasUnits s given t xs) found there.1;
-      others = subst (λ (xs : List UnitMap). OthersStay given ms xs) (sym put) (others_stay given ms whole);
+      others = subst (λ (xs : List UnitMap). OtherMapsStay given ms xs) (sym put) (others_stay given ms whole);
     })
 
 -- maps with as many units as the entries give stay
-pub made_stays : (t : Tables) (s : Shape) (ms : List UnitMap) (o : Option Tables) (d : Option (List (ℕ × UnitMap))) (spare : Spare) (entries given : List status.Entry) → given ≡ entries → IsKept (made t s ms o d) spare → have_units ms given ≡ true
+pub made_stays : (t : Tables) (s : Shape) (ms : List UnitMap) (o : Option Tables) (d : Option (List (ℕ × UnitMap))) (spare : Spare) (entries given : List status.Entry) → given ≡ entries → IsCatalogWithSpare (made t s ms o d) spare → have_units ms given ≡ true
     → AreDisksReady (made t s ms o None) entries
 made_stays t s ms o d spare entries given same own as_many =
     record { homes = subst (λ (es : List status.Entry). HasUnits s es t ms) same (units_stay s own.catalog.entries given t ms own.catalog.units as_many); others = λ k as_before. refl }
 
 -- homes have units by other entries exactly where no unit is used that these lack
-pub covers_is : (c : Catalogued) (t : Tables) (s : Shape) (ms : List UnitMap) (o : Option Tables) (d : Option (List (ℕ × UnitMap))) (spare : Spare) (entries : List status.Entry) (b : Bool) → made t s ms o d ≡ c → IsKept (made t s ms o d) spare
+pub covers_is : (c : Catalogued) (t : Tables) (s : Shape) (ms : List UnitMap) (o : Option Tables) (d : Option (List (ℕ × UnitMap))) (spare : Spare) (entries : List status.Entry) (b : Bool) → made t s ms o d ≡ c → IsCatalogWithSpare (made t s ms o d) spare
     → OnTrue b (AreFit ms entries) → OnFalse b (AreFit ms entries → ⊥) → IsTrue b ↔ ((x : List UnitMap) × HasUnits c.shape entries c.tables x)
 covers_is c t s ms o d spare entries true view own fit not = (
   λ yes. (resized_maps entries ms, subst (λ (k : Catalogued). HasUnits k.shape entries k.tables (resized_maps entries ms)) view (units_resize s own.catalog.entries entries t ms own.catalog.units fit)),

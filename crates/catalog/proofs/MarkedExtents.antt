@@ -22,7 +22,7 @@ use Rattle.extent_map.proofs.Numbering.{less_is, size_of}
 use Rattle.staleness_directory.specs.Marks.{Marked, marks_at, marks_from}
 use Rattle.catalog_tables.specs.Rules.{homes_at}
 use Rattle.catalog_tables.specs.Faults.{IsCatalog}
-use Rattle.catalog_tables.specs.MarkedExtents.{HasNoPlace, HasNoneIn, HasNoneMarked, IsFirstIn, IsFirstMarked, IsFirstPlace, IsFrom, any_stale_on, first_marked, has_marked, has_stale_on, is_marked_on}
+use Rattle.catalog_tables.specs.MarkedExtents.{HasNoMarkedHome, HasNoneIn, HasNoneMarked, IsFirstIn, IsFirstMarked, IsFirstPlace, IsFrom, any_stale_on, first_marked, has_marked, has_stale_on, is_marked_on}
 use Rattle.catalog_tables.specs.Tables.{AreTables, Catalogued, Tables}
 use Rattle.catalog_tables.proofs.EntryLaws.{both, either}
 use Rattle.catalog_tables.proofs.TableItems.{among_found, below, chunks_exact, found_is}
@@ -93,7 +93,7 @@ module _ (t : Tables) (d : ℕ) (at : Chunk) (from : ℕ) (m : List ℕ) (w : Li
       at_place t d at q lt ∙ ap (λ (o : Option (List ℕ)). has_stale_on d (get_or (unwrap_or o []) q 0, get_or (unwrap_or (chunk_at t.extents at) []) q [])) marks
       ∙ ap (λ (o : Option (List Homes)). has_stale_on d (get_or m q 0, get_or (unwrap_or o []) q [])) there
 
-  pub no_place : HasNoPlace d m w from → HasNoneIn t d at from
+  pub no_place : HasNoMarkedHome d m w from → HasNoneIn t d at from
   no_place none q le lt = is_there q lt ∙ none q le lt
 
   pub place_found : (place : ℕ) → IsFirstPlace d m w from place → IsFirstIn t d at from (at.0, at.1 * 256 + place)

@@ -42,8 +42,8 @@ use Rattle.alias_tree.proofs.Readings.{number_is_some}
 use Rattle.operations_directory.proofs.ChangeLaws as operation_laws
 use Rattle.template_directory.proofs.ChangeLaws as template_laws
 use Rattle.catalog_tables.specs.Faults.{IsCatalog, file_key, settings_key}
-use Rattle.catalog.specs.NamePlans.{AreNewNodes, HasParts, IsCreated, IsNamePlan, IsNameRefusal, file_of, is_within_file, made_file, name_at, named, new_head, settings_next, system_path}
-use Rattle.catalog.specs.Plans.{ArePutItems, IsPlan}
+use Rattle.catalog.specs.NamePlans.{AreNewNodes, HasParts, IsFileBeingMade, IsNamePlan, IsNameRefusal, file_of, is_within_file, made_file, name_at, named, new_head, settings_next, system_path}
+use Rattle.catalog.specs.Plans.{ArePlannedItems, IsPlan}
 use Rattle.asm_placement.specs.Naming.{is_directory, is_named_as, is_pending, names_back}
 use Rattle.catalog_tables.specs.Rules.{HasExtents, KeepsRules, are_within_head, blocks_used, first_wrong, has_names, is_named_back, is_owned, keeps_copies, names_file}
 use Rattle.catalog_tables.specs.Tables.{AreTables, Catalogued, Tables, records_of}
@@ -287,7 +287,7 @@ module _ (s : Shape) (t : Tables) (f : ℕ) (head : FileHead) (made : List Numbe
 -- ---- the plan
 
 puts_items : (f : ℕ) (head : FileHead) (made : List Numbered) (s : Settings) → is_item (file_item f head) ≡ true → AllByRecursion (λ (x : Numbered). is_item (node_item x.0 x.1) ≡ true) made → is_item (settings_item s) ≡ true
-    → ArePutItems (record_of (f, head) ∷ (map nodes.record_of made ++ item_record (settings_item (settings_next s)) ∷ []))
+    → ArePlannedItems (record_of (f, head) ∷ (map nodes.record_of made ++ item_record (settings_item (settings_next s)) ∷ []))
 puts_items f head made s file_ok nodes_ok settings_ok e among = elim among [
   | inl same ↦ (file_item f head, record { is = file_ok; key = ap (λ (y : Entry). y.0) (sym same); value = ap (λ (y : Entry). y.1) (sym same) })
   | inr later ↦ elim (append_among (map nodes.record_of made) (item_record (settings_item (settings_next s)) ∷ []) e later) [
@@ -310,7 +310,7 @@ made_planned c f head made put gone is new few p g = (
     rules = rules_after c.shape c.tables f head made is.rules new;
     units = λ es has. (c.units, has);
     few = (let one : length gone ≡ 1 = ap (λ (ks : List Key). length ks) g in omega (arith, five, one));
-    items = subst ArePutItems (sym p) (puts_items f head made c.tables.templates.settings new.item new.items is.rules.tables.templates.settings);
+    items = subst ArePlannedItems (sym p) (puts_items f head made c.tables.templates.settings new.item new.items is.rules.tables.templates.settings);
     room = subst (HasRoom c) (sym p) free;
   },
   five,
@@ -334,7 +334,7 @@ last_of : {X : Type 0} (P : X → Type 0) (xs : List X) (x : X) → AllByRecursi
 last_of P [] x all = all.0
 last_of P (y ∷ xs) x all = last_of P xs x all.1
 
-module _ (c : Catalogued) (name : NewName) (size copies : ℕ) (stripe : Stripe) (made : List Numbered) (is : IsCatalog c) (created : IsCreated c size copies stripe) (parts : HasParts name)
+module _ (c : Catalogued) (name : NewName) (size copies : ℕ) (stripe : Stripe) (made : List Numbered) (is : IsCatalog c) (created : IsFileBeingMade c size copies stripe) (parts : HasParts name)
     (nodes_are : AreNewNodes c.tables.nodes made (system_path c.tables name) (made_file c.tables)) (room : length made + 1 + (blocks_used c.tables + 2) ≤ c.shape.dir_blocks) (small : size < 2 ^ 64) where
   abbrev t : Tables
   t = c.tables

@@ -14,7 +14,7 @@ use Rattle.page_map.specs.Changes.{is_gone, is_put, last_put, value_after}
 use Rattle.allocator.specs.UnitMaps.{UnitMap}
 use Rattle.catalog_tables.specs.Changing.{IsAfter}
 use Rattle.catalog_tables.specs.Placing.{HasUnits}
-use Rattle.catalog.specs.Plans.{ArePutItems, IsPlan}
+use Rattle.catalog.specs.Plans.{ArePlannedItems, IsPlan}
 use Rattle.catalog_tables.specs.Rules.{KeepsRules}
 use Rattle.catalog_tables.specs.Tables.{Catalogued, Tables, item_at, records_of}
 use Rattle.catalog_tables.proofs.NewRecords.{HasRoom}
@@ -51,7 +51,7 @@ says_own (p ∷ ps) e among apart before =
       | inr later ↦ says_own ps e later a.1 (cond (is_key p.0 e.0) (Some p.1) before)
     ]
 
-pub put_items : (t u : Tables) (put : List Entry) (gone : List Key) → IsAfter t put gone u → is_once put gone ≡ true → ArePutItems put
+pub put_items : (t u : Tables) (put : List Entry) (gone : List Key) → IsAfter t put gone u → is_once put gone ≡ true → ArePlannedItems put
 put_items t u put gone after once e among =
     let a = and_parts (list_all (λ (x : Entry). not (is_gone gone x.0)) put) (keys_apart put) once in
     let stays : is_gone gone e.0 ≡ false = not_true (is_gone gone e.0) (all_among (λ (x : Entry). not (is_gone gone x.0)) put e a.0 among) in

@@ -17,7 +17,7 @@ use Rattle.asm_formats.specs.Status.{Entry}
 use Rattle.asm_placement.specs.Placed.{Placed}
 use Rattle.asm_base.proofs.Exact.{bind_some, some_is}
 use Rattle.allocator.specs.UnitMaps.{IsUnusedFrom, UnitMap, is_free, resized, unused, with_run}
-use Rattle.catalog_tables.specs.Placing.{AreFit, HasUnits, IsFit, OthersStay, after_homes, changed_map, changed_maps, disk_units, home_taken, homes_of, is_run_free, map_units, marked, put_maps, resized_from, resized_maps, unused_maps}
+use Rattle.catalog_tables.specs.Placing.{AreFit, HasUnits, IsFit, OtherMapsStay, after_homes, changed_map, changed_maps, disk_units, home_taken, homes_of, is_run_free, map_units, marked, put_maps, resized_from, resized_maps, unused_maps}
 use Rattle.catalog_tables.specs.Tables.{Tables}
 use Rattle.catalog_tables.proofs.HomeUnits.{IsWhole, Takes, chunks_are_homes, is_in, not_true, replaced, run_fits, set_here, taken_is, takes, three_true, unused_at}
 use Rattle.catalog_tables.proofs.PlacingLaws.{from_all, run_is}
@@ -381,7 +381,7 @@ changed_are es ms whole long =
     ap (λ (xs : List UnitMap). put_maps xs (changed_maps ms es)) (sym (mixed_none 0 0 es ms (omega arith))) ∙ put_all es ms 0 most_disks whole ∙ mixed_all (0 + most_disks) 0 es ms (omega (arith, long))
 
 -- maps of disks whose units stay do
-pub others_stay : (es : List Entry) (ms : List UnitMap) → AllWhole ms → OthersStay es ms (resized_maps es ms)
+pub others_stay : (es : List Entry) (ms : List UnitMap) → AllWhole ms → OtherMapsStay es ms (resized_maps es ms)
 others_stay es ms whole d same = resized_get es ms d 0 d (omega arith) ∙ by (slice_get ms d) refl same where
   by : (o : Option UnitMap) → slice_get ms d ≡ o → map_units o ≡ disk_units es d → option_map (λ m. resized m (disk_units es d)) o ≡ o
   by None is same = refl

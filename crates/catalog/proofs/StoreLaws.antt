@@ -9,13 +9,13 @@ use Rattle.catalog_tables.specs.declared.error.CatalogError.TheVariants as answe
 use Rattle.catalog_tables.specs.Tables.{AreTables, Catalogued, HasRecords, Tables}
 use Rattle.catalog_tables.specs.Rules.{AreOnRegular, KeepsRules, blocks_used, first_unknown}
 use Rattle.catalog_tables.specs.Placing.{HasUnits}
-use Rattle.catalog_tables.specs.Faults.{BreaksRule, IsAtFault, IsCatalog, IsCatalogOf, Names}
+use Rattle.catalog_tables.specs.Faults.{BreaksRule, IsAtFault, IsCatalog, IsCatalogOf, NamesFault}
 use Rattle.catalog_tables.specs.Faults as fault
 
 pub broken_at : (content : List Entry) (s : Shape) (es : List status.Entry) (t : Tables) (k : Key) → AreTables t → HasRecords content t → BreaksRule s es t k → IsAtFault content s es k
 broken_at content s es t k are has b = fault.broken t are has b
 
-pub names_broken : (content : List Entry) (s : Shape) (es : List status.Entry) (t : Tables) (e : CatalogError) → AreTables t → HasRecords content t → Names (BreaksRule s es t) e → Names (IsAtFault content s es) e
+pub names_broken : (content : List Entry) (s : Shape) (es : List status.Entry) (t : Tables) (e : CatalogError) → AreTables t → HasRecords content t → NamesFault (BreaksRule s es t) e → NamesFault (IsAtFault content s es) e
 names_broken content s es t (answer.Damaged k) are has b = fault.broken t are has b
 names_broken content s es t answer.NoMemory are has b = tt
 
@@ -25,7 +25,7 @@ catalog_is content es c has rules infos regular units = record { records = has; 
 pub invariant_is : (es : List status.Entry) (c : Catalogued) → KeepsRules c.shape c.tables → HasUnits c.shape es c.tables c.units → IsCatalog c
 invariant_is es c rules units = record { rules = rules; entries = es; units = units }
 
-pub names_at : (content : List Entry) (s : Shape) (es : List status.Entry) (e : CatalogError) → ((s : Shape) (es : List status.Entry) → Names (IsAtFault content s es) e) → Names (IsAtFault content s es) e
+pub names_at : (content : List Entry) (s : Shape) (es : List status.Entry) (e : CatalogError) → ((s : Shape) (es : List status.Entry) → NamesFault (IsAtFault content s es) e) → NamesFault (IsAtFault content s es) e
 names_at content s es e each = each s es
 
 pub has_room : (c : Catalogued) → IsCatalog c → blocks_used c.tables + 2 ≤ c.shape.dir_blocks

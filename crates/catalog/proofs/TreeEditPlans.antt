@@ -32,7 +32,7 @@ use Rattle.catalog.specs.Plans.{IsPlan}
 use Rattle.asm_placement.specs.Naming.{is_directory, names_back}
 use Rattle.catalog_tables.specs.Rules.{KeepsRules}
 use Rattle.catalog_tables.specs.Tables.{Catalogued, Tables}
-use Rattle.catalog.specs.TreePlans.{HasNoAlias, IsFull, IsTreePlan, IsTreeRefusal, LacksNode, MayChange, aliased, aliased_head, files_after, heads_after, keeps_files, makes_node}
+use Rattle.catalog.specs.TreePlans.{HasNoAlias, IsTreeFull, IsTreePlan, IsTreeRefusal, LacksNode, MayChange, aliased, aliased_head, files_after, heads_after, keeps_files, makes_node}
 use Rattle.asm_group.specs.Shape.{Shape}
 use Rattle.catalog.proofs.TreePlans.{named_of}
 
@@ -217,13 +217,13 @@ tree_planned c edit ch put gone rules is k done changes plan = record {
   plan = subst (λ (fs : List File). IsPlan c put gone (record c.tables { nodes = nodes_after c.tables.nodes ch; files = fs })) (heads_are c.shape c.tables rules edit ch (tree_of (nodes_after c.tables.nodes ch)) is done k) plan;
 }
 
-full_is : (c : Catalogued) (edit : e.TreeEdit) (ch : TreeChange) (u : Tree) → IsChange c.tables.nodes edit ch → edited (tree_of c.tables.nodes) edit ≡ Ok u → IsFull c ch → LacksNode c edit
+full_is : (c : Catalogued) (edit : e.TreeEdit) (ch : TreeChange) (u : Tree) → IsChange c.tables.nodes edit ch → edited (tree_of c.tables.nodes) edit ≡ Ok u → IsTreeFull c ch → LacksNode c edit
 full_is c edit (change.Put n x) u is done full = record { makes = makes c.tables.nodes edit n x is full.0; done = (u, done); full = full.1 }
 full_is c edit (change.Gone n) u is done full = absurd full
 full_is c edit (change.NamesGone ns) u is done full = absurd full
 
 pub plan_refused : (c : Catalogued) (edit : e.TreeEdit) (ch : TreeChange) (u : Tree) (refusal : Refusal) → IsChange c.tables.nodes edit ch → edited (tree_of c.tables.nodes) edit ≡ Ok u
-    → (refusal ≡ cause.NoMemory) ⊎ ((refusal ≡ cause.DirectoryFull 1 0) × IsFull c ch) → IsTreeRefusal c edit refusal
+    → (refusal ≡ cause.NoMemory) ⊎ ((refusal ≡ cause.DirectoryFull 1 0) × IsTreeFull c ch) → IsTreeRefusal c edit refusal
 unfolding said
 plan_refused c edit ch u refusal is done (inl memory) = inl (rw memory refl)
 plan_refused c edit ch u refusal is done (inr (full, lacks)) = inr (inr (full, full_is c edit ch u is done lacks))

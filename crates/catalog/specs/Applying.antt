@@ -5,7 +5,7 @@ use Rattle.asm_formats.specs.Status as status
 use Rattle.asm_base.specs.Records.{Entry}
 use Rattle.allocator.specs.UnitMaps.{UnitMap}
 use Rattle.catalog_tables.specs.Changing.{IsAfter}
-use Rattle.catalog_tables.specs.Placing.{HasUnits, OthersStay, put_maps}
+use Rattle.catalog_tables.specs.Placing.{HasUnits, OtherMapsStay, put_maps}
 use Rattle.catalog_tables.specs.Rules.{KeepsRules}
 use Rattle.catalog_tables.specs.Tables.{Catalogued, Tables}
 
@@ -16,7 +16,7 @@ pub record Leaves (c : Catalogued) (put : List Entry) (gone : List Key) (u : Tab
   pub units : (entries : List status.Entry) → HasUnits c.shape entries c.tables c.units → (ms : List UnitMap) × HasUnits c.shape entries u ms
 
 -- The memory for the change was taken: the next tables are those that it leaves.
-pub record IsReady (c : Catalogued) (put : List Entry) (gone : List Key) : Type 0 where
+pub record IsChangeReady (c : Catalogued) (put : List Entry) (gone : List Key) : Type 0 where
   pub tables : Tables
   pub next : c.next ≡ Some tables
   pub leaves : Leaves c put gone tables
@@ -31,4 +31,4 @@ next_maps now (Some next) = put_maps now next
 pub record AreDisksReady (c : Catalogued) (entries : List status.Entry) : Type 0 where
   pub homes : HasUnits c.shape entries c.tables (next_maps c.units c.next_units)
   -- the maps of disks whose units stay do
-  pub others : OthersStay entries c.units (next_maps c.units c.next_units)
+  pub others : OtherMapsStay entries c.units (next_maps c.units c.next_units)

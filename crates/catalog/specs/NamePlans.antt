@@ -35,7 +35,7 @@ abbrev pub is_within_file : ℕ → ℕ → Chunked → Bool
 is_within_file f copies x = not (x.0.0 == f) || list_all (are_within copies) x.1
 
 -- A file is being made that has no head yet, and its extents are those of a file of this size, with so many copies and this stripe.
-pub record IsCreated (c : Catalogued) (size copies : ℕ) (stripe : Stripe) : Type 0 where
+pub record IsFileBeingMade (c : Catalogued) (size copies : ℕ) (stripe : Stripe) : Type 0 where
   pub file : ℕ
   pub kept : ℕ
   pub pending : c.tables.operations.pending ≡ Some (record { kind = Create; file = file; kept = kept })

@@ -13,14 +13,14 @@ use Rattle.asm_base.specs.declared.refusal.Refusal.TheVariants as cause
 use Rattle.allocator.specs.UnitMaps.{UnitMap}
 use Rattle.page_map.specs.Contents.{IsItemOf}
 use Rattle.catalog_tables.specs.Changing.{IsAfter}
-use Rattle.catalog_tables.specs.Disks.{Disk, info_at, with_info, without_disk}
+use Rattle.disk_directory.specs.Disks.{Disk, info_at, with_info, without_disk}
 use Rattle.catalog_tables.specs.Placing.{HasUnits}
 use Rattle.catalog_tables.specs.Rules.{KeepsRules, blocks_used, first_wrong, is_owned, new_records}
 use Rattle.catalog_tables.specs.Tables.{Catalogued, Tables}
 
 -- each of the records is one of the formats
-abbrev pub ArePutItems : List Entry → Type 0
-ArePutItems put = (e : Entry) → IsAmong put e → (i : Item) × IsItemOf e.0 e.1 i
+abbrev pub ArePlannedItems : List Entry → Type 0
+ArePlannedItems put = (e : Entry) → IsAmong put e → (i : Item) × IsItemOf e.0 e.1 i
 
 -- The change leads from the catalog to these tables: at each key they give what it leaves there, the rules hold of them, their homes have units where the catalog's have, it has at most 64 keys, each record that it puts is one of the formats, and a block is free for each new one, beside the two that are kept.
 pub record IsPlan (c : Catalogued) (put : List Entry) (gone : List Key) (u : Tables) : Type 0 where
@@ -28,7 +28,7 @@ pub record IsPlan (c : Catalogued) (put : List Entry) (gone : List Key) (u : Tab
   pub rules : KeepsRules c.shape u
   pub units : (entries : List status.Entry) → HasUnits c.shape entries c.tables c.units → (ms : List UnitMap) × HasUnits c.shape entries u ms
   pub few : length put + length gone ≤ 64
-  pub items : ArePutItems put
+  pub items : ArePlannedItems put
   pub room : new_records c.tables put + blocks_used c.tables + 2 ≤ c.shape.dir_blocks
 
 -- each chunk is one of a file or of the pending operation's

@@ -26,7 +26,7 @@ units_in None = None
 units_in (Some units) = Some units.items
 
 -- The value is a catalog, and the kept tables are spare ones of its own.
-pub record IsKept (c : Catalogued) (spare : Spare) : Type 0 where
+pub record IsCatalogWithSpare (c : Catalogued) (spare : Spare) : Type 0 where
   pub catalog : IsCatalog c
   pub shape : IsTrue (is_shape c.shape)
   pub kept : IsSpareOf spare c.tables

@@ -89,9 +89,9 @@ pub record IsNewAlias (t : Tables) (x : Node) : Type 0 where
   pub none : HasNoAlias t.nodes x.file
 
 -- the node that is put keeps its kind and its file, or is a new directory or alias
-abbrev pub MayPut : Tables → Node → Option Node → Type 0
-MayPut t x None = (x.kind ≡ Directory) ⊎ IsNewAlias t x
-MayPut t x (Some was) = (x.kind ≡ was.kind) × (x.file ≡ was.file)
+abbrev pub MayPutNode : Tables → Node → Option Node → Type 0
+MayPutNode t x None = (x.kind ≡ Directory) ⊎ IsNewAlias t x
+MayPutNode t x (Some was) = (x.kind ≡ was.kind) × (x.file ≡ was.file)
 
 -- the node that goes is a directory or an alias
 abbrev pub MayGo : Option Node → Type 0
@@ -100,14 +100,14 @@ MayGo (Some x) = (x.kind ≡ Directory) ⊎ (x.kind ≡ Alias)
 
 -- no system name comes or goes, and no second alias comes
 abbrev pub MayChange : Tables → TreeChange → Type 0
-MayChange t (change.Put n x) = MayPut t x (node_at t.nodes n)
+MayChange t (change.Put n x) = MayPutNode t x (node_at t.nodes n)
 MayChange t (change.Gone n) = MayGo (node_at t.nodes n)
 MayChange t (change.NamesGone ns) = ⊥
 
 -- a node is new, and no block is free
-abbrev pub IsFull : Catalogued → TreeChange → Type 0
-IsFull c (change.Put n x) = (node_at c.tables.nodes n ≡ None) × (blocks_used c.tables + 2 ≡ c.shape.dir_blocks)
-IsFull c _ = ⊥
+abbrev pub IsTreeFull : Catalogued → TreeChange → Type 0
+IsTreeFull c (change.Put n x) = (node_at c.tables.nodes n ≡ None) × (blocks_used c.tables + 2 ≡ c.shape.dir_blocks)
+IsTreeFull c _ = ⊥
 
 -- the change leads to the catalog's tables with the tree after the edit, and with the aliases of the files that it says
 pub record IsTreePlan (c : Catalogued) (edit : TreeEdit) (put : List Entry) (gone : List Key) : Type 0 where

@@ -2,7 +2,7 @@
 
 ghost use Rattle.std.specs.Prelude.{◌≡◌, List as Items, None, OnOk, Some};
 ghost use Rattle.asm_formats.specs.Status.{Entry as StatusEntry};
-ghost use Rattle.catalog.specs.Applying.{IsReady, Leaves};
+ghost use Rattle.catalog.specs.Applying.{IsChangeReady, Leaves};
 ghost use Rattle.catalog_tables.specs.Placing.{HasUnits};
 ghost use Rattle.catalog_tables.specs.Tables.{Tables};
 
@@ -22,7 +22,7 @@ impl Catalog {
     pub fn ready(&mut self, alloc: Global, change: &Change) -> Result<(), NoMemory>
         // The tables after the change keep the rules, and their homes find their units free.
         requires { (u : Tables) × Leaves self.old change.now.put change.now.gone u }
-        ensures ready { OnOk result (IsReady self.new change.now.put change.now.gone) }
+        ensures ready { OnOk result (IsChangeReady self.new change.now.put change.now.gone) }
         ensures tables { self.new.tables ≡ self.old.tables }
         ensures shape { self.new.shape ≡ self.old.shape }
         ensures units { self.new.units ≡ self.old.units }
@@ -42,7 +42,7 @@ impl Catalog {
     /// Applies the change that the memory was taken for. The units are changed in place, for the chunks of the change
     /// alone. Units that were made ready for a status record are given up.
     pub fn apply(&mut self, change: &Change)
-        requires { IsReady self.old change.now.put change.now.gone }
+        requires { IsChangeReady self.old change.now.put change.now.gone }
         // The next tables are the tables now.
         ensures tables { Some self.new.tables ≡ self.old.next }
         // For entries of which the units were those of the homes, they still are.

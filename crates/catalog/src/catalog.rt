@@ -4,7 +4,7 @@ ghost use Rattle.std.specs.Prelude.{◌≡◌, IfErr, IfOk, IsTrue};
 ghost use Rattle.std.specs.List.{list_all};
 ghost use Rattle.asm_group.specs.Shape.{is_shape};
 ghost use Rattle.asm_formats.specs.Status.{is_entry};
-ghost use Rattle.catalog_tables.specs.Faults.{IsAtFault, IsCatalogOf, Names};
+ghost use Rattle.catalog_tables.specs.Faults.{IsAtFault, IsCatalogOf, NamesFault};
 
 use crate::spare::Spare;
 use allocator::Units;
@@ -31,13 +31,13 @@ pub struct Catalog {
 
 impl Model for Catalog {
     ghost use Rattle.catalog_tables.specs.Tables.{Catalogued};
-    ghost use Rattle.catalog.specs.Spares.{IsKept, ready_tables, units_in};
+    ghost use Rattle.catalog.specs.Spares.{IsCatalogWithSpare, ready_tables, units_in};
 
     ghost Value = { Catalogued };
 
     ghost view = { λ c. record { tables = c.parts; shape = c.shape; units = c.units.items; next = ready_tables c.spare; next_units = units_in c.next_units } };
 
-    ghost invariant = { λ c. IsKept (record { tables = c.parts; shape = c.shape; units = c.units.items; next = ready_tables c.spare; next_units = units_in c.next_units }) c.spare };
+    ghost invariant = { λ c. IsCatalogWithSpare (record { tables = c.parts; shape = c.shape; units = c.units.items; next = ready_tables c.spare; next_units = units_in c.next_units }) c.spare };
 }
 
 impl Catalog {
@@ -57,7 +57,7 @@ impl Catalog {
         ensures catalog { IfOk result (IsCatalogOf content.now status.now.entries) }
         ensures shape { IfOk result (λ c. c.shape ≡ shape) }
         // The record that is named is at fault.
-        ensures fault { IfErr result (Names (IsAtFault content.now shape status.now.entries)) }
+        ensures fault { IfErr result (NamesFault (IsAtFault content.now shape status.now.entries)) }
     {
         let parts = match Parts::from_records(alloc, content) {
             Ok(parts) => parts,

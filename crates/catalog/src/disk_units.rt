@@ -5,12 +5,12 @@ ghost use Rattle.std.specs.List.{list_all, slice_get};
 ghost use Rattle.asm_formats.specs.Status.{Entry, is_entry};
 ghost use Rattle.allocator.specs.UnitMaps.{UnitMap};
 ghost use Rattle.catalog.specs.Applying.{AreDisksReady, next_maps};
-ghost use Rattle.catalog_tables.specs.Placing.{HasUnits, HaveSameUnits, OthersStay, changed_map, changed_maps, disk_units, put_maps};
+ghost use Rattle.catalog_tables.specs.Placing.{HasUnits, HaveSameUnits, OtherMapsStay, changed_map, changed_maps, disk_units, put_maps};
 
 use crate::catalog::Catalog;
 use allocator::Units;
-use asm_base::NoMemory;
-use catalog_tables::{MOST_DISKS, are_fit, disk_units, have_units};
+use asm_base::{MOST_DISKS, NoMemory};
+use catalog_tables::{are_fit, disk_units, have_units};
 use status_table::{PstEntry, PstRecord};
 use std::alloc::Global;
 
@@ -48,7 +48,7 @@ impl Catalog {
         requires { AreDisksReady self.old next.now.entries }
         ensures units { HasUnits self.new.shape next.now.entries self.new.tables self.new.units }
         ensures made { self.new.units ≡ next_maps self.old.units self.old.next_units }
-        ensures others { OthersStay next.now.entries self.old.units self.new.units }
+        ensures others { OtherMapsStay next.now.entries self.old.units self.new.units }
         ensures kept { self.old.next_units ≡ None → self.new.units ≡ self.old.units }
         ensures tables { self.new.tables ≡ self.old.tables }
         ensures shape { self.new.shape ≡ self.old.shape }

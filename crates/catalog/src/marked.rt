@@ -4,7 +4,7 @@ ghost use Rattle.std.specs.Prelude.{◌≡◌, ◌≤◌, ◌<◌, ◌^◌, IfNo
 ghost use Rattle.std.specs.Option.{option_copied};
 ghost use Rattle.extent_map.specs.Extents.{chunk_at};
 ghost use Rattle.staleness_directory.specs.Marks.{marks_at, marks_from};
-ghost use Rattle.catalog_tables.specs.MarkedExtents.{HasNoPlace, HasNoneIn, HasNoneMarked, IsFirstIn, IsFirstMarked, IsFirstPlace, first_marked};
+ghost use Rattle.catalog_tables.specs.MarkedExtents.{HasNoMarkedHome, HasNoneIn, HasNoneMarked, IsFirstIn, IsFirstMarked, IsFirstPlace, first_marked};
 
 use crate::catalog::Catalog;
 use asm_base::{ExtentId, Homes};
@@ -81,7 +81,7 @@ fn first_place(disk: u8, from: usize, marks: &[u8], homes: &[Homes]) -> Option<u
     requires homes { length homes.now ≡ 256 }
     ensures found { IfSome result (IsFirstPlace disk marks.now homes.now from) }
     ensures few { IfSome result (λ place. place < 256) }
-    ensures none { IfNone result (HasNoPlace disk marks.now homes.now from) }
+    ensures none { IfNone result (HasNoMarkedHome disk marks.now homes.now from) }
 {
     for place in from..256 {
         if has_stale_on(disk, marks[place], &homes[place]) {

@@ -6,7 +6,7 @@ ghost use Rattle.asm_placement.specs.Layout.{units_of};
 ghost use Rattle.alias_tree.specs.Nodes.{node_at, number_of};
 ghost use Rattle.extent_map.specs.Extents.{extent_at};
 ghost use Rattle.file_directory.specs.Files.{IsLeastFrom, head_at, is_file};
-ghost use Rattle.catalog_tables.specs.Disks.{info_at};
+ghost use Rattle.disk_directory.specs.Disks.{info_at};
 ghost use Rattle.catalog_tables.specs.Faults.{IsCatalog};
 ghost use Rattle.catalog_tables.specs.Rules.{blocks_used, marks_of};
 

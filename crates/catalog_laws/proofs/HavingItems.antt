@@ -16,7 +16,7 @@ use Rattle.extent_map.specs.Extents as extents
 use Rattle.alias_tree.specs.Nodes as nodes
 use Rattle.staleness_directory.specs.Marks as stale
 use Rattle.operations_directory.specs.Operations as operations
-use Rattle.catalog_tables.specs.Disks as disks
+use Rattle.disk_directory.specs.Disks as disks
 use Rattle.catalog_tables.specs.Tables.{AreTables, Tables, item_at}
 use Rattle.catalog_tables.specs.Items.{AreItemsOf}
 use Rattle.catalog_tables.proofs.TableItems.{IsOf, a_file, a_chunk, a_disk, an_operation, the_templates, a_node, the_settings, marks, allowed, append_among, left_among, map_among, of_two, rank, ranks, right_among, said, says}

@@ -17,7 +17,7 @@ use Rattle.extent_map.proofs.Numbering.{found_self}
 use Rattle.file_directory.specs.Files.{head_at}
 use Rattle.alias_tree.specs.Nodes.{node_at}
 use Rattle.staleness_directory.specs.Marks.{marks_at}
-use Rattle.catalog_tables.specs.Disks.{info_at}
+use Rattle.disk_directory.specs.Disks.{info_at}
 use Rattle.catalog.specs.ExtentPlans.{MayMove, MovesItems, with_move}
 use Rattle.catalog_tables.specs.Faults.{IsCatalog}
 use Rattle.catalog_tables.specs.Items.{AreItemsOf}

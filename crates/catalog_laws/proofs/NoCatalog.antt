@@ -29,8 +29,8 @@ use Rattle.staleness_directory.proofs.Laws as stale_laws
 use Rattle.operations_directory.specs.Operations as operations
 use Rattle.operations_directory.specs.Readings as operation_readings
 use Rattle.operations_directory.proofs.Laws as operation_laws
-use Rattle.catalog_tables.specs.Disks as disks
-use Rattle.catalog_tables.proofs.DiskLaws as disk_laws
+use Rattle.disk_directory.specs.Disks as disks
+use Rattle.disk_directory.proofs.DiskLaws as disk_laws
 use Rattle.catalog_tables.specs.Tables.{AreTables, Catalogued, HasRecords, Tables}
 use Rattle.catalog_tables.specs.Rules.{AreOnRegular, HasExtents, KeepsRules, first_unknown}
 use Rattle.catalog_tables.specs.Placing.{HasUnits, unused_maps}

@@ -21,7 +21,7 @@ use Rattle.alias_tree.specs.Nodes as nodes
 use Rattle.staleness_directory.specs.Marks as stale
 use Rattle.operations_directory.specs.Operations as operations
 use Rattle.catalog_laws.specs.Blocks.{ArePaged, BlocksAreCounted, PlansHaveRoom}
-use Rattle.catalog_tables.specs.Disks as disks
+use Rattle.disk_directory.specs.Disks as disks
 use Rattle.catalog_tables.specs.Rules.{blocks_used, new_records}
 use Rattle.catalog_tables.specs.Tables.{Tables, item_at, records_of}
 use Rattle.catalog_laws.proofs.HavingItems.{in_parts, joined, parts, two_items}

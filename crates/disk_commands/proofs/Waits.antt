@@ -14,13 +14,13 @@ use Rattle.relocation.specs.Slices.{SliceCause}
 use Rattle.relocation.specs.declared.asking.Slice.{Slice}
 use Rattle.relocation.specs.declared.asking.Slice.TheVariants as slice
 use Rattle.session.specs.Entries.{disk_name}
-use Rattle.session.specs.Naming.{ChangesGroup, IsFound, IsOutCause, group_among, in_state, key_of, of_entry, with_group}
+use Rattle.session.specs.Naming.{ChangesGroup, IsMountedName, IsOutCause, group_among, in_state, key_of, of_entry, with_group}
 use Rattle.session.specs.Sessions.{SessionView}
-use Rattle.session.specs.Works.{Doing, DoesOn, DoesWork, IsSpelt, Spells, WorksOn}
+use Rattle.session.specs.Works.{Doing, DoesOn, DoesWork, IsSpelt, SpellsRefusal, WorksOn}
 use Rattle.session.specs.declared.reply.Reply.{Reply}
 use Rattle.session.proofs.Calls.{found_after}
 use Rattle.disk_commands.specs.declared.waiting.Waited.{Waited}
-use Rattle.disk_commands.specs.Waits.{HasShortCause, HasWaited, IsLeftShort, IsNoShortfall, ReplyWaited, ShortCause, WaitCause, WaitsFor, refusal_in, refused_after, shortfall}
+use Rattle.disk_commands.specs.Waits.{HasShortCause, HasWaited, IsLeftShort, IsNoShortfall, ReplyWaited, ShortCause, WaitCause, WaitsForRebalance, refusal_in, refused_after, shortfall}
 
 -- ---- a rebalance to its end
 
@@ -51,7 +51,7 @@ pub spelt_short : (m : MountedGroup) (raw spelt : Refusal) → (said (λ _. []) 
 spelt_short m raw spelt is why = ⊎_elim (λ same. subst (ShortCause m) (sym same) why) (λ memory. subst (ShortCause m) (sym memory) tt) is
 
 pub told_waits : (m : MountedGroup) (end : Result Slice Refusal) (raw : Option Refusal) (waited : Waited) → raw ≡ shortfall end → IfOk end (EndCause m) → IfErr end IsNoShortfall
-    → (IfSome raw (HasShortCause m) → HasWaited m waited) → WaitsFor (Ok waited) m
+    → (IfSome raw (HasShortCause m) → HasWaited m waited) → WaitsForRebalance (Ok waited) m
 told_waits m end raw waited is why fault told = record { waited = told (subst (λ (o : Option Refusal). IfSome o (HasShortCause m)) (sym is) (shortfall_cause m end why fault)); short = tt }
 
 -- ---- on the group of a name
@@ -78,7 +78,7 @@ one_refusal x a b one two = cc
 
 module _ (name : Bytes) (old new : SessionView) (s t : BayState) where
   abbrev Does : Doing Waited
-  Does = λ a result b u v. WaitsFor result b
+  Does = λ a result b u v. WaitsForRebalance result b
 
   pub waited_so : (result : Result Waited Refusal) → WorksOn name Does result old new s t → (waited : Waited) → result ≡ Ok waited → (e : Refusal) → (waited.refusal ≡ Some e) ⊎ (e ≡ cause.NoMemory)
       → WaitCause new name (said (λ _. []) e)
@@ -92,7 +92,7 @@ module _ (name : Bytes) (old new : SessionView) (s t : BayState) where
       (λ memory. no_memory_waits new name (said (λ _. []) e) (ap (said (λ _. [])) memory))
       from
 
-  refused_by : (after : MountedGroup) (answer result : Result Waited Refusal) (e : Refusal) → result ≡ Err e → IsSpelt after answer result → WaitsFor answer after → WaitCause new name (said (λ _. []) e)
+  refused_by : (after : MountedGroup) (answer result : Result Waited Refusal) (e : Refusal) → result ≡ Err e → IsSpelt after answer result → WaitsForRebalance answer after → WaitCause new name (said (λ _. []) e)
   unfolding said
   refused_by after (Ok waited) result e is spelt did = absurd (not_both result waited e spelt is)
   refused_by after (Err raw) result e is spelt did =
@@ -116,7 +116,7 @@ module _ (name : Bytes) (old new : SessionView) (s t : BayState) where
       ⊎_elim
       (λ found. let did = works.works found in refused_by did.after did.answer result e is did.spelt did.does)
       (λ out. out_waits e out)
-      (subst (λ (x : Result Waited Refusal). IfErr x (λ refusal. IsFound old name ⊎ IsOutCause old.entries name refusal)) is works.out)
+      (subst (λ (x : Result Waited Refusal). IfErr x (λ refusal. IsMountedName old name ⊎ IsOutCause old.entries name refusal)) is works.out)
 
 -- ---- replies
 

@@ -6,7 +6,7 @@ use Rattle.asm_base.specs.declared.refusal.Refusal.TheVariants as cause
 use Rattle.asm_group.specs.Names.{Bytes}
 use Rattle.asm_group.specs.Refusal as r
 use Rattle.group_engine.specs.Mounts.{MountedGroup}
-use Rattle.relocation.specs.Shortfalls.{HasNoPlace, HasNoSource}
+use Rattle.relocation.specs.Shortfalls.{HasNoDiskFor, HasNoSource}
 use Rattle.relocation.specs.declared.asking.Slice.{Slice}
 use Rattle.relocation.specs.declared.asking.Slice.TheVariants as slice
 use Rattle.session.specs.Entries.{disk_name}
@@ -19,7 +19,7 @@ use Rattle.disk_commands.specs.declared.waiting.Waited.{Waited}
 -- of NoSpace and Lost: by the group's tables and record no disk can take a copy of the extent that is to be elsewhere, or no copy of it
 -- can be read
 abbrev pub ShortCause : MountedGroup → r.Refusal → Type 0
-ShortCause m (r.NoSpace file index) = HasNoPlace m (record { file = file; index = index })
+ShortCause m (r.NoSpace file index) = HasNoDiskFor m (record { file = file; index = index })
 ShortCause m (r.Lost file index) = HasNoSource m (record { file = file; index = index })
 ShortCause m another = ⊤
 
@@ -48,7 +48,7 @@ abbrev pub HasWaited : MountedGroup → Waited → Type 0
 HasWaited m waited = IfSome waited.refusal (λ refusal. ShortCause m (said (λ _. []) refusal))
 
 -- A rebalance went to its end, or memory was wanting.
-pub record WaitsFor (result : Result Waited Refusal) (new : MountedGroup) : Type 0 where
+pub record WaitsForRebalance (result : Result Waited Refusal) (new : MountedGroup) : Type 0 where
   pub waited : IfOk result (HasWaited new)
   pub short : IfErr result (λ refusal. refusal ≡ cause.NoMemory)
 

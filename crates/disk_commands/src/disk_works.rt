@@ -4,7 +4,7 @@ ghost use Rattle.disk_joining.specs.Taking.{IsApart, TakesIn};
 ghost use Rattle.group_engine.specs.Mounts.{Takes};
 ghost use Rattle.group_engine.specs.Members.{LetsGo};
 
-use asm_base::{DiskSet, Name, NoMemory, Refusal};
+use asm_base::{DiskSet, MOST_DISKS, Name, NoMemory, Refusal};
 use bay::Bay;
 use disk_joining::{add_disks, online_disks};
 use disk_modes::{
@@ -16,9 +16,6 @@ use group_sql::{DroppedDisk, FailgroupKind, NewFailgroup, Rebalance};
 use new_groups::Known;
 use session::{Attaching, GroupWork};
 use std::alloc::Global;
-
-/// The most disks of a group.
-pub const MOST_DISKS: u8 = 64;
 
 /// The most steps that a slice of a rebalance may have.
 const MOST_POWER: u64 = 1024;

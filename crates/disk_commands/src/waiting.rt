@@ -2,15 +2,15 @@
 ghost use Rattle.std.specs.Prelude.{◌≡◌, ◌⊎◌, ⊤, ◌≤◌, [], length, IfErr, IfOk, IfSome, Some};
 ghost use Rattle.asm_base.specs.Refusals.{said};
 ghost use Rattle.asm_base.specs.declared.refusal.Refusal.TheVariants as cause;
-ghost use Rattle.disk_commands.specs.Waits.{HasShortCause, HasWaited, IsNoShortfall, ReplyWaited, WaitCause, WaitsFor, refusal_in, refused_after, shortfall};
+ghost use Rattle.disk_commands.specs.Waits.{HasShortCause, HasWaited, IsNoShortfall, ReplyWaited, WaitCause, WaitsForRebalance, refusal_in, refused_after, shortfall};
 ghost use Rattle.group_engine.specs.Mounts.{Takes};
 ghost use Rattle.group_engine.specs.Own.{KeepsGroup};
 ghost use Rattle.relocation.specs.Shortfalls.{EndCause};
 ghost use Rattle.session.specs.Naming.{CarriesOn};
 ghost use Rattle.session.specs.Sessions.{AreReady};
 
-use crate::disk_works::{ChangeDisks, Chosen, DiskChange, Joining, MOST_DISKS, checked_power};
-use asm_base::{DiskSet, List, Name, NoMemory, Refusal, Text};
+use crate::disk_works::{ChangeDisks, Chosen, DiskChange, Joining, checked_power};
+use asm_base::{DiskSet, List, MOST_DISKS, Name, NoMemory, Refusal, Text};
 use bay::Bay;
 use event_lines::Event;
 use group_engine::Mounted;
@@ -98,7 +98,7 @@ fn rebalance_told(
 ) -> Result<Waited, Refusal>
     requires why { IfOk end (EndCause m.now) }
     requires fault { IfErr end IsNoShortfall }
-    ensures { WaitsFor result m.now }
+    ensures { WaitsForRebalance result m.now }
 {
     match rebalance_line(alloc, m, &end, steps) {
         Ok(line) => Ok(told(alloc, m, line, rebalance_refusal(end))),
@@ -118,7 +118,7 @@ pub struct RebalanceAll {
 impl GroupWork for RebalanceAll {
     type Given = Waited;
 
-    ghost does = { λ work old result new s t. WaitsFor result new };
+    ghost does = { λ work old result new s t. WaitsForRebalance result new };
 
     #[tactic(auto, using(crate::proofs::Waits::faults_short))]
     fn run<B: Bay>(self, m: &mut Mounted, alloc: Global, bay: &mut B) -> Result<Waited, Refusal> {

@@ -14,7 +14,7 @@ use Rattle.asm_world.specs.Statement.{NewFailgroup}
 use Rattle.catalog.specs.Plans.{MayAdd}
 use Rattle.catalog_tables.specs.Tables.{Tables}
 use Rattle.file_extents.specs.Closing.{or_shut}
-use Rattle.group_disks.proofs.Told.{rose_before, rose_later}
+use Rattle.group_mount.proofs.Told.{rose_before, rose_later}
 use Rattle.group_disks.proofs.Staying.{stays_keeps}
 use Rattle.group_engine.specs.Commits.{StatusCause}
 use Rattle.group_engine.specs.Mounts.{IsMounted, MountedGroup}

@@ -15,7 +15,7 @@ use Rattle.group_engine.specs.Mounts.{MountedGroup}
 use Rattle.group_engine.specs.Own.{KeepsGroup}
 use Rattle.group_mount.specs.Verdicts.{IsSlotIn}
 use Rattle.group_mount.specs.declared.finding.Headed.{Headed}
-use Rattle.new_groups.specs.Drafts.{AreApart}
+use Rattle.new_groups.specs.Drafts.{AreDisksApart}
 use Rattle.new_groups.specs.Forming.{Works}
 use Rattle.new_groups.specs.Tests.{are_apart, is_apart}
 use Rattle.new_groups.proofs.DiskLists.{among_at}
@@ -35,7 +35,7 @@ place_of (k ∷ ks) h (inl e) = (0, omega arith, e)
 place_of (k ∷ ks) h (inr later) = let p = place_of ks h later in (suc p.0, omega (arith, p.1), p.2)
 
 -- no two places have one slot
-slots_differ : (hs : List Headed) → AreApart hs → (i j : ℕ) (h x : Headed) → i < j → j < length hs → h ≡ get_or hs i h → x ≡ get_or hs j x → h.slot ≡ x.slot → ⊥
+slots_differ : (hs : List Headed) → AreDisksApart hs → (i j : ℕ) (h x : Headed) → i < j → j < length hs → h ≡ get_or hs i h → x ≡ get_or hs j x → h.slot ≡ x.slot → ⊥
 slots_differ [] apart i j h x lt inside is also same = absurd (omega arith)
 slots_differ (k ∷ ks) apart zero zero h x lt inside is also same = absurd (omega arith)
 slots_differ (k ∷ ks) apart zero (suc j) h x lt inside is also same =
@@ -58,7 +58,7 @@ apart_from_all h (x ∷ xs) passes k among =
     ))
     (λ later. apart_from_all h xs q.1 k later) among
 
-pub disks_apart : (hs : List Headed) → are_apart hs ≡ true → AreApart hs
+pub disks_apart : (hs : List Headed) → are_apart hs ≡ true → AreDisksApart hs
 disks_apart [] passes = tt
 disks_apart (h ∷ hs) passes =
     let p = and_parts (is_apart h hs) _ passes in
@@ -94,7 +94,7 @@ show_over held {m} {n} hs {s} {t} {before} joiners keeps shows h among = shows_a
 abbrev pub ShowFirst : List Headed → ℕ → BayState → Type 0
 ShowFirst hs n state = (j : ℕ) (h : Headed) → j < n → h ≡ get_or hs j h → ShowsHeader h state
 
-pub show_more : (hs : List Headed) (i : ℕ) (x : Headed) {s t : BayState} → AreApart hs → i < length hs → x ≡ get_or hs i x → Works (x ∷ []) s t → ShowsHeader x t → ShowFirst hs i s → ShowFirst hs (i + 1) t
+pub show_more : (hs : List Headed) (i : ℕ) (x : Headed) {s t : BayState} → AreDisksApart hs → i < length hs → x ≡ get_or hs i x → Works (x ∷ []) s t → ShowsHeader x t → ShowFirst hs i s → ShowFirst hs (i + 1) t
 show_more hs i x {s} {t} apart inside is works shows before j h below at = ⊎_elim
     (λ (less : j < i). shows_beside h x (λ same. slots_differ hs apart j i h x less inside at is same) works (before j h less at))
     (λ (past : i ≤ j).

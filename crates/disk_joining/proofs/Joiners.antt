@@ -20,7 +20,7 @@ use Rattle.asm_formats.specs.Status.{Entry, Status, entry_of}
 use Rattle.asm_group.specs.Shape.{Shape, is_shape}
 use Rattle.asm_images.proofs.Members.{member_shape}
 use Rattle.asm_formats.specs.Among.{IsAmong}
-use Rattle.catalog_tables.specs.Disks.{Disk, info_at, with_info}
+use Rattle.disk_directory.specs.Disks.{Disk, info_at, with_info}
 use Rattle.catalog.specs.Plans as plans
 use Rattle.catalog_tables.proofs.NumberedLists.{either, number_is}
 use Rattle.disk_images.specs.Headers.{HasHeaderSlot}
@@ -47,7 +47,7 @@ use Rattle.new_groups.specs.Tests.{are_apart, is_there, shows_size}
 use Rattle.group_mount.specs.Founds.{is_held}
 use Rattle.new_groups.proofs.DiskLists.{pages_of}
 use Rattle.disk_joining.specs.Attaching.{has_slot}
-use Rattle.disk_joining.specs.Joiners.{AreJoiners, IsEntered, AreEntered, IsJoiner, CanJoin, are_free, are_unrecorded, is_entered, records_disk, are_entered, fits_shape, may_join}
+use Rattle.disk_joining.specs.Joiners.{AreJoiners, HasEntryWithBirth, AreEntered, IsJoiner, CanJoin, are_free, are_unrecorded, is_entered, records_disk, are_entered, fits_shape, may_join}
 use Rattle.disk_joining.specs.Taking.{IsApart, TakesIn}
 use Rattle.disk_joining.specs.declared.joining.Joining.{Joining}
 use Rattle.disk_joining.proofs.Attached.{not_own}
@@ -212,7 +212,7 @@ taking_works h hs among place {s} {t} attached run = record {
 
 -- ---- their entries
 
-entry_there : (e : Option Entry) (r : Status) (h : Headed) → entry_of r.entries h.header.number ≡ e → (elim e [ None ↦ false | Some x ↦ x.birth == h.header.birth ]) ≡ true → IsEntered r h
+entry_there : (e : Option Entry) (r : Status) (h : Headed) → entry_of r.entries h.header.number ≡ e → (elim e [ None ↦ false | Some x ↦ x.birth == h.header.birth ]) ≡ true → HasEntryWithBirth r h
 entry_there None r h is passes = absurd (false≢true passes)
 entry_there (Some e) r h is passes = record { entry = e; there = is; birth = eqb-true e.birth h.header.birth passes }
 
@@ -221,7 +221,7 @@ entries_are r [] passes h among = absurd among
 entries_are r (k ∷ ks) passes h among =
     let p = and_parts (is_entered r k) (are_entered r ks) passes in
     ⊎_elim
-    (λ (e : h ≡ k). subst (λ (x : Headed). IsEntered r x) (sym e) (entry_there (entry_of r.entries k.header.number) r k refl p.0))
+    (λ (e : h ≡ k). subst (λ (x : Headed). HasEntryWithBirth r x) (sym e) (entry_there (entry_of r.entries k.header.number) r k refl p.0))
     (λ later. entries_are r ks p.1 h later) among
 
 -- the record was written under the next number

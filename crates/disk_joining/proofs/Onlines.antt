@@ -13,7 +13,7 @@ use Rattle.asm_formats.specs.Header.{Header}
 use Rattle.disk_images.specs.Looks.{AreLooked, IsLooked}
 use Rattle.disk_images.specs.declared.looking.Looked.{Looked}
 use Rattle.disk_images.specs.declared.looking.Looked.TheVariants.{Absent, Read}
-use Rattle.group_disks.proofs.Told.{rose_before}
+use Rattle.group_mount.proofs.Told.{rose_before}
 use Rattle.group_engine.specs.Commits.{StatusCause}
 use Rattle.group_engine.specs.Making.{IsShut}
 use Rattle.group_engine.specs.Mounts.{IsMounted, MountedGroup}

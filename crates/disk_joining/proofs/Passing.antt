@@ -10,19 +10,19 @@ use Rattle.asm_group.specs.declared.Mode.TheVariants as mode
 use Rattle.asm_world.specs.Causes.{is_offline}
 use Rattle.disk_images.specs.declared.looking.Looked.{Looked}
 use Rattle.group_engine.specs.Mounts.{MountedGroup}
-use Rattle.disk_joining.specs.Causes.{ImageCause, PassBelow, Passes, StateCause, may_return}
+use Rattle.disk_joining.specs.Causes.{ImageCause, PassBelow, PassesTest, JoinStateCause, may_return}
 use Rattle.disk_joining.specs.Returning.{is_present}
 
 pub none_below : (entries : List Entry) (disks : ℕ) (test : Entry → Bool) → PassBelow entries disks test 0
 none_below entries disks test = record { each = λ d less has. absurd (omega arith) }
 
-one_more : (entries : List Entry) (disks : ℕ) (test : Entry → Bool) (n : ℕ) → (has_bit disks n ≡ true → Passes entries test n) → PassBelow entries disks test n → PassBelow entries disks test (n + 1)
+one_more : (entries : List Entry) (disks : ℕ) (test : Entry → Bool) (n : ℕ) → (has_bit disks n ≡ true → PassesTest entries test n) → PassBelow entries disks test n → PassBelow entries disks test (n + 1)
 one_more entries disks test n here below = record {
   each = λ d less has. ⊎_elim
       (λ (before : d < n). below.each d before has)
       (λ (from : n ≤ d).
       let same : n ≡ d = omega arith in
-      subst (λ (k : ℕ). Passes entries test k) same (here (subst (λ (k : ℕ). has_bit disks k ≡ true) (sym same) has)))
+      subst (λ (k : ℕ). PassesTest entries test k) same (here (subst (λ (k : ℕ). has_bit disks k ≡ true) (sym same) has)))
       (cases_lt d n);
 }
 
@@ -41,7 +41,7 @@ not_offline mode.Offline out = absurd (out refl)
 not_offline other out = refl
 
 pub state_refused : (m : MountedGroup) (disks n : ℕ) (e : Entry) (is : Mode) → has_bit disks n ≡ true → entry_of m.register.value.entries n ≡ Some e → e.mode ≡ is → (is ≡ mode.Offline → ⊥) → PassBelow m.register.value.entries disks may_return n
-    → StateCause m disks (refusal.DiskState (disk.Number n) is)
+    → JoinStateCause m disks (refusal.DiskState (disk.Number n) is)
 state_refused m disks n e is has at same out lesser = (record { among = has; entry = e; there = at; fails = ap is_offline same ∙ not_offline is out; lesser = lesser }, same)
 
 pub image_refused : (looked : List Looked) (held : List ℕ) (m : MountedGroup) (disks n : ℕ) (e : Entry) → has_bit disks n ≡ true → entry_of m.register.value.entries n ≡ Some e → is_present looked held m e ≡ false

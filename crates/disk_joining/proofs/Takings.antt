@@ -13,7 +13,7 @@ use Rattle.disk_images.specs.Looks.{Looks}
 use Rattle.group_disks.specs.Holding.{SameHeld}
 use Rattle.group_disks.proofs.Spared.{change_held, held_trans, same_held}
 use Rattle.group_disks.proofs.Staying.{stays_keeps, stays_refl, stays_trans}
-use Rattle.group_disks.proofs.Told.{rose_before}
+use Rattle.group_mount.proofs.Told.{rose_before}
 use Rattle.group_engine.specs.Commits.{StatusCause}
 use Rattle.group_engine.specs.Frames.{SparesDisks, StaysAttached}
 use Rattle.group_engine.specs.Mounts.{IsMounted, IsOwn, MountedGroup, Takes, slot_at}

@@ -13,7 +13,7 @@ use Rattle.catalog_tables.specs.Tables.{Catalogued}
 use Rattle.disk_images.specs.Looks.{AreLooked}
 use Rattle.disk_images.specs.declared.looking.Looked.{Looked}
 use Rattle.group_engine.specs.Mounts.{MountedGroup}
-use Rattle.new_groups.specs.Causes.{IsFirst, terms_of}
+use Rattle.new_groups.specs.Causes.{IsThisRefusal, terms_of}
 use Rattle.new_groups.specs.declared.asked.Known.{Known}
 use Rattle.disk_joining.specs.AddCauses.{IsNotPrepared, IsUnfit, StandsAgainst, add_refusal, names_refusal, free_blocks, full_refusal}
 use Rattle.disk_joining.specs.AddCauses.IsNotPrepared.{by_look, by_memory}
@@ -37,7 +37,7 @@ blocks_few c k need many free same is_need left few =
 -- ---- by what was looked at
 
 module _ (known : Known) (m : MountedGroup) (paths : List Bytes) where
-  pub unfit_first : (looked : List Looked) (a : Asked) (all : Known) (refusal : r.Refusal) → IsKnownWith m known all → IsFirst (add_refusal all m paths looked a) refusal → IsUnfit known m paths looked a refusal
+  pub unfit_first : (looked : List Looked) (a : Asked) (all : Known) (refusal : r.Refusal) → IsKnownWith m known all → IsThisRefusal (add_refusal all m paths looked a) refusal → IsUnfit known m paths looked a refusal
   unfit_first looked a all refusal own why = ⊎_elim
       (λ first. inl (record { all = all; with_own = own; first = first }))
       (λ short. inr short) why

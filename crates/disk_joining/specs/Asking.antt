@@ -8,7 +8,7 @@ use Rattle.asm_group.specs.Names.{Bytes}
 use Rattle.asm_world.specs.NewDisks.{PlannedDisk, planned_disk}
 use Rattle.asm_world.specs.Reports.{DiskRow}
 use Rattle.asm_world.specs.Statement.{NewDisk, NewFailgroup}
-use Rattle.catalog_tables.specs.Disks.{Disk, info_at}
+use Rattle.disk_directory.specs.Disks.{Disk, info_at}
 use Rattle.group_engine.specs.Mounts.{MountedGroup}
 use Rattle.group_engine.specs.declared.attached.Attached.{Attached}
 use Rattle.new_groups.specs.declared.asked.Known.{Known}

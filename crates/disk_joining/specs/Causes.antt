@@ -20,28 +20,28 @@ pub data IsLostBy (old new : MountedGroup) (s t : BayState) (d : ℕ) : Type 0 w
   was_lost : old.access ≡ access.Dismounted d → IsLostBy old new s t d
   has_failed : (slot : ℕ) → slot_at new.disks d ≡ Some slot → Rose (s.faults slot) (t.faults slot) → IsLostBy old new s t d
 
-abbrev pub LostCause : MountedGroup → MountedGroup → BayState → BayState → DiskRef → Type 0
-LostCause old new s t (disk.Number d) = IsLostBy old new s t d
-LostCause old new s t (disk.Spelt text) = ⊥
+abbrev pub LostDiskCause : MountedGroup → MountedGroup → BayState → BayState → DiskRef → Type 0
+LostDiskCause old new s t (disk.Number d) = IsLostBy old new s t d
+LostDiskCause old new s t (disk.Spelt text) = ⊥
 
 -- Why a record or a commit is refused. Want of memory is free.
 abbrev pub StepCause : MountedGroup → MountedGroup → BayState → BayState → Refusal → Type 0
-StepCause old new s t (refusal.Dismounted by) = LostCause old new s t by
+StepCause old new s t (refusal.Dismounted by) = LostDiskCause old new s t by
 StepCause old new s t refusal.NoMemory = ⊤
 StepCause old new s t other = ⊥
 
 -- ---- why disks don't come back
 
 -- the disk has an entry that passes the test
-abbrev pub Passes : List Entry → (Entry → Bool) → ℕ → Type 0
-Passes entries test d = (e : Entry) × (entry_of entries d ≡ Some e) × (test e ≡ true)
+abbrev pub PassesTest : List Entry → (Entry → Bool) → ℕ → Type 0
+PassesTest entries test d = (e : Entry) × (entry_of entries d ≡ Some e) × (test e ≡ true)
 
 -- each disk of a set below a number passes
 pub record PassBelow (entries : List Entry) (disks : ℕ) (test : Entry → Bool) (n : ℕ) : Type 0 where
-  pub each : (d : ℕ) → d < n → has_bit disks d ≡ true → Passes entries test d
+  pub each : (d : ℕ) → d < n → has_bit disks d ≡ true → PassesTest entries test d
 
 -- The least disk of a set that doesn't pass a test: it has an entry, which fails, and all lesser disks of the set pass.
-pub record IsLeast (entries : List Entry) (disks : ℕ) (test : Entry → Bool) (d : ℕ) : Type 0 where
+pub record IsLeastFailing (entries : List Entry) (disks : ℕ) (test : Entry → Bool) (d : ℕ) : Type 0 where
   pub among : has_bit disks d ≡ true
   pub entry : Entry
   pub there : entry_of entries d ≡ Some entry
@@ -57,14 +57,14 @@ abbrev pub may_return : Entry → Bool
 may_return e = is_offline e.mode
 
 -- By the modes of the disks: the least that isn't Offline is in that mode, or one has no entry.
-abbrev pub StateCause : MountedGroup → ℕ → Refusal → Type 0
-StateCause m disks (refusal.DiskState (disk.Number d) is) = (least : IsLeast m.register.value.entries disks may_return d) × (least.entry.mode ≡ is)
-StateCause m disks refusal.NoName = HasUnknown m.register.value.entries disks
-StateCause m disks other = ⊥
+abbrev pub JoinStateCause : MountedGroup → ℕ → Refusal → Type 0
+JoinStateCause m disks (refusal.DiskState (disk.Number d) is) = (least : IsLeastFailing m.register.value.entries disks may_return d) × (least.entry.mode ≡ is)
+JoinStateCause m disks refusal.NoName = HasUnknown m.register.value.entries disks
+JoinStateCause m disks other = ⊥
 
 -- By what was looked at: it is the least disk that isn't there, or one has no entry.
 abbrev pub ImageCause : List Looked → List ℕ → MountedGroup → ℕ → Refusal → Type 0
-ImageCause looked held m disks (refusal.NoDisk (disk.Number d)) = IsLeast m.register.value.entries disks (is_present looked held m) d
+ImageCause looked held m disks (refusal.NoDisk (disk.Number d)) = IsLeastFailing m.register.value.entries disks (is_present looked held m) d
 ImageCause looked held m disks refusal.NoName = HasUnknown m.register.value.entries disks
 ImageCause looked held m disks other = ⊥
 
@@ -77,6 +77,6 @@ pub record IsMissed (slots : ℕ) (held : List ℕ) (m : MountedGroup) (disks : 
 
 -- Why disks of a set don't come back: by the modes of the disks, since one isn't there, or since a record is refused.
 pub data OnlineCause (slots : ℕ) (held : List ℕ) (old : MountedGroup) (disks : ℕ) (new : MountedGroup) (s t : BayState) (given : Refusal) : Type 0 where
-  by_state : StateCause old disks given → OnlineCause slots held old disks new s t given
+  by_state : JoinStateCause old disks given → OnlineCause slots held old disks new s t given
   by_look : IsMissed slots held old disks s t given → OnlineCause slots held old disks new s t given
   by_record : StepCause old new s t given → OnlineCause slots held old disks new s t given

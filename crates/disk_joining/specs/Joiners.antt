@@ -13,13 +13,13 @@ use Rattle.asm_group.specs.Shape.{Shape}
 use Rattle.asm_images.specs.Kept.{header_in}
 use Rattle.asm_formats.specs.Among.{IsAmong}
 use Rattle.asm_world.specs.NewDisks.{PlannedDisk}
-use Rattle.catalog_tables.specs.Disks.{Disk, info_at}
+use Rattle.disk_directory.specs.Disks.{Disk, info_at}
 use Rattle.catalog.specs.Plans.{MayAdd}
 use Rattle.disk_images.specs.declared.looking.Looked.{Looked}
 use Rattle.group_disks.specs.Holding.{IsHeldSlot}
 use Rattle.group_engine.specs.Mounts.{IsMounted, IsOwn, MountedGroup}
 use Rattle.group_mount.specs.declared.finding.Headed.{Headed}
-use Rattle.new_groups.specs.Drafts.{AreApart}
+use Rattle.new_groups.specs.Drafts.{AreDisksApart}
 use Rattle.new_groups.specs.Tests.{are_apart, is_there}
 use Rattle.disk_joining.specs.Attaching.{has_slot}
 use Rattle.disk_joining.specs.AddCauses.{JoinCause}
@@ -45,7 +45,7 @@ AreJoiners held m hs state = (h : Headed) → IsAmong hs h → IsJoiner held m h
 -- What joins: the disks may be written, no two of them have one slot or one number, and their records may be put together.
 pub record CanJoin (held : List ℕ) (m : MountedGroup) (j : Joining) (state : BayState) : Type 0 where
   pub disks : AreJoiners held m j.disks.items state
-  pub apart : AreApart j.disks.items
+  pub apart : AreDisksApart j.disks.items
   pub records : MayAdd m.catalog.tables j.records.items
 
 -- ---- the tests
@@ -87,13 +87,13 @@ are_entered r (h ∷ hs) = is_entered r h && are_entered r hs
 -- ---- once they are joined
 
 -- The status record has an entry of the disk's number with its birth.
-pub record IsEntered (r : Status) (h : Headed) : Type 0 where
+pub record HasEntryWithBirth (r : Status) (h : Headed) : Type 0 where
   pub entry : Entry
   pub there : entry_of r.entries h.header.number ≡ Some entry
   pub birth : entry.birth ≡ h.header.birth
 
 abbrev pub AreEntered : Status → List Headed → Type 0
-AreEntered r hs = (h : Headed) → IsAmong hs h → IsEntered r h
+AreEntered r hs = (h : Headed) → IsAmong hs h → HasEntryWithBirth r h
 
 -- each image that a stop now may leave has the disk's header
 abbrev pub ShowsHeader : Headed → BayState → Type 0

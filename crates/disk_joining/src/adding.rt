@@ -4,7 +4,7 @@ ghost use Rattle.std.specs.String.{string_bytes};
 ghost use Rattle.catalog.specs.Plans.{MayAdd};
 ghost use Rattle.group_engine.specs.Mounts.{IsMounted, Takes};
 ghost use Rattle.group_engine.specs.Pending.{GoesOn};
-ghost use Rattle.new_groups.specs.Drafts.{AreApart};
+ghost use Rattle.new_groups.specs.Drafts.{AreDisksApart};
 ghost use Rattle.disk_joining.specs.AddCauses.{AddCause};
 ghost use Rattle.disk_joining.specs.Asking.{asked_disks, given_numbers};
 ghost use Rattle.disk_joining.specs.Joiners.{AreJoiners, AreEntered, HaveJoined, JoinStep, CanJoin, ShowHeaders};
@@ -154,7 +154,7 @@ fn head_or_return<B: Bay>(
     requires takes { Takes m.old (B.state bay.old) }
     requires apart { IsApart held.now m.old }
     requires joiners { AreJoiners held.now m.old disks.now (B.state bay.old) }
-    requires apart_disks { AreApart disks.now }
+    requires apart_disks { AreDisksApart disks.now }
     ensures joins { JoinStep held.now m.old result m.new (B.state bay.old) (B.state bay.new) }
     ensures show { OnOk result (ShowHeaders disks.now (B.state bay.new)) }
     ensures joiners { OnOk result (AreJoiners held.now m.new disks.now (B.state bay.new)) }
@@ -224,7 +224,7 @@ fn join_recorded<B: Bay>(
     requires takes { Takes m.old (B.state bay.old) }
     requires apart { IsApart held.now m.old }
     requires joiners { AreJoiners held.now m.old joining.now.disks.items (B.state bay.old) }
-    requires apart_disks { AreApart joining.now.disks.items }
+    requires apart_disks { AreDisksApart joining.now.disks.items }
     ensures joins { JoinStep held.now m.old result m.new (B.state bay.old) (B.state bay.new) }
     ensures show { OnOk result (ShowHeaders joining.now.disks.items (B.state bay.new)) }
     ensures entries { OnOk result (AreEntered m.new.register.value joining.now.disks.items) }

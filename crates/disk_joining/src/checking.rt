@@ -1,6 +1,6 @@
 //! What new disks become is tried before the first write.
 ghost use Rattle.std.specs.Prelude.{◌≡◌, ◌&&◌, is_some, not};
-ghost use Rattle.catalog_tables.specs.Disks.{info_at};
+ghost use Rattle.disk_directory.specs.Disks.{info_at};
 ghost use Rattle.new_groups.specs.Tests.{is_there};
 ghost use Rattle.disk_joining.specs.Attaching.{has_slot};
 ghost use Rattle.disk_joining.specs.Joiners.{are_free, are_asked, are_unrecorded, is_entered, records_disk, are_entered, fits_shape, may_join};

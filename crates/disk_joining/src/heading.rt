@@ -2,7 +2,7 @@
 ghost use Rattle.std.specs.Prelude.{◌<◌, ◌≤◌, ◌∷◌, [], IfErr, IsTrue, OnErr, OnOk, length};
 ghost use Rattle.asm_group.specs.Shape.{is_shape};
 ghost use Rattle.disk_forming.specs.Gates.{HasRegion};
-ghost use Rattle.new_groups.specs.Drafts.{AreApart};
+ghost use Rattle.new_groups.specs.Drafts.{AreDisksApart};
 ghost use Rattle.new_groups.specs.Forming.{AreHeadable, AreLong, IsHeadable, Works};
 ghost use Rattle.disk_joining.specs.AddCauses.{SomeFailed};
 ghost use Rattle.disk_joining.specs.Joiners.{ShowHeaders, ShowsHeader};
@@ -32,7 +32,7 @@ pub fn give_headers<B: Bay>(bay: &mut B, disks: &[Headed], shape: Shape) -> Resu
     requires shape { IsTrue (is_shape shape) }
     requires long { AreLong shape disks.now (B.state bay.old) }
     requires headers { AreHeadable disks.now (B.state bay.old) }
-    requires apart { AreApart disks.now }
+    requires apart { AreDisksApart disks.now }
     ensures works { Works disks.now (B.state bay.old) (B.state bay.new) }
     ensures show { OnOk result (ShowHeaders disks.now (B.state bay.new)) }
     ensures failed { IfErr result (λ i. i < length disks.now) }

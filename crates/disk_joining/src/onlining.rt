@@ -2,7 +2,7 @@
 ghost use Rattle.std.specs.Prelude.{◌≡◌, ◌+◌, ◌<◌, ◌≤◌, ◌&&◌, IfErr, IfSome, OnOk, is_some, length, slice_get};
 ghost use Rattle.asm_formats.specs.Status.{entry_of};
 ghost use Rattle.group_engine.specs.Mounts.{IsMounted, Takes};
-ghost use Rattle.disk_joining.specs.Causes.{ImageCause, OnlineCause, PassBelow, StateCause, StepCause, may_return};
+ghost use Rattle.disk_joining.specs.Causes.{ImageCause, OnlineCause, PassBelow, JoinStateCause, StepCause, may_return};
 ghost use Rattle.disk_joining.specs.Returning.{AreShown, IsShownAs, IsShownFrom, IsSize, is_disk_of, is_free, is_present, shows_at, shows_disk, shows_in_free};
 ghost use Rattle.disk_joining.specs.Taking.{IsApart, TakesIn};
 
@@ -20,7 +20,7 @@ use std::alloc::Global;
 /// Whether the disk, where it is one of these, is Offline. Those of lesser numbers are.
 fn check_state(m: &Mounted, disks: DiskSet, number: u8) -> Result<(), Refusal>
     requires lesser { PassBelow m.now.register.value.entries disks may_return number }
-    ensures cause { IfErr result (StateCause m.now disks) }
+    ensures cause { IfErr result (JoinStateCause m.now disks) }
     ensures passes { OnOk result (PassBelow m.now.register.value.entries disks may_return (number + 1)) }
 {
     if !disks.has(number) {
@@ -40,7 +40,7 @@ fn check_state(m: &Mounted, disks: DiskSet, number: u8) -> Result<(), Refusal>
 
 /// Whether all of the disks are Offline. Refused as DiskState by the one of the least number that isn't.
 fn check_states(m: &Mounted, disks: DiskSet) -> Result<(), Refusal>
-    ensures cause { IfErr result (StateCause m.now disks) }
+    ensures cause { IfErr result (JoinStateCause m.now disks) }
 {
     for number in 0..64u8 {
         match check_state(m, disks, number) {

@@ -23,10 +23,10 @@ use Rattle.disk_modes.specs.declared.changing.Changes.TheVariants as changes
 use Rattle.disk_modes.specs.declared.dropping.DropDisk.{DropDisk}
 use Rattle.disk_modes.specs.declared.records.NewModes.{NewModes}
 use Rattle.disk_modes.specs.declared.records.NewModes.TheVariants as modes
-use Rattle.disk_modes.specs.Effects.{AreNamed, changes_for, is_dropped_by}
+use Rattle.disk_modes.specs.Effects.{AreNamedToDrop, changes_for, is_dropped_by}
 use Rattle.disk_modes.specs.Directories.{IsLeft, LeavesCopy}
-use Rattle.disk_modes.specs.Modes.{AllTaken, drop_as, other, takes}
-use Rattle.disk_modes.specs.Stops.{AreTaken, AreTakenAs, HasTwoTurns, MayMake, MayPut, TakesDisk}
+use Rattle.disk_modes.specs.Modes.{TakesEachDisk, drop_as, other, takes}
+use Rattle.disk_modes.specs.Stops.{AreModesAllowed, AreTakenAs, HasTwoTurns, MayMakeChanges, MayPutModes, TakesDisk}
 use Rattle.disk_modes.proofs.Naming.{small}
 use Rattle.disk_modes.proofs.Reasons.{of_record}
 
@@ -49,12 +49,12 @@ taken_if true true out is = refl
 taken_if true false out is = absurd cc
 taken_if false b out is = absurd cc
 
-pub all_taken : (of : Statement) (disks : ℕ) (es : List Entry) → other of disks es ≡ None → AllTaken of disks es
+pub all_taken : (of : Statement) (disks : ℕ) (es : List Entry) → other of disks es ≡ None → TakesEachDisk of disks es
 all_taken of disks es none e among has =
     taken_if (has_bit disks e.number) (takes of e.mode) (none_passes (λ (x : Entry). has_bit disks x.number && not (takes of x.mode)) es none e among) has
 
-pub all_taken_in : (of : Statement) (m : MountedGroup) (r : Status) (es : List Entry) (disks : ℕ) → r ≡ m.register.value → es ≡ r.entries → AllTaken of disks es → AllTaken of disks m.register.value.entries
-all_taken_in of m r es disks held is taken = subst (λ (x : List Entry). AllTaken of disks x) (of_record m r es held is) taken
+pub all_taken_in : (of : Statement) (m : MountedGroup) (r : Status) (es : List Entry) (disks : ℕ) → r ≡ m.register.value → es ≡ r.entries → TakesEachDisk of disks es → TakesEachDisk of disks m.register.value.entries
+all_taken_in of m r es disks held is taken = subst (λ (x : List Entry). TakesEachDisk of disks x) (of_record m r es held is) taken
 
 -- ---- directory copies
 
@@ -75,8 +75,8 @@ or_left false b is = absurd cc
 
 -- of the set of one disk
 pub takes_one : (of wanted : Statement) (m : MountedGroup) (r : Status) (es : List Entry) (alone none d : ℕ) (res : Result (Unit {0}) Refusal) → r ≡ m.register.value → es ≡ r.entries → of ≡ wanted
-    → ((k : ℕ) → k < 64 → has_bit alone k ≡ (k == d || has_bit none k)) → OnOk res (AllTaken of alone es) → OnOk res (TakesDisk wanted d m.register.value.entries)
-takes_one of wanted m r es alone none d res held is same set = on_both (Unit {0}) (AllTaken of alone es) (TakesDisk wanted d m.register.value.entries) res
+    → ((k : ℕ) → k < 64 → has_bit alone k ≡ (k == d || has_bit none k)) → OnOk res (TakesEachDisk of alone es) → OnOk res (TakesDisk wanted d m.register.value.entries)
+takes_one of wanted m r es alone none d res held is same set = on_both (Unit {0}) (TakesEachDisk of alone es) (TakesDisk wanted d m.register.value.entries) res
     (λ u taken. subst (λ (x : Statement). TakesDisk x d m.register.value.entries) same (λ e among lt number.
     all_taken_in of m r es alone held is taken e among (set e.number lt ∙ or_left (e.number == d) (has_bit none e.number) (eq-eqb e.number d number)))) tt
 
@@ -115,8 +115,8 @@ online_is mode.Syncing on = refl
 online_is mode.Dropping on = refl
 online_is mode.Forced on = absurd cc
 
-pub drop_taken : (m : MountedGroup) (disks : List DropDisk) (dropping forced : ℕ) → IsTrue (is_status m.register.value) → AreNamed disks dropping forced → AreTakenAs m forced disks
-    → AreTaken (modes.Dropped dropping forced) m.register.value.entries
+pub drop_taken : (m : MountedGroup) (disks : List DropDisk) (dropping forced : ℕ) → IsTrue (is_status m.register.value) → AreNamedToDrop disks dropping forced → AreTakenAs m forced disks
+    → AreModesAllowed (modes.Dropped dropping forced) m.register.value.entries
 drop_taken m disks dropping forced allowed named taken e among out has =
     let lt : e.number < 64 = small e (all_of_list is_entry m.register.value.entries e (record_parts m.register.value allowed).entries among) in
     let x = named_so disks e.number (find (λ (y : DropDisk). e.number == y.disk) (reverse disks)) refl (sym (named.without_force e.number lt) ∙ has) in
@@ -124,16 +124,16 @@ drop_taken m disks dropping forced allowed named taken e among out has =
     online_is e.mode (subst (λ (b : Bool). takes (drop_as b) e.mode ≡ true) option (taken x.0 x.1 e among lt (sym x.2)))
 
 pub may_drop : (m : MountedGroup) (disks : List DropDisk) (dropping forced : ℕ) (r : Result (Unit {0}) Refusal) → IsTrue (is_status m.register.value) → AreTakenAs m forced disks
-    → OnOk r (LeavesCopy m.register.value.directories forced) → AreNamed disks dropping forced → OnOk r (MayPut (modes.Dropped dropping forced) m.register.value)
-may_drop m disks dropping forced r allowed taken left named = on_both (Unit {0}) (LeavesCopy m.register.value.directories forced) (MayPut (modes.Dropped dropping forced) m.register.value) r
+    → OnOk r (LeavesCopy m.register.value.directories forced) → AreNamedToDrop disks dropping forced → OnOk r (MayPutModes (modes.Dropped dropping forced) m.register.value)
+may_drop m disks dropping forced r allowed taken left named = on_both (Unit {0}) (LeavesCopy m.register.value.directories forced) (MayPutModes (modes.Dropped dropping forced) m.register.value) r
     (λ u leaves. record { taken = drop_taken m disks dropping forced allowed named taken; left = leaves }) tt left
 
 -- with any FORCE the record comes first
 pub drop_may_make : (m : MountedGroup) (dropping forced power : ℕ) (of : Changes) (to : NewModes) → of ≡ changes_for forced power → to ≡ modes.Dropped dropping forced
-    → MayPut (modes.Dropped dropping forced) m.register.value → HasTwoTurns m → MayMake of to m
+    → MayPutModes (modes.Dropped dropping forced) m.register.value → HasTwoTurns m → MayMakeChanges of to m
 drop_may_make m dropping forced power of to is same may turns =
-    subst (λ (x : Changes). MayMake x to m) (sym is) (subst (λ (x : NewModes). MayMake (changes_for forced power) x m) (sym same) (go (forced == 0) refl))
+    subst (λ (x : Changes). MayMakeChanges x to m) (sym is) (subst (λ (x : NewModes). MayMakeChanges (changes_for forced power) x m) (sym same) (go (forced == 0) refl))
   where
-    go : (b : Bool) → (forced == 0) ≡ b → MayMake (cond b (changes.RebalanceThenModes power) (changes.ModesThenRebalance power)) (modes.Dropped dropping forced) m
+    go : (b : Bool) → (forced == 0) ≡ b → MayMakeChanges (cond b (changes.RebalanceThenModes power) (changes.ModesThenRebalance power)) (modes.Dropped dropping forced) m
     go true none = (may.taken, eqb-true forced 0 none)
     go false some = (may, turns)

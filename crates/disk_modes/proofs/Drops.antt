@@ -13,7 +13,7 @@ use Rattle.disk_modes.specs.declared.changing.Changes.TheVariants as changes
 use Rattle.disk_modes.specs.declared.dropping.DropDisk.{DropDisk}
 use Rattle.disk_modes.specs.declared.records.NewModes.{NewModes}
 use Rattle.disk_modes.specs.declared.records.NewModes.TheVariants as modes
-use Rattle.disk_modes.specs.Effects.{AreNamed, Drops, DropsByForce, Makes, PutsBoth, Undrops, changes_for, entry_dropped, entry_forced, has_dropping, undropping}
+use Rattle.disk_modes.specs.Effects.{AreNamedToDrop, DropsDisks, DropsByForce, MakesChanges, PutsBoth, Undrops, changes_for, entry_dropped, entry_forced, has_dropping, undropping}
 use Rattle.disk_modes.specs.Records.{entries_after, entry_after}
 use Rattle.disk_modes.proofs.Effects.{on_ok}
 use Rattle.disk_modes.proofs.Naming.{each_entry, one_dropped, one_forced}
@@ -24,20 +24,20 @@ not_so false f = refl
 
 -- ---- DROP
 
-both_for : (forced power : ℕ) (to : NewModes) (a b : MountedGroup) → Makes (changes_for forced power) to a b → PutsBoth power to a b
+both_for : (forced power : ℕ) (to : NewModes) (a b : MountedGroup) → MakesChanges (changes_for forced power) to a b → PutsBoth power to a b
 both_for forced power to a b = go (forced == 0)
   where
-    go : (x : Bool) → Makes (cond x (changes.RebalanceThenModes power) (changes.ModesThenRebalance power)) to a b → PutsBoth power to a b
+    go : (x : Bool) → MakesChanges (cond x (changes.RebalanceThenModes power) (changes.ModesThenRebalance power)) to a b → PutsBoth power to a b
     go true is = is
     go false is = is
 
-pub made_for : (forced power : ℕ) (of : Changes) (to new : NewModes) (a b : MountedGroup) (r : Result (Unit {0}) Refusal) → of ≡ changes_for forced power → new ≡ to → OnOk r (Makes of new a b) → OnOk r (PutsBoth power to a b)
+pub made_for : (forced power : ℕ) (of : Changes) (to new : NewModes) (a b : MountedGroup) (r : Result (Unit {0}) Refusal) → of ≡ changes_for forced power → new ≡ to → OnOk r (MakesChanges of new a b) → OnOk r (PutsBoth power to a b)
 made_for forced power of to new a b r is same done =
-    on_ok (Makes (changes_for forced power) to a b) (PutsBoth power to a b) r (both_for forced power to a b)
-    (subst (λ (x : NewModes). OnOk r (Makes (changes_for forced power) x a b)) same (subst (λ (x : Changes). OnOk r (Makes x new a b)) is done))
+    on_ok (MakesChanges (changes_for forced power) to a b) (PutsBoth power to a b) r (both_for forced power to a b)
+    (subst (λ (x : NewModes). OnOk r (MakesChanges (changes_for forced power) x a b)) same (subst (λ (x : Changes). OnOk r (MakesChanges x new a b)) is done))
 
-drops_by : (disks : List DropDisk) (dropping forced power : ℕ) (a b : MountedGroup) → AreNamed disks dropping forced → IsTrue (is_status a.register.value) → PutsBoth power (modes.Dropped dropping forced) a b
-    → Drops disks power a b
+drops_by : (disks : List DropDisk) (dropping forced power : ℕ) (a b : MountedGroup) → AreNamedToDrop disks dropping forced → IsTrue (is_status a.register.value) → PutsBoth power (modes.Dropped dropping forced) a b
+    → DropsDisks disks power a b
 drops_by disks dropping forced power a b named allowed both =
     let es = a.register.value.entries in
     record {
@@ -48,19 +48,19 @@ drops_by disks dropping forced power a b named allowed both =
       forced = λ d lt by. not_so (has_bit b.register.value.directories d) (λ has. true≢false (sym by ∙ sym (named.with_force d lt) ∙ (both.copies d lt has).1));
     }
 
-pub drops_done : (disks : List DropDisk) (dropping forced power : ℕ) (a b : MountedGroup) (r : Result (Unit {0}) Refusal) → AreNamed disks dropping forced → IsTrue (is_status a.register.value)
-    → OnOk r (PutsBoth power (modes.Dropped dropping forced) a b) → OnOk r (Drops disks power a b)
-drops_done disks dropping forced power a b r named allowed = on_ok (PutsBoth power (modes.Dropped dropping forced) a b) (Drops disks power a b) r (drops_by disks dropping forced power a b named allowed)
+pub drops_done : (disks : List DropDisk) (dropping forced power : ℕ) (a b : MountedGroup) (r : Result (Unit {0}) Refusal) → AreNamedToDrop disks dropping forced → IsTrue (is_status a.register.value)
+    → OnOk r (PutsBoth power (modes.Dropped dropping forced) a b) → OnOk r (DropsDisks disks power a b)
+drops_done disks dropping forced power a b r named allowed = on_ok (PutsBoth power (modes.Dropped dropping forced) a b) (DropsDisks disks power a b) r (drops_by disks dropping forced power a b named allowed)
 
 -- ---- UNDROP
 
-undrops_by : (a b : MountedGroup) → Makes (undropping a.register.value.entries) modes.Undropped a b → Undrops a b
+undrops_by : (a b : MountedGroup) → MakesChanges (undropping a.register.value.entries) modes.Undropped a b → Undrops a b
 undrops_by a b = go (has_dropping a.register.value.entries) refl
   where
     es : List Entry
     es = a.register.value.entries
 
-    go : (x : Bool) → x ≡ has_dropping a.register.value.entries → Makes (cond x (changes.RebalanceThenModes 1) (changes.Rebalance 1)) modes.Undropped a b → Undrops a b
+    go : (x : Bool) → x ≡ has_dropping a.register.value.entries → MakesChanges (cond x (changes.RebalanceThenModes 1) (changes.Rebalance 1)) modes.Undropped a b → Undrops a b
     go true is both = record {
       tables = both.tables;
       entries = both.entries ∙ ap (λ (x : Bool). cond x (entries_after modes.Undropped a.register.value.entries) a.register.value.entries) is;
@@ -73,11 +73,11 @@ undrops_by a b = go (has_dropping a.register.value.entries) refl
     }
 
 pub undrops_done : (a b : MountedGroup) (r : Status) (es : List Entry) (of : Changes) (x : Result (Unit {0}) Refusal) → r ≡ a.register.value → es ≡ r.entries → of ≡ undropping es
-    → OnOk x (Makes of modes.Undropped a b) → OnOk x (Undrops a b)
+    → OnOk x (MakesChanges of modes.Undropped a b) → OnOk x (Undrops a b)
 undrops_done a b r es of x held all is done =
     let same : of ≡ undropping a.register.value.entries = is ∙ ap undropping (all ∙ ap (λ (s : Status). s.entries) held) in
-    on_ok (Makes (undropping a.register.value.entries) modes.Undropped a b) (Undrops a b) x (undrops_by a b)
-    (subst (λ (y : Changes). OnOk x (Makes y modes.Undropped a b)) same done)
+    on_ok (MakesChanges (undropping a.register.value.entries) modes.Undropped a b) (Undrops a b) x (undrops_by a b)
+    (subst (λ (y : Changes). OnOk x (MakesChanges y modes.Undropped a b)) same done)
 
 -- ---- expiry
 

@@ -17,7 +17,7 @@ use Rattle.status_register.specs.Holders.{numbered}
 use Rattle.disk_modes.specs.declared.changing.Changes.{Changes}
 use Rattle.disk_modes.specs.declared.changing.Changes.TheVariants as changes
 use Rattle.disk_modes.specs.declared.records.NewModes.{NewModes}
-use Rattle.disk_modes.specs.Effects.{Makes, PutsBoth, PutsModes, PutsRebalance, with_rebalance}
+use Rattle.disk_modes.specs.Effects.{MakesChanges, PutsBoth, PutsModes, PutsRebalance, with_rebalance}
 use Rattle.disk_modes.specs.Records.{IsUnder, entries_after, taken_off}
 
 pub on_ok : (P Q : Type 0) (r : Result (Unit {0}) Refusal) → (P → Q) → OnOk r P → OnOk r Q
@@ -77,12 +77,12 @@ modes_then_rebalance power to a b c one two = record {
 
 -- ---- the move that is on its way was given up before
 
-pub forget_flight : (of : Changes) (to : NewModes) (a b : MountedGroup) → Makes of to (record a { flight = None }) b → Makes of to a b
+pub forget_flight : (of : Changes) (to : NewModes) (a b : MountedGroup) → MakesChanges of to (record a { flight = None }) b → MakesChanges of to a b
 forget_flight changes.Modes to a b is = record { tables = is.tables; under = is.under }
 forget_flight (changes.Rebalance power) to a b is = record { tables = is.tables; kept = is.kept }
 forget_flight (changes.RebalanceThenModes power) to a b is = record { tables = is.tables; entries = is.entries; copies = is.copies }
 forget_flight (changes.ModesThenRebalance power) to a b is = record { tables = is.tables; entries = is.entries; copies = is.copies }
 
-pub made_behind : (of : Changes) (to : NewModes) (a b c : MountedGroup) (r : Result (Unit {0}) Refusal) → b ≡ record a { flight = None } → OnOk r (Makes of to b c) → OnOk r (Makes of to a c)
+pub made_behind : (of : Changes) (to : NewModes) (a b c : MountedGroup) (r : Result (Unit {0}) Refusal) → b ≡ record a { flight = None } → OnOk r (MakesChanges of to b c) → OnOk r (MakesChanges of to a c)
 made_behind of to a b c r is done =
-    on_ok (Makes of to (record a { flight = None }) c) (Makes of to a c) r (forget_flight of to a c) (subst (λ (v : MountedGroup). OnOk r (Makes of to v c)) is done)
+    on_ok (MakesChanges of to (record a { flight = None }) c) (MakesChanges of to a c) r (forget_flight of to a c) (subst (λ (v : MountedGroup). OnOk r (MakesChanges of to v c)) is done)

@@ -17,7 +17,7 @@ use Rattle.group_reports.specs.Disks.{expiring, holds_all, is_due, may_go}
 use Rattle.group_reports.specs.Extents.{first_lost}
 use Rattle.disk_modes.specs.declared.records.NewModes.TheVariants as modes
 use Rattle.disk_modes.specs.Directories.{IsLeft, LeavesCopy}
-use Rattle.disk_modes.specs.Stops.{MayPut}
+use Rattle.disk_modes.specs.Stops.{MayPutModes}
 use Rattle.disk_modes.proofs.Checked.{none_passes}
 
 -- ---- a set of which one disk isn't the only one has another
@@ -112,7 +112,7 @@ pub expiring_of : (m : MountedGroup) (c : Catalogued) (r : Status) (now d : ℕ)
 expiring_of m c r now d same held is = subst (λ (x : Catalogued). may_go x m.register.value d ≡ true) same (subst (λ (x : Status). may_go c x d ≡ true) held (expiring_goes c r now d (sym is)))
 
 pub may_force : (m : MountedGroup) (none dropping forced d : ℕ) → dropping ≡ 0 → none ≡ 0 → ((j : ℕ) → has_bit 0 j ≡ false) → ((j : ℕ) → j < 64 → has_bit forced j ≡ (j == d || has_bit none j))
-    → may_go m.catalog m.register.value d ≡ true → MayPut (modes.Dropped dropping forced) m.register.value
+    → may_go m.catalog m.register.value d ≡ true → MayPutModes (modes.Dropped dropping forced) m.register.value
 may_force m none dropping forced d nothing empty clear is goes = record {
   taken = λ e among out has. absurd (false≢true (sym (ap (λ (n : ℕ). has_bit n e.number) nothing ∙ clear e.number) ∙ has));
   left = copy_left m.catalog m.register.value none forced d empty clear is goes;

@@ -7,7 +7,7 @@ use Rattle.std.proofs.lemmas.List.Folds.{list_any_more}
 use Rattle.asm_formats.specs.Sets.{has_bit}
 use Rattle.asm_formats.specs.Status.{Entry}
 use Rattle.group_engine.specs.Mounts.{MountedGroup}
-use Rattle.disk_modes.specs.Finding.{AreAttached, IsSetOf, is_attached}
+use Rattle.disk_modes.specs.Finding.{HasAttachedDisks, IsSetOf, is_attached}
 use Rattle.disk_modes.proofs.Naming.{no_bit}
 
 pub none_found : (test : Entry → Bool) (es : List Entry) (set : ℕ) → set ≡ 0 → IsSetOf test (take 0 es) set
@@ -58,5 +58,5 @@ one_attached m n set after more is made so_far d lt =
         (λ (more : n ≤ d). below (le-ltb d n more ∙ sym (le-ltb d (n + 1) (omega (arith, more, differ)))) (ne_eqb d n differ))
         (cases_lt d n)
 
-pub all_attached : (m : MountedGroup) (n set : ℕ) → 64 ≤ n → AreAttachedBelow m n set → AreAttached m set
+pub all_attached : (m : MountedGroup) (n set : ℕ) → 64 ≤ n → AreAttachedBelow m n set → HasAttachedDisks m set
 all_attached m n set le is d lt = is d lt ∙ ap (λ (b : Bool). b && is_attached m d) (lt-ltb d n (omega (arith, le, lt)))

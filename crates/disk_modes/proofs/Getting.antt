@@ -44,7 +44,7 @@ use Rattle.disk_modes.specs.declared.records.NewModes.{NewModes}
 use Rattle.disk_modes.specs.declared.records.NewModes.TheVariants as modes
 use Rattle.disk_modes.specs.Effects.{has_dropping, undropping}
 use Rattle.disk_modes.specs.Records.{IsChanged, IsUnder, change_of, entries_after, entry_after, entry_as, taken_off}
-use Rattle.disk_modes.specs.Stops.{AreTaken, MayMake, MayPut, StaysHeld}
+use Rattle.disk_modes.specs.Stops.{AreModesAllowed, MayMakeChanges, MayPutModes, StaysHeld}
 use Rattle.disk_modes.proofs.Naming.{no_bit, small}
 use Rattle.disk_modes.proofs.NextRecords.{changed_is_next}
 
@@ -81,7 +81,7 @@ same_bare becomes.Same e = refl
 same_bare (becomes.Offline since repair) e = refl
 same_bare (becomes.InMode m) e = refl
 
-still_forced : (to : NewModes) (es : List Entry) → AreTaken to es → (e : Entry) → IsAmong es e → is_forced e.mode ≡ true → is_forced (entry_after to e).mode ≡ true
+still_forced : (to : NewModes) (es : List Entry) → AreModesAllowed to es → (e : Entry) → IsAmong es e → is_forced e.mode ≡ true → is_forced (entry_after to e).mode ≡ true
 still_forced (modes.Offline disks since repair) es taken e among forced = go (has_bit disks e.number) (taken e among)
   where
     go : (b : Bool) → (b ≡ true → is_online e.mode ≡ true) → is_forced (entry_as (cond b (becomes.Offline since repair) becomes.Same) e).mode ≡ true
@@ -100,7 +100,7 @@ still_forced modes.Undropped es taken e among forced = go (is_dropping e.mode) r
     go true on = absurd (dropping_not_forced e.mode on forced)
     go false on = forced
 
-each_kept : (to : NewModes) (es : List Entry) → AreTaken to es → (e : Entry) → IsAmong es e → KeepsDisk e (entry_after to e)
+each_kept : (to : NewModes) (es : List Entry) → AreModesAllowed to es → (e : Entry) → IsAmong es e → KeepsDisk e (entry_after to e)
 each_kept to es taken e among = record { disk = same_bare (change_of to e) e; forced = λ forced. still_forced to es taken e among forced }
 
 -- ---- so it is with the partners of the record
@@ -111,13 +111,13 @@ as_after to r = record r { entries = map (entry_after to) r.entries }
 abbrev made_anew : List Entry → Entry → Entry
 made_anew es e = record e { partners = partner_set es e.number }
 
-with_new : (to : NewModes) (r : Status) → AreTaken to r.entries → ChangesModesAlone r (record r { entries = map (made_anew (map (entry_after to) r.entries)) (map (entry_after to) r.entries) })
+with_new : (to : NewModes) (r : Status) → AreModesAllowed to r.entries → ChangesModesAlone r (record r { entries = map (made_anew (map (entry_after to) r.entries)) (map (entry_after to) r.entries) })
 with_new to r taken =
     modes_join r (as_after to r) (record r { entries = map (made_anew (map (entry_after to) r.entries)) (map (entry_after to) r.entries) })
     (modes_of_each r (entry_after to) (each_kept to r.entries taken))
     (modes_of_each (as_after to r) (made_anew (map (entry_after to) r.entries)) (λ e among. record { disk = refl; forced = λ forced. forced }))
 
-modes_alone : (to : NewModes) (r : Status) → AreTaken to r.entries → ChangesModesAlone r (record r { entries = entries_after to r.entries })
+modes_alone : (to : NewModes) (r : Status) → AreModesAllowed to r.entries → ChangesModesAlone r (record r { entries = entries_after to r.entries })
 modes_alone (modes.Offline disks since repair) r taken = modes_of_each r (entry_after (modes.Offline disks since repair)) (each_kept (modes.Offline disks since repair) r.entries taken)
 modes_alone (modes.Dropped dropping forced) r taken = with_new (modes.Dropped dropping forced) r taken
 modes_alone modes.Undropped r taken = with_new modes.Undropped r taken
@@ -135,14 +135,14 @@ small_after to r allowed e among =
     subst (λ (n : ℕ). n < 64) (sym (ap (λ (y : Entry). y.number) x.2 ∙ same_number (change_of to x.0) x.0))
     (small x.0 (all_of_list is_entry r.entries x.0 (record_parts r allowed).entries x.1))
 
-offline_place : (disks since repair : ℕ) (es : List Entry) → AreTaken (modes.Offline disks since repair) es → (e : Entry) → IsAmong es e → KeepsPlace e (entry_after (modes.Offline disks since repair) e)
+offline_place : (disks since repair : ℕ) (es : List Entry) → AreModesAllowed (modes.Offline disks since repair) es → (e : Entry) → IsAmong es e → KeepsPlace e (entry_after (modes.Offline disks since repair) e)
 offline_place disks since repair es taken e among = go (has_bit disks e.number) (taken e among)
   where
     go : (b : Bool) → (b ≡ true → is_online e.mode ≡ true) → KeepsPlace e (entry_as (cond b (becomes.Offline since repair) becomes.Same) e)
     go true on = record { number = refl; failgroup = refl; quorum = refl; partners = refl; stays = sym (online_stays e.mode (on refl)) }
     go false on = record { number = refl; failgroup = refl; quorum = refl; partners = refl; stays = refl }
 
-partners_after : (to : NewModes) (r : Status) → IsTrue (is_status r) → AreTaken to r.entries → HasPartners r.entries → HasPartners (entries_after to r.entries)
+partners_after : (to : NewModes) (r : Status) → IsTrue (is_status r) → AreModesAllowed to r.entries → HasPartners r.entries → HasPartners (entries_after to r.entries)
 partners_after (modes.Offline disks since repair) r allowed taken has =
     table_stays r.entries (entry_after (modes.Offline disks since repair)) (offline_place disks since repair r.entries taken) has
 partners_after (modes.Dropped dropping forced) r allowed taken has =
@@ -151,7 +151,7 @@ partners_after modes.Undropped r allowed taken has = table_is_made (map (entry_a
 
 -- ---- the record
 
-module _ (s : BayState) (m : MountedGroup) (to : NewModes) (next : Status) (allowed : IsTrue (is_status next)) (is : IsChanged m.register.value next) (under : IsUnder to m.register.value next) (may : MayPut to m.register.value)
+module _ (s : BayState) (m : MountedGroup) (to : NewModes) (next : Status) (allowed : IsTrue (is_status next)) (is : IsChanged m.register.value next) (under : IsUnder to m.register.value next) (may : MayPutModes to m.register.value)
     (n : ℕ) (g : Group) (kept : Kept) (mounts : Mounts n m s g kept) (turns : m.register.turn + 1 < 2 ^ 64) where
   abbrev r : Status
   r = m.register.value
@@ -230,18 +230,18 @@ module _ (a b : MountedGroup) (next : Status) (s t : BayState) (gets : MayBePut 
 -- ---- behind the commit of a rebalance
 
 -- no copy is taken off, whichever the commit lost
-pub put_behind : (to : NewModes) (a b : MountedGroup) → KeepsRecord a.register.value b.register.value → AreTaken to a.register.value.entries × (taken_off to ≡ 0) → MayPut to b.register.value
+pub put_behind : (to : NewModes) (a b : MountedGroup) → KeepsRecord a.register.value b.register.value → AreModesAllowed to a.register.value.entries × (taken_off to ≡ 0) → MayPutModes to b.register.value
 put_behind to a b kept may = record {
-  taken = subst (λ (es : List Entry). AreTaken to es) (sym kept.entries) may.0;
+  taken = subst (λ (es : List Entry). AreModesAllowed to es) (sym kept.entries) may.0;
   left = λ d lt has. record { disk = d; small = lt; has = has; stays = ap (λ (n : ℕ). has_bit n d) may.1 ∙ no_bit d };
 }
 
 -- ---- the move that is on its way was given up
 
-pub may_behind : (of : Changes) (to : NewModes) (a b : MountedGroup) → b ≡ record a { flight = None } → MayMake of to a → MayMake of to b
-may_behind of to a b is may = subst (λ (v : MountedGroup). MayMake of to v) (sym is) (go of may)
+pub may_behind : (of : Changes) (to : NewModes) (a b : MountedGroup) → b ≡ record a { flight = None } → MayMakeChanges of to a → MayMakeChanges of to b
+may_behind of to a b is may = subst (λ (v : MountedGroup). MayMakeChanges of to v) (sym is) (go of may)
   where
-    go : (x : Changes) → MayMake x to a → MayMake x to (record a { flight = None })
+    go : (x : Changes) → MayMakeChanges x to a → MayMakeChanges x to (record a { flight = None })
     go changes.Modes it = it
     go (changes.Rebalance power) it = it
     go (changes.RebalanceThenModes power) it = it
@@ -249,9 +249,9 @@ may_behind of to a b is may = subst (λ (v : MountedGroup). MayMake of to v) (sy
 
 -- ---- UNDROP takes no disk that it may not take, and no copy
 
-pub may_undrop : (m : MountedGroup) (es : List Entry) (of : Changes) → of ≡ undropping es → MayMake of modes.Undropped m
-may_undrop m es of is = subst (λ (x : Changes). MayMake x modes.Undropped m) (sym is) (go (has_dropping es))
+pub may_undrop : (m : MountedGroup) (es : List Entry) (of : Changes) → of ≡ undropping es → MayMakeChanges of modes.Undropped m
+may_undrop m es of is = subst (λ (x : Changes). MayMakeChanges x modes.Undropped m) (sym is) (go (has_dropping es))
   where
-    go : (b : Bool) → MayMake (cond b (changes.RebalanceThenModes 1) (changes.Rebalance 1)) modes.Undropped m
+    go : (b : Bool) → MayMakeChanges (cond b (changes.RebalanceThenModes 1) (changes.Rebalance 1)) modes.Undropped m
     go true = (tt, refl)
     go false = tt

@@ -10,7 +10,7 @@ use Rattle.asm_formats.specs.Sets.{has_bit, most_disks}
 use Rattle.asm_formats.specs.Status.{Entry, is_entry}
 use Rattle.disk_modes.specs.declared.dropping.DropDisk.{DropDisk}
 use Rattle.disk_modes.specs.declared.records.NewModes.TheVariants as modes
-use Rattle.disk_modes.specs.Effects.{AreNamed, drop_to, entry_dropped, entry_forced, is_dropped_by, is_forced_by, option_of}
+use Rattle.disk_modes.specs.Effects.{AreNamedToDrop, drop_to, entry_dropped, entry_forced, is_dropped_by, is_forced_by, option_of}
 use Rattle.disk_modes.specs.Records.{entry_after, entry_as}
 
 -- ---- sets
@@ -55,9 +55,9 @@ forced_more : (b force h : Bool) (o : Option Bool) → h ≡ is_forced_by o → 
 forced_more true force h o is = refl
 forced_more false force h o is = is
 
-pub named_more : (disks : List DropDisk) (i : ℕ) (e x : DropDisk) (dropping forced dropping' forced' : ℕ) → i < length disks → x ≡ get_or disks i e → AreNamed (take i disks) dropping forced
+pub named_more : (disks : List DropDisk) (i : ℕ) (e x : DropDisk) (dropping forced dropping' forced' : ℕ) → i < length disks → x ≡ get_or disks i e → AreNamedToDrop (take i disks) dropping forced
     → ((d : ℕ) → d < 64 → has_bit dropping' d ≡ cond (d == x.disk) (not x.force) (has_bit dropping d)) → ((d : ℕ) → d < 64 → has_bit forced' d ≡ cond (d == x.disk) x.force (has_bit forced d))
-    → AreNamed (take (i + 1) disks) dropping' forced'
+    → AreNamedToDrop (take (i + 1) disks) dropping' forced'
 named_more disks i e x dropping forced dropping' forced' lt is so_far drops forces =
     let longer : take (i + 1) disks ≡ take i disks ++ (x ∷ []) = take_more disks i e lt ∙ ap (λ (y : DropDisk). take i disks ++ (y ∷ [])) (sym is) in
     let option : (d : ℕ) → option_of (take (i + 1) disks) d ≡ cond (d == x.disk) (Some x.force) (option_of (take i disks) d) =
@@ -67,10 +67,10 @@ named_more disks i e x dropping forced dropping' forced' lt is so_far drops forc
       with_force = λ d small. forces d small ∙ forced_more (d == x.disk) x.force (has_bit forced d) (option_of (take i disks) d) (so_far.with_force d small) ∙ ap is_forced_by (sym (option d));
     }
 
-pub none_named : (dropping forced : ℕ) → dropping ≡ 0 → forced ≡ 0 → AreNamed [] dropping forced
+pub none_named : (dropping forced : ℕ) → dropping ≡ 0 → forced ≡ 0 → AreNamedToDrop [] dropping forced
 none_named dropping forced a b = record { without_force = λ d small. ap (λ (n : ℕ). has_bit n d) a ∙ no_bit d; with_force = λ d small. ap (λ (n : ℕ). has_bit n d) b ∙ no_bit d }
 
-pub named_all : (disks : List DropDisk) (i dropping forced : ℕ) → length disks ≤ i → AreNamed (take i disks) dropping forced → AreNamed disks dropping forced
+pub named_all : (disks : List DropDisk) (i dropping forced : ℕ) → length disks ≤ i → AreNamedToDrop (take i disks) dropping forced → AreNamedToDrop disks dropping forced
 named_all disks i dropping forced le is = record {
   without_force = λ d small. is.without_force d small ∙ ap (λ (ys : List DropDisk). is_dropped_by (option_of ys d)) (take_all i disks le);
   with_force = λ d small. is.with_force d small ∙ ap (λ (ys : List DropDisk). is_forced_by (option_of ys d)) (take_all i disks le);
@@ -90,7 +90,7 @@ each_entry f g same (e ∷ es) ok =
     let rest : map f es ≡ map g es = each_entry f g same es p.1 in
     λ i. same e (small e p.0) i ∷ rest i
 
-pub one_dropped : (disks : List DropDisk) (dropping forced : ℕ) → AreNamed disks dropping forced → (e : Entry) → e.number < 64
+pub one_dropped : (disks : List DropDisk) (dropping forced : ℕ) → AreNamedToDrop disks dropping forced → (e : Entry) → e.number < 64
     → entry_after (modes.Dropped dropping forced) e ≡ entry_dropped disks e
 one_dropped disks dropping forced named e lt = by_option (has_bit dropping e.number) (has_bit forced e.number) (option_of disks e.number) (named.without_force e.number lt) (named.with_force e.number lt)
   where

@@ -15,9 +15,9 @@ use Rattle.disk_modes.specs.declared.records.NewModes.TheVariants as modes
 use Rattle.disk_modes.specs.declared.sizes.Asked.{Asked}
 use Rattle.disk_modes.specs.Causes.{IsFirstSmall, IsStateOf, LeavesTooLittle, OfflineRefused, ResizeRefused, forced_hold_copies, forced_would_lose, hold_copies, not_online, not_serving, too_few, too_small, would_lose}
 use Rattle.disk_modes.specs.Directories.{DirectoriesCause}
-use Rattle.disk_modes.specs.Finding.{AreAttached}
+use Rattle.disk_modes.specs.Finding.{HasAttachedDisks}
 use Rattle.disk_modes.specs.Losing.{LosingCause}
-use Rattle.disk_modes.specs.Modes.{GroupsCause, StateCause, drop_as}
+use Rattle.disk_modes.specs.Modes.{GroupsCause, ModeStateCause, drop_as}
 use Rattle.disk_modes.specs.Records.{entry_after}
 use Rattle.disk_modes.proofs.Naming.{no_bit}
 use Rattle.disk_modes.proofs.Steps.{on_err}
@@ -31,14 +31,14 @@ or_false false = refl
 
 -- ---- OFFLINE
 
-pub offline_state_by : (m : MountedGroup) (r : Status) (es : List Entry) (disks : ℕ) (e : Refusal) → r ≡ m.register.value → es ≡ r.entries → StateCause statement.Offline disks es e → OfflineRefused m disks e
-offline_state_by m r es disks e held is why = not_online (subst (λ (x : List Entry). StateCause statement.Offline disks x e) (of_record m r es held is) why)
+pub offline_state_by : (m : MountedGroup) (r : Status) (es : List Entry) (disks : ℕ) (e : Refusal) → r ≡ m.register.value → es ≡ r.entries → ModeStateCause statement.Offline disks es e → OfflineRefused m disks e
+offline_state_by m r es disks e held is why = not_online (subst (λ (x : List Entry). ModeStateCause statement.Offline disks x e) (of_record m r es held is) why)
 
 pub offline_copies_by : (m : MountedGroup) (r : Status) (n disks : ℕ) (e : Refusal) → r ≡ m.register.value → n ≡ r.directories → DirectoriesCause n disks e → OfflineRefused m disks e
 offline_copies_by m r n disks e held is why = hold_copies (subst (λ (x : ℕ). DirectoriesCause x disks e) (is ∙ ap (λ (x : Status). x.directories) held) why)
 
 pub offline_losing_by : (m : MountedGroup) (r : Status) (es : List Entry) (v : Catalogued) (disks attached : ℕ) (res : Result (Unit {0}) Refusal) → r ≡ m.register.value → es ≡ r.entries → v ≡ m.catalog
-    → AreAttached m attached → IfErr res (LosingCause (counted.Usable attached) es disks v) → IfErr res (OfflineRefused m disks)
+    → HasAttachedDisks m attached → IfErr res (LosingCause (counted.Usable attached) es disks v) → IfErr res (OfflineRefused m disks)
 offline_losing_by m r es v disks attached res held is same all = on_err (LosingCause (counted.Usable attached) es disks v) (OfflineRefused m disks) res
     (λ e why. would_lose attached all (subst (λ (x : Catalogued). LosingCause (counted.Usable attached) m.register.value.entries disks x e) same
     (subst (λ (x : List Entry). LosingCause (counted.Usable attached) x disks v e) (of_record m r es held is) why)))
@@ -46,13 +46,13 @@ offline_losing_by m r es v disks attached res held is same all = on_err (LosingC
 -- ---- DROP
 
 pub alone_state_by : (m : MountedGroup) (r : Status) (es : List Entry) (of : Statement) (force : Bool) (none set d : ℕ) (res : Result (Unit {0}) Refusal) → r ≡ m.register.value → es ≡ r.entries → of ≡ drop_as force
-    → none ≡ 0 → ((k : ℕ) → k < 64 → has_bit set k ≡ ((k == d) || has_bit none k)) → IfErr res (StateCause of set es) → IfErr res (IsStateOf (drop_as force) d m.register.value.entries)
-alone_state_by m r es of force none set d res held is same empty made = on_err (StateCause of set es) (IsStateOf (drop_as force) d m.register.value.entries) res
+    → none ≡ 0 → ((k : ℕ) → k < 64 → has_bit set k ≡ ((k == d) || has_bit none k)) → IfErr res (ModeStateCause of set es) → IfErr res (IsStateOf (drop_as force) d m.register.value.entries)
+alone_state_by m r es of force none set d res held is same empty made = on_err (ModeStateCause of set es) (IsStateOf (drop_as force) d m.register.value.entries) res
     (λ e why. (
       set,
       (λ k lt. made k lt ∙ ap (λ (n : ℕ). (k == d) || has_bit n k) empty ∙ ap (λ (b : Bool). (k == d) || b) (no_bit k) ∙ or_false (k == d)),
-      subst (λ (x : Statement). StateCause x set m.register.value.entries e) same
-          (subst (λ (x : List Entry). StateCause of set x e) (of_record m r es held is) why),
+      subst (λ (x : Statement). ModeStateCause x set m.register.value.entries e) same
+          (subst (λ (x : List Entry). ModeStateCause of set x e) (of_record m r es held is) why),
     ))
 
 pub drop_copies_by : (m : MountedGroup) (r : Status) (n dropping forced : ℕ) (e : Refusal) → r ≡ m.register.value → n ≡ r.directories → DirectoriesCause n forced e → LeavesTooLittle m dropping forced e
@@ -72,8 +72,8 @@ drop_groups_by m k r next to dropping forced res same held is changed = on_err (
 
 -- ---- RESIZE
 
-pub resize_state_by : (m : MountedGroup) (r : Status) (es : List Entry) (asked : Asked) (e : Refusal) → r ≡ m.register.value → es ≡ r.entries → StateCause statement.Resize asked.disks es e → ResizeRefused m asked e
-resize_state_by m r es asked e held is why = not_serving (subst (λ (x : List Entry). StateCause statement.Resize asked.disks x e) (of_record m r es held is) why)
+pub resize_state_by : (m : MountedGroup) (r : Status) (es : List Entry) (asked : Asked) (e : Refusal) → r ≡ m.register.value → es ≡ r.entries → ModeStateCause statement.Resize asked.disks es e → ResizeRefused m asked e
+resize_state_by m r es asked e held is why = not_serving (subst (λ (x : List Entry). ModeStateCause statement.Resize asked.disks x e) (of_record m r es held is) why)
 
 pub resize_size_by : (m : MountedGroup) (asked : Asked) (res : Result (Unit {0}) Refusal) → IfErr res (IsFirstSmall m asked) → IfErr res (ResizeRefused m asked)
 resize_size_by m asked res = on_err (IsFirstSmall m asked) (ResizeRefused m asked) res (λ e why. too_small why)

@@ -16,7 +16,7 @@ use Rattle.group_engine.specs.Own.{IsSameGroup}
 use Rattle.group_engine.proofs.Records.{record_parts}
 use Rattle.disk_modes.specs.declared.sizes.Asked.{Asked}
 use Rattle.disk_modes.specs.Effects.{PutsRebalance}
-use Rattle.disk_modes.specs.Sizes.{HasAsked, PutsUnits, Resizes, capped, entry_capped, entry_resized, is_other, status_resized, units_asked}
+use Rattle.disk_modes.specs.Sizes.{HasAsked, PutsUnits, ResizesDisks, capped, entry_capped, entry_resized, is_other, status_resized, units_asked}
 use Rattle.disk_modes.proofs.Effects.{on_ok}
 use Rattle.disk_modes.proofs.Naming.{each_entry}
 
@@ -175,15 +175,15 @@ units_put asked old new next r tables written allowed made = on_ok (new.register
 pub no_units_put : (asked : Asked) (m : MountedGroup) → list_any (is_other m.catalog.shape m.disks asked) m.register.value.entries ≡ false → PutsUnits asked m m
 no_units_put asked m none = record { tables = refl; entries = none_other m.catalog.shape m.disks asked m.register.value.entries none; copies = refl }
 
-pub rebalance_then_units : (power : ℕ) (asked : Asked) (a b c : MountedGroup) → IsSameGroup a b → PutsRebalance (Some power) a b → PutsUnits asked b c → Resizes asked.disks asked.size power a c
+pub rebalance_then_units : (power : ℕ) (asked : Asked) (a b c : MountedGroup) → IsSameGroup a b → PutsRebalance (Some power) a b → PutsUnits asked b c → ResizesDisks asked.disks asked.size power a c
 rebalance_then_units power asked a b c same one two = record {
   tables = two.tables ∙ one.tables;
   entries = two.entries ∙ (λ i. map (entry_resized (same.shape i) (same.disks i) asked) (one.kept.entries i));
   copies = λ d lt has. one.kept.copies d lt (subst (λ (n : ℕ). has_bit n d ≡ true) two.copies has);
 }
 
-pub resized_behind : (disks : ℕ) (size : Option ℕ) (power : ℕ) (a b c : MountedGroup) (r : Result (Unit {0}) Refusal) → b ≡ record a { flight = None } → OnOk r (Resizes disks size power b c)
-    → OnOk r (Resizes disks size power a c)
+pub resized_behind : (disks : ℕ) (size : Option ℕ) (power : ℕ) (a b c : MountedGroup) (r : Result (Unit {0}) Refusal) → b ≡ record a { flight = None } → OnOk r (ResizesDisks disks size power b c)
+    → OnOk r (ResizesDisks disks size power a c)
 resized_behind disks size power a b c r is done =
-    on_ok (Resizes disks size power (record a { flight = None }) c) (Resizes disks size power a c) r (λ done'. record { tables = done'.tables; entries = done'.entries; copies = done'.copies })
-    (subst (λ (v : MountedGroup). OnOk r (Resizes disks size power v c)) is done)
+    on_ok (ResizesDisks disks size power (record a { flight = None }) c) (ResizesDisks disks size power a c) r (λ done'. record { tables = done'.tables; entries = done'.entries; copies = done'.copies })
+    (subst (λ (v : MountedGroup). OnOk r (ResizesDisks disks size power v c)) is done)

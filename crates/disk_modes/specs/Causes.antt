@@ -13,11 +13,11 @@ use Rattle.disk_modes.specs.declared.losing.Counted.TheVariants as counted
 use Rattle.disk_modes.specs.declared.records.NewModes.TheVariants as modes
 use Rattle.disk_modes.specs.declared.sizes.Asked.{Asked}
 use Rattle.disk_modes.specs.Directories.{DirectoriesCause}
-use Rattle.disk_modes.specs.Effects.{AreNamed}
+use Rattle.disk_modes.specs.Effects.{AreNamedToDrop}
 use Rattle.disk_modes.specs.Ends.{NeedsUnits}
-use Rattle.disk_modes.specs.Finding.{AreAttached}
+use Rattle.disk_modes.specs.Finding.{HasAttachedDisks}
 use Rattle.disk_modes.specs.Losing.{LosingCause}
-use Rattle.disk_modes.specs.Modes.{GroupsCause, StateCause, drop_as}
+use Rattle.disk_modes.specs.Modes.{GroupsCause, ModeStateCause, drop_as}
 use Rattle.disk_modes.specs.Records.{entry_after}
 use Rattle.disk_modes.specs.Sizes.{image_units, units_asked}
 use Rattle.disk_modes.specs.Stops.{AreTakenAs}
@@ -27,21 +27,21 @@ use Rattle.disk_modes.specs.Stops.{AreTakenAs}
 -- OFFLINE of these disks is refused.
 pub data OfflineRefused (m : MountedGroup) (disks : ℕ) (refusal : Refusal) : Type 0 where
   -- by the least that isn't Online
-  not_online : StateCause statement.Offline disks m.register.value.entries refusal → OfflineRefused m disks refusal
+  not_online : ModeStateCause statement.Offline disks m.register.value.entries refusal → OfflineRefused m disks refusal
   -- they have all directory copies
   hold_copies : DirectoriesCause m.register.value.directories disks refusal → OfflineRefused m disks refusal
   -- by the first extent whose usable copies are all on them
-  would_lose : (attached : ℕ) → AreAttached m attached → LosingCause (counted.Usable attached) m.register.value.entries disks m.catalog refusal → OfflineRefused m disks refusal
+  would_lose : (attached : ℕ) → HasAttachedDisks m attached → LosingCause (counted.Usable attached) m.register.value.entries disks m.catalog refusal → OfflineRefused m disks refusal
 
 -- ---- DROP
 
 -- a set has this disk alone
-abbrev pub IsAlone : ℕ → ℕ → Type 0
-IsAlone set d = (k : ℕ) → k < 64 → has_bit set k ≡ (k == d)
+abbrev pub HasDiskAlone : ℕ → ℕ → Type 0
+HasDiskAlone set d = (k : ℕ) → k < 64 → has_bit set k ≡ (k == d)
 
 -- refused by the mode of this disk
 abbrev pub IsStateOf : Statement → ℕ → List Entry → Refusal → Type 0
-IsStateOf of d es refusal = (alone : ℕ) × IsAlone alone d × StateCause of alone es refusal
+IsStateOf of d es refusal = (alone : ℕ) × HasDiskAlone alone d × ModeStateCause of alone es refusal
 
 -- Refused by the first disk of the statement whose mode its option doesn't take: with FORCE, where the set has it.
 pub record IsFirstState (m : MountedGroup) (forced : ℕ) (disks : List DropDisk) (refusal : Refusal) : Type 0 where
@@ -63,12 +63,12 @@ pub data LeavesTooLittle (m : MountedGroup) (dropping forced : ℕ) (refusal : R
       (record m.register.value { entries = map (entry_after (modes.Dropped dropping forced)) m.register.value.entries }) refusal
       → LeavesTooLittle m dropping forced refusal
 
-abbrev pub DropCause : MountedGroup → List DropDisk → ℕ → ℕ → Refusal → Type 0
-DropCause m disks dropping forced refusal = IsFirstState m forced disks refusal ⊎ LeavesTooLittle m dropping forced refusal
+abbrev pub DropDisksCause : MountedGroup → List DropDisk → ℕ → ℕ → Refusal → Type 0
+DropDisksCause m disks dropping forced refusal = IsFirstState m forced disks refusal ⊎ LeavesTooLittle m dropping forced refusal
 
 -- DROP is refused. Of a disk that is named twice the last option holds.
 abbrev pub DropRefused : MountedGroup → List DropDisk → Refusal → Type 0
-DropRefused m disks refusal = (dropping : ℕ) × (forced : ℕ) × AreNamed disks dropping forced × DropCause m disks dropping forced refusal
+DropRefused m disks refusal = (dropping : ℕ) × (forced : ℕ) × AreNamedToDrop disks dropping forced × DropDisksCause m disks dropping forced refusal
 
 -- ---- RESIZE
 
@@ -109,6 +109,6 @@ pub record IsFirstSmall (m : MountedGroup) (asked : Asked) (refusal : Refusal) :
 -- RESIZE is refused.
 pub data ResizeRefused (m : MountedGroup) (asked : Asked) (refusal : Refusal) : Type 0 where
   -- by the least of the disks that doesn't serve
-  not_serving : StateCause statement.Resize asked.disks m.register.value.entries refusal → ResizeRefused m asked refusal
+  not_serving : ModeStateCause statement.Resize asked.disks m.register.value.entries refusal → ResizeRefused m asked refusal
   -- by the least of the disks that is too small
   too_small : IsFirstSmall m asked refusal → ResizeRefused m asked refusal

@@ -18,7 +18,7 @@ use Rattle.disk_modes.specs.declared.records.Becomes.{Becomes}
 use Rattle.disk_modes.specs.declared.records.Becomes.TheVariants as becomes
 use Rattle.disk_modes.specs.declared.records.NewModes.{NewModes}
 use Rattle.disk_modes.specs.declared.records.NewModes.TheVariants as modes
-use Rattle.disk_modes.specs.Directories.{IsWithin}
+use Rattle.disk_modes.specs.Directories.{IsSubset}
 use Rattle.disk_modes.specs.Records.{IsUnder, entries_after, entry_as, taken_off}
 
 -- the tables where the rebalance of a power is active, or none is
@@ -45,11 +45,11 @@ pub record PutsBoth (power : ℕ) (to : NewModes) (old new : MountedGroup) : Typ
   pub entries : new.register.value.entries ≡ entries_after to old.register.value.entries
   pub copies : LeavesOthers new.register.value.directories old.register.value.directories (taken_off to)
 
-abbrev pub Makes : Changes → NewModes → MountedGroup → MountedGroup → Type 0
-Makes changes.Modes to old new = PutsModes to old new
-Makes (changes.Rebalance power) to old new = PutsRebalance (Some power) old new
-Makes (changes.RebalanceThenModes power) to old new = PutsBoth power to old new
-Makes (changes.ModesThenRebalance power) to old new = PutsBoth power to old new
+abbrev pub MakesChanges : Changes → NewModes → MountedGroup → MountedGroup → Type 0
+MakesChanges changes.Modes to old new = PutsModes to old new
+MakesChanges (changes.Rebalance power) to old new = PutsRebalance (Some power) old new
+MakesChanges (changes.RebalanceThenModes power) to old new = PutsBoth power to old new
+MakesChanges (changes.ModesThenRebalance power) to old new = PutsBoth power to old new
 
 -- ---- OFFLINE
 
@@ -72,7 +72,7 @@ is_dropped_by None = false
 is_dropped_by (Some force) = not force
 
 -- The disks that a statement names, without FORCE and with it.
-pub record AreNamed (disks : List DropDisk) (dropping forced : ℕ) : Type 0 where
+pub record AreNamedToDrop (disks : List DropDisk) (dropping forced : ℕ) : Type 0 where
   pub without_force : (d : ℕ) → d < 64 → has_bit dropping d ≡ is_dropped_by (option_of disks d)
   pub with_force : (d : ℕ) → d < 64 → has_bit forced d ≡ is_forced_by (option_of disks d)
 
@@ -90,10 +90,10 @@ abbrev pub entry_dropped : List DropDisk → Entry → Entry
 entry_dropped disks e = entry_as (drop_to (option_of disks e.number)) e
 
 -- The disks that the statement names are Dropping, or with FORCE Forced and without a directory copy. The rebalance is active.
-pub record Drops (disks : List DropDisk) (power : ℕ) (old new : MountedGroup) : Type 0 where
+pub record DropsDisks (disks : List DropDisk) (power : ℕ) (old new : MountedGroup) : Type 0 where
   pub tables : new.catalog.tables ≡ with_rebalance old.catalog.tables (Some power)
   pub entries : new.register.value.entries ≡ with_partners (map (entry_dropped disks) old.register.value.entries)
-  pub copies : IsWithin new.register.value.directories old.register.value.directories
+  pub copies : IsSubset new.register.value.directories old.register.value.directories
   pub forced : (d : ℕ) → d < 64 → is_forced_by (option_of disks d) ≡ true → has_bit new.register.value.directories d ≡ false
 
 -- ---- UNDROP
@@ -113,7 +113,7 @@ undropping es = if has_dropping es then changes.RebalanceThenModes 1 else change
 pub record Undrops (old new : MountedGroup) : Type 0 where
   pub tables : new.catalog.tables ≡ with_rebalance old.catalog.tables (Some 1)
   pub entries : new.register.value.entries ≡ undropped old.register.value.entries
-  pub copies : IsWithin new.register.value.directories old.register.value.directories
+  pub copies : IsSubset new.register.value.directories old.register.value.directories
 
 -- ---- expiry
 
@@ -127,6 +127,6 @@ pub record DropsByForce (d : ℕ) (old new : MountedGroup) : Type 0 where
   pub copies : (k : ℕ) → k < 64 → has_bit new.register.value.directories k ≡ true → (has_bit old.register.value.directories k ≡ true) × (k ≢ d)
 
 -- the disk whose time was over at a second, and which may go, is dropped by force; where there is none the group stays
-abbrev pub Expires : ℕ → MountedGroup → Option ℕ → MountedGroup → Type 0
-Expires now old None new = (expiring old.catalog old.register.value now ≡ None) × (new ≡ old)
-Expires now old (Some d) new = (expiring old.catalog old.register.value now ≡ Some d) × DropsByForce d old new
+abbrev pub DropsExpiredDisk : ℕ → MountedGroup → Option ℕ → MountedGroup → Type 0
+DropsExpiredDisk now old None new = (expiring old.catalog old.register.value now ≡ None) × (new ≡ old)
+DropsExpiredDisk now old (Some d) new = (expiring old.catalog old.register.value now ≡ Some d) × DropsByForce d old new

@@ -6,7 +6,7 @@ use Rattle.asm_formats.specs.Items.{DiskInfo}
 use Rattle.asm_formats.specs.Sets.{has_bit}
 use Rattle.asm_formats.specs.Status.{Entry}
 use Rattle.asm_placement.specs.Modes.{serves}
-use Rattle.catalog_tables.specs.Disks.{info_at}
+use Rattle.disk_directory.specs.Disks.{info_at}
 use Rattle.catalog_tables.specs.Tables.{Catalogued}
 use Rattle.group_engine.specs.Mounts.{MountedGroup, slot_at}
 use Rattle.group_reports.specs.Disks as reports
@@ -47,8 +47,8 @@ abbrev pub is_attached : MountedGroup → ℕ → Bool
 is_attached m d = nat_lt d 64 && is_some (slot_at m.disks d)
 
 -- the set has the attached disks
-abbrev pub AreAttached : MountedGroup → ℕ → Type 0
-AreAttached m set = (d : ℕ) → d < 64 → has_bit set d ≡ is_attached m d
+abbrev pub HasAttachedDisks : MountedGroup → ℕ → Type 0
+HasAttachedDisks m set = (d : ℕ) → d < 64 → has_bit set d ≡ is_attached m d
 
 -- the disk serves
 abbrev pub is_serving : MountedGroup → Entry → Bool

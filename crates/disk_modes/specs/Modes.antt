@@ -32,17 +32,17 @@ abbrev pub other : Statement → ℕ → List Entry → Option Entry
 other of disks es = find (λ (e : Entry). has_bit disks e.number && not (takes of e.mode)) es
 
 -- the statement takes each disk of the set
-abbrev pub AllTaken : Statement → ℕ → List Entry → Type 0
-AllTaken of disks es = (e : Entry) → IsAmong es e → has_bit disks e.number ≡ true → takes of e.mode ≡ true
+abbrev pub TakesEachDisk : Statement → ℕ → List Entry → Type 0
+TakesEachDisk of disks es = (e : Entry) → IsAmong es e → has_bit disks e.number ≡ true → takes of e.mode ≡ true
 
 -- the entry is there, and has this disk and this mode
 abbrev pub IsState : Option Entry → DiskRef → Mode → Type 0
 IsState o by mode = (e : Entry) × (o ≡ Some e) × (by ≡ disk.Number e.number) × (mode ≡ e.mode)
 
 -- refused by the mode of the first disk of the set that the statement doesn't take
-abbrev pub StateCause : Statement → ℕ → List Entry → Refusal → Type 0
-StateCause of disks es (cause.DiskState by mode) = IsState (other of disks es) by mode
-StateCause of disks es _ = ⊥
+abbrev pub ModeStateCause : Statement → ℕ → List Entry → Refusal → Type 0
+ModeStateCause of disks es (cause.DiskState by mode) = IsState (other of disks es) by mode
+ModeStateCause of disks es _ = ⊥
 
 -- ---- failure groups
 

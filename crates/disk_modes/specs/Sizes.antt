@@ -8,7 +8,7 @@ use Rattle.status_table.specs.Changes.{status_with_units}
 use Rattle.group_engine.specs.declared.attached.Attached.{Attached}
 use Rattle.group_engine.specs.Mounts.{MountedGroup}
 use Rattle.disk_modes.specs.declared.sizes.Asked.{Asked}
-use Rattle.disk_modes.specs.Directories.{IsWithin}
+use Rattle.disk_modes.specs.Directories.{IsSubset}
 use Rattle.disk_modes.specs.Effects.{with_rebalance}
 
 -- the whole units in so many bytes
@@ -38,10 +38,10 @@ abbrev pub entry_resized : Shape → List (Option Attached) → Asked → Entry 
 entry_resized s disks asked e = if has_bit asked.disks e.number then record e { units = units_asked s disks asked.size e.number } else e
 
 -- The disks have the units that they are to have, and a rebalance is active.
-pub record Resizes (disks : ℕ) (size : Option ℕ) (power : ℕ) (old new : MountedGroup) : Type 0 where
+pub record ResizesDisks (disks : ℕ) (size : Option ℕ) (power : ℕ) (old new : MountedGroup) : Type 0 where
   pub tables : new.catalog.tables ≡ with_rebalance old.catalog.tables (Some power)
   pub entries : new.register.value.entries ≡ map (entry_resized old.catalog.shape old.disks (record { disks = disks; size = size })) old.register.value.entries
-  pub copies : IsWithin new.register.value.directories old.register.value.directories
+  pub copies : IsSubset new.register.value.directories old.register.value.directories
 
 -- ---- the record with the units
 

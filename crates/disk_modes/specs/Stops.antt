@@ -18,7 +18,7 @@ use Rattle.disk_modes.specs.declared.dropping.DropDisk.{DropDisk}
 use Rattle.disk_modes.specs.declared.records.NewModes.{NewModes}
 use Rattle.disk_modes.specs.declared.records.NewModes.TheVariants as modes
 use Rattle.disk_modes.specs.Directories.{LeavesCopy}
-use Rattle.disk_modes.specs.Modes.{AllTaken, drop_as, takes}
+use Rattle.disk_modes.specs.Modes.{TakesEachDisk, drop_as, takes}
 use Rattle.disk_modes.specs.Records.{taken_off}
 use Rattle.disk_modes.specs.Sizes.{image_units, units_asked}
 use Rattle.disk_modes.specs.declared.sizes.Asked.{Asked}
@@ -39,10 +39,10 @@ pub record CommitsRebalance (old : MountedGroup) (answer : Result (Unit {0}) Ref
 -- ---- what a statement has checked before
 
 -- disks that go Offline are Online, and none that is to be emptied is Forced
-abbrev pub AreTaken : NewModes → List Entry → Type 0
-AreTaken (modes.Offline disks since repair) es = (e : Entry) → IsAmong es e → has_bit disks e.number ≡ true → is_online e.mode ≡ true
-AreTaken (modes.Dropped dropping forced) es = (e : Entry) → IsAmong es e → has_bit forced e.number ≡ false → has_bit dropping e.number ≡ true → is_forced e.mode ≡ false
-AreTaken modes.Undropped es = ⊤
+abbrev pub AreModesAllowed : NewModes → List Entry → Type 0
+AreModesAllowed (modes.Offline disks since repair) es = (e : Entry) → IsAmong es e → has_bit disks e.number ≡ true → is_online e.mode ≡ true
+AreModesAllowed (modes.Dropped dropping forced) es = (e : Entry) → IsAmong es e → has_bit forced e.number ≡ false → has_bit dropping e.number ≡ true → is_forced e.mode ≡ false
+AreModesAllowed modes.Undropped es = ⊤
 
 -- the statement takes the disk
 abbrev pub TakesDisk : Statement → ℕ → List Entry → Type 0
@@ -53,13 +53,13 @@ abbrev pub AreTakenAs : MountedGroup → ℕ → List DropDisk → Type 0
 AreTakenAs m forced disks = (x : DropDisk) → IsAmong disks x → TakesDisk (drop_as (has_bit forced x.disk)) x.disk m.register.value.entries
 
 -- The new modes may be put: they are checked, and a directory copy is left.
-pub record MayPut (to : NewModes) (r : Status) : Type 0 where
-  pub taken : AreTaken to r.entries
+pub record MayPutModes (to : NewModes) (r : Status) : Type 0 where
+  pub taken : AreModesAllowed to r.entries
   pub left : LeavesCopy r.directories (taken_off to)
 
 -- OFFLINE of these disks may be put: each is Online, and a directory copy is left.
 pub record MayGoOffline (m : MountedGroup) (disks : ℕ) : Type 0 where
-  pub online : AllTaken statement.Offline disks m.register.value.entries
+  pub online : TakesEachDisk statement.Offline disks m.register.value.entries
   pub left : LeavesCopy m.register.value.directories disks
 
 -- turns don't run out, where a record is written before a commit
@@ -67,11 +67,11 @@ abbrev pub HasTwoTurns : MountedGroup → Type 0
 HasTwoTurns m = turns_at_most m + 2 < 2 ^ 64
 
 -- The changes may be made. Behind the commit of a rebalance no copy is taken off, since it may lose some.
-abbrev pub MayMake : Changes → NewModes → MountedGroup → Type 0
-MayMake changes.Modes to m = MayPut to m.register.value
-MayMake (changes.Rebalance power) to m = ⊤
-MayMake (changes.RebalanceThenModes power) to m = AreTaken to m.register.value.entries × (taken_off to ≡ 0)
-MayMake (changes.ModesThenRebalance power) to m = MayPut to m.register.value × HasTwoTurns m
+abbrev pub MayMakeChanges : Changes → NewModes → MountedGroup → Type 0
+MayMakeChanges changes.Modes to m = MayPutModes to m.register.value
+MayMakeChanges (changes.Rebalance power) to m = ⊤
+MayMakeChanges (changes.RebalanceThenModes power) to m = AreModesAllowed to m.register.value.entries × (taken_off to ≡ 0)
+MayMakeChanges (changes.ModesThenRebalance power) to m = MayPutModes to m.register.value × HasTwoTurns m
 
 -- the image of each disk that is asked for has the units that the disk is to have
 abbrev pub FitImages : Asked → MountedGroup → Type 0

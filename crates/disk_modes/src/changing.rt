@@ -2,9 +2,9 @@
 ghost use Rattle.std.specs.Prelude.{OnOk, Some};
 ghost use Rattle.group_engine.specs.Mounts.{IsMounted, Takes};
 ghost use Rattle.group_engine.specs.Pending.{GoesOn};
-ghost use Rattle.disk_modes.specs.Effects.{Makes, PutsBoth, PutsModes, PutsRebalance};
+ghost use Rattle.disk_modes.specs.Effects.{MakesChanges, PutsBoth, PutsModes, PutsRebalance};
 ghost use Rattle.disk_modes.specs.declared.changing.Changes.TheVariants as changes;
-ghost use Rattle.disk_modes.specs.Stops.{CommitsRebalance, MayMake, MayPut, StaysHeld};
+ghost use Rattle.disk_modes.specs.Stops.{CommitsRebalance, MayMakeChanges, MayPutModes, StaysHeld};
 
 use crate::records::{NewModes, next_record};
 use asm_base::{NoMemory, Refusal};
@@ -35,8 +35,8 @@ pub(crate) fn change_disks<B: Bay>(
     requires mounted { IsMounted m.old }
     requires takes { Takes m.old (B.state bay.old) }
     ensures goes { GoesOn m.old result m.new (B.state bay.old) (B.state bay.new) }
-    ensures done { OnOk result (Makes changes.now new.now m.old m.new) }
-    ensures held { MayMake changes.now new.now m.old → StaysHeld m.old m.new (B.state bay.old) (B.state bay.new) }
+    ensures done { OnOk result (MakesChanges changes.now new.now m.old m.new) }
+    ensures held { MayMakeChanges changes.now new.now m.old → StaysHeld m.old m.new (B.state bay.old) (B.state bay.new) }
 {
     m.set_flight(None);
     make_changes(m, alloc, bay, new, changes)
@@ -52,8 +52,8 @@ fn make_changes<B: Bay>(
     requires mounted { IsMounted m.old }
     requires takes { Takes m.old (B.state bay.old) }
     ensures goes { GoesOn m.old result m.new (B.state bay.old) (B.state bay.new) }
-    ensures done { OnOk result (Makes changes.now new.now m.old m.new) }
-    ensures held { MayMake changes.now new.now m.old → StaysHeld m.old m.new (B.state bay.old) (B.state bay.new) }
+    ensures done { OnOk result (MakesChanges changes.now new.now m.old m.new) }
+    ensures held { MayMakeChanges changes.now new.now m.old → StaysHeld m.old m.new (B.state bay.old) (B.state bay.new) }
 {
     match *changes {
         Changes::Modes => put_modes(m, alloc, bay, new),
@@ -74,7 +74,7 @@ fn rebalance_first<B: Bay>(
     requires takes { Takes m.old (B.state bay.old) }
     ensures goes { GoesOn m.old result m.new (B.state bay.old) (B.state bay.new) }
     ensures done { OnOk result (PutsBoth power new.now m.old m.new) }
-    ensures held { MayMake (changes.RebalanceThenModes power) new.now m.old → StaysHeld m.old m.new (B.state bay.old) (B.state bay.new) }
+    ensures held { MayMakeChanges (changes.RebalanceThenModes power) new.now m.old → StaysHeld m.old m.new (B.state bay.old) (B.state bay.new) }
 {
     match put_rebalance(m, alloc, bay, Some(power)) {
         Ok(()) => modes_or_shut(m, alloc, bay, new),
@@ -93,7 +93,7 @@ fn modes_first<B: Bay>(
     requires takes { Takes m.old (B.state bay.old) }
     ensures goes { GoesOn m.old result m.new (B.state bay.old) (B.state bay.new) }
     ensures done { OnOk result (PutsBoth power new.now m.old m.new) }
-    ensures held { MayMake (changes.ModesThenRebalance power) new.now m.old → StaysHeld m.old m.new (B.state bay.old) (B.state bay.new) }
+    ensures held { MayMakeChanges (changes.ModesThenRebalance power) new.now m.old → StaysHeld m.old m.new (B.state bay.old) (B.state bay.new) }
 {
     match put_modes(m, alloc, bay, new) {
         Ok(()) => rebalance_or_shut(m, alloc, bay, power),
@@ -112,7 +112,7 @@ fn modes_or_shut<B: Bay>(
     requires takes { Takes m.old (B.state bay.old) }
     ensures goes { GoesOn m.old result m.new (B.state bay.old) (B.state bay.new) }
     ensures done { OnOk result (PutsModes new.now m.old m.new) }
-    ensures held { MayPut new.now m.old.register.value → StaysHeld m.old m.new (B.state bay.old) (B.state bay.new) }
+    ensures held { MayPutModes new.now m.old.register.value → StaysHeld m.old m.new (B.state bay.old) (B.state bay.new) }
 {
     match put_modes(m, alloc, bay, new) {
         Ok(()) => Ok(()),
@@ -158,7 +158,7 @@ fn put_modes<B: Bay>(
     requires takes { Takes m.old (B.state bay.old) }
     ensures goes { GoesOn m.old result m.new (B.state bay.old) (B.state bay.new) }
     ensures done { OnOk result (PutsModes new.now m.old m.new) }
-    ensures held { MayPut new.now m.old.register.value → StaysHeld m.old m.new (B.state bay.old) (B.state bay.new) }
+    ensures held { MayPutModes new.now m.old.register.value → StaysHeld m.old m.new (B.state bay.old) (B.state bay.new) }
 {
     match next_record(alloc, m.status(), new) {
         Ok(next) => m.set_status(alloc, bay, &next),

@@ -2,9 +2,9 @@
 ghost use Rattle.std.specs.Prelude.{◌≡◌, ◌<◌, ℕ, IfErr, IfNone, IfSome, OnOk, false};
 ghost use Rattle.std.specs.Bool.{OnFalse, OnTrue};
 ghost use Rattle.asm_formats.specs.Sets.{has_bit};
-ghost use Rattle.disk_modes.specs.Directories.{DirectoriesCause, IsLeast, IsLeft, IsWithin, LeavesCopy};
+ghost use Rattle.disk_modes.specs.Directories.{DirectoriesCause, IsLeastOfSet, IsLeft, IsSubset, LeavesCopy};
 ghost use Rattle.disk_modes.specs.Losing.{LosingCause};
-ghost use Rattle.disk_modes.specs.Modes.{AllTaken, GroupsCause, StateCause, groups_needed, other, takes};
+ghost use Rattle.disk_modes.specs.Modes.{TakesEachDisk, GroupsCause, ModeStateCause, groups_needed, other, takes};
 
 use crate::losing::{Counted, first_losing};
 use asm_base::{DiskRef, DiskSet, GroupKind, Mode, Refusal};
@@ -51,8 +51,8 @@ pub(crate) fn check_modes(
     disks: DiskSet,
     statement: Statement,
 ) -> Result<(), Refusal>
-    ensures cause { IfErr result (StateCause statement disks entries.now) }
-    ensures taken { OnOk result (AllTaken statement disks entries.now) }
+    ensures cause { IfErr result (ModeStateCause statement disks entries.now) }
+    ensures taken { OnOk result (TakesEachDisk statement disks entries.now) }
 {
     match other(entries, disks, statement) {
         Some(entry) => Err(Refusal::DiskState {
@@ -88,7 +88,7 @@ pub(crate) fn check_directories(directories: DiskSet, disks: DiskSet) -> Result<
 
 /// Whether each disk of a set is in the other.
 fn is_within(set: DiskSet, all: DiskSet) -> bool
-    ensures within { OnTrue result (IsWithin set all) }
+    ensures within { OnTrue result (IsSubset set all) }
     ensures left { OnFalse result (IsLeft set all) }
 {
     for disk in 0..64u8 {
@@ -101,7 +101,7 @@ fn is_within(set: DiskSet, all: DiskSet) -> bool
 
 /// The least disk of a set.
 fn least_of(set: DiskSet) -> Option<u8>
-    ensures least { IfSome result (IsLeast set) }
+    ensures least { IfSome result (IsLeastOfSet set) }
     ensures none { IfNone result ((d : ℕ) → d < 64 → has_bit set d ≡ false) }
 {
     for disk in 0..64u8 {

@@ -7,11 +7,11 @@ ghost use Rattle.group_engine.specs.Mounts.{IsMounted, IsWhole, Takes};
 ghost use Rattle.group_engine.specs.Own.{KeepsGroup};
 ghost use Rattle.group_engine.specs.Pending.{GoesOn};
 ghost use Rattle.disk_modes.specs.declared.records.NewModes.TheVariants as modes;
-ghost use Rattle.disk_modes.specs.Causes.{DropCause, DropRefused, IsFirstState, IsStateOf, LeavesTooLittle};
+ghost use Rattle.disk_modes.specs.Causes.{DropDisksCause, DropRefused, IsFirstState, IsStateOf, LeavesTooLittle};
 ghost use Rattle.disk_modes.specs.Directories.{LeavesCopy};
-ghost use Rattle.disk_modes.specs.Effects.{AreNamed, Drops, PutsBoth, Undrops, changes_for, has_dropping, undropping};
+ghost use Rattle.disk_modes.specs.Effects.{AreNamedToDrop, DropsDisks, PutsBoth, Undrops, changes_for, has_dropping, undropping};
 ghost use Rattle.disk_modes.specs.Modes.{drop_as};
-ghost use Rattle.disk_modes.specs.Stops.{AreTakenAs, HasTwoTurns, MayPut, StaysHeld, TakesDisk};
+ghost use Rattle.disk_modes.specs.Stops.{AreTakenAs, HasTwoTurns, MayPutModes, StaysHeld, TakesDisk};
 
 use crate::changing::{Changes, change_disks};
 use crate::checking::{
@@ -57,7 +57,7 @@ pub fn drop_disks<B: Bay>(
     ensures keeps { KeepsGroup m.old m.new (B.state bay.old) (B.state bay.new) }
     ensures mounted { OnOk result (IsMounted m.new) }
     // Each disk that the statement names has the mode of its last option, and those with FORCE no directory copy.
-    ensures done { OnOk result (Drops disks.now power m.old m.new) }
+    ensures done { OnOk result (DropsDisks disks.now power m.old m.new) }
     ensures cause { IfErr result (λ refusal. DropRefused m.old disks.now refusal ⊎ StatusCause m.old m.new (B.state bay.old) (B.state bay.new) refusal) }
     // The group stays the one that it is, where turns don't run out: at each moment each image is held for it alone, whatever the
     // answer, and while it takes calls it is mounted. The record takes a turn; that of the commit costs a copy.
@@ -73,7 +73,7 @@ pub fn drop_disks<B: Bay>(
 
 /// The disks named without FORCE and with it, by the last option of each.
 fn named_by(disks: &[DropDisk]) -> Named
-    ensures { AreNamed disks.now result.dropping result.forced }
+    ensures { AreNamedToDrop disks.now result.dropping result.forced }
 {
     let mut named = Named {
         dropping: DiskSet::empty(),
@@ -109,8 +109,8 @@ fn and_named(named: Named, disk: u8, force: bool) -> Named
 /// Tries the refusals of a DROP.
 fn check_drop(m: &Mounted, disks: &[DropDisk], named: &Named) -> Result<(), Refusal>
     requires { IsWhole m.now }
-    ensures cause { IfErr result (DropCause m.now disks.now named.now.dropping named.now.forced) }
-    ensures may { AreNamed disks.now named.now.dropping named.now.forced → OnOk result (MayPut (modes.Dropped named.now.dropping named.now.forced) m.now.register.value) }
+    ensures cause { IfErr result (DropDisksCause m.now disks.now named.now.dropping named.now.forced) }
+    ensures may { AreNamedToDrop disks.now named.now.dropping named.now.forced → OnOk result (MayPutModes (modes.Dropped named.now.dropping named.now.forced) m.now.register.value) }
 {
     match check_named(m, disks, named) {
         Ok(()) => check_copies(m, named),
@@ -222,7 +222,7 @@ fn drop_named<B: Bay>(
     requires takes { Takes m.old (B.state bay.old) }
     ensures goes { GoesOn m.old result m.new (B.state bay.old) (B.state bay.new) }
     ensures done { OnOk result (PutsBoth power (modes.Dropped named.now.dropping named.now.forced) m.old m.new) }
-    ensures held { MayPut (modes.Dropped named.now.dropping named.now.forced) m.old.register.value → HasTwoTurns m.old → StaysHeld m.old m.new (B.state bay.old) (B.state bay.new) }
+    ensures held { MayPutModes (modes.Dropped named.now.dropping named.now.forced) m.old.register.value → HasTwoTurns m.old → StaysHeld m.old m.new (B.state bay.old) (B.state bay.new) }
 {
     let changes = changes_for(named, power);
     change_disks(m, alloc, bay, &modes_of(named), &changes)

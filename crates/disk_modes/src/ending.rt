@@ -5,7 +5,7 @@ ghost use Rattle.group_engine.specs.Mounts.{IsMounted, Takes};
 ghost use Rattle.group_engine.specs.Own.{KeepsGroup};
 ghost use Rattle.group_engine.specs.Pending.{GoesOn};
 ghost use Rattle.group_reports.specs.Disks.{may_go};
-ghost use Rattle.disk_modes.specs.Effects.{DropsByForce, Expires, PutsRebalance};
+ghost use Rattle.disk_modes.specs.Effects.{DropsByForce, DropsExpiredDisk, PutsRebalance};
 ghost use Rattle.disk_modes.specs.Stops.{CommitsRebalance, HasTwoTurns, StaysHeld};
 
 use crate::changing::{Changes, change_disks, put_rebalance};
@@ -30,7 +30,7 @@ pub fn expire<B: Bay>(
     ensures keeps { KeepsGroup m.old m.new (B.state bay.old) (B.state bay.new) }
     ensures mounted { IfOk result (λ disk. IsMounted m.new) }
     // The disk was the one that expires, and is Forced now; where none expires the group stays.
-    ensures done { IfOk result (λ disk. Expires now m.old disk m.new) }
+    ensures done { IfOk result (λ disk. DropsExpiredDisk now m.old disk m.new) }
     ensures cause { IfErr result (StatusCause m.old m.new (B.state bay.old) (B.state bay.new)) }
     // The group stays the one that it is, where turns don't run out: at each moment each image is held for it alone, whatever the
     // answer, and while it takes calls it is mounted. The record takes a turn; that of the commit costs a copy.

@@ -3,7 +3,7 @@ ghost use Rattle.std.specs.Prelude.{◌≡◌, ◌≢◌, ◌<◌, ◌==◌, ◌
 ghost use Rattle.asm_formats.specs.Sets.{has_bit};
 ghost use Rattle.asm_placement.specs.Modes.{serves};
 ghost use Rattle.group_reports.specs.Disks.{number_of};
-ghost use Rattle.disk_modes.specs.Finding.{AreAttached, IsSetOf, has_name, is_attached, is_in_group, is_offline, is_serving, lies_in, takes};
+ghost use Rattle.disk_modes.specs.Finding.{HasAttachedDisks, IsSetOf, has_name, is_attached, is_in_group, is_offline, is_serving, lies_in, takes};
 
 use asm_base::{DiskSet, Mode, Name};
 use group_engine::Mounted;
@@ -152,7 +152,7 @@ fn is_offline(entry: &PstEntry) -> bool
 
 /// The attached disks.
 pub(crate) fn attached_disks(m: &Mounted) -> DiskSet
-    ensures { AreAttached m.now result }
+    ensures { HasAttachedDisks m.now result }
 {
     let mut disks = DiskSet::empty();
     for disk in 0..64u8 {

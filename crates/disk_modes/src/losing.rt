@@ -3,10 +3,10 @@ ghost use Rattle.std.specs.Prelude.{◌≡◌, ◌<◌, ◌≤◌, ◌+◌, ◌^
 ghost use Rattle.group_reports.specs.Extents.{chunk_extents, extent_there, extents_from, with_extent};
 ghost use Rattle.disk_modes.specs.Losing.{counts, first_losing, is_elsewhere, is_kept, is_losing, some_copy};
 
-use asm_base::{DiskSet, ExtentId, Home, Homes};
+use asm_base::{DiskSet, Home, Homes};
 use catalog::Catalog;
 use extent_copies::Extent;
-use extent_map::has_home;
+use group_reports::extent_there;
 use status_table::PstEntry;
 
 /// Which copies of an extent count.
@@ -102,32 +102,6 @@ fn losing_there(
     } else {
         None
     }
-}
-
-/// The extent of a file with so many copies that has these homes, where it is there.
-fn extent_there(
-    catalog: &Catalog,
-    file: u32,
-    copies: u8,
-    index: u64,
-    homes: &Homes,
-) -> Option<Extent>
-    ensures { result ≡ extent_there catalog.now file copies index homes.now }
-{
-    if !has_home(homes) || index > u32::MAX as u64 {
-        return None;
-    }
-    let id = ExtentId {
-        file,
-        index: index as u32,
-    };
-    Some(Extent {
-        id,
-        homes: *homes,
-        marks: catalog.marks(id),
-        copies,
-        units: catalog.units_of(id.index),
-    })
 }
 
 /// Whether the extent has a copy that counts, and all of them are on the disks.

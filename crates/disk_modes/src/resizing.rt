@@ -10,7 +10,7 @@ ghost use Rattle.group_engine.specs.Own.{KeepsGroup};
 ghost use Rattle.group_engine.specs.Pending.{GoesOn};
 ghost use Rattle.group_engine.specs.Statuses.{IsNextOf};
 ghost use Rattle.disk_modes.specs.Causes.{AreLargeEnough, ResizeRefused};
-ghost use Rattle.disk_modes.specs.Sizes.{HasAsked, PutsUnits, Resizes, entry_capped, is_other, status_resized};
+ghost use Rattle.disk_modes.specs.Sizes.{HasAsked, PutsUnits, ResizesDisks, entry_capped, is_other, status_resized};
 ghost use Rattle.disk_modes.specs.Stops.{FitImages, StaysHeld};
 
 use crate::changing::put_rebalance;
@@ -37,7 +37,7 @@ pub fn resize_disks<B: Bay>(
     ensures keeps { KeepsGroup m.old m.new (B.state bay.old) (B.state bay.new) }
     ensures mounted { OnOk result (IsMounted m.new) }
     // The disks have the units of the size, or of their images, and a rebalance is active.
-    ensures done { OnOk result (Resizes disks size power m.old m.new) }
+    ensures done { OnOk result (ResizesDisks disks size power m.old m.new) }
     ensures large { OnOk result (AreLargeEnough m.old (record { disks = disks; size = size })) }
     ensures cause { IfErr result (λ refusal. ResizeRefused m.old (record { disks = disks; size = size }) refusal ⊎ StatusCause m.old m.new (B.state bay.old) (B.state bay.new) refusal) }
     // The group stays the one that it is: at each moment each image is held for it alone, whatever the answer, and while it takes
@@ -75,7 +75,7 @@ fn resize<B: Bay>(
     requires mounted { IsMounted m.old }
     requires takes { Takes m.old (B.state bay.old) }
     ensures goes { GoesOn m.old result m.new (B.state bay.old) (B.state bay.new) }
-    ensures done { OnOk result (Resizes asked.now.disks asked.now.size power m.old m.new) }
+    ensures done { OnOk result (ResizesDisks asked.now.disks asked.now.size power m.old m.new) }
     ensures held { FitImages asked.now m.old → StaysHeld m.old m.new (B.state bay.old) (B.state bay.new) }
 {
     m.set_flight(None);
@@ -93,7 +93,7 @@ fn rebalance_first<B: Bay>(
     requires mounted { IsMounted m.old }
     requires takes { Takes m.old (B.state bay.old) }
     ensures goes { GoesOn m.old result m.new (B.state bay.old) (B.state bay.new) }
-    ensures done { OnOk result (Resizes asked.now.disks asked.now.size power m.old m.new) }
+    ensures done { OnOk result (ResizesDisks asked.now.disks asked.now.size power m.old m.new) }
     ensures held { FitImages asked.now m.old → StaysHeld m.old m.new (B.state bay.old) (B.state bay.new) }
 {
     match put_rebalance(m, alloc, bay, Some(power)) {

@@ -25,7 +25,7 @@ use Rattle.group_of.specs.Describing.{IsDescribed}
 use Rattle.group_of.specs.Edits.{LeadsOn, with_settings, with_templates, with_tree}
 use Rattle.group_of.proofs.Leading.{attribute_leads_on, described_is_of_catalog, template_leads_on, tree_leads_on}
 use Rattle.group_of.proofs.Refusals.{attribute_refusals, template_refusals, tree_refusals}
-use Rattle.edit_laws.specs.Edits.{EditIsHeld, EditIsRefused, EditLeadsTo, IsRefusedIn, edited_by}
+use Rattle.edit_laws.specs.Edits.{EditIsHeld, EditIsRefused, EditLeadsTo, IsEditRefusedIn, edited_by}
 
 module _ (n : ℕ) (m : MountedGroup) (s : BayState) (g : Group) (kept : Kept) (mounts : Mounts n m s g kept) where
   described : IsDescribed m.register.value m.catalog g
@@ -78,11 +78,11 @@ module _ (s : BayState) where
 
   pub edit_is_refused : EditIsRefused s
   edit_is_refused n m g kept (Tree edit) refusal mounts cause =
-      by_catalog n m s g kept mounts (λ (h : Group). IsRefusedIn h (Tree edit) refusal) (tree_refusals g.name m.catalog (names.edit_meant edit) refusal (cells_of g) cause)
+      by_catalog n m s g kept mounts (λ (h : Group). IsEditRefusedIn h (Tree edit) refusal) (tree_refusals g.name m.catalog (names.edit_meant edit) refusal (cells_of g) cause)
   edit_is_refused n m g kept (Templates edit) refusal mounts cause =
-      by_catalog n m s g kept mounts (λ (h : Group). IsRefusedIn h (Templates edit) refusal) (template_refusals g.name m.catalog (templates.edit_meant edit) refusal (cells_of g) cause)
+      by_catalog n m s g kept mounts (λ (h : Group). IsEditRefusedIn h (Templates edit) refusal) (template_refusals g.name m.catalog (templates.edit_meant edit) refusal (cells_of g) cause)
   edit_is_refused n m g kept (SetAttribute name value) refusal mounts cause =
-      by_catalog n m s g kept mounts (λ (h : Group). IsRefusedIn h (SetAttribute name value) refusal) (attribute_refusals g.name m.catalog name value refusal (cells_of g) cause)
+      by_catalog n m s g kept mounts (λ (h : Group). IsEditRefusedIn h (SetAttribute name value) refusal) (attribute_refusals g.name m.catalog name value refusal (cells_of g) cause)
 
 module _ (s t : BayState) where
   pub edit_is_held : EditIsHeld s t

@@ -26,7 +26,7 @@ use Rattle.group_engine.specs.Frames.{SparesGroup, SparesOtherIds}
 use Rattle.group_engine.specs.Mounts.{IsMounted, IsOwn, MountedGroup, Mounts}
 use Rattle.group_engine.specs.Own.{KeepsGroup}
 use Rattle.group_files.specs.Edits.{IsCommitted}
-use Rattle.group_files.specs.GroupEdits.{IsEditPlan, IsRefusedAs}
+use Rattle.group_files.specs.GroupEdits.{IsEditPlan, IsEditRefusedAs}
 use Rattle.group_files.specs.declared.edit.GroupEdit.{GroupEdit}
 use Rattle.group_files.specs.declared.edit.GroupEdit.TheVariants.{Tree, Templates, SetAttribute}
 use Rattle.group_of.specs.Edits.{IsRefusedBeside, IsWorldsRefusal, attribute_meant}
@@ -50,15 +50,15 @@ EditLeadsTo s =
     → (h : Group) × (edited_by g edit ≡ Ok h) × LeadsTo n m put gone s g h kept
 
 -- Why an edit is refused, beside the world's answer: no other edit than one of names wants blocks.
-abbrev pub IsRefusedIn : Group → GroupEdit → Refusal → Type 0
-IsRefusedIn g (Tree edit) refusal = IsRefusedBeside (edited_by g (Tree edit)) refusal
-IsRefusedIn g (Templates edit) refusal = IsWorldsRefusal (edited_by g (Templates edit)) refusal
-IsRefusedIn g (SetAttribute name value) refusal = IsWorldsRefusal (edited_by g (SetAttribute name value)) refusal
+abbrev pub IsEditRefusedIn : Group → GroupEdit → Refusal → Type 0
+IsEditRefusedIn g (Tree edit) refusal = IsRefusedBeside (edited_by g (Tree edit)) refusal
+IsEditRefusedIn g (Templates edit) refusal = IsWorldsRefusal (edited_by g (Templates edit)) refusal
+IsEditRefusedIn g (SetAttribute name value) refusal = IsWorldsRefusal (edited_by g (SetAttribute name value)) refusal
 
 -- What refuses an edit of a mounted group is so in the world.
 abbrev pub EditIsRefused : BayState → Type 0
 EditIsRefused s =
-    (n : ℕ) (m : MountedGroup) (g : Group) (kept : Kept) (edit : GroupEdit) (refusal : Refusal) → Mounts n m s g kept → IsRefusedAs m.catalog edit refusal → IsRefusedIn g edit refusal
+    (n : ℕ) (m : MountedGroup) (g : Group) (kept : Kept) (edit : GroupEdit) (refusal : Refusal) → Mounts n m s g kept → IsEditRefusedAs m.catalog edit refusal → IsEditRefusedIn g edit refusal
 
 -- ---- the same of the tables alone, on every bay
 
@@ -71,7 +71,7 @@ EditIsOfTables =
 -- What refuses the edit of the tables is so in the world.
 abbrev pub RefusalIsOfTables : Type 0
 RefusalIsOfTables =
-    (name : Bytes) (c : Catalogued) (cells : ℕ → List Cell) (edit : GroupEdit) (refusal : Refusal) → IsRefusedAs c edit refusal → IsRefusedIn (group_of name c.shape c.tables cells) edit refusal
+    (name : Bytes) (c : Catalogued) (cells : ℕ → List Cell) (edit : GroupEdit) (refusal : Refusal) → IsEditRefusedAs c edit refusal → IsEditRefusedIn (group_of name c.shape c.tables cells) edit refusal
 
 -- ---- while it is committed
 

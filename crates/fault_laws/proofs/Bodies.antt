@@ -28,7 +28,7 @@ use Rattle.status_register.specs.Surveys.{first_damage}
 use Rattle.status_register.specs.declared.member.Member.{Member}
 use Rattle.status_register.proofs.Taking.{kept_among}
 use Rattle.group_mount.specs.Alike.{are_alike, clashes, first_stranger, is_same_kind, is_same_shape}
-use Rattle.group_mount.specs.Finding.{AreApart}
+use Rattle.group_mount.specs.Finding.{AreInOwnSlots}
 use Rattle.group_mount.specs.Verdicts.{member_of}
 use Rattle.group_mount.specs.declared.finding.Headed.{Headed}
 use Rattle.group_mount.proofs.Mounting.{IsThere, is_there}
@@ -107,7 +107,7 @@ none_clashes : (h : Headed) (hs : List Headed) → ((k : Headed) → IsAmong hs 
 none_clashes h [] each = refl
 none_clashes h (k ∷ hs) each = rw (each k (inl refl)) (none_clashes h hs (λ x m. each x (inr m)))
 
-none_strange : (id : ℕ) (hs : List Headed) → AreApart hs
+none_strange : (id : ℕ) (hs : List Headed) → AreInOwnSlots hs
     → ((h k : Headed) → IsAmong hs h → IsAmong hs k → (k.slot ≡ h.slot → ⊥) → h.header.id ≡ id → k.header.id ≡ id → AreOfOne h k) → first_stranger id hs ≡ None
 none_strange id [] apart of = refl
 none_strange id (h ∷ hs) (here, rest) of = by (h.header.id == id) refl (none_strange id hs rest (λ x y a b. of x y (inr a) (inr b))) where

@@ -18,8 +18,8 @@ use Rattle.staleness_directory.proofs.Laws as stale_laws
 use Rattle.operations_directory.specs.Operations as operations
 use Rattle.operations_directory.specs.Readings as operation_readings
 use Rattle.operations_directory.proofs.Laws as operation_laws
-use Rattle.catalog_tables.specs.Disks as disks
-use Rattle.catalog_tables.proofs.DiskLaws as disk_laws
+use Rattle.disk_directory.specs.Disks as disks
+use Rattle.disk_directory.proofs.DiskLaws as disk_laws
 use Rattle.catalog_tables.specs.Faults.{settings_key, templates_key}
 use Rattle.catalog_tables.specs.Readable.{AreReadable, HasNeeded}
 use Rattle.catalog_tables.specs.Tables.{AreTables, HasRecords, Tables}

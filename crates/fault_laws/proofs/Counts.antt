@@ -21,7 +21,7 @@ use Rattle.extent_map.specs.Extents as extents
 use Rattle.extent_map.proofs.Laws.{chunk_total}
 use Rattle.alias_tree.specs.Nodes as nodes
 use Rattle.staleness_directory.specs.Marks as stale
-use Rattle.catalog_tables.specs.Disks as disks
+use Rattle.disk_directory.specs.Disks as disks
 use Rattle.catalog_tables.specs.Tables.{AreTables, Tables}
 use Rattle.catalog_tables.specs.Rules.{blocks_used}
 use Rattle.catalog_tables.specs.Items.{AreItemsOf}

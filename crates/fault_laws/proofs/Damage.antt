@@ -21,7 +21,7 @@ use Rattle.asm_images.specs.Sound.{Sound}
 use Rattle.asm_images.specs.Stands.{Describes}
 use Rattle.change_directory.specs.declared.copy.DirCopy.{DirCopy}
 use Rattle.change_directory.specs.Changes.{content_in}
-use Rattle.directory_store.specs.Contents.{HasRecords}
+use Rattle.directory_store.specs.Contents.{HasCopyRecords}
 use Rattle.directory_store.specs.Stores.{Stored}
 use Rattle.directory_store.proofs.ReadingCopies.{part_among}
 use Rattle.directory_store.proofs.Records.{has_records}
@@ -82,7 +82,7 @@ module _ (found : FoundDisks) (survey : Surveyed) (store : Stored) (shape : Shap
       let small = header_number from.disk.header (w.there.allowed from.disk from.among).header in
       is_named survey.value (member_of from.disk) i.member.header (in_elements survey.value.directories from.disk.header.number small from.named, from.entry) i.number i.birth
 
-  records : HasRecords store.table store.number copy.0 x
+  records : HasCopyRecords store.table store.number copy.0 x
   records =
       let kept = w.loaded.kept in
       has_records store.table store.number copy.0 kept.page x kept.table kept.shows kept.items (kept.pages copy.0 copy.1) (kept.now.now x left copy.0 copy.1).content.content

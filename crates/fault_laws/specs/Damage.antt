@@ -17,7 +17,7 @@ use Rattle.group_mount.specs.Finding.{AreThere}
 use Rattle.group_mount.specs.Founds.{FoundDisks}
 use Rattle.group_mount.specs.Loads.{LoadRefusal, copies_read}
 use Rattle.group_mount.specs.Mounting.{Allows}
-use Rattle.group_mount.specs.Quorum.{CatalogRefusal, IsLoaded, IsStrangerRefusal}
+use Rattle.group_mount.specs.Quorum.{CatalogRefusal, IsStoreLoaded, IsStrangerRefusal}
 use Rattle.group_mount.specs.Surveying.{IsSurveyedNow, MembersCause}
 use Rattle.group_mount.specs.declared.error.MountError.TheVariants as error
 
@@ -25,7 +25,7 @@ use Rattle.group_mount.specs.declared.error.MountError.TheVariants as error
 pub record WasLoaded (found : FoundDisks) (survey : Surveyed) (store : Stored) (shape : Shape) (t : BayState) : Type 0 where
   pub there : AreThere found.slots found.headed t
   pub surveyed : IsSurveyedNow found.slots found.id survey t
-  pub loaded : IsLoaded found survey store shape t
+  pub loaded : IsStoreLoaded found survey store shape t
   pub some : 0 < length store.copies
   pub ordered : IsStrictlySortedBy key_cmp (keys_of store.table.records)
 

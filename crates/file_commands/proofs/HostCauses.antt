@@ -26,7 +26,7 @@ use Rattle.file_extents.specs.Filling.{PutCause}
 use Rattle.file_extents.specs.Rows.{ChoiceCause}
 use Rattle.file_extents.specs.declared.rows.NewExtents.{NewExtents}
 use Rattle.group_contents.specs.Creating.{BeginCause, IsTemplateCause, RoomCause}
-use Rattle.group_contents.specs.Files.{AtFile, LostCause, OpenCause}
+use Rattle.group_contents.specs.Files.{AtFile, LostFileCause, OpenCause}
 use Rattle.group_contents.specs.declared.opening.OpenFile.{OpenFile}
 use Rattle.group_engine.specs.Commits.{StatusCause}
 use Rattle.group_engine.specs.Mounts.{MountedGroup}
@@ -36,11 +36,11 @@ use Rattle.session.specs.Naming.{IsOutCause, in_state, of_entry}
 use Rattle.session.specs.Sessions.{SessionView}
 use Rattle.session.specs.declared.reply.Reply.{Reply}
 use Rattle.session.specs.declared.reply.Reply.TheVariants as replies
-use Rattle.session.specs.Works.{Doing, DoesWork, IsSpelt, Spells, WorksOn}
-use Rattle.file_commands.specs.HostCauses.{FailsAt, FaultCause, Faults, HostCause, HostReply, IsAt, IsCopied, IsHostAt, IsHostOperand, IsNoHostFault, IsOfSource, NoneFalls, WhereOfHost}
+use Rattle.session.specs.Works.{Doing, DoesWork, IsSpelt, SpellsRefusal, WorksOn}
+use Rattle.file_commands.specs.HostCauses.{FailsAt, HostFaultCause, Faults, HostCause, HostReply, IsAt, IsCopied, IsHostAt, IsHostOperand, IsNoHostFault, IsOfSource, NoneFalls, WhereOfHost}
 use Rattle.file_commands.specs.declared.copying.Source.{Source}
 use Rattle.file_commands.specs.declared.copying.Source.TheVariants as source
-use Rattle.file_commands.specs.Reading.{FailsRead, IsReadCause}
+use Rattle.file_commands.specs.Reading.{FailsRead, IsFileReadCause}
 
 -- ---- counts
 
@@ -72,28 +72,28 @@ of_counts path s t counts other = by_test path other s t (bytes_eq other path) c
 
 -- ---- causes
 
-pub by_paths : (P Q : Bytes → Type 0) (s t : Faults) (refusal : Refusal) → ((path : Bytes) → P path → Q path) → FaultCause P s t refusal → FaultCause Q s t refusal
+pub by_paths : (P Q : Bytes → Type 0) (s t : Faults) (refusal : Refusal) → ((path : Bytes) → P path → Q path) → HostFaultCause P s t refusal → HostFaultCause Q s t refusal
 by_paths P Q s t (cause.HostFault path) so why = (so path why.0, why.1)
 by_paths P Q s t other so why = tt
 
-pub since : (P : Bytes → Type 0) (s t u : Faults) (refusal : Refusal) → NoneFalls s t → FaultCause P t u refusal → FaultCause P s u refusal
+pub since : (P : Bytes → Type 0) (s t u : Faults) (refusal : Refusal) → NoneFalls s t → HostFaultCause P t u refusal → HostFaultCause P s u refusal
 since P s t u (cause.HostFault path) sooner why = (why.0, fails_sooner s t u path sooner why.1)
 since P s t u other sooner why = tt
 
-pub not_host : (P : Bytes → Type 0) (s t : Faults) (refusal : Refusal) → IsNoHostFault refusal → FaultCause P s t refusal
+pub not_host : (P : Bytes → Type 0) (s t : Faults) (refusal : Refusal) → IsNoHostFault refusal → HostFaultCause P s t refusal
 not_host P s t (cause.HostFault path) none = absurd none
 not_host P s t other none = tt
 
 -- where it is an error
-pub err_none : {T : Type 0} (P : Bytes → Type 0) (s t : Faults) (result : Result T Refusal) → IfErr result IsNoHostFault → IfErr result (FaultCause P s t)
+pub err_none : {T : Type 0} (P : Bytes → Type 0) (s t : Faults) (result : Result T Refusal) → IfErr result IsNoHostFault → IfErr result (HostFaultCause P s t)
 err_none P s t (Ok given) none = tt
 err_none P s t (Err refusal) none = not_host P s t refusal none
 
-pub err_since : {T : Type 0} (P : Bytes → Type 0) (s t u : Faults) (result : Result T Refusal) → NoneFalls s t → IfErr result (FaultCause P t u) → IfErr result (FaultCause P s u)
+pub err_since : {T : Type 0} (P : Bytes → Type 0) (s t u : Faults) (result : Result T Refusal) → NoneFalls s t → IfErr result (HostFaultCause P t u) → IfErr result (HostFaultCause P s u)
 err_since P s t u (Ok given) sooner why = tt
 err_since P s t u (Err refusal) sooner why = since P s t u refusal sooner why
 
-pub err_by : {T : Type 0} (P Q : Bytes → Type 0) (s t : Faults) (result : Result T Refusal) → ((path : Bytes) → P path → Q path) → IfErr result (FaultCause P s t) → IfErr result (FaultCause Q s t)
+pub err_by : {T : Type 0} (P Q : Bytes → Type 0) (s t : Faults) (result : Result T Refusal) → ((path : Bytes) → P path → Q path) → IfErr result (HostFaultCause P s t) → IfErr result (HostFaultCause Q s t)
 err_by P Q s t (Ok given) so why = tt
 err_by P Q s t (Err refusal) so why = by_paths P Q s t refusal so why
 
@@ -118,7 +118,7 @@ unfolding said
 said_fault names (cause.HostFault other) path is = cc
 said_fault names other path is = absurd cc
 
-spelt_none : (m : MountedGroup) (raw refusal : Refusal) → IsNoHostFault raw → Spells m raw refusal → IsNoHostFault refusal
+spelt_none : (m : MountedGroup) (raw refusal : Refusal) → IsNoHostFault raw → SpellsRefusal m raw refusal → IsNoHostFault refusal
 spelt_none m raw refusal none spells = said_none (λ _. []) refusal (⊎_elim
     (λ (same : said (λ _. []) refusal ≡ said (disk_name m) raw). subst IsNoneSaid (sym same) (none_said (disk_name m) raw none))
     (λ (memory : said (λ _. []) refusal ≡ r.NoMemory). subst IsNoneSaid (sym memory) tt)
@@ -185,11 +185,11 @@ open_none : (m : MountedGroup) (path : Path) (refusal : Refusal) → OpenCause m
 open_none m path (cause.HostFault host) why = why
 open_none m path other why = tt
 
-lost_none : (m : MountedGroup) (file : OpenFile) (refusal : Refusal) → LostCause m file refusal → IsNoHostFault refusal
+lost_none : (m : MountedGroup) (file : OpenFile) (refusal : Refusal) → LostFileCause m file refusal → IsNoHostFault refusal
 lost_none m file (cause.HostFault host) why = why
 lost_none m file other why = tt
 
-pub source_none : (m : MountedGroup) (path : Path) (refusal : Refusal) → AtFile m path (LostCause m) refusal → IsNoHostFault refusal
+pub source_none : (m : MountedGroup) (path : Path) (refusal : Refusal) → AtFile m path (LostFileCause m) refusal → IsNoHostFault refusal
 source_none m path refusal why = ⊎_elim (λ none. open_none m path refusal none) (λ lost. lost_none m lost.0 refusal lost.2) why
 
 -- ---- those of the session
@@ -220,7 +220,7 @@ by_read : (c : r.Refusal) → FailsRead c → IsNoneSaid c
 by_read (r.HostFault path) why = why
 by_read other why = tt
 
-pub read_none : (session : SessionView) (name : Bytes) (refusal : Refusal) → IsReadCause session name refusal → IsNoHostFault refusal
+pub read_none : (session : SessionView) (name : Bytes) (refusal : Refusal) → IsFileReadCause session name refusal → IsNoHostFault refusal
 read_none session name refusal why = ⊎_elim
     (λ away. out_none session.entries name refusal away)
     (λ fails. said_none (λ _. []) refusal (by_read (said (λ _. []) refusal) fails))
@@ -238,7 +238,7 @@ target_none place path refusal why = ⊎_elim
 abbrev pub IsOrNone : Refusal → Refusal → Type 0
 IsOrNone given refusal = (refusal ≡ given) ⊎ IsNoHostFault refusal
 
-spelt_same : (given : Refusal) (m : MountedGroup) (raw refusal : Refusal) → IsOrNone given raw → Spells m raw refusal → IsOrNone given refusal
+spelt_same : (given : Refusal) (m : MountedGroup) (raw refusal : Refusal) → IsOrNone given raw → SpellsRefusal m raw refusal → IsOrNone given refusal
 unfolding said
 spelt_same given m raw (cause.HostFault path) why spells = ⊎_elim
     (λ (same : r.HostFault path ≡ said (disk_name m) raw).
@@ -248,7 +248,7 @@ spelt_same given m raw (cause.HostFault path) why spells = ⊎_elim
     spells
 spelt_same given m raw other why spells = inr tt
 
-module _ (P : Refusal → Type 0) (spelt_so : (m : MountedGroup) (raw refusal : Refusal) → P raw → Spells m raw refusal → P refusal) (out_so : (refusal : Refusal) → IsNoHostFault refusal → P refusal) {T : Type 0} (name : Bytes)
+module _ (P : Refusal → Type 0) (spelt_so : (m : MountedGroup) (raw refusal : Refusal) → P raw → SpellsRefusal m raw refusal → P refusal) (out_so : (refusal : Refusal) → IsNoHostFault refusal → P refusal) {T : Type 0} (name : Bytes)
     (Does : Doing T) (old new : SessionView) (s t : BayState) (raw_so : (x y : MountedGroup) (raw : Refusal) → Does x (Err raw) y s t → P raw) where
   answer_so : (answer : Result T Refusal) (x y : MountedGroup) (refusal : Refusal) → Does x answer y s t → IsSpelt y answer (Err refusal) → P refusal
   answer_so (Ok done) x y refusal does spelt = absurd cc
@@ -275,9 +275,9 @@ pub work_or : {T : Type 0} (given : Refusal) (name : Bytes) (Does : Doing T) (ol
 work_or given name Does old new s t result works same = works_so (IsOrNone given) (spelt_same given) (λ refusal no. inr no) name Does old new s t same result works
 
 -- the refusal for which it was given back has its cause
-pub given_cause : (P : Bytes → Type 0) (s t : Faults) (given refusal : Refusal) → IsOrNone given refusal → FaultCause P s t given → FaultCause P s t refusal
+pub given_cause : (P : Bytes → Type 0) (s t : Faults) (given refusal : Refusal) → IsOrNone given refusal → HostFaultCause P s t given → HostFaultCause P s t refusal
 given_cause P s t given refusal same why = ⊎_elim
-    (λ (is : refusal ≡ given). subst (λ (x : Refusal). FaultCause P s t x) (sym is) why)
+    (λ (is : refusal ≡ given). subst (λ (x : Refusal). HostFaultCause P s t x) (sym is) why)
     (λ none. not_host P s t refusal none)
     same
 

@@ -20,7 +20,7 @@ use Rattle.session.specs.Entries.{disk_name}
 use Rattle.session.specs.Listing.{IsInGroup}
 use Rattle.session.specs.Naming.{IsGroupOf}
 use Rattle.session.specs.Sessions.{SessionView}
-use Rattle.file_commands.specs.Reading.{FailsRead, IsLinesCause, IsNoSpan, IsReadCause, OpensSpan, ShowsBytes, failed, none, out}
+use Rattle.file_commands.specs.Reading.{FailsRead, IsLinesCause, IsNoSpan, IsFileReadCause, OpensSpan, ShowsBytes, failed, none, out}
 
 -- the group of the name is one
 pub shows_group : (session : SessionView) (name : Bytes) (m : MountedGroup) (s t : BayState) (file : OpenFile) (at : ℕ) (bytes : Bytes) → IsGroupOf session name m → WhereMounted m s t (λ g. ShowsFile g file at bytes)
@@ -61,7 +61,7 @@ module _ (session : SessionView) (name : Bytes) (path : Path) (at len : ℕ) (m 
   none_in (Err refusal) why = none (record { group = m; is_group = is; caused = why })
 
 -- the bytes of the open file aren't read
-pub lines_cause : (session : SessionView) (name : Bytes) (path : Path) (at len : ℕ) (file : OpenFile) (refusal : Refusal) → IsInGroup session name (λ m. OpensSpan m path at len file) → IsReadCause session name refusal
+pub lines_cause : (session : SessionView) (name : Bytes) (path : Path) (at len : ℕ) (file : OpenFile) (refusal : Refusal) → IsInGroup session name (λ m. OpensSpan m path at len file) → IsFileReadCause session name refusal
     → IsLinesCause session name path at len refusal
 lines_cause session name path at len file refusal there why = ⊎_elim
     (λ away. out away)
@@ -70,7 +70,7 @@ lines_cause session name path at len file refusal there why = ⊎_elim
 
 -- ---- want of memory
 
-pub short_read : (session : SessionView) (name : Bytes) → IsReadCause session name cause.NoMemory
+pub short_read : (session : SessionView) (name : Bytes) → IsFileReadCause session name cause.NoMemory
 unfolding said
 short_read session name = inr tt
 

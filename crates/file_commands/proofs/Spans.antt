@@ -12,7 +12,7 @@ use Rattle.asm_group.specs.Group.{Cell, Free, Group, Known}
 use Rattle.asm_group.specs.Names.{Bytes, Path}
 use Rattle.asm_world.specs.Files.{Agrees}
 use Rattle.asm_world.specs.Text.{read_lines}
-use Rattle.asmcmd.specs.Runs.{Holds, RunsView}
+use Rattle.asmcmd.specs.Runs.{HoldsRun, RunsView}
 use Rattle.group_engine.specs.Mounts.{IsOwn, MountedGroup}
 use Rattle.group_engine.specs.Own.{KeepsGroup}
 use Rattle.group_pieces.proofs.Keeping.{still_mounted}
@@ -65,7 +65,7 @@ module _ (session : SessionView) (name : Bytes) (file : OpenFile) where
 
   -- ---- the runs of the bytes
 
-  pub takes_more : (at n : ℕ) (s t : BayState) (bytes : Bytes) (old new : RunsView) → length bytes ≡ n → ((from : ℕ) (before : Bytes) → Holds old from before → Holds new from (before ++ bytes))
+  pub takes_more : (at n : ℕ) (s t : BayState) (bytes : Bytes) (old new : RunsView) → length bytes ≡ n → ((from : ℕ) (before : Bytes) → HoldsRun old from before → HoldsRun new from (before ++ bytes))
       → ShowsBytes session name file at s t bytes → PutsRead session name file at n s t old new
   takes_more at n s t bytes old new many more shows = record { bytes = bytes; many = many; holds = more; shows = shows }
 
@@ -73,7 +73,7 @@ module _ (session : SessionView) (name : Bytes) (file : OpenFile) where
   none_read at len s runs = record {
     bytes = [];
     many = omega arith;
-    holds = λ from before holds. subst (λ (bytes : Bytes). Holds runs from bytes) (sym (append-nil before)) holds;
+    holds = λ from before holds. subst (λ (bytes : Bytes). HoldsRun runs from bytes) (sym (append-nil before)) holds;
     shows = λ m is n g kept mounts image holds f there stripe le. tt;
   }
 
@@ -82,18 +82,18 @@ module _ (session : SessionView) (name : Bytes) (file : OpenFile) where
   reads_more at len left n k from s t u old mid new sound before after same some few place read more = record {
     bytes = read.bytes ++ more.bytes;
     many = length-append read.bytes more.bytes ∙ omega (arith, read.many, more.many, same, some, few);
-    holds = λ start put holds. subst (λ (bytes : Bytes). Holds new start bytes) (append_assoc put read.bytes more.bytes) (more.holds start (put ++ read.bytes) (read.holds start put holds));
+    holds = λ start put holds. subst (λ (bytes : Bytes). HoldsRun new start bytes) (append_assoc put read.bytes more.bytes) (more.holds start (put ++ read.bytes) (read.holds start put holds));
     shows = shows_on at from s t u read.bytes more.bytes sound before after (omega (arith, place, read.many)) read.shows more.shows;
   }
 
   pub all_read : (at len left : ℕ) (s t : BayState) (old new : RunsView) → left ≡ 0 → PutsRead session name file at (len - left) s t old new → PutsRead session name file at len s t old new
   all_read at len left s t old new none read = record { bytes = read.bytes; many = read.many ∙ omega (arith, none); holds = read.holds; shows = read.shows }
 
-  pub have_read : (at len : ℕ) (s t : BayState) (old new : RunsView) → Holds old at [] → PutsRead session name file at len s t old new → HasRead session name file at len s t new
+  pub have_read : (at len : ℕ) (s t : BayState) (old new : RunsView) → HoldsRun old at [] → PutsRead session name file at len s t old new → HasRead session name file at len s t new
   have_read at len s t old new holds read = record { bytes = read.bytes; many = read.many; holds = read.holds at [] holds; shows = read.shows }
 
   pub lines_read : (path : Path) (at len : ℕ) (s t : BayState) (runs : RunsView) (lines : List Bytes) → IsInGroup session name (λ m. OpensSpan m path at len file) → HasRead session name file at len s t runs
-      → ((from : ℕ) (bytes : Bytes) → Holds runs from bytes → lines ≡ read_lines from bytes) → ReadsLines session name path at len s t lines
+      → ((from : ℕ) (bytes : Bytes) → HoldsRun runs from bytes → lines ≡ read_lines from bytes) → ReadsLines session name path at len s t lines
   lines_read path at len s t runs lines found read all = record {
     file = file;
     found = found;

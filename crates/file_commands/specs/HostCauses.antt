@@ -24,9 +24,9 @@ abbrev pub FailsAt : Faults → Faults → Bytes → Type 0
 FailsAt s t path = (IsUtf8 path → ⊥) ⊎ Rose (s path) (t path)
 
 -- HostFault names a path of which P is true, and which is no text or failed. Every other refusal is free.
-abbrev pub FaultCause : (Bytes → Type 0) → Faults → Faults → Refusal → Type 0
-FaultCause P s t (cause.HostFault path) = P path × FailsAt s t path
-FaultCause P s t other = ⊤
+abbrev pub HostFaultCause : (Bytes → Type 0) → Faults → Faults → Refusal → Type 0
+HostFaultCause P s t (cause.HostFault path) = P path × FailsAt s t path
+HostFaultCause P s t other = ⊤
 
 -- it is any other refusal
 abbrev pub IsNoHostFault : Refusal → Type 0
@@ -65,7 +65,7 @@ IsHostOperand from to at = IsHostAt from at ⊎ IsHostAt to at
 
 -- HostFault comes only at an operand that is a path of the host, and is no text or failed in a call of the host.
 abbrev pub HostCause : Bytes → Bytes → Faults → Faults → Refusal → Type 0
-HostCause from to s t refusal = FaultCause (IsHostOperand from to) s t refusal
+HostCause from to s t refusal = HostFaultCause (IsHostOperand from to) s t refusal
 
 -- the same of what is answered
 abbrev pub HostReply : Bytes → Bytes → Faults → Faults → Reply → Type 0

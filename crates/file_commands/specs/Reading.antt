@@ -12,7 +12,7 @@ use Rattle.asm_group.specs.Refusal as r
 use Rattle.asm_world.specs.Command.{Asked, DbRead}
 use Rattle.asm_world.specs.Language.{command_of}
 use Rattle.asm_world.specs.Text.{read_lines}
-use Rattle.asmcmd.specs.Runs.{Holds, RunsView}
+use Rattle.asmcmd.specs.Runs.{HoldsRun, RunsView}
 use Rattle.catalog_tables.specs.Rules.{KeepsRules}
 use Rattle.group_engine.specs.Mounts.{MountedGroup}
 use Rattle.group_contents.specs.Files.{AtFile, IsOpened, IsSpan, SpanCause}
@@ -40,14 +40,14 @@ ShowsBytes session name file at s t bytes = WhereMountedIn session name s t (λ 
 pub record PutsRead (session : SessionView) (name : Bytes) (file : OpenFile) (at n : ℕ) (s t : BayState) (old new : RunsView) : Type 0 where
   pub bytes : Bytes
   pub many : length bytes ≡ n
-  pub holds : (from : ℕ) (before : Bytes) → Holds old from before → Holds new from (before ++ bytes)
+  pub holds : (from : ℕ) (before : Bytes) → HoldsRun old from before → HoldsRun new from (before ++ bytes)
   pub shows : ShowsBytes session name file at s t bytes
 
 -- So many bytes of the file from byte `at` on were put, and no others.
 pub record HasRead (session : SessionView) (name : Bytes) (file : OpenFile) (at n : ℕ) (s t : BayState) (runs : RunsView) : Type 0 where
   pub bytes : Bytes
   pub many : length bytes ≡ n
-  pub holds : Holds runs at bytes
+  pub holds : HoldsRun runs at bytes
   pub shows : ShowsBytes session name file at s t bytes
 
 -- The file at the path is open, and the span is one of it.
@@ -78,8 +78,8 @@ FailsRead r.NoMemory = ⊤
 FailsRead other = ⊥
 
 -- why the bytes of a file of the mounted group of a name aren't read
-abbrev pub IsReadCause : SessionView → Bytes → Refusal → Type 0
-IsReadCause session name refusal = IsOutCause session.entries name refusal ⊎ FailsRead (said (λ _. []) refusal)
+abbrev pub IsFileReadCause : SessionView → Bytes → Refusal → Type 0
+IsFileReadCause session name refusal = IsOutCause session.entries name refusal ⊎ FailsRead (said (λ _. []) refusal)
 
 -- by tables that keep their rules there is no file at the path, or the span is none of it
 abbrev pub IsNoSpan : MountedGroup → Path → ℕ → ℕ → Refusal → Type 0

@@ -6,7 +6,7 @@ ghost use Rattle.bay.specs.Counts.{Rose};
 ghost use Rattle.bay.specs.Hosts.{AllStay};
 ghost use Rattle.bay.specs.declared.fault.HostError.TheVariants.{Fault};
 ghost use Rattle.file_commands.specs.Copying.{HasBytes, HasSize};
-ghost use Rattle.file_commands.specs.HostCauses.{FailsAt, FaultCause, Faults, HostCause, HostReply, IsAt, IsCopied, IsHostAt, IsNoHostFault, IsOfSource, NoneFalls, WhereOfHost};
+ghost use Rattle.file_commands.specs.HostCauses.{FailsAt, HostFaultCause, Faults, HostCause, HostReply, IsAt, IsCopied, IsHostAt, IsNoHostFault, IsOfSource, NoneFalls, WhereOfHost};
 ghost use Rattle.session.specs.Desks.{IsAnswered};
 ghost use Rattle.session.specs.FileLines.{IsNewLine};
 ghost use Rattle.session.specs.Naming.{CarriesOn};
@@ -29,7 +29,7 @@ use verb_paths::is_host_path;
 /// A path of the host. HostFault where it is no text.
 fn host_path<'a>(alloc: Global, path: &'a [u8]) -> Result<&'a str, Refusal>
     ensures text { IfOk result (λ text. text.now ≡ path.now) }
-    ensures cause { (s t : Faults) → IfErr result (FaultCause (IsAt path.now) s t) }
+    ensures cause { (s t : Faults) → IfErr result (HostFaultCause (IsAt path.now) s t) }
 {
     match from_utf8(path) {
         Ok(path) => Ok(path),
@@ -38,7 +38,7 @@ fn host_path<'a>(alloc: Global, path: &'a [u8]) -> Result<&'a str, Refusal>
 }
 
 fn host_fault(alloc: Global, path: &[u8]) -> Refusal
-    ensures cause { (s t : Faults) → FailsAt s t path.now → FaultCause (IsAt path.now) s t result }
+    ensures cause { (s t : Faults) → FailsAt s t path.now → HostFaultCause (IsAt path.now) s t result }
 {
     match Text::from_slice(alloc, path) {
         Ok(path) => Refusal::HostFault { path },
@@ -48,7 +48,7 @@ fn host_fault(alloc: Global, path: &[u8]) -> Refusal
 
 /// A refusal by the host.
 fn host_refusal(alloc: Global, path: &str, error: HostError) -> Refusal
-    ensures cause { (s t : Faults) → (error ≡ Fault → Rose (s path.now) (t path.now)) → FaultCause (IsAt path.now) s t result }
+    ensures cause { (s t : Faults) → (error ≡ Fault → Rose (s path.now) (t path.now)) → HostFaultCause (IsAt path.now) s t result }
 {
     match error {
         HostError::Fault => host_fault(alloc, path.as_bytes()),
@@ -74,7 +74,7 @@ fn open_host<'a, H: Host>(
     ensures size { IfOk result (λ opened. HasSize (H.file host.new) opened.0 opened.1) }
     ensures counts { NoneFalls (H.faults host.old) (H.faults host.new) }
     ensures source { IfOk result (λ opened. WhereOfHost (IsAt path.now) opened.0) }
-    ensures cause { IfErr result (FaultCause (IsAt path.now) (H.faults host.old) (H.faults host.new)) }
+    ensures cause { IfErr result (HostFaultCause (IsAt path.now) (H.faults host.old) (H.faults host.new)) }
 {
     let path = host_path(alloc, path)?;
     match host.size(path) {
@@ -101,7 +101,7 @@ fn open_source<'a, H: Host>(
     ensures size { IfOk result (λ opened. HasSize (H.file host.new) opened.0 opened.1) }
     ensures counts { NoneFalls (H.faults host.old) (H.faults host.new) }
     ensures source { IfOk result (λ opened. WhereOfHost (IsHostAt path.now) opened.0) }
-    ensures cause { IfErr result (FaultCause (IsHostAt path.now) (H.faults host.old) (H.faults host.new)) }
+    ensures cause { IfErr result (HostFaultCause (IsHostAt path.now) (H.faults host.old) (H.faults host.new)) }
 {
     if is_host_path(path) {
         return open_host(alloc, host, path);
@@ -136,7 +136,7 @@ fn read_source<B: Bay, H: Host>(
     ensures carries { CarriesOn session.now session.now (B.state bay.old) (B.state bay.new) }
     ensures files { AllStay (H.file host.old) (H.file host.new) }
     ensures counts { NoneFalls (H.faults host.old) (H.faults host.new) }
-    ensures cause { IfErr result (FaultCause (IsOfSource source.now) (H.faults host.old) (H.faults host.new)) }
+    ensures cause { IfErr result (HostFaultCause (IsOfSource source.now) (H.faults host.old) (H.faults host.new)) }
 {
     match source {
         Source::Host(path) => match host.read(path, at, buf) {
@@ -184,7 +184,7 @@ fn put_piece<B: Bay, H: Host>(
     ensures files { AllStay (H.file host.old) (H.file host.new) }
     ensures end { IfOk result (λ more. more.end ≡ filling.end) }
     ensures counts { NoneFalls (H.faults host.old) (H.faults host.new) }
-    ensures cause { IfErr result (FaultCause (IsOfSource source.now) (H.faults host.old) (H.faults host.new)) }
+    ensures cause { IfErr result (HostFaultCause (IsOfSource source.now) (H.faults host.old) (H.faults host.new)) }
 {
     match read_source(alloc, session, bay, host, source, filling.at, buf) {
         Ok(()) => {
@@ -215,7 +215,7 @@ fn put_all<B: Bay, H: Host>(
     requires ready { AreReady session.old.groups (B.state bay.old) }
     requires inside { HasBytes (H.file host.old) source.now filling.end }
     ensures carries { CarriesOn session.old session.new (B.state bay.old) (B.state bay.new) }
-    ensures cause { IfErr result (FaultCause (IsOfSource source.now) (H.faults host.old) (H.faults host.new)) }
+    ensures cause { IfErr result (HostFaultCause (IsOfSource source.now) (H.faults host.old) (H.faults host.new)) }
 {
     let mut filling = filling;
     for _ in 0..u64::MAX {
@@ -263,7 +263,7 @@ fn copy_to_new<B: Bay, H: Host>(
     requires inside { HasBytes (H.file host.old) source.now new.now.size }
     ensures carries { CarriesOn session.old session.new (B.state bay.old) (B.state bay.new) }
     ensures line { IfOk result (IsNewLine new.now session.new) }
-    ensures cause { IfErr result (FaultCause (IsOfSource source.now) (H.faults host.old) (H.faults host.new)) }
+    ensures cause { IfErr result (HostFaultCause (IsOfSource source.now) (H.faults host.old) (H.faults host.new)) }
 {
     let group = &new.path.group;
     let begun = session.work(alloc, bay, group, Begin { new })?;
@@ -292,7 +292,7 @@ fn copy_to_group<B: Bay, H: Host>(
     requires ready { AreReady session.old.groups (B.state bay.old) }
     requires inside { HasBytes (H.file host.old) source.now size }
     ensures carries { CarriesOn session.old session.new (B.state bay.old) (B.state bay.new) }
-    ensures cause { IfErr result (FaultCause (IsOfSource source.now) (H.faults host.old) (H.faults host.new)) }
+    ensures cause { IfErr result (HostFaultCause (IsOfSource source.now) (H.faults host.old) (H.faults host.new)) }
 {
     let path = path_of_verb(alloc, session.place(), path)?;
     let by = FileBy::System;
@@ -329,7 +329,7 @@ fn append_piece<B: Bay, H: Host>(
     requires ready { AreReady session.now.groups (B.state bay.old) }
     ensures carries { CarriesOn session.now session.now (B.state bay.old) (B.state bay.new) }
     ensures counts { NoneFalls (H.faults host.old) (H.faults host.new) }
-    ensures cause { IfErr result (FaultCause (IsAt to.now) (H.faults host.old) (H.faults host.new)) }
+    ensures cause { IfErr result (HostFaultCause (IsAt to.now) (H.faults host.old) (H.faults host.new)) }
 {
     read_from(session, alloc, bay, group, file, at, buf)?;
     match host.append(to, buf) {
@@ -351,7 +351,7 @@ fn append_all<B: Bay, H: Host>(
 ) -> Result<(), Refusal>
     requires ready { AreReady session.now.groups (B.state bay.old) }
     ensures carries { CarriesOn session.now session.now (B.state bay.old) (B.state bay.new) }
-    ensures cause { IfErr result (FaultCause (IsAt to.now) (H.faults host.old) (H.faults host.new)) }
+    ensures cause { IfErr result (HostFaultCause (IsAt to.now) (H.faults host.old) (H.faults host.new)) }
 {
     let size = file.size();
     let mut left = size;
@@ -382,7 +382,7 @@ fn write_host<B: Bay, H: Host>(
 ) -> Result<(), Refusal>
     requires ready { AreReady session.now.groups (B.state bay.old) }
     ensures carries { CarriesOn session.now session.now (B.state bay.old) (B.state bay.new) }
-    ensures cause { IfErr result (FaultCause (IsAt to.now) (H.faults host.old) (H.faults host.new)) }
+    ensures cause { IfErr result (HostFaultCause (IsAt to.now) (H.faults host.old) (H.faults host.new)) }
 {
     match host.create(to) {
         Ok(()) => append_all(alloc, session, bay, host, group, file, to, buf),
@@ -402,7 +402,7 @@ fn copy_to_host<B: Bay, H: Host>(
 ) -> Result<List<Text>, Refusal>
     requires ready { AreReady session.now.groups (B.state bay.old) }
     ensures carries { CarriesOn session.now session.now (B.state bay.old) (B.state bay.new) }
-    ensures cause { IfErr result (FaultCause (IsAt path.now) (H.faults host.old) (H.faults host.new)) }
+    ensures cause { IfErr result (HostFaultCause (IsAt path.now) (H.faults host.old) (H.faults host.new)) }
 {
     let to = host_path(alloc, path)?;
     let Source::File { group, file } = source else {
@@ -434,7 +434,7 @@ fn copy_to<B: Bay, H: Host>(
     requires ready { AreReady session.old.groups (B.state bay.old) }
     requires inside { HasBytes (H.file host.old) source.now size }
     ensures carries { CarriesOn session.old session.new (B.state bay.old) (B.state bay.new) }
-    ensures cause { IfErr result (FaultCause (IsCopied source.now to.now) (H.faults host.old) (H.faults host.new)) }
+    ensures cause { IfErr result (HostFaultCause (IsCopied source.now to.now) (H.faults host.old) (H.faults host.new)) }
 {
     if is_host_path(to) {
         copy_to_host(alloc, session, bay, host, source, to)

@@ -10,7 +10,7 @@ ghost use Rattle.session.specs.Listing.{IsInGroup};
 ghost use Rattle.session.specs.Naming.{CarriesOn, IsOutCause};
 ghost use Rattle.session.specs.Sessions.{AreReady};
 ghost use Rattle.file_commands.specs.Writing.{AsksWrite};
-ghost use Rattle.file_commands.specs.Reading.{AsksRead, HasRead, IsLinesCause, IsNoSpan, IsReadCause, OpensSpan, PutsRead, ReadsLines, ReadsOnly, ShowsBytes};
+ghost use Rattle.file_commands.specs.Reading.{AsksRead, HasRead, IsLinesCause, IsNoSpan, IsFileReadCause, OpensSpan, PutsRead, ReadsLines, ReadsOnly, ShowsBytes};
 
 use crate::works::{Create, OnFile};
 use asm_base::{List, Name, NoMemory, Path, Refusal, Text};
@@ -372,7 +372,7 @@ pub fn read_from<B: Bay>(
     ensures carries { CarriesOn session.now session.now (B.state bay.old) (B.state bay.new) }
     ensures reads { ReadsOnly (B.state bay.old) (B.state bay.new) }
     ensures shows { OnOk result (ShowsBytes session.now name.now file.now at (B.state bay.old) (B.state bay.new) buf.new) }
-    ensures cause { IfErr result (IsReadCause session.now name.now) }
+    ensures cause { IfErr result (IsFileReadCause session.now name.now) }
 {
     let m = match session.mounted(alloc, name) {
         Ok(m) => m,
@@ -401,7 +401,7 @@ fn read_piece<B: Bay>(
     ensures reads { ReadsOnly (B.state bay.old) (B.state bay.new) }
     ensures runs { OnOk result (PutsRead session.now group.now file.now at (length buf.old) (B.state bay.old) (B.state bay.new) runs.old runs.new) }
     ensures end { OnOk result (runs.new.end ≡ runs.old.end + length buf.old) }
-    ensures cause { IfErr result (IsReadCause session.now group.now) }
+    ensures cause { IfErr result (IsFileReadCause session.now group.now) }
 {
     match read_from(session, alloc, bay, group, file, at, buf) {
         Ok(()) => {}
@@ -431,7 +431,7 @@ fn read_span<B: Bay>(
     ensures carries { CarriesOn session.now session.now (B.state bay.old) (B.state bay.new) }
     ensures reads { ReadsOnly (B.state bay.old) (B.state bay.new) }
     ensures runs { OnOk result (PutsRead session.now group.now file.now at len (B.state bay.old) (B.state bay.new) runs.old runs.new) }
-    ensures cause { IfErr result (IsReadCause session.now group.now) }
+    ensures cause { IfErr result (IsFileReadCause session.now group.now) }
 {
     let mut left = len;
     while left > 0 {
@@ -465,7 +465,7 @@ fn read_runs<B: Bay>(
     ensures carries { CarriesOn session.now session.now (B.state bay.old) (B.state bay.new) }
     ensures reads { ReadsOnly (B.state bay.old) (B.state bay.new) }
     ensures runs { IfOk result (HasRead session.now group.now file.now at len (B.state bay.old) (B.state bay.new)) }
-    ensures cause { IfErr result (IsReadCause session.now group.now) }
+    ensures cause { IfErr result (IsFileReadCause session.now group.now) }
 {
     let Ok(mut buf) = buffer(alloc, len, 0) else {
         return Err(Refusal::NoMemory);

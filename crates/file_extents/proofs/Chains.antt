@@ -19,7 +19,7 @@ use Rattle.group_engine.specs.declared.access.Access.{Access}
 use Rattle.group_engine.specs.declared.access.Access.TheVariants as access
 use Rattle.group_engine.proofs.Causes.{cause_on, dismount_on, gives_up, nothing_kept}
 use Rattle.group_engine.proofs.Endings.{goes_begin, keeps_closed}
-use Rattle.group_pieces.specs.Faults.{RoseOn}
+use Rattle.group_pieces.specs.Faults.{RoseOnDisk}
 use Rattle.file_extents.specs.Closing.{IsOrShut, or_shut, shut}
 use Rattle.file_extents.specs.Filling.{FailsMore, FaultOn, FillCause, PutCause}
 
@@ -56,7 +56,7 @@ goes_shut {a} {b} {s} {t} keeps new e is why = subst (λ (x : Refusal). GoesOn a
 -- ---- disks that failed
 
 module _ {a b : MountedGroup} {s t : BayState} (keeps : KeepsGroup a b s t) (u : BayState) where
-  pub rose_on : (d : ℕ) → RoseOn b d t u → RoseOn a d s u
+  pub rose_on : (d : ℕ) → RoseOnDisk b d t u → RoseOnDisk a d s u
   rose_on d rose =
       (rose.0, ap (λ (l : _). slot_at l d) (sym keeps.same.disks) ∙ rose.1, omega (arith, keeps.runs.faults rose.0, rose.2))
 
@@ -65,7 +65,7 @@ module _ {a b : MountedGroup} {s t : BayState} (keeps : KeepsGroup a b s t) (u :
   fault_on (Spelt text) none = absurd none
 
 -- what failed in the first call failed in both
-pub rose_before : (a : MountedGroup) {b c : MountedGroup} (s : BayState) {t u : BayState} → KeepsGroup b c t u → (d : ℕ) → RoseOn a d s t → RoseOn a d s u
+pub rose_before : (a : MountedGroup) {b c : MountedGroup} (s : BayState) {t u : BayState} → KeepsGroup b c t u → (d : ℕ) → RoseOnDisk a d s t → RoseOnDisk a d s u
 rose_before a s keeps d rose = (rose.0, rose.1, omega (arith, keeps.runs.faults rose.0, rose.2))
 
 pub fails_none : (m : MountedGroup) (failed : ℕ) (s : BayState) → FailsMore m failed failed s s
@@ -79,10 +79,10 @@ fails_on {a} {b} {c} {s} {t} {u} x y z one two first second k small is =
     (second k small is)
 
 -- one disk more
-pub fails_with : (m : MountedGroup) (x y d : ℕ) (s t : BayState) → RoseOn m d s t → ((k : ℕ) → k < 64 → has_bit y k ≡ (k == d || has_bit x k)) → FailsMore m x y s t
+pub fails_with : (m : MountedGroup) (x y d : ℕ) (s t : BayState) → RoseOnDisk m d s t → ((k : ℕ) → k < 64 → has_bit y k ≡ (k == d || has_bit x k)) → FailsMore m x y s t
 fails_with m x y d s t rose with k small is =
     ⊎_elim
-    (λ same. inr (subst (λ (j : ℕ). RoseOn m j s t) (sym (eqb-true k d same)) rose))
+    (λ same. inr (subst (λ (j : ℕ). RoseOnDisk m j s t) (sym (eqb-true k d same)) rose))
     (λ before. inl before)
     (or_cases (k == d) (has_bit x k) (sym (with k small) ∙ is))
 

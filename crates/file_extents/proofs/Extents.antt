@@ -20,7 +20,7 @@ use Rattle.catalog.proofs.NumberedEntries.{passes_where}
 use Rattle.catalog_tables.specs.Rules.{are_marks_of, are_on_disks, are_within, are_within_head, first_wrong, has_copies, is_owned}
 use Rattle.catalog_tables.specs.Tables.{Catalogued, Tables}
 use Rattle.group_engine.specs.Mounts.{IsWhole, MountedGroup}
-use Rattle.file_extents.specs.Appending.{AreMarks, HasAll, MayStand, are_copies, has_owner}
+use Rattle.file_extents.specs.Appending.{AreMarks, HasAllExtents, MayStand, are_copies, has_owner}
 use Rattle.file_extents.specs.declared.appending.Part.{Part}
 
 -- ---- the entries of a status record
@@ -133,7 +133,7 @@ marks_more homes row m marks few right rest = record {
 }
 
 -- one more extent of a file
-pub all_more : (t : Tables) (f copies n : ℕ) → HasAll t f copies n → has_copies copies (extent_at t.extents f n) ≡ true → HasAll t f copies (n + 1)
+pub all_more : (t : Tables) (f copies n : ℕ) → HasAllExtents t f copies n → has_copies copies (extent_at t.extents f n) ≡ true → HasAllExtents t f copies (n + 1)
 all_more t f copies n all one i lt = elim (within (omega (arith, lt))) [
   | inl same ↦ ap (λ (k : ℕ). has_copies copies (extent_at t.extents f k)) same ∙ one
   | inr below ↦ all i below

@@ -23,8 +23,8 @@ pub record AreMarks (row : List Homes) (marks : List ℕ) : Type 0 where
   pub stale : IsTrue (list_all are_marks_of (zip marks row))
 
 -- the file has the extents below a number, each with so many copies
-abbrev pub HasAll : Tables → ℕ → ℕ → ℕ → Type 0
-HasAll t f copies n = (i : ℕ) → i < n → has_copies copies (extent_at t.extents f i) ≡ true
+abbrev pub HasAllExtents : Tables → ℕ → ℕ → ℕ → Type 0
+HasAllExtents t f copies n = (i : ℕ) → i < n → has_copies copies (extent_at t.extents f i) ≡ true
 
 -- the file has a head with so many copies, or has none and is that of the pending operation
 abbrev pub has_owner : Option FileHead → Bool → ℕ → Type 0

@@ -8,7 +8,7 @@ use Rattle.asm_base.specs.declared.refusal.Refusal.TheVariants as cause
 use Rattle.asm_formats.specs.Sets.{has_bit}
 use Rattle.group_engine.specs.Commits.{DismountCause}
 use Rattle.group_engine.specs.Mounts.{MountedGroup}
-use Rattle.group_pieces.specs.Faults.{RoseOn}
+use Rattle.group_pieces.specs.Faults.{RoseOnDisk}
 use Rattle.file_extents.specs.declared.sparing.Took.{Took}
 use Rattle.file_extents.specs.declared.sparing.Took.TheVariants as took
 use Rattle.file_extents.specs.declared.filling.Contents.{Contents}
@@ -16,22 +16,22 @@ use Rattle.file_extents.specs.declared.filling.Contents.TheVariants as contents
 
 -- the disk is named by its number, and failed
 abbrev pub FaultOn : MountedGroup → BayState → BayState → DiskRef → Type 0
-FaultOn m s t (disk.Number d) = RoseOn m d s t
+FaultOn m s t (disk.Number d) = RoseOnDisk m d s t
 FaultOn m s t (disk.Spelt text) = ⊥
 
 -- where a write to a copy failed, the slot of its disk did
-abbrev pub HasFailed : MountedGroup → ℕ → Took → BayState → BayState → Type 0
-HasFailed m d took.Failed s t = (d < 64) × RoseOn m d s t
-HasFailed m d took.All s t = ⊤
-HasFailed m d took.Nowhere s t = ⊤
+abbrev pub HasFailedWrite : MountedGroup → ℕ → Took → BayState → BayState → Type 0
+HasFailedWrite m d took.Failed s t = (d < 64) × RoseOnDisk m d s t
+HasFailedWrite m d took.All s t = ⊤
+HasFailedWrite m d took.Nowhere s t = ⊤
 
 -- a disk is in the set that was in the one before, or failed since
 abbrev pub FailsMore : MountedGroup → ℕ → ℕ → BayState → BayState → Type 0
-FailsMore m before after s t = (k : ℕ) → k < 64 → has_bit after k ≡ true → (has_bit before k ≡ true) ⊎ RoseOn m k s t
+FailsMore m before after s t = (k : ℕ) → k < 64 → has_bit after k ≡ true → (has_bit before k ≡ true) ⊎ RoseOnDisk m k s t
 
 -- the disk was in the set, or failed since
 abbrev pub FailedIn : MountedGroup → ℕ → BayState → BayState → DiskRef → Type 0
-FailedIn m before s t (disk.Number d) = ((d < 64) × (has_bit before d ≡ true)) ⊎ RoseOn m d s t
+FailedIn m before s t (disk.Number d) = ((d < 64) × (has_bit before d ≡ true)) ⊎ RoseOnDisk m d s t
 FailedIn m before s t (disk.Spelt text) = ⊥
 
 -- Why the next bytes of a file that is filled aren't put: this disk failed, now or before; or the group takes no calls, or was

@@ -12,5 +12,5 @@ abbrev pub IsOfShape : Layout → Shape → Type 0
 IsOfShape l s = (l.au ≡ s.au) × (l.step ≡ s.step)
 
 -- the piece is the first of a span of a file that begins at byte `at`
-abbrev pub IsFirst : Shape → Stripe → ℕ → ℕ → ℕ → Piece → Type 0
-IsFirst s stripe f at len p = IsStep s stripe f at len (piece_of p.x p.inner p.len)
+abbrev pub IsFirstPiece : Shape → Stripe → ℕ → ℕ → ℕ → Piece → Type 0
+IsFirstPiece s stripe f at len p = IsStep s stripe f at len (piece_of p.x p.inner p.len)

@@ -11,7 +11,7 @@ ghost use Rattle.catalog_tables.specs.Rules.{are_marks_of, are_on_disks, are_wit
 ghost use Rattle.extent_map.specs.Extents.{chunk_or_blank, count_in, extent_at, follows, has_extent};
 ghost use Rattle.group_engine.specs.Mounts.{IsMounted, Takes};
 ghost use Rattle.group_engine.specs.Pending.{GoesOn};
-ghost use Rattle.file_extents.specs.Appending.{AreMarks, HasAll, IsOwner, MayStand, are_all_copies};
+ghost use Rattle.file_extents.specs.Appending.{AreMarks, HasAllExtents, IsOwner, MayStand, are_all_copies};
 
 use crate::placing::{copy_units, place_row};
 use crate::rows::{CHUNK, MOST_EXTENTS};
@@ -102,7 +102,7 @@ fn has(catalog: &Catalog, file: u32, index: u64) -> bool
 /// Whether a file has the extents below a number, each with so many copies.
 #[tactic(auto, using(crate::proofs::Extents::all_more))]
 pub fn has_all(catalog: &Catalog, file: u32, copies: u8, count: u64) -> bool
-    ensures { OnTrue result (HasAll catalog.now.tables file copies count) }
+    ensures { OnTrue result (HasAllExtents catalog.now.tables file copies count) }
 {
     for index in 0..count {
         if !has_one(catalog, file, copies, index) {

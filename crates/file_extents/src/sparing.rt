@@ -5,17 +5,14 @@ ghost use Rattle.asm_formats.specs.Regions.{reserved_units};
 ghost use Rattle.group_engine.specs.Mounts.{IsMounted, Takes};
 ghost use Rattle.group_engine.specs.Own.{KeepsGroup};
 ghost use Rattle.group_pieces.specs.Spare.{IsRunOf};
-ghost use Rattle.file_extents.specs.Filling.{FailsMore, HasFailed};
+ghost use Rattle.file_extents.specs.Filling.{FailsMore, HasFailedWrite};
 
 use crate::layout::Piece;
-use asm_base::{DiskSet, Home, Homes, Shape};
+use asm_base::{BLOCK, DiskSet, Home, Homes, Shape};
 use bay::{Bay, Fault};
 use group_engine::Mounted;
 use group_pieces::write_spare;
 use striping::units_of;
-
-/// Bytes of a block of metadata.
-const BLOCK: u64 = 4096;
 
 /// Units of a disk that hold no bytes of files. None where a unit has no bytes.
 #[tactic(auto, unfolding(asm_formats::specs::Regions::reserved_units))]
@@ -89,7 +86,7 @@ fn write_copy<B: Bay>(m: &Mounted, bay: &mut B, home: Home, piece: Piece, bytes:
     requires mounted { IsMounted m.now }
     requires takes { Takes m.now (B.state bay.old) }
     ensures keeps { KeepsGroup m.now m.now (B.state bay.old) (B.state bay.new) }
-    ensures failed { HasFailed m.now home.disk result (B.state bay.old) (B.state bay.new) }
+    ensures failed { HasFailedWrite m.now home.disk result (B.state bay.old) (B.state bay.new) }
 {
     let units = units_of(m.catalog().shape().step, piece.x.index as u64);
     if !is_run(m, home, units, piece.inner, bytes.len()) {

@@ -11,7 +11,7 @@ use Rattle.asm_placement.specs.Naming.{is_birth}
 use Rattle.extent_map.proofs.Lookups.{put_other}
 use Rattle.catalog.specs.Plans.{are_new, with_records}
 use Rattle.catalog.proofs.NumberedEntries.{number_other}
-use Rattle.catalog_tables.specs.Disks.{Disk, info_at, with_info}
+use Rattle.disk_directory.specs.Disks.{Disk, info_at, with_info}
 use Rattle.catalog_tables.specs.Rules.{first_unknown, has_info}
 use Rattle.catalog_tables.specs.Tables.{Tables}
 use Rattle.catalog_tables.proofs.TableItems.{numbers_exact}

@@ -4,7 +4,7 @@ use Rattle.asm_formats.specs.Items.{Key}
 use Rattle.asm_formats.specs.Status as status
 use Rattle.asm_base.specs.Records.{Entry}
 use Rattle.catalog.specs.Plans.{IsPlan, MayAdd, with_records}
-use Rattle.catalog_tables.specs.Disks.{Disk}
+use Rattle.disk_directory.specs.Disks.{Disk}
 use Rattle.catalog_tables.specs.Tables.{Catalogued}
 use Rattle.group_engine.specs.Surplus.{IsSurplus}
 

@@ -7,7 +7,7 @@ use Rattle.asm_world.specs.Generator.{create_group, create_image, generated_scri
 use Rattle.asm_world.specs.Text.{ended}
 use Rattle.generated_script.proofs.Scripts.{script_is}
 use Rattle.generated_script.specs.Lines.{made_for}
-use Rattle.generated_script.specs.Source.{Gives}
+use Rattle.generated_script.specs.Source.{GivesBytes}
 
 -- what was given and what stands behind it
 parts : (text buf passed rest : Bytes) (from count : ℕ) → passed ≡ drop from text → take count buf ≡ take count passed → drop from text ++ rest ≡ take count buf ++ (drop (from + count) text ++ rest)
@@ -26,7 +26,7 @@ handed text shown from e = ap (from_there from) e ∙ take_all (length text - fr
 
 -- bytes of a text that has some
 pub some_given : (text shown room buf rest : Bytes) (from count : ℕ) → from < length text → shown ≡ text → count ≡ min (length (from_there from shown)) (length room) → take count buf ≡ take count (from_there from shown) → length buf ≡ length room
-    → Gives (drop from text ++ rest) (drop (from + count) text ++ rest) count room buf
+    → GivesBytes (drop from text ++ rest) (drop (from + count) text ++ rest) count room buf
 some_given text shown room buf rest from count some e counted same sizes =
     let is : from_there from shown ≡ drop from text = handed text shown from e in
     let long : length (from_there from shown) ≡ length text - from = ap length is ∙ length-drop from text in
@@ -40,7 +40,7 @@ some_given text shown room buf rest from count some e counted same sizes =
 -- bytes of a line, behind a text that was read
 pub line_given : (text line shown room buf rest before : Bytes) (read from count : ℕ) → length text ≤ read → shown ≡ line → drop read text ++ (drop from line ++ rest) ≡ before
     → count ≡ min (length (from_there from shown)) (length room) → take count buf ≡ take count (from_there from shown) → length buf ≡ length room
-    → (length line ≤ from → drop read text ++ (drop from line ++ rest) ≡ []) → Gives before (drop read text ++ (drop (from + count) line ++ rest)) count room buf
+    → (length line ≤ from → drop read text ++ (drop from line ++ rest) ≡ []) → GivesBytes before (drop read text ++ (drop (from + count) line ++ rest)) count room buf
 line_given text line shown room buf rest before read from count done e left counted same sizes over =
     let is : from_there from shown ≡ drop from line = handed line shown from e in
     let long : length (from_there from shown) ≡ length line - from = ap length is ∙ length-drop from line in

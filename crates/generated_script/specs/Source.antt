@@ -9,7 +9,7 @@ abbrev pub left_in : GeneratedScript → List ℕ
 left_in s = drop s.given s.creations.items ++ (drop s.at s.line ++ ended (lines_left s.lines))
 
 -- so many of the bytes that were left were given, none only at the end or where there was no room
-pub record Gives (before after : List ℕ) (count : ℕ) (room buf : List ℕ) : Type 0 where
+pub record GivesBytes (before after : List ℕ) (count : ℕ) (room buf : List ℕ) : Type 0 where
   pub fits : count ≤ length room
   pub same_room : length buf ≡ length room
   pub given : before ≡ take count buf ++ after

@@ -40,7 +40,7 @@ fn give(bytes: &[u8], buf: &mut [u8]) -> usize
 
 impl GeneratedScript {
     ghost use Rattle.asm_world.specs.Generator.{generated_script};
-    ghost use Rattle.generated_script.specs.Source.{Gives, left_in};
+    ghost use Rattle.generated_script.specs.Source.{GivesBytes, left_in};
 
     /// The script made from a number over the images at these paths, of which there are four where the
     /// program calls it. No path has a single quote.
@@ -59,7 +59,7 @@ impl GeneratedScript {
     /// Gives bytes of the creations.
     fn read_creations(&mut self, buf: &mut [u8]) -> usize
         requires { self.old.given < vec_len self.old.creations }
-        ensures { Gives (left_in self.old) (left_in self.new) result buf.old buf.new }
+        ensures { GivesBytes (left_in self.old) (left_in self.new) result buf.old buf.new }
     {
         let count = give(&self.creations[self.given..], buf);
         self.given += count;
@@ -82,7 +82,7 @@ impl GeneratedScript {
     /// Gives bytes of the command that is being read, or of the next one.
     fn read_line(&mut self, buf: &mut [u8]) -> usize
         requires { self.old.given ≡ vec_len self.old.creations }
-        ensures { Gives (left_in self.old) (left_in self.new) result buf.old buf.new }
+        ensures { GivesBytes (left_in self.old) (left_in self.new) result buf.old buf.new }
     {
         self.go_on();
         let count = give(&self.line.as_bytes()[self.at..], buf);

@@ -21,9 +21,9 @@ use Rattle.group_engine.specs.Mounts.{IsOwn, MountedGroup}
 use Rattle.striping.specs.declared.layout.Layout.{Layout}
 use Rattle.group_pieces.specs.Reads.{ReadsGroup}
 use Rattle.group_pieces.specs.Usable.{piece_of}
-use Rattle.file_extents.specs.Pieces.{IsFirst, IsOfShape}
+use Rattle.file_extents.specs.Pieces.{IsFirstPiece, IsOfShape}
 use Rattle.file_extents.specs.declared.layout.Piece.{Piece}
-use Rattle.group_contents.specs.Reading.{ShowsFile, StaysMounted, WhereMounted}
+use Rattle.group_contents.specs.Reading.{ShowsFile, KeepsMounted, WhereMounted}
 use Rattle.group_contents.specs.declared.opening.OpenFile.{OpenFile}
 
 -- ---- calls one after another
@@ -39,10 +39,10 @@ reads_more {m} {s} {t} {u} first second = record {
 pub none_read : (m : MountedGroup) (s : BayState) → Runs (IsOwn m) Same s s
 none_read m s = started same-refl
 
-pub stays_itself : (m : MountedGroup) (s : BayState) → StaysMounted m s s
+pub stays_itself : (m : MountedGroup) (s : BayState) → KeepsMounted m s s
 stays_itself m s = λ n g kept mounts. mounts
 
-pub mounted_more : (m : MountedGroup) (s t u : BayState) → StaysMounted m s t → StaysMounted m t u → StaysMounted m s u
+pub mounted_more : (m : MountedGroup) (s t u : BayState) → KeepsMounted m s t → KeepsMounted m t u → KeepsMounted m s u
 mounted_more m s t u first second = λ n g kept mounts. second n g kept (first n g kept mounts)
 
 -- ---- bytes
@@ -66,11 +66,11 @@ put_behind old piece tail done k within low =
     ∙ get_or-append-add (take done old) (piece ++ tail) k 0 ∙ get_or_append_left piece tail 0 k low
 
 -- the first piece, as the group's shape has it
-pub first_step : (a b : Shape) (l : Layout) (stripe : Stripe) (f at len n : ℕ) (p : Piece) → a ≡ b → l.stripe ≡ stripe → IsOfShape l b → (IsOfShape l a → IsFirst a l.stripe f at len p) → n ≡ p.len
+pub first_step : (a b : Shape) (l : Layout) (stripe : Stripe) (f at len n : ℕ) (p : Piece) → a ≡ b → l.stripe ≡ stripe → IsOfShape l b → (IsOfShape l a → IsFirstPiece a l.stripe f at len p) → n ≡ p.len
     → IsStep b stripe f at len (piece_of p.x p.inner n)
 first_step a b l stripe f at len n p same stripes of first size =
-    let here = subst (λ (s : Shape). IsFirst s l.stripe f at len p) same (first (subst (λ (s : Shape). IsOfShape l s) (sym same) of)) in
-    let lies = subst (λ (z : Stripe). IsFirst b z f at len p) stripes here in
+    let here = subst (λ (s : Shape). IsFirstPiece s l.stripe f at len p) same (first (subst (λ (s : Shape). IsOfShape l s) (sym same) of)) in
+    let lies = subst (λ (z : Stripe). IsFirstPiece b z f at len p) stripes here in
     subst (λ (k : ℕ). IsStep b stripe f at len (piece_of p.x p.inner k)) (sym size) lies
 
 -- the piece that is read behind them
@@ -93,7 +93,7 @@ shows_piece g opened at done from rest x old new piece place step agrees before 
     ∙ agrees file (at + k) b (x.from + j) here cell lies (omega arith) (omega (arith, small)))
     (cases_lt k done)
 
-pub shows_more : (m : MountedGroup) (s t u : BayState) (opened : OpenFile) (at done from rest : ℕ) (x : Span) (old new piece : Bytes) → ReadsGroup m t u → StaysMounted m s t
+pub shows_more : (m : MountedGroup) (s t u : BayState) (opened : OpenFile) (at done from rest : ℕ) (x : Span) (old new piece : Bytes) → ReadsGroup m t u → KeepsMounted m s t
     → from ≡ at + done → IsStep m.catalog.shape opened.stripe opened.file from rest x
     → ((k : ℕ) → k < done → slice_index new k ≡ slice_index old k) → ((k : ℕ) → k < x.len → slice_index new (done + k) ≡ slice_index piece k)
     → WhereMounted m s t (ShowsFirst opened at done old) → WhereMounted m t u (λ g. AgreesIn g x piece) → WhereMounted m s u (ShowsFirst opened at (done + x.len) new)

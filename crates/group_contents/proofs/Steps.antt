@@ -31,9 +31,9 @@ use Rattle.file_extents.proofs.Chains.{kept, rose_before}
 use Rattle.file_extents.specs.declared.rows.NewExtents.{NewExtents}
 use Rattle.group_contents.specs.Creating.{AreOfNew, BeginCause, BegunCause, CreateCause, NamesFile, RoomCause}
 use Rattle.group_contents.specs.Files.{IsOpened, OpenCause, WriteCause}
-use Rattle.group_contents.specs.Removing.{DropsDirectory, Goes, IsRemoved, RemoveCause, Removes, RemovesFile, StaysCause, leads_to_directory}
+use Rattle.group_contents.specs.Removing.{DropsDirectory, DropsNode, IsRemoved, RemoveCause, RemovesPath, RemovesFile, StaysCause, leads_to_directory}
 use Rattle.group_contents.specs.declared.opening.OpenFile.{OpenFile}
-use Rattle.group_contents.specs.Sizes.{AreMore, GrowCause, GrowthCause, IsCut, IsFaultBack, IsSized, LaterCause, MoreCause, ResizeCause, Resizes, SetsSize}
+use Rattle.group_contents.specs.Sizes.{AreMore, GrowCause, GrowthCause, IsCut, IsFaultBack, IsSized, LaterCause, MoreCause, ResizeCause, ResizesFile, SetsSize}
 use Rattle.group_contents.proofs.Chains.{status_writes, write_on}
 
 -- ---- answers
@@ -149,11 +149,11 @@ module _ (a : MountedGroup) (path : Path) (b : MountedGroup) (s t : BayState) {A
       (λ refusal why. subst (λ (x : Bool). StaysCause x a path refusal ⊎ StatusCause a b s t refusal) (sym is) why)
 
 module _ (a : MountedGroup) (path : Path) (b : MountedGroup) (r : Result (Unit {0}) Refusal) where
-  pub directory_goes : leads_to_directory a.catalog.tables path ≡ true → OnOk r (DropsDirectory a path b) → OnOk r (Removes a path b)
-  directory_goes is = on_ok r (λ (went : DropsDirectory a path b). subst (λ (x : Bool). Goes x a path b) (sym is) went)
+  pub directory_goes : leads_to_directory a.catalog.tables path ≡ true → OnOk r (DropsDirectory a path b) → OnOk r (RemovesPath a path b)
+  directory_goes is = on_ok r (λ (went : DropsDirectory a path b). subst (λ (x : Bool). DropsNode x a path b) (sym is) went)
 
-  pub file_goes : leads_to_directory a.catalog.tables path ≡ false → OnOk r (IsRemoved a path b) → OnOk r (Removes a path b)
-  file_goes is = on_ok r (λ (went : IsRemoved a path b). subst (λ (x : Bool). Goes x a path b) (sym is) went)
+  pub file_goes : leads_to_directory a.catalog.tables path ≡ false → OnOk r (IsRemoved a path b) → OnOk r (RemovesPath a path b)
+  file_goes is = on_ok r (λ (went : IsRemoved a path b). subst (λ (x : Bool). DropsNode x a path b) (sym is) went)
 
 -- ---- another size
 
@@ -231,7 +231,7 @@ size_cut a new file size b r is set =
     ok_with r (b, record { put = here.put; gone = here.gone; plan = here.plan; applied = here.applied })
 
 -- the size is that of the file
-pub stays_sized : (a : MountedGroup) (path : Path) (size : ℕ) (file : OpenFile) → IsOpened a.catalog.tables path file → size ≡ file.size → Resizes a path size a
+pub stays_sized : (a : MountedGroup) (path : Path) (size : ℕ) (file : OpenFile) → IsOpened a.catalog.tables path file → size ≡ file.size → ResizesFile a path size a
 stays_sized a path size file opened is = record {
   file = file;
   opened = opened;
@@ -242,7 +242,7 @@ stays_sized a path size file opened is = record {
 
 module _ (a : MountedGroup) (path : Path) (size : ℕ) (b : MountedGroup) (file : OpenFile) (r : Result (Unit {0}) Refusal) (opened : IsOpened a.catalog.tables path file) where
   -- a smaller one
-  pub cuts : size < file.size → OnOk r (IsCut a file.file size) → OnOk r (Resizes a path size b)
+  pub cuts : size < file.size → OnOk r (IsCut a file.file size) → OnOk r (ResizesFile a path size b)
   cuts less = on_ok r (λ (is : IsCut a file.file size). record {
     file = file;
     opened = opened;
@@ -252,7 +252,7 @@ module _ (a : MountedGroup) (path : Path) (size : ℕ) (b : MountedGroup) (file 
   })
 
   -- a greater one
-  pub grows_to : file.size < size → OnOk r (IsSized file.file size b) → OnOk r (Resizes a path size b)
+  pub grows_to : file.size < size → OnOk r (IsSized file.file size b) → OnOk r (ResizesFile a path size b)
   grows_to more = on_ok r (λ (is : IsSized file.file size b). record {
     file = file;
     opened = opened;

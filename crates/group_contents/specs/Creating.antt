@@ -114,14 +114,14 @@ abbrev pub CreateCause : MountedGroup → NewFile → MountedGroup → BayState 
 CreateCause old new group s t refusal = NewCause old new refusal ⊎ (LacksSpace old new group refusal ⊎ WriteCause old group s t refusal)
 
 -- the creation of the file is pending, and it has no head yet
-pub record IsBegun (t : Tables) (file : ℕ) : Type 0 where
+pub record IsCreationPending (t : Tables) (file : ℕ) : Type 0 where
   pub kept : ℕ
   pub pending : t.operations.pending ≡ Some (record { kind = Create; file = file; kept = kept })
   pub new : head_at t.files file ≡ None
 
 -- each extent that the size asks for is there with all its copies
-abbrev pub HasExtents : Catalogued → Stripe → ℕ → ℕ → ℕ → Type 0
-HasExtents c stripe size file copies = (i : ℕ) → has_extent stripe c.shape.au c.shape.step size i ≡ true → has_copies copies (extent_at c.tables.extents file i) ≡ true
+abbrev pub HasAskedExtents : Catalogued → Stripe → ℕ → ℕ → ℕ → Type 0
+HasAskedExtents c stripe size file copies = (i : ℕ) → has_extent stripe c.shape.au c.shape.step size i ≡ true → has_copies copies (extent_at c.tables.extents file i) ≡ true
 
 -- The head and the names of a new file of this number were committed, with its size.
 pub record NamesFile (before : MountedGroup) (new : NewFile) (file : ℕ) (after : MountedGroup) : Type 0 where

@@ -57,9 +57,9 @@ abbrev pub LostIn : MountedGroup → OpenFile → ExtentId → Type 0
 LostIn m file x = IsLost m x × (x.file ≡ file.file)
 
 -- why a file can't be copied
-abbrev pub LostCause : MountedGroup → OpenFile → Refusal → Type 0
-LostCause m file (cause.Lost x) = LostIn m file x
-LostCause m file _ = ⊥
+abbrev pub LostFileCause : MountedGroup → OpenFile → Refusal → Type 0
+LostFileCause m file (cause.Lost x) = LostIn m file x
+LostFileCause m file _ = ⊥
 
 -- The span is whole sectors, and ends in the file.
 pub record IsSpan (m : MountedGroup) (at len : ℕ) (file : OpenFile) : Type 0 where

@@ -17,8 +17,8 @@ ShowsFile g opened at bytes =
     → Agrees (take (length bytes) (drop at file.cells)) bytes
 
 -- as the group was mounted over the disks, it is
-abbrev pub StaysMounted : MountedGroup → BayState → BayState → Type 0
-StaysMounted m s t = (n : ℕ) (g : Group) (kept : Kept) → Mounts n m s g kept → Mounts n m t g kept
+abbrev pub KeepsMounted : MountedGroup → BayState → BayState → Type 0
+KeepsMounted m s t = (n : ℕ) (g : Group) (kept : Kept) → Mounts n m s g kept → Mounts n m t g kept
 
 -- P, of each group as which it was mounted, where the bay tells what the disks hold
 abbrev pub WhereMounted : MountedGroup → BayState → BayState → (Group → Type 0) → Type 0

@@ -52,13 +52,13 @@ abbrev pub leads_to_directory : Tables → Path → Bool
 leads_to_directory t path = directory_at t (number_of t.nodes path)
 
 -- a directory, or else a file, goes
-abbrev pub Goes : Bool → MountedGroup → Path → MountedGroup → Type 0
-Goes true before path after = DropsDirectory before path after
-Goes false before path after = IsRemoved before path after
+abbrev pub DropsNode : Bool → MountedGroup → Path → MountedGroup → Type 0
+DropsNode true before path after = DropsDirectory before path after
+DropsNode false before path after = IsRemoved before path after
 
 -- what is at the path goes: a directory, or a file
-abbrev pub Removes : MountedGroup → Path → MountedGroup → Type 0
-Removes before path after = Goes (leads_to_directory before.catalog.tables path) before path after
+abbrev pub RemovesPath : MountedGroup → Path → MountedGroup → Type 0
+RemovesPath before path after = DropsNode (leads_to_directory before.catalog.tables path) before path after
 
 -- why a directory, or else a file, is refused by what the tables say
 abbrev pub StaysCause : Bool → MountedGroup → Path → Refusal → Type 0

@@ -41,7 +41,7 @@ IsCut before file size = (between : MountedGroup) × SetsSize before file size b
 
 -- The file at the path had the size, and the group stays; or it got it: a smaller one by a commit on the group as it was, a greater one by
 -- the commit that left the group.
-pub record Resizes (m : MountedGroup) (path : Path) (size : ℕ) (after : MountedGroup) : Type 0 where
+pub record ResizesFile (m : MountedGroup) (path : Path) (size : ℕ) (after : MountedGroup) : Type 0 where
   pub file : OpenFile
   pub opened : IsOpened m.catalog.tables path file
   pub same : size ≡ file.size → after ≡ m

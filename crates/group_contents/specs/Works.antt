@@ -5,16 +5,16 @@ use Rattle.asm_base.specs.declared.refusal.Refusal.{Refusal}
 use Rattle.group_engine.specs.Commits.{StatusCause}
 use Rattle.group_engine.specs.Mounts.{MountedGroup}
 use Rattle.group_contents.specs.Files.{OpenCause, WriteFileCause}
-use Rattle.group_contents.specs.Removing.{IsRemoved, RemoveCause, Removes}
-use Rattle.group_contents.specs.Sizes.{ResizeCause, Resizes}
+use Rattle.group_contents.specs.Removing.{IsRemoved, RemoveCause, RemovesPath}
+use Rattle.group_contents.specs.Sizes.{ResizeCause, ResizesFile}
 use Rattle.group_contents.specs.Writing.{WritesFile}
 use Rattle.group_contents.specs.declared.work.FileWork.{FileWork}
 use Rattle.group_contents.specs.declared.work.FileWork.TheVariants as work
 
 -- what was committed, as the call that does it says; of bytes nothing is said
 abbrev pub WorkDone : MountedGroup → FileWork → MountedGroup → Type 0
-WorkDone old (work.Resize path size) new = Resizes old path.parts size new
-WorkDone old (work.Remove path) new = Removes old path.parts new
+WorkDone old (work.Resize path size) new = ResizesFile old path.parts size new
+WorkDone old (work.Remove path) new = RemovesPath old path.parts new
 WorkDone old (work.RemoveFile path) new = IsRemoved old path.parts new
 WorkDone old (work.Write path at bytes) new = ⊤
 WorkDone old (work.Fill path at len byte) new = ⊤

@@ -3,13 +3,13 @@ ghost use Rattle.std.specs.Bool.{OnTrue};
 ghost use Rattle.std.specs.Option.{option_copied};
 ghost use Rattle.std.specs.Prelude.{◌≡◌, ◌⊎◌, IfErr, IfOk, None, OnOk};
 ghost use Rattle.asm_base.specs.declared.refusal.Refusal.TheVariants.{NoTemplate};
-ghost use Rattle.catalog.specs.NamePlans.{IsCreated, made_file};
+ghost use Rattle.catalog.specs.NamePlans.{IsFileBeingMade, made_file};
 ghost use Rattle.group_engine.specs.Commits.{StatusCause};
 ghost use Rattle.group_engine.specs.Mounts.{IsMounted, MountedGroup, Takes};
 ghost use Rattle.group_engine.specs.Own.{KeepsGroup};
 ghost use Rattle.group_engine.specs.Pending.{GoesOn};
 ghost use Rattle.file_extents.specs.Filling.{end_by};
-ghost use Rattle.group_contents.specs.Creating.{AreNext, AreOfNew, BeginCause, BegunCause, CreateCause, HasExtents, IsBegun, IsBy, IsChosen, IsTemplateCause, NamesFile, NewCause, RoomCause, template_in};
+ghost use Rattle.group_contents.specs.Creating.{AreNext, AreOfNew, BeginCause, BegunCause, CreateCause, HasAskedExtents, IsCreationPending, IsBy, IsChosen, IsTemplateCause, NamesFile, NewCause, RoomCause, template_in};
 ghost use Rattle.group_contents.specs.Files.{WriteCause};
 
 use crate::buffers::buffer;
@@ -168,7 +168,7 @@ pub fn begin_new<B: Bay>(
 
 /// Whether the creation of this file is pending, and it has no head yet.
 fn is_begun(catalog: &Catalog, file: u32) -> bool
-    ensures { OnTrue result (IsBegun catalog.now.tables file) }
+    ensures { OnTrue result (IsCreationPending catalog.now.tables file) }
 {
     match catalog.pending() {
         Some(op) => {
@@ -182,7 +182,7 @@ fn is_begun(catalog: &Catalog, file: u32) -> bool
 
 /// Whether a file has each extent that a size asks for, with all its copies.
 fn has_extents(catalog: &Catalog, new: NewExtents, stripe: Stripe, size: u64) -> bool
-    ensures { OnTrue result (HasExtents catalog.now stripe size new.file new.copies) }
+    ensures { OnTrue result (HasAskedExtents catalog.now stripe size new.file new.copies) }
 {
     match layout_of(catalog.shape(), stripe) {
         Some(layout) => has_all(catalog, new.file, new.copies, extents_for(layout, size)),
@@ -192,7 +192,7 @@ fn has_extents(catalog: &Catalog, new: NewExtents, stripe: Stripe, size: u64) ->
 
 /// Whether the file that is being made has the extents of its size, each with its copies, and no head yet.
 fn is_created(catalog: &Catalog, new: NewExtents, stripe: Stripe, size: u64) -> bool
-    ensures created { OnTrue result (IsCreated catalog.now size new.copies stripe) }
+    ensures created { OnTrue result (IsFileBeingMade catalog.now size new.copies stripe) }
     ensures file { OnTrue result (made_file catalog.now.tables ≡ new.file) }
 {
     is_begun(catalog, new.file)

@@ -3,7 +3,7 @@ ghost use Rattle.std.specs.Prelude.{◌≡◌, IfErr, IfOk, IfSome, IsTrue, OnOk
 ghost use Rattle.striping.specs.Pieces.{IsLayout};
 ghost use Rattle.group_pieces.specs.Usable.{IsLost};
 ghost use Rattle.asm_group.specs.Shape.{is_shape};
-ghost use Rattle.group_contents.specs.Files.{AtFile, IsOpened, IsSpan, LostCause, LostIn, OpenCause, SpanCause, are_sectors, named_file};
+ghost use Rattle.group_contents.specs.Files.{AtFile, IsOpened, IsSpan, LostFileCause, LostIn, OpenCause, SpanCause, are_sectors, named_file};
 
 use asm_base::{ExtentId, NodeKind, Path, Refusal, Stripe};
 use catalog::Catalog;
@@ -142,7 +142,7 @@ pub(crate) fn open_span(m: &Mounted, path: &Path, at: u64, len: u64) -> Result<O
 
 /// Looks whether the file at a path can be copied, and opens it. NoName: there is none. Lost: its first extent that has no usable copy.
 pub fn check_source(m: &Mounted, path: &Path) -> Result<OpenFile, Refusal>
-    ensures cause { IfErr result (AtFile m.now path.now.parts (LostCause m.now)) }
+    ensures cause { IfErr result (AtFile m.now path.now.parts (LostFileCause m.now)) }
     ensures opened { IfOk result (IsOpened m.now.catalog.tables path.now.parts) }
 {
     let file = match open(m, path) {

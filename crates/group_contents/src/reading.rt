@@ -10,7 +10,7 @@ ghost use Rattle.group_pieces.specs.Reads.{ReadsGroup};
 ghost use Rattle.group_pieces.specs.Usable.{FitsExtent, piece_of};
 ghost use Rattle.file_extents.specs.Pieces.{IsOfShape};
 ghost use Rattle.group_contents.specs.Files.{AtFile, ReadCause, SpanCause};
-ghost use Rattle.group_contents.specs.Reading.{ShowsFile, StaysMounted, WhereMounted};
+ghost use Rattle.group_contents.specs.Reading.{ShowsFile, KeepsMounted, WhereMounted};
 
 use crate::opening::{OpenFile, open_span};
 use asm_base::{DiskRef, Path, Refusal, Span};
@@ -35,7 +35,7 @@ fn read_one<B: Bay>(
     ensures keeps { KeepsGroup m.now m.now (B.state bay.old) (B.state bay.new) }
     ensures cause { IfErr result (ReadCause m.now (B.state bay.old) (B.state bay.new) file.now) }
     ensures reads { ReadsGroup m.now (B.state bay.old) (B.state bay.new) }
-    ensures mounted { StaysMounted m.now (B.state bay.old) (B.state bay.new) }
+    ensures mounted { KeepsMounted m.now (B.state bay.old) (B.state bay.new) }
     ensures agrees { OnOk result (WhereMounted m.now (B.state bay.old) (B.state bay.new) (λ g. AgreesIn g (piece_of piece.x piece.inner (length buf.old)) buf.new)) }
 {
     match read_piece(m, bay, piece.x, piece.inner, buf) {
@@ -64,7 +64,7 @@ fn read_pieces<B: Bay>(
     ensures keeps { KeepsGroup m.now m.now (B.state bay.old) (B.state bay.new) }
     ensures cause { IfErr result (ReadCause m.now (B.state bay.old) (B.state bay.new) file.now) }
     ensures reads { ReadsGroup m.now (B.state bay.old) (B.state bay.new) }
-    ensures mounted { StaysMounted m.now (B.state bay.old) (B.state bay.new) }
+    ensures mounted { KeepsMounted m.now (B.state bay.old) (B.state bay.new) }
     ensures agrees { OnOk result (WhereMounted m.now (B.state bay.old) (B.state bay.new) (λ g. ShowsFile g file.now at buf.new)) }
 {
     let shape = m.catalog().shape();
@@ -98,7 +98,7 @@ pub fn read_next<B: Bay>(
     ensures keeps { KeepsGroup m.now m.now (B.state bay.old) (B.state bay.new) }
     ensures cause { IfErr result (ReadCause m.now (B.state bay.old) (B.state bay.new) file.now) }
     ensures reads { Runs (IsOwn m.now) Same (B.state bay.old) (B.state bay.new) }
-    ensures mounted { StaysMounted m.now (B.state bay.old) (B.state bay.new) }
+    ensures mounted { KeepsMounted m.now (B.state bay.old) (B.state bay.new) }
     ensures agrees { OnOk result (WhereMounted m.now (B.state bay.old) (B.state bay.new) (λ g. ShowsFile g file.now at buf.new)) }
 {
     match m.takes_calls() {
@@ -124,7 +124,7 @@ pub fn read<B: Bay>(
     ensures keeps { KeepsGroup m.now m.now (B.state bay.old) (B.state bay.new) }
     ensures cause { IfErr result (λ refusal. AtFile m.now path.now.parts (SpanCause m.now span.at span.len) refusal ⊎ AtFile m.now path.now.parts (ReadCause m.now (B.state bay.old) (B.state bay.new)) refusal) }
     ensures reads { Runs (IsOwn m.now) Same (B.state bay.old) (B.state bay.new) }
-    ensures mounted { StaysMounted m.now (B.state bay.old) (B.state bay.new) }
+    ensures mounted { KeepsMounted m.now (B.state bay.old) (B.state bay.new) }
 {
     match open_span(m, path, span.at, span.len) {
         Ok(file) => read_next(m, bay, &file, span.at, buf),

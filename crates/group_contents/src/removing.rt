@@ -9,7 +9,7 @@ ghost use Rattle.group_engine.specs.Mounts.{IsMounted, MountedGroup, Takes};
 ghost use Rattle.group_engine.specs.Own.{KeepsGroup};
 ghost use Rattle.group_engine.specs.Pending.{GoesOn};
 ghost use Rattle.group_contents.specs.Files.{OpenCause};
-ghost use Rattle.group_contents.specs.Removing.{DropsDirectory, IsRemoved, RemoveCause, Removes, RemovesFile, leads_to_directory};
+ghost use Rattle.group_contents.specs.Removing.{DropsDirectory, IsRemoved, RemoveCause, RemovesPath, RemovesFile, leads_to_directory};
 
 use crate::opening::open;
 use alias_edits::TreeEdit;
@@ -146,7 +146,7 @@ pub fn remove<B: Bay>(
     requires takes { Takes m.old (B.state bay.old) }
     ensures keeps { KeepsGroup m.old m.new (B.state bay.old) (B.state bay.new) }
     ensures cause { IfErr result (RemoveCause m.old path.now.parts m.new (B.state bay.old) (B.state bay.new)) }
-    ensures removed { OnOk result (Removes m.old path.now.parts m.new) }
+    ensures removed { OnOk result (RemovesPath m.old path.now.parts m.new) }
 {
     m.takes_calls()?;
     if is_directory(m, path) {

@@ -9,7 +9,7 @@ ghost use Rattle.group_engine.specs.Own.{KeepsGroup};
 ghost use Rattle.group_engine.specs.Pending.{GoesOn};
 ghost use Rattle.group_contents.specs.Creating.{RoomCause};
 ghost use Rattle.group_contents.specs.Files.{WriteCause};
-ghost use Rattle.group_contents.specs.Sizes.{AreMore, GrowCause, GrowthCause, IsCut, IsFaultBack, IsSized, LaterCause, MoreCause, ResizeCause, Resizes, SetsSize};
+ghost use Rattle.group_contents.specs.Sizes.{AreMore, GrowCause, GrowthCause, IsCut, IsFaultBack, IsSized, LaterCause, MoreCause, ResizeCause, ResizesFile, SetsSize};
 
 use crate::buffers::buffer;
 use crate::chunks::chunks_of;
@@ -443,7 +443,7 @@ pub fn resize<B: Bay>(
     ensures keeps { KeepsGroup m.old m.new (B.state bay.old) (B.state bay.new) }
     ensures cause { IfErr result (ResizeCause m.old path.now.parts size m.new (B.state bay.old) (B.state bay.new)) }
     // The file at the path had the size and the group stays, or a commit gave it.
-    ensures sized { OnOk result (Resizes m.old path.now.parts size m.new) }
+    ensures sized { OnOk result (ResizesFile m.old path.now.parts size m.new) }
 {
     m.takes_calls()?;
     let file = match open(m, path) {

@@ -13,7 +13,7 @@ use Rattle.asm_formats.specs.Sets.{has_bit}
 use Rattle.asm_formats.specs.Status.{Status}
 use Rattle.asm_group.specs.Shape.{Shape}
 use Rattle.asm_formats.specs.Among.{IsAmong}
-use Rattle.group_engine.specs.Copying.{CopyCause, IsNotCopied}
+use Rattle.group_engine.specs.Copying.{DirectoryCopyCause, IsNotCopied}
 use Rattle.group_engine.specs.Mounts.{IsMounted, MountedGroup, slot_at}
 use Rattle.group_engine.specs.Own.{KeepsGroup}
 use Rattle.group_engine.specs.declared.attached.Attached.{Attached}
@@ -26,7 +26,7 @@ use Rattle.group_disks.proofs.Clears.{dismount_clear}
 use Rattle.group_disks.proofs.Drops.{nothing_done}
 
 -- why a copy isn't stored
-pub copy_clear : (old : MountedGroup) (d : ℕ) (new : MountedGroup) (s t : BayState) (given : Refusal) → IsMounted old → CopyCause old d new s t given → IsClearCause old s t given
+pub copy_clear : (old : MountedGroup) (d : ℕ) (new : MountedGroup) (s t : BayState) (given : Refusal) → IsMounted old → DirectoryCopyCause old d new s t given → IsClearCause old s t given
 copy_clear old d new s t (refusal.WriteFault by) mounted cause = tt
 copy_clear old d new s t (refusal.Dismounted by) mounted cause = dismount_clear old new s t by mounted cause
 copy_clear old d new s t refusal.NoMemory mounted cause = tt

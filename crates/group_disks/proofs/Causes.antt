@@ -6,12 +6,12 @@ use Rattle.bay.specs.State.{BayState}
 use Rattle.asm_group.specs.Names.{Bytes}
 use Rattle.asm_group.specs.Refusal as r
 use Rattle.asm_formats.specs.Header.{Header}
-use Rattle.group_disks.specs.Found.{Counts, counts_of, IsEarly, IsSlotOf, RefusalCause}
-use Rattle.group_disks.specs.Probes.{IsShown, IsUnusable, IsUsable}
+use Rattle.group_disks.specs.Found.{Counts, counts_of, IsEarly, IsSlotOfPath, RefusalCause}
+use Rattle.group_disks.specs.Probes.{IsShown, IsUnusable, IsUsableProbe}
 use Rattle.group_disks.specs.Ready.{HasRoom, IsFormFault}
 use Rattle.group_disks.specs.declared.find.Probe.{Probe}
 
-module _ (paths : List Bytes) (path disk : Bytes) (slot : ℕ) (is_slot : IsSlotOf paths path slot) (s t : Counts) where
+module _ (paths : List Bytes) (path disk : Bytes) (slot : ℕ) (is_slot : IsSlotOfPath paths path slot) (s t : Counts) where
   -- a disk that can't be given to the group is the cause
   pub unusable_cause : (p : Probe) → IsShown slot p s t → (refusal : r.Refusal) → IsUnusable path disk p refusal → RefusalCause paths path refusal s t
   unusable_cause p shown (r.NoDisk text) why = (why.0, inr (slot, is_slot, subst (λ (q : Probe). IsShown slot q s t) why.1 shown))
@@ -46,7 +46,7 @@ module _ (paths : List Bytes) (path disk : Bytes) (slot : ℕ) (is_slot : IsSlot
   form_cause m le other why = absurd why
 
 -- a disk that can be given to the group has room
-pub has_room : (s t : BayState) (slot units : ℕ) (p : Probe) → IsShown slot p (counts_of s) (counts_of t) → IsUsable p units → HasRoom slot units t
+pub has_room : (s t : BayState) (slot units : ℕ) (p : Probe) → IsShown slot p (counts_of s) (counts_of t) → IsUsableProbe p units → HasRoom slot units t
 has_room s t slot units p shown usable =
     record { size = usable.size; attached = (subst (λ (q : Probe). IsShown slot q (counts_of s) (counts_of t)) usable.free shown).0; inside = usable.inside }
 

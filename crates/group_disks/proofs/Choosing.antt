@@ -13,7 +13,7 @@ use Rattle.asm_base.specs.Refusals.{said}
 use Rattle.asm_base.specs.Names.{name_of}
 use Rattle.asm_base.proofs.NameLaws.{name_is_part}
 use Rattle.group_disks.specs.declared.find.Probe.{Probe}
-use Rattle.group_disks.specs.Probes.{IsUnusable, Says}
+use Rattle.group_disks.specs.Probes.{IsUnusable, SaysRefusal}
 
 weaker : (n m : ℕ) → n ≤ m → (xs : List ℕ) → All (λ (o : ℕ). o < n) xs → All (λ (o : ℕ). o < m) xs
 weaker n m le xs all = λ k d lt. let old : get_or xs k d < n = all k d lt in omega (arith, old, le)
@@ -46,7 +46,7 @@ numbered_name (c ∷ cs) is =
     λ i. both.0 i && all i && short i
 
 -- it says why, or that there was no memory
-pub unusable : (path disk : Bytes) (p : Probe) (wanted : r.Refusal) (given : Refusal) → Says wanted given → IsUnusable path disk p wanted → IsUnusable path disk p (said (λ any. []) given)
+pub unusable : (path disk : Bytes) (p : Probe) (wanted : r.Refusal) (given : Refusal) → SaysRefusal wanted given → IsUnusable path disk p wanted → IsUnusable path disk p (said (λ any. []) given)
 unusable path disk p wanted given says is = ⊎_elim
     (λ e. subst (IsUnusable path disk p) (sym e) is)
     (λ none. subst (IsUnusable path disk p) (sym none) tt) says

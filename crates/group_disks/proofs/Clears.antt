@@ -13,7 +13,7 @@ use Rattle.group_engine.specs.Own.{KeepsGroup}
 use Rattle.group_engine.specs.declared.access.Access.{Access}
 use Rattle.group_engine.specs.declared.access.Access.TheVariants as access
 use Rattle.group_engine.specs.declared.attached.Attached.{Attached}
-use Rattle.group_disks.specs.Clearing.{HasFailed, IsClearCause, IsFoundSlot, IsLostCause, IsRefusalOf}
+use Rattle.group_disks.specs.Clearing.{HasFailedSlot, IsClearCause, IsFoundSlot, IsLostCause, IsRefusalOf}
 use Rattle.group_mount.specs.declared.error.MountError.{MountError}
 use Rattle.group_mount.specs.declared.quorum.Quorate.{Quorate}
 use Rattle.group_mount.specs.declared.error.MountError.TheVariants as error
@@ -34,7 +34,7 @@ status_clear old new s t refusal.NoMemory mounted cause = tt
 status_clear old new s t other mounted cause = absurd cause
 
 -- a later fault of the same group, and an earlier start
-failed_on : (a b : MountedGroup) (d : ℕ) (s m t : BayState) → KeepsGroup a b s m → HasFailed b d m t → HasFailed a d s t
+failed_on : (a b : MountedGroup) (d : ℕ) (s m t : BayState) → KeepsGroup a b s m → HasFailedSlot b d m t → HasFailedSlot a d s t
 failed_on a b d s m t keeps failed = (
   failed.0,
   sym (ap (λ (l : List (Option Attached)). slot_at l d) keeps.same.disks) ∙ failed.1,
@@ -50,7 +50,7 @@ clear_on a b s m t other keeps cause = tt
 pub lost_by : (q : Quorate) (old new : MountedGroup) (s m t : BayState) (given : Refusal) (e : MountError) → ((d slot : ℕ) → slot_at old.disks d ≡ Some slot → IsFoundSlot q slot)
     → KeepsGroup old new m t → ((slot : ℕ) → s.faults slot ≤ m.faults slot) → IsClearCause old m t given → IsRefusalOf new given e → IsLostCause q s t e
 lost_by q old new s m t given (error.Dead slot name) found keeps later cause of =
-    let failed : HasFailed old of.0 m t = subst (IsClearCause old m t) of.1 cause in
+    let failed : HasFailedSlot old of.0 m t = subst (IsClearCause old m t) of.1 cause in
     let is : slot_at old.disks of.0 ≡ Some slot = sym (ap (λ (l : List (Option Attached)). slot_at l of.0) keeps.same.disks) ∙ of.2 in
     let at : failed.0 ≡ slot = same_Some failed.0 slot (sym failed.1 ∙ is) in
     (subst (λ (k : ℕ). Rose (s.faults k) (t.faults k)) at (omega (arith, failed.2, later failed.0)), found of.0 slot is)

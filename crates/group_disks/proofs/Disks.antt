@@ -11,7 +11,7 @@ use Rattle.group_engine.specs.declared.attached.Attached.{Attached}
 use Rattle.group_mount.specs.Recovering.{AreDisksOf}
 use Rattle.status_register.specs.Registered.{Registered}
 use Rattle.status_register.specs.declared.member.Member.{Member}
-use Rattle.group_disks.specs.Mounting.{AreSmall, attached_of, by_number, put_disks}
+use Rattle.group_disks.specs.Mounting.{HaveDiskNumbers, attached_of, by_number, put_disks}
 
 abbrev Disk : Type 0
 Disk = Member × ℕ
@@ -26,7 +26,7 @@ pub data IsPut (places : List (Option Attached)) (ds : List Disk) (d : ℕ) (o :
   one : (x : Disk) → IsAmong ds x → x.0.number ≡ d → o ≡ Some (attached_of x) → IsPut places ds d o
   none : ((x : Disk) → IsAmong ds x → x.0.number ≡ d → ⊥) → o ≡ get_or places d None → IsPut places ds d o
 
-pub put_at : (places : List (Option Attached)) (ds : List Disk) (d : ℕ) → length places ≡ 64 → AreSmall ds → IsPut places ds d (get_or (put_disks places ds) d None)
+pub put_at : (places : List (Option Attached)) (ds : List Disk) (d : ℕ) → length places ≡ 64 → HaveDiskNumbers ds → IsPut places ds d (get_or (put_disks places ds) d None)
 put_at places [] d long small = none (λ x among at. among) refl
 put_at places (x ∷ xs) d long small = go (put_at (set places x.0.number (Some (attached_of x))) xs d (length-set places x.0.number (Some (attached_of x)) ∙ long) (λ y h. small y (inr h)))
   where

@@ -18,7 +18,7 @@ use Rattle.asm_formats.specs.Metadata.{header_of}
 use Rattle.asm_images.specs.Kept.{header_in}
 use Rattle.asm_images.proofs.Bridges.{same_disk}
 use Rattle.disk_images.specs.Headers.{HasHeaderSlot}
-use Rattle.group_engine.specs.Gone.{EndCause, IsGone}
+use Rattle.group_engine.specs.Gone.{GoneCause, IsGone}
 use Rattle.group_engine.specs.Making.{IsShut}
 use Rattle.group_engine.specs.Mounts.{IsMounted, IsOwn, IsReady, IsWhole, MountedGroup, Takes, slot_at}
 use Rattle.group_engine.specs.Own.{IsSameGroup, KeepsGroup, OnOwnDisks}
@@ -27,8 +27,8 @@ use Rattle.group_engine.specs.declared.access.Access.TheVariants as access
 use Rattle.group_engine.specs.declared.attached.Attached.{Attached}
 use Rattle.status_register.specs.Registered.{Registered}
 use Rattle.status_register.specs.declared.member.Member.{Member}
-use Rattle.group_disks.specs.Dropping.{AreOut, DropCause, HaveHeaders, IsOut, OnDisk}
-use Rattle.group_disks.proofs.Told.{rose_before, rose_later}
+use Rattle.group_disks.specs.Dropping.{AreOut, DropGroupCause, HaveHeaders, IsOut, ChangesOnlyOnDisk}
+use Rattle.group_mount.proofs.Told.{rose_before, rose_later}
 
 -- ---- the slots of headers
 
@@ -121,11 +121,11 @@ module _ (old new : MountedGroup) (same : IsSameGroup old new) where
 
 module _ (m : MountedGroup) where
   pub one_runs : (d slot : ℕ) (place : Place) {s t : BayState} → slot_at m.disks d ≡ Some slot → Runs (IsSlot slot) (MayClose place slot) s t
-      → Runs (λ k. slot_at m.disks d ≡ Some k) (OnDisk m d) s t
+      → Runs (λ k. slot_at m.disks d ≡ Some k) (ChangesOnlyOnDisk m d) s t
   one_runs d slot place {s} {t} at run = on_more (λ k is. at ∙ ap (λ (j : ℕ). Some j) (sym is))
       (widened (λ x y step. changes-within (λ k j. slot_at m.disks d ≡ Some k) (GateOf place slot) x y (λ k j inside. at ∙ ap (λ (n : ℕ). Some n) (sym inside.0)) step.elsewhere) run)
 
-  pub no_runs : (d : ℕ) (s : BayState) → Runs (λ k. slot_at m.disks d ≡ Some k) (OnDisk m d) s s
+  pub no_runs : (d : ℕ) (s : BayState) → Runs (λ k. slot_at m.disks d ≡ Some k) (ChangesOnlyOnDisk m d) s s
   no_runs d s = started (λ x. changes-same (λ k j. slot_at m.disks d ≡ Some k) x x (same-refl x))
 
   -- the one that was closed
@@ -138,7 +138,7 @@ module _ (m : MountedGroup) where
       go (Err e) gone cause = inl cause
 
   -- others stay out
-  still_out : (d e slot : ℕ) (s u t : BayState) → (slot_at m.disks e ≡ Some slot → ⊥) → Runs (λ k. slot_at m.disks e ≡ Some k) (OnDisk m e) u t → IsOut slot s u → IsOut slot s t
+  still_out : (d e slot : ℕ) (s u t : BayState) → (slot_at m.disks e ≡ Some slot → ⊥) → Runs (λ k. slot_at m.disks e ≡ Some k) (ChangesOnlyOnDisk m e) u t → IsOut slot s u → IsOut slot s t
   still_out d e slot s u t other run out = ⊎_elim
       (λ rose. inl (rose_later (s.faults slot) (u.faults slot) (t.faults slot) (run.faults slot) rose))
       (λ (none : NowOnly u (λ image. header_in image slot ≡ None)). inr (record {
@@ -148,7 +148,7 @@ module _ (m : MountedGroup) where
       })) out
 
   pub one_more_out : (n : ℕ) (s u t : BayState) → ((d e slot : ℕ) → slot_at m.disks d ≡ Some slot → slot_at m.disks e ≡ Some slot → d ≡ e) → ((slot : ℕ) → s.faults slot ≤ u.faults slot)
-      → AreOut m n s u → Runs (λ k. slot_at m.disks n ≡ Some k) (OnDisk m n) u t → ((slot : ℕ) → slot_at m.disks n ≡ Some slot → IsOut slot u t) → AreOut m (n + 1) s t
+      → AreOut m n s u → Runs (λ k. slot_at m.disks n ≡ Some k) (ChangesOnlyOnDisk m n) u t → ((slot : ℕ) → slot_at m.disks n ≡ Some slot → IsOut slot u t) → AreOut m (n + 1) s t
   one_more_out n s u t apart later before run now d slot below at = ⊎_elim
       (λ (lower : d < n). still_out d n slot s u t (λ too. let same = apart d n slot at too in omega (arith, same, lower)) run (before d slot lower at))
       (λ (last : n ≤ d). let same : d ≡ n = omega (arith, last, below) in
@@ -158,7 +158,7 @@ module _ (m : MountedGroup) where
 
   -- calls on one of the group's disks more
   pub one_more_run : (n : ℕ) (s u t : BayState) → ((d slot : ℕ) → slot_at m.disks d ≡ Some slot → IsOwn m slot) → Runs (IsOwn m) (OnOwnDisks m) s u
-      → Runs (λ k. slot_at m.disks n ≡ Some k) (OnDisk m n) u t → Runs (IsOwn m) (OnOwnDisks m) s t
+      → Runs (λ k. slot_at m.disks n ≡ Some k) (ChangesOnlyOnDisk m n) u t → Runs (IsOwn m) (OnOwnDisks m) s t
   one_more_run n s u t own before run = goes_on (changes-trans (λ slot k. IsOwn m slot)) before (stops before)
       (on_more (λ k at. own n k at) (widened (λ x y change. changes-within (λ slot k. IsOwn m slot) (λ slot k. slot_at m.disks n ≡ Some slot) x y (λ slot k at. own n slot at) change) run))
 
@@ -178,19 +178,19 @@ nothing_done m s takes = record {
 }
 
 -- the record wasn't written
-pub end_drops : (old : MountedGroup) (contents : Bool) (new : MountedGroup) (s t : BayState) (given : Refusal) → EndCause old new s t given → DropCause old contents new s t given
+pub end_drops : (old : MountedGroup) (contents : Bool) (new : MountedGroup) (s t : BayState) (given : Refusal) → GoneCause old new s t given → DropGroupCause old contents new s t given
 end_drops old contents new s t (refusal.Dismounted by) cause = cause
 end_drops old contents new s t refusal.NoMemory cause = cause
 end_drops old contents new s t other cause = absurd cause
 
 -- it took no calls
-pub shut_drops : (m : MountedGroup) (contents : Bool) (s : BayState) (given : Refusal) → IsShut m.access given → DropCause m contents m s s given
+pub shut_drops : (m : MountedGroup) (contents : Bool) (s : BayState) (given : Refusal) → IsShut m.access given → DropGroupCause m contents m s s given
 shut_drops m contents s given shut = go m.access refl shut
   where
-    go : (a : Access) → m.access ≡ a → IsShut a given → DropCause m contents m s s given
+    go : (a : Access) → m.access ≡ a → IsShut a given → DropGroupCause m contents m s s given
     go access.Mounted is shut = absurd shut
-    go (access.Dismounted d) is shut = subst (λ (x : Refusal). DropCause m contents m s s x) (sym shut) (inl is)
-    go access.Closed is shut = subst (λ (x : Refusal). DropCause m contents m s s x) (sym shut) is
+    go (access.Dismounted d) is shut = subst (λ (x : Refusal). DropGroupCause m contents m s s x) (sym shut) (inl is)
+    go access.Closed is shut = subst (λ (x : Refusal). DropGroupCause m contents m s s x) (sym shut) is
 
 -- the record that was written is marked gone
 pub is_marked : (old new : MountedGroup) (s t : BayState) → IsGone old new s t → new.register.value.gone ≡ true

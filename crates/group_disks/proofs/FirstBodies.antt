@@ -12,10 +12,10 @@ use Rattle.asm_formats.specs.Header.{is_header}
 use Rattle.asm_formats.specs.Claim.{is_claim}
 use Rattle.asm_formats.specs.Status.{entry_of, is_entry, is_status}
 use Rattle.asm_formats.specs.Items.{is_item}
-use Rattle.group_disks.specs.Planned.{Plan, IsPlan, header_of_plan, claim_of_plan, record_of_plan, disk_of_plan}
+use Rattle.group_disks.specs.Planned.{Plan, IsGroupPlan, header_of_plan, claim_of_plan, record_of_plan, disk_of_plan}
 use Rattle.asm_images.specs.Created.{first_templates, first_settings}
 
-module _ (plan : Plan) (is : IsPlan plan) where
+module _ (plan : Plan) (is : IsGroupPlan plan) where
   id_ok : nat_lt plan.id (2 ^ 64) ≡ true
   id_ok = lt-ltb plan.id (2 ^ 64) is.id
 

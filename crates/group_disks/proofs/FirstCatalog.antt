@@ -16,7 +16,7 @@ use Rattle.asm_formats.specs.Status as status
 use Rattle.asm_formats.proofs.Bodies.{item_codec}
 use Rattle.catalog_tables.specs.declared.error.CatalogError.{CatalogError}
 use Rattle.catalog_tables.specs.declared.error.CatalogError.TheVariants as answer
-use Rattle.catalog_tables.specs.Faults.{IsAtFault, IsCatalogOf, Names}
+use Rattle.catalog_tables.specs.Faults.{IsAtFault, IsCatalogOf, NamesFault}
 use Rattle.catalog_tables.specs.Placing.{HasUnits, after_chunks, unused_maps}
 use Rattle.catalog_tables.specs.Rules.{KeepsRules}
 use Rattle.catalog_tables.specs.Tables.{AreTables, Catalogued, HasRecords, Tables, first_unreadable, is_record}
@@ -27,7 +27,7 @@ use Rattle.directory_store.specs.Stores.{AreFirst}
 use Rattle.page_map.proofs.Keys.{same_key, key_itself}
 use Rattle.page_map.specs.Tables.{PageTable}
 use Rattle.group_disks.specs.Creating.{usual_shape}
-use Rattle.group_disks.specs.Planned.{Plan, IsPlan, disk_of_plan, first_entries, record_of_plan}
+use Rattle.group_disks.specs.Planned.{Plan, IsGroupPlan, disk_of_plan, first_entries, record_of_plan}
 use Rattle.asm_images.specs.Created.{first_settings, first_templates}
 use Rattle.group_disks.proofs.FirstBodies.{disk_ok, settings_ok, templates_ok}
 
@@ -89,7 +89,7 @@ module _ (plan : Plan) where
     disks = (0, record { birth = 1; name = plan.disk; failgroup = plan.disk }) ∷ [];
   }
 
-  module _ (is : IsPlan plan) where
+  module _ (is : IsGroupPlan plan) where
     readable : (i : Item) → is_item i ≡ true → is_record (key i, value i) ≡ true
     readable i ok = ap is_some (item_codec.again i ok)
 
@@ -158,8 +158,8 @@ module _ (plan : Plan) where
         (subst (λ (c : List Entry). IsAtFault c shape entries k) is_first fault))) is_catalog
 
     pub no_damage : (table : PageTable) (content : List Entry) (entries : List status.Entry) (shape : Shape) (e : CatalogError) (k : Key) → AreFirst first [] table → content ≡ table.records
-        → IsStrictlySortedBy key_cmp (keys_of content) → entries ≡ (record_of_plan plan).entries → shape ≡ usual_shape → e ≡ answer.Damaged k → Names (IsAtFault content shape entries) e → ⊥
+        → IsStrictlySortedBy key_cmp (keys_of content) → entries ≡ (record_of_plan plan).entries → shape ≡ usual_shape → e ≡ answer.Damaged k → NamesFault (IsAtFault content shape entries) e → ⊥
     no_damage table content entries shape e k are_first same sorted are usual damaged fault =
         no_fault content entries shape k
         (same ∙ content_is table are_first (subst (λ (l : List Entry). IsStrictlySortedBy key_cmp (keys_of l)) same sorted)) are usual
-        (subst (Names (IsAtFault content shape entries)) damaged fault)
+        (subst (NamesFault (IsAtFault content shape entries)) damaged fault)

@@ -17,12 +17,12 @@ use Rattle.asm_formats.proofs.StatusReading.{status_again}
 use Rattle.asm_formats.proofs.Framing.{claims_by_slot, statuses_by_slot}
 use Rattle.asm_images.specs.Bridge.{disk_bytes}
 use Rattle.asm_images.proofs.Bridges.{bytes_are_listed}
-use Rattle.group_disks.specs.Planned.{Plan, IsPlan, header_of_plan, claim_of_plan, record_of_plan, content_of_plan, header_body, claim_body, status_body, metadata_of_plan}
-use Rattle.group_disks.specs.Stages.{HasAll}
+use Rattle.group_disks.specs.Planned.{Plan, IsGroupPlan, header_of_plan, claim_of_plan, record_of_plan, content_of_plan, header_body, claim_body, status_body, metadata_of_plan}
+use Rattle.group_disks.specs.Stages.{HasAllParts}
 use Rattle.group_disks.proofs.FirstBodies.{header_ok, claim_ok, status_ok}
 use Rattle.group_disks.proofs.Shown.{is_shut, is_shown}
 
-module _ (slot : ℕ) (plan : Plan) (is : IsPlan plan) (image : Image) (long : 26214400 ≤ image.size slot) where
+module _ (slot : ℕ) (plan : Plan) (is : IsGroupPlan plan) (image : Image) (long : 26214400 ≤ image.size slot) where
   abbrev bytes : List ℕ
   bytes = disk_bytes image slot
 
@@ -51,7 +51,7 @@ module _ (slot : ℕ) (plan : Plan) (is : IsPlan plan) (image : Image) (long : 2
 
   -- ---- all of them
 
-  module _ (has : HasAll slot plan image) where
+  module _ (has : HasAllParts slot plan image) where
     claims_there : (metadata bytes).claims ≡ Some (claim_of_plan plan) ∷ []
     claims_there =
         let p = is_shown slot image 2 (claim_body plan) (omega (arith, long)) has.shows.claim_slot in

@@ -30,7 +30,7 @@ use Rattle.asm_images.specs.Stands.{Describes, IsDiskOf, Standing}
 use Rattle.asm_images.specs.Describing.{DescribesGroup, SameFile}
 use Rattle.asm_images.specs.Sound.{IsCovered, SoundBy}
 use Rattle.group_disks.specs.Creating.{made_group}
-use Rattle.group_disks.specs.Planned.{Plan, IsPlan, header_of_plan, entry_of_plan, record_of_plan, items_of_plan, content_of_plan, metadata_of_plan}
+use Rattle.group_disks.specs.Planned.{Plan, IsGroupPlan, header_of_plan, entry_of_plan, record_of_plan, items_of_plan, content_of_plan, metadata_of_plan}
 
 module _ (slot size : ℕ) (plan : Plan) where
   abbrev pub only : Member
@@ -164,7 +164,7 @@ module _ (slot size : ℕ) (plan : Plan) where
 
   -- ---- on a disk that has the units
 
-  module _ (is : IsPlan plan) (long : plan.units * 1048576 ≤ size) where
+  module _ (is : IsGroupPlan plan) (long : plan.units * 1048576 ≤ size) where
     enough_units : plan.units ≤ min (size / 1048576) most_units
     enough_units = le-min ((le-div_iff_mul-le (omega arith)).1 long) is.most
 

@@ -14,11 +14,11 @@ use Rattle.catalog_tables.proofs.TableItems.{items_of_records}
 use Rattle.directory_store.specs.Stores.{AreFirst}
 use Rattle.page_map.specs.Tables.{PageTable}
 use Rattle.page_map.proofs.Keys.{same_key}
-use Rattle.group_disks.specs.Planned.{Plan, IsPlan, disk_of_plan, first_entries, items_of_plan}
+use Rattle.group_disks.specs.Planned.{Plan, IsGroupPlan, disk_of_plan, first_entries, items_of_plan}
 use Rattle.asm_images.specs.Created.{first_settings, first_templates}
 use Rattle.group_disks.proofs.FirstBodies.{disk_ok, settings_ok, templates_ok}
 
-module _ (plan : Plan) (is : IsPlan plan) (table : PageTable) (first : AreFirst (first_entries plan) [] table) where
+module _ (plan : Plan) (is : IsGroupPlan plan) (table : PageTable) (first : AreFirst (first_entries plan) [] table) where
   -- an item of the plan has the key and the value
   abbrev IsOneOf : Key → List ℕ → Type 0
   IsOneOf k v = (i : Item) × IsAmong (items_of_plan plan) i × IsItemOf k v i

@@ -21,7 +21,7 @@ use Rattle.asm_images.proofs.Members.{member_is, among_members}
 use Rattle.asm_images.proofs.Bridges.{disks_are_listed, beyond_is_unseen}
 use Rattle.group_disks.specs.Creating.{HasMember, Founds, made_group}
 use Rattle.group_mount.specs.Mounting.{Allows}
-use Rattle.group_disks.specs.Planned.{Plan, IsPlan, header_of_plan, record_of_plan, kept_of_plan, metadata_of_plan}
+use Rattle.group_disks.specs.Planned.{Plan, IsGroupPlan, header_of_plan, record_of_plan, kept_of_plan, metadata_of_plan}
 use Rattle.group_disks.proofs.Outsiders.{nothing_among, no_member_allows}
 use Rattle.group_disks.proofs.Departing.{elsewhere_member}
 use Rattle.group_disks.proofs.FirstGroup.{only, only_is_sound, none_is_sound, only_is_standing}
@@ -149,7 +149,7 @@ module _ (slot : ℕ) (plan : Plan) (old new : bay.Image) (changes : ChangesSlot
   unfolding metadata
   member_there s at = (header_of_plan plan, ap (λ (k : ℕ). header_in new k) (eqb-true s slot at) ∙ ap (λ (d : Metadata). d.header) all, refl)
 
-  module _ (is : IsPlan plan) (long : plan.units * 1048576 ≤ new.size slot) where
+  module _ (is : IsGroupPlan plan) (long : plan.units * 1048576 ≤ new.size slot) where
     pub recorded_allows : Allows plan.id (made_group plan.name ∷ []) new
     recorded_allows = λ slots. ⊎_elim
         (λ (lt : slot < slots). sound slots lt)
@@ -180,7 +180,7 @@ module _ (slot : ℕ) (plan : Plan) (old new : bay.Image) (changes : ChangesSlot
     }
 
 -- all parts of the disk found the group
-pub recorded_founds : (slot : ℕ) (plan : Plan) (old new : bay.Image) → ChangesSlot slot old new → metadata (disk_bytes new slot) ≡ metadata_of_plan plan (new.size slot) → IsPlan plan → plan.units * 1048576 ≤ new.size slot
+pub recorded_founds : (slot : ℕ) (plan : Plan) (old new : bay.Image) → ChangesSlot slot old new → metadata (disk_bytes new slot) ≡ metadata_of_plan plan (new.size slot) → IsGroupPlan plan → plan.units * 1048576 ≤ new.size slot
     → (n : ℕ) → slot < n → Founds n plan.id (made_group plan.name) (kept_of_plan slot plan) old new
 recorded_founds slot plan old new changes all is long n lt = record {
   is_held = λ none. recorded_is_held slot plan old new changes none all is long n lt;

@@ -30,9 +30,9 @@ use Rattle.status_register.specs.Tallies.{HaveSlots}
 use Rattle.status_register.specs.Writes.{first_register}
 use Rattle.status_register.specs.declared.member.Member.{Member}
 use Rattle.group_disks.specs.Creating.{usual_shape}
-use Rattle.group_disks.specs.FirstParts.{IsFirstStore, IsMountedAs, first_disks, first_member}
+use Rattle.group_disks.specs.FirstParts.{IsFirstStore, IsMountedOnSlot, first_disks, first_member}
 use Rattle.group_disks.proofs.FirstItems.{first_items}
-use Rattle.group_disks.specs.Planned.{Plan, IsPlan, record_of_plan}
+use Rattle.group_disks.specs.Planned.{Plan, IsGroupPlan, record_of_plan}
 use Rattle.group_disks.specs.Stages.{first_copy}
 use Rattle.group_disks.proofs.Births.{birth_of}
 use Rattle.group_disks.proofs.FirstBodies.{status_ok}
@@ -119,7 +119,7 @@ module _ (slot : ℕ) where
       all = λ d named. (first_copy slot, subst (λ (l : List DirCopy). IsAmong l (first_copy slot)) (sym same) (inl refl), only_named d named);
     }
 
-    module _ (size : ℕ) (name : Bytes) (store : Stored) (cat : Catalogued) (state : BayState) (is : IsPlan plan) (first : IsFirstStore slot plan store state)
+    module _ (size : ℕ) (name : Bytes) (store : Stored) (cat : Catalogued) (state : BayState) (is : IsGroupPlan plan) (first : IsFirstStore slot plan store state)
         (catalog : IsCatalogOf store.table.records (record_of_plan plan).entries cat) (usual : cat.shape ≡ usual_shape) where
       abbrev disks : List (Option Attached)
       disks = first_disks (record { slot = slot; size = size })
@@ -165,11 +165,11 @@ module _ (slot : ℕ) where
             subst (λ (l : List (Option Attached)). IsWhole (made name cat store r l)) (sym are)
             (subst (λ (q : Registered). IsWhole (made name cat store q disks)) (sym same) (whole_at (subst (λ (q : Registered). Reaches q.members q.value) same reached)))
 
-        pub first_mounted : (m : MountedGroup) → m ≡ made name cat store r ds → name ≡ plan.name → state.attached slot ≡ Some size → registers.IsReady r state → registers.KeepsStanding r state → IsMountedAs slot plan m state
+        pub first_mounted : (m : MountedGroup) → m ≡ made name cat store r ds → name ≡ plan.name → state.attached slot ≡ Some size → registers.IsReady r state → registers.KeepsStanding r state → IsMountedOnSlot slot plan m state
         first_mounted m is_made named attached ready history =
             let same : r ≡ register = is_first ∙ register_is in
             let all : m ≡ made name cat store register disks = is_made ∙ (λ i. made name cat store (same i) (are i)) in
-            subst (λ (g : MountedGroup). IsMountedAs slot plan g state) (sym all) (record {
+            subst (λ (g : MountedGroup). IsMountedOnSlot slot plan g state) (sym all) (record {
               mounted = refl;
               name = named;
               id = refl;

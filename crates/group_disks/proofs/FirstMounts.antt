@@ -23,8 +23,8 @@ use Rattle.status_register.specs.SurveyLaws.{IsMemberOn}
 use Rattle.status_register.specs.Surveys.{disk_in}
 use Rattle.status_register.specs.declared.member.Member.{Member}
 use Rattle.group_disks.specs.Creating.{Founds, HasMember, made_group}
-use Rattle.group_disks.specs.FirstParts.{IsAlone, IsMountedAs, MountsNew, SaysAll, first_member, first_register}
-use Rattle.group_disks.specs.Planned.{Plan, IsPlan, claim_of_plan, header_of_plan, kept_of_plan, record_of_plan}
+use Rattle.group_disks.specs.FirstParts.{IsAlone, IsMountedOnSlot, MountsNew, SaysAll, first_member, first_register}
+use Rattle.group_disks.specs.Planned.{Plan, IsGroupPlan, claim_of_plan, header_of_plan, kept_of_plan, record_of_plan}
 use Rattle.group_disks.specs.Stages.{HasFormed}
 use Rattle.group_disks.proofs.FirstDisk.{all_there}
 use Rattle.group_disks.proofs.FirstGroup.{describes}
@@ -32,7 +32,7 @@ use Rattle.group_disks.proofs.FirstMount.{first_enough, place_at}
 use Rattle.group_disks.proofs.Moments.{has_before}
 
 -- a disk that has all its parts says so
-pub forms_says : {m t : BayState} (slot size : ℕ) (plan : Plan) → IsSound m → m.attached slot ≡ Some size → IsPlan plan → plan.units * 1048576 ≤ size → Ends (HasFormed slot plan) m t → NowOnly t (SaysAll slot plan)
+pub forms_says : {m t : BayState} (slot size : ℕ) (plan : Plan) → IsSound m → m.attached slot ≡ Some size → IsGroupPlan plan → plan.units * 1048576 ≤ size → Ends (HasFormed slot plan) m t → NowOnly t (SaysAll slot plan)
 forms_says {m} {t} slot size plan sound attached is room ends = record {
   now = λ image left.
       let from = ends.now image left in
@@ -40,7 +40,7 @@ forms_says {m} {t} slot size plan sound attached is room ends = record {
       all_there slot plan is image (omega (arith, room, sized, is.least, from.2.elsewhere.size slot)) from.2.has_all;
 }
 
-module _ (slot n : ℕ) (plan : Plan) (m : MountedGroup) (state : BayState) (inside : slot < n) (mounted : IsMountedAs slot plan m state) where
+module _ (slot n : ℕ) (plan : Plan) (m : MountedGroup) (state : BayState) (inside : slot < n) (mounted : IsMountedOnSlot slot plan m state) where
   abbrev kept : Kept
   kept = kept_of_plan slot plan
 
@@ -113,7 +113,7 @@ module _ (slot n : ℕ) (plan : Plan) (m : MountedGroup) (state : BayState) (ins
 -- ---- the whole creation
 
 module _ {s mid t : BayState} (n slot : ℕ) (plan : Plan) (m : MountedGroup) (inside : slot < n) (looks : Runs (λ k. k < n) Same s mid) (founds : Ends (Founds n plan.id (made_group plan.name) (kept_of_plan slot plan)) mid t)
-    (says : NowOnly t (SaysAll slot plan)) (mounted : IsMountedAs slot plan m t) (none : NowOnly s (λ image. HasMember m.register.id image → ⊥)) where
+    (says : NowOnly t (SaysAll slot plan)) (mounted : IsMountedOnSlot slot plan m t) (none : NowOnly s (λ image. HasMember m.register.id image → ⊥)) where
   -- no disk was a member once all images had been looked at
   none_then : (image : Image) → mid.leaves mid.calls image → HasMember plan.id image → ⊥
   none_then image left has =
@@ -135,7 +135,7 @@ module _ {s mid t : BayState} (n slot : ℕ) (plan : Plan) (m : MountedGroup) (i
 
 -- by the name that was asked for
 pub new_mounts : {s mid t : BayState} (n slot : ℕ) (plan : Plan) (name : Bytes) (m : MountedGroup) → plan.name ≡ name → slot < n → Runs (λ k. k < n) Same s mid
-    → Ends (Founds n plan.id (made_group plan.name) (kept_of_plan slot plan)) mid t → NowOnly t (SaysAll slot plan) → IsMountedAs slot plan m t → MountsNew n (made_group name) m s t
+    → Ends (Founds n plan.id (made_group plan.name) (kept_of_plan slot plan)) mid t → NowOnly t (SaysAll slot plan) → IsMountedOnSlot slot plan m t → MountsNew n (made_group name) m s t
 new_mounts {s} {mid} {t} n slot plan name m named inside looks founds says mounted = record {
   represents = subst (λ (l : Bytes). Represents m (made_group l)) named (represents slot n plan m t inside mounted);
   turns = ap (λ (r : Registered). r.turn + length m.store.copies) mounted.register ∙ ap (λ (l : List DirCopy). 1 + length l) mounted.copies;

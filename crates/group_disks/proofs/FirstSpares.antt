@@ -9,8 +9,8 @@ use Rattle.bay.proofs.Calls.{goes_on, on_more, stops, widened}
 use Rattle.asm_group.specs.Group.{Group}
 use Rattle.asm_group.specs.Names.{Bytes}
 use Rattle.group_engine.specs.Mounts.{MountedGroup}
-use Rattle.group_disks.specs.Creating.{Creates}
-use Rattle.group_disks.specs.FirstParts.{IsMountedAs, IsNewlyMounted, SameBut, SparesAllBut}
+use Rattle.group_disks.specs.Creating.{CreatesGroupOn}
+use Rattle.group_disks.specs.FirstParts.{IsMountedOnSlot, IsNewlyMounted, SameBut, SparesAllBut}
 use Rattle.group_disks.specs.Holding.{IsHeldSlot, SameHeld, SparesHeld}
 use Rattle.group_disks.specs.Planned.{Plan}
 use Rattle.group_disks.proofs.Spared.{held_trans, looks_held}
@@ -34,18 +34,18 @@ module _ (held : List ℕ) (slot : ℕ) (tested : list_any (λ s. s == slot) hel
   free : IsHeldSlot held slot → ⊥
   free is_held = false≢true (sym tested ∙ is_held)
 
-  creates_held : (id : ℕ) (g : Group) (x y : Image) → Creates slot id g x y → SameHeld held x y
+  creates_held : (id : ℕ) (g : Group) (x y : Image) → CreatesGroupOn slot id g x y → SameHeld held x y
   creates_held id g x y creates k is_held =
       let apart : k ≢ slot = λ same. free (subst (λ (j : ℕ). IsHeldSlot held j) same is_held) in
       record { size = creates.elsewhere.size k apart; byte = λ j. creates.elsewhere.byte k j apart }
 
-  pub creation_spares_held : (n id : ℕ) (g : Group) {s m t : BayState} → slot < n → Runs (λ k. k < n) Same s m → Runs (IsSlot slot) (Creates slot id g) m t → SparesHeld held n s t
+  pub creation_spares_held : (n id : ℕ) (g : Group) {s m t : BayState} → slot < n → Runs (λ k. k < n) Same s m → Runs (IsSlot slot) (CreatesGroupOn slot id g) m t → SparesHeld held n s t
   creation_spares_held n id g {s} {m} {t} below looks creates =
       let first = looks_held held n looks in
       goes_on (held_trans held) first (stops first)
       (on_more (λ k (is : k ≡ slot). subst (λ (j : ℕ). j < n) (sym is) below) (widened (creates_held id g) creates))
 
-  pub newly_mounted : (name : Bytes) (p q : Plan) (m : MountedGroup) (t : BayState) → p ≡ q → q.name ≡ name → IsMountedAs slot q m t → IsNewlyMounted held name (Some p.id) m t
+  pub newly_mounted : (name : Bytes) (p q : Plan) (m : MountedGroup) (t : BayState) → p ≡ q → q.name ≡ name → IsMountedOnSlot slot q m t → IsNewlyMounted held name (Some p.id) m t
   newly_mounted name p q m t same named is = record {
     mounted = is.mounted;
     name_is = is.name ∙ named;

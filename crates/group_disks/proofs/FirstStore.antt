@@ -21,11 +21,11 @@ use Rattle.page_map.specs.Changes.{is_put}
 use Rattle.page_map.specs.Tables.{PageTable, place_at, one_if, is_new, new_in, room}
 use Rattle.page_map.specs.Contents.{AreRecords, IsItemOf}
 use Rattle.page_map.proofs.Keys.{same_key, key_itself}
-use Rattle.directory_store.specs.Contents.{HasRecords, ArePutItems}
+use Rattle.directory_store.specs.Contents.{HasCopyRecords, ArePutItems}
 use Rattle.directory_store.specs.declared.error.StoreError.{StoreError}
 use Rattle.directory_store.specs.declared.error.StoreError.TheVariants.{Full, Gone}
 use Rattle.directory_store.specs.Answers.{IsFirstRefusal}
-use Rattle.directory_store.specs.Copies.{AllAreShut, AreApart, AreNamed, IsFailedSlot, IsNamed, IsSlotOf, RegionsOf}
+use Rattle.directory_store.specs.Copies.{AllAreShut, AreCopiesApart, AreNamedCopies, IsFailedSlot, IsNamedCopy, IsSlotOfCopy, RegionsOf}
 use Rattle.directory_store.specs.Stores.{AreFirst, IsEmpty, HaveNoneOrFirst, HaveOneSize, HaveRecords, Keeps, Stored}
 use Rattle.directory_store.proofs.Storing.{keeps_elsewhere}
 use Rattle.change_directory.specs.declared.copy.DirCopy.{DirCopy}
@@ -33,7 +33,7 @@ use Rattle.change_directory.specs.Places.{IsCopy}
 use Rattle.change_directory.specs.Formatting.{AreShut}
 use Rattle.change_directory.specs.StoreLaws.{RegionOf, SameRegion}
 use Rattle.disk_forming.specs.Forming.{RecordsOf}
-use Rattle.group_disks.specs.Planned.{Plan, IsPlan, disk_of_plan, items_of_plan, first_entries}
+use Rattle.group_disks.specs.Planned.{Plan, IsGroupPlan, disk_of_plan, items_of_plan, first_entries}
 use Rattle.asm_images.specs.Created.{first_templates, first_settings}
 use Rattle.group_disks.specs.FirstParts.{IsFirstStore}
 use Rattle.group_disks.specs.Stages.{first_copy, HasFirst, HasNoneOrFirst}
@@ -67,7 +67,7 @@ same_item i j ok_i ok_j same_keys same_values =
     frames : frame_of i ≡ frame_of j
     frames = λ t. record { key = same_keys t; value = same_values t }
 
-module _ (plan : Plan) (is : IsPlan plan) where
+module _ (plan : Plan) (is : IsGroupPlan plan) where
   -- each record of the first change is an item
   pub put_items : ArePutItems (first_entries plan)
   put_items e among = ⊎_elim (of (disk_of_plan plan) (disk_ok plan is) e)
@@ -116,7 +116,7 @@ module _ (plan : Plan) (is : IsPlan plan) where
     items_are = one_list items (items_of_plan plan) 0 are.in_order refl to_plan from_plan
 
   -- a copy with the records of the first change has the content of the new group
-  pub has_first : (slot : ℕ) (table : PageTable) (x : Image) → AreFirst (first_entries plan) [] table → HasRecords table 1 (first_copy slot) x → HasFirst slot plan x
+  pub has_first : (slot : ℕ) (table : PageTable) (x : Image) → AreFirst (first_entries plan) [] table → HasCopyRecords table 1 (first_copy slot) x → HasFirst slot plan x
   has_first slot table x first has =
       let content = has.has in
       let same : items_same (has.content.items) = content.decoded ∙ ap (λ (l : List Item). Some l) (items_are table first content.items content.records) in
@@ -154,10 +154,10 @@ module _ (slot : ℕ) where
   is_only : (c : DirCopy) → IsAmong only c → c ≡ first_copy slot
   is_only c among = ⊎_elim (λ e. e) (λ none. absurd none) among
 
-  pub only_named : {s : BayState} → IsCopy s (first_copy slot) → AreNamed only [] s
-  only_named {s} is c among = subst (λ (d : DirCopy). IsNamed [] s d) (sym (is_only c among)) (record { copy_is = is; number = omega arith; due = refl })
+  pub only_named : {s : BayState} → IsCopy s (first_copy slot) → AreNamedCopies only [] s
+  only_named {s} is c among = subst (λ (d : DirCopy). IsNamedCopy [] s d) (sym (is_only c among)) (record { copy_is = is; number = omega arith; due = refl })
 
-  pub only_apart : AreApart only
+  pub only_apart : AreCopiesApart only
   only_apart = (λ c among. absurd among, tt)
 
   pub only_size : HaveOneSize only
@@ -166,7 +166,7 @@ module _ (slot : ℕ) where
   pub only_shut : {s : BayState} → NowOnly s (AreShut (first_copy slot)) → NowOnly s (AllAreShut only)
   only_shut {s} shut = record { now = λ x left c among. subst (λ (d : DirCopy). AreShut d x) (sym (is_only c among)) (shut.now x left) }
 
-  pub only_run : {a b : BayState} → Runs (IsSlotOf only) (ChangesOnly (RegionsOf only)) a b → Runs (IsSlot slot) (ChangesOnly (RegionOf (first_copy slot))) a b
+  pub only_run : {a b : BayState} → Runs (IsSlotOfCopy only) (ChangesOnly (RegionsOf only)) a b → Runs (IsSlot slot) (ChangesOnly (RegionOf (first_copy slot))) a b
   only_run {a} {b} run =
       on_more (λ s is. is.2 ∙ ap (λ (x : DirCopy). x.slot) (is_only is.0 is.1))
       (widened (λ x y h. changes-within (RegionOf (first_copy slot)) (RegionsOf only) x y (λ s k inside. subst (λ (d : DirCopy). RegionOf d s k) (is_only inside.0 inside.1) inside.2) h) run)
@@ -182,7 +182,7 @@ module _ (slot : ℕ) where
       let full = (subst (λ (x : StoreError). IsFirstRefusal only 1024 put s t x) same why).0 in
       has_room_for plan full.0 need free full.1 (full.2 ∙ ap (λ (l : List Entry). new_in full.0 l) first) full.3 full.4
 
-  module _ (plan : Plan) (is : IsPlan plan) where
+  module _ (plan : Plan) (is : IsGroupPlan plan) where
     pub first_moments : {a b : BayState} → LeavesOnly a b (HaveNoneOrFirst only (first_entries plan) []) → LeavesOnly a b (HasNoneOrFirst slot plan)
     first_moments {a} {b} leaves = leaves_less {P = HaveNoneOrFirst only (first_entries plan) []} {Q = HasNoneOrFirst slot plan}
         (λ x have. ⊎_elim (λ none. inl none) (λ some. inr (has_first plan is slot some.0 x some.1 some.2)) (have (first_copy slot) (inl refl))) leaves
@@ -190,7 +190,7 @@ module _ (slot : ℕ) where
     pub first_now : {b : BayState} (store : Stored) → store.copies ≡ only → store.number ≡ 1 → AreFirst (first_entries plan) [] store.table → NowOnly b (HaveRecords store) → NowOnly b (HasFirst slot plan)
     first_now {b} store copies number first now = record {
       now = λ x left. has_first plan is slot store.table x first
-          (subst (λ (n : ℕ). HasRecords store.table n (first_copy slot) x) number (now.now x left (first_copy slot) (subst (λ (l : List DirCopy). IsAmong l (first_copy slot)) (sym copies) (inl refl))));
+          (subst (λ (n : ℕ). HasCopyRecords store.table n (first_copy slot) x) number (now.now x left (first_copy slot) (subst (λ (l : List DirCopy). IsAmong l (first_copy slot)) (sym copies) (inl refl))));
     }
 
     -- what was made is the store of the plan

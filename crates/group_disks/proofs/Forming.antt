@@ -20,10 +20,10 @@ use Rattle.asm_formats.proofs.Framing.{header_write, content_behind}
 use Rattle.asm_formats.proofs.Writings.{write_widens}
 use Rattle.asm_images.specs.Bridge.{disk_bytes, ChangesSlot}
 use Rattle.asm_images.proofs.Bridges.{range_change}
-use Rattle.group_disks.specs.Creating.{HasMember, Creates, Founds, made_group}
+use Rattle.group_disks.specs.Creating.{HasMember, CreatesGroupOn, Founds, made_group}
 use Rattle.group_mount.specs.Mounting.{Allows}
-use Rattle.group_disks.specs.Planned.{Plan, IsPlan, header_of_plan, header_body, kept_of_plan}
-use Rattle.group_disks.specs.Stages.{IsForming, bare, headed, claimed, whole, HasAll}
+use Rattle.group_disks.specs.Planned.{Plan, IsGroupPlan, header_of_plan, header_body, kept_of_plan}
+use Rattle.group_disks.specs.Stages.{IsForming, bare, headed, claimed, whole, HasAllParts}
 use Rattle.group_disks.specs.CreateLaws.{FormingCreates, FormedIsHeld}
 use Rattle.group_disks.proofs.Outsiders.{no_member_allows}
 use Rattle.group_disks.proofs.Departing.{shut_header, NamesOther, other_sound, other_member, same_sound, same_member}
@@ -49,14 +49,14 @@ same_header old new change gate body =
 other_id : {a b : ℕ} → a ≢ b → b ≢ a
 other_id apart same = apart (sym same)
 
-module _ (slot : ℕ) (plan : Plan) (old new : Image) (is : IsPlan plan) (long : plan.units * 1048576 ≤ old.size slot) where
+module _ (slot : ℕ) (plan : Plan) (old new : Image) (is : IsGroupPlan plan) (long : plan.units * 1048576 ≤ old.size slot) where
   abbrev now : List ℕ
   now = disk_bytes new slot
 
   -- ---- a disk without a header
 
   module _ (changes : ChangesSlot slot old new) where
-    headless_creates : header_of now ≡ None → Creates slot plan.id (made_group plan.name) old new
+    headless_creates : header_of now ≡ None → CreatesGroupOn slot plan.id (made_group plan.name) old new
     headless_creates none = record {
       others = λ other slots groups completed begun apart sound. other_sound other slot old new changes slots groups completed begun (names_none other) sound;
       members = λ other apart has. other_member other slot old new changes (names_none other) has;
@@ -69,7 +69,7 @@ module _ (slot : ℕ) (plan : Plan) (old new : Image) (is : IsPlan plan) (long :
         names_none other h found = absurd (none-some h (sym none ∙ found))
 
     -- with the header of the new group
-    headed_creates : header_of now ≡ Some (header_of_plan plan) → ((HasMember plan.id old → ⊥) → Allows plan.id (made_group plan.name ∷ []) new) → Creates slot plan.id (made_group plan.name) old new
+    headed_creates : header_of now ≡ Some (header_of_plan plan) → ((HasMember plan.id old → ⊥) → Allows plan.id (made_group plan.name ∷ []) new) → CreatesGroupOn slot plan.id (made_group plan.name) old new
     headed_creates there own = record {
       others = λ other slots groups completed begun apart sound. other_sound other slot old new changes slots groups completed begun (names_new other apart) sound;
       members = λ other apart has. other_member other slot old new changes (names_new other apart) has;
@@ -90,7 +90,7 @@ module _ (slot : ℕ) (plan : Plan) (old new : Image) (is : IsPlan plan) (long :
     room : 26214400 ≤ new.size slot
     room = omega (arith, long, is.least, step.elsewhere.size slot)
 
-    shut_creates : is_open_in (slot_at 0 1 512) slot new ≡ false → Creates slot plan.id (made_group plan.name) old new
+    shut_creates : is_open_in (slot_at 0 1 512) slot new ≡ false → CreatesGroupOn slot plan.id (made_group plan.name) old new
     shut_creates closed = headless_creates gates_change (shut_header now (same_gate slot new 0 (omega (arith, room)) ∙ closed))
 
     -- the header's gate sector was written, and shows what it did
@@ -112,7 +112,7 @@ module _ (slot : ℕ) (plan : Plan) (old new : Image) (is : IsPlan plan) (long :
       unfolding metadata
       header_stays = ap (λ (d : Metadata). d.header) says_the_same
 
-      kept_creates : Creates slot plan.id (made_group plan.name) old new
+      kept_creates : CreatesGroupOn slot plan.id (made_group plan.name) old new
       kept_creates = record {
         others = λ other slots groups completed begun apart sound. same_sound other slot old new gates_change says_the_same slots groups completed begun (range_change 0 slot 0 512 old new may.elsewhere).1 sound;
         members = λ other apart has. same_member other slot old new gates_change says_the_same has;
@@ -121,7 +121,7 @@ module _ (slot : ℕ) (plan : Plan) (old new : Image) (is : IsPlan plan) (long :
         joins = λ other apart has. (has.0, sym header_stays ∙ has.1, has.2);
       }
 
-    closing_creates : Creates slot plan.id (made_group plan.name) old new
+    closing_creates : CreatesGroupOn slot plan.id (made_group plan.name) old new
     closing_creates = ⊎_elim
         (λ may. ⊎_elim
         (λ same. ⊎_elim (λ yes. kept_creates may same yes) (λ no. shut_creates no) (cases_Bool (is_open_in (slot_at 0 1 512) slot new)))
@@ -144,18 +144,18 @@ module _ (slot : ℕ) (plan : Plan) (old new : Image) (is : IsPlan plan) (long :
 
     -- with a header and no record
     unrecorded_creates : shown (slot_at 0 1 512) slot new ≡ Some (header_body plan) → shown (slot_at 6 1 512) slot new ≡ None → shown (slot_at 8 1 512) slot new ≡ None
-        → Creates slot plan.id (made_group plan.name) old new
+        → CreatesGroupOn slot plan.id (made_group plan.name) old new
     unrecorded_creates header first second = headed_creates parts_change (header_there slot plan is new space header)
         (λ no. unrecorded_allows plan.id slot old new parts_change no (made_group plan.name ∷ []) (no_statuses slot plan is new space first second))
 
-    stage_creates : IsForming slot plan new → Creates slot plan.id (made_group plan.name) old new
+    stage_creates : IsForming slot plan new → CreatesGroupOn slot plan.id (made_group plan.name) old new
     stage_creates (bare shows) = headless_creates parts_change (shut_header now (is_shut slot new 0 (omega (arith, space)) shows.header_slot))
     stage_creates (headed shows content) = unrecorded_creates shows.header_slot shows.status_slot shows.second_status
     stage_creates (claimed shows content) = unrecorded_creates shows.header_slot shows.status_slot shows.second_status
     stage_creates (whole shows content) = headed_creates parts_change (header_there slot plan is new space shows.header_slot)
         (λ no. recorded_allows slot plan old new parts_change no (all_there slot plan is new space (record { shows = shows; content = content })) is units_there)
 
-    whole_founds : HasAll slot plan new → (slots : ℕ) → slot < slots → Founds slots plan.id (made_group plan.name) (kept_of_plan slot plan) old new
+    whole_founds : HasAllParts slot plan new → (slots : ℕ) → slot < slots → Founds slots plan.id (made_group plan.name) (kept_of_plan slot plan) old new
     whole_founds has slots lt = recorded_founds slot plan old new parts_change (all_there slot plan is new space has) is units_there slots lt
 
 pub forming_creates : FormingCreates

@@ -22,7 +22,7 @@ use Rattle.catalog_laws.proofs.ToldRecords.{records_told}
 use Rattle.catalog_tables.specs.Items.{AreItemsOf}
 use Rattle.change_directory.specs.declared.copy.DirCopy.{DirCopy}
 use Rattle.change_directory.specs.Changes.{content_in}
-use Rattle.directory_store.specs.Copies.{AreApart}
+use Rattle.directory_store.specs.Copies.{AreCopiesApart}
 use Rattle.directory_store.specs.Stores.{Stored}
 use Rattle.directory_store.proofs.Storing.{kept_have_records}
 use Rattle.group_engine.specs.CommitSteps.{content_of}
@@ -31,7 +31,7 @@ use Rattle.group_engine.proofs.Items.{content_is}
 use Rattle.group_engine.specs.Frames.{SparesOtherIds}
 use Rattle.group_mount.specs.Mounting.{Allows}
 use Rattle.group_mount.specs.Quorum.{IsQuorum}
-use Rattle.group_mount.specs.Recovered.{ChangesMembers, IsMeant, KeepsDisk, LeavesOneGroup, StoodFor, kept_by}
+use Rattle.group_mount.specs.Recovered.{ChangesMembers, IsMeant, KeepsSlot, LeavesOneGroup, StoodFor, kept_by}
 use Rattle.group_mount.specs.Recovering.{ArePartsOf}
 use Rattle.group_mount.specs.declared.quorum.Quorate.{Quorate}
 use Rattle.group_mount.specs.declared.recovering.Parts.{Parts}
@@ -54,7 +54,7 @@ stood_on q groups {on} {s} {m} run may = record {
   epochs = may.epochs;
 }
 
-kept_same : (slot : ℕ) (x y : Image) → Same x y → KeepsDisk slot x y
+kept_same : (slot : ℕ) (x y : Image) → Same x y → KeepsSlot slot x y
 kept_same slot x y same = record { size = same.size slot; byte = same.byte slot }
 
 same_changes : (id : ℕ) (x y : Image) → Same x y → ChangesMembers id x y
@@ -91,7 +91,7 @@ claims n q s m t looks run moments =
 
 -- ---- turns
 
-numbers_apart : (copies : List DirCopy) → AreApart copies → IsDistinct eqb (map (λ (c : DirCopy). c.number) copies)
+numbers_apart : (copies : List DirCopy) → AreCopiesApart copies → IsDistinct eqb (map (λ (c : DirCopy). c.number) copies)
 unfolding IsDistinct
 numbers_apart [] apart = tt
 numbers_apart (c ∷ copies) apart = (each copies (λ d among. (apart.0 d among).1), numbers_apart copies apart.1)
@@ -106,7 +106,7 @@ from_copy (c ∷ copies) k (inl same) = (c, inl refl, same)
 from_copy (c ∷ copies) k (inr among) = let f = from_copy copies k among in (f.0, inr f.1, f.2)
 
 -- there is at most one copy for each number of a disk
-few_copies : (copies : List DirCopy) → AreApart copies → ((c : DirCopy) → IsAmong copies c → c.number < 64) → length copies ≤ 64
+few_copies : (copies : List DirCopy) → AreCopiesApart copies → ((c : DirCopy) → IsAmong copies c → c.number < 64) → length copies ≤ 64
 few_copies copies apart small =
     let numbers : List ℕ = map (λ (c : DirCopy). c.number) copies in
     let few : length numbers ≤ 64 =

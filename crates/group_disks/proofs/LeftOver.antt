@@ -15,7 +15,7 @@ use Rattle.asm_formats.specs.Status as status
 use Rattle.asm_formats.specs.Status.{entry_of}
 use Rattle.asm_placement.specs.Naming as naming
 use Rattle.catalog.specs.Plans.{IsDiskRefusal, IsPlan}
-use Rattle.catalog_tables.specs.Disks.{Disk, info_at, without_disk}
+use Rattle.disk_directory.specs.Disks.{Disk, info_at, without_disk}
 use Rattle.catalog_tables.specs.Rules.{first_unknown, has_info}
 use Rattle.catalog_tables.specs.Changing.{IsAfter}
 use Rattle.catalog_tables.specs.Tables.{AreTables, Catalogued, Tables}

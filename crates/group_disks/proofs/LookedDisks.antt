@@ -22,7 +22,7 @@ use Rattle.group_mount.specs.Recovering.{is_own, own_members}
 use Rattle.group_mount.specs.Verdicts.{member_of, members_with}
 use Rattle.group_mount.specs.declared.finding.Headed.{Headed}
 use Rattle.group_disks.specs.Holding.{IsHeldSlot}
-use Rattle.group_disks.specs.MountCauses.{AreDisksWith, IsDisk, IsDiskThere, Look, SlotFailed, has_id, look}
+use Rattle.group_disks.specs.MountCauses.{AreDisksWith, IsHeadedDisk, IsDiskThere, Look, SlotFailed, has_id, look}
 
 -- ---- some of a list of disks
 
@@ -109,7 +109,7 @@ module _ (n : ℕ) (s t : BayState) (x : Image) (holds : s.holds ≡ Some x) whe
     pub holds_there : u.holds ≡ Some x
     holds_there = let y = held_there in y.1 ∙ ap (λ (z : Image). Some z) y.2
 
-    pub is_disk : (hs : List Headed) → AreThere n hs u → (h : Headed) → IsAmong hs h → IsDisk l h
+    pub is_disk : (hs : List Headed) → AreThere n hs u → (h : Headed) → IsAmong hs h → IsHeadedDisk l h
     is_disk hs are h among = record {
       below = are.inside h among;
       size = before (λ (image : Image). image.size h.slot ≡ h.size) (record { now = λ image left. sound.sized h.slot h.size image (are.attached h among) left });
@@ -134,7 +134,7 @@ module _ (n : ℕ) (s t : BayState) (x : Image) (holds : s.holds ≡ Some x) whe
   -- ---- members
 
   -- those that a test takes of found disks
-  pub of_picked : (test : Headed → Bool) (hs : List Headed) → ((h : Headed) → IsAmong hs h → IsDisk l h) → ((d : Headed) → IsDiskThere l d → test d ≡ true → IsAmong hs d)
+  pub of_picked : (test : Headed → Bool) (hs : List Headed) → ((h : Headed) → IsAmong hs h → IsHeadedDisk l h) → ((d : Headed) → IsDiskThere l d → test d ≡ true → IsAmong hs d)
       → AreDisksWith l test (picked test member_of hs)
   of_picked test hs are all = record {
     each = λ m among. let k = picked_from test member_of hs m among in (k.0, are k.0 k.1, k.2, k.3);

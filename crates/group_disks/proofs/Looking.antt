@@ -12,10 +12,11 @@ use Rattle.bay.specs.Moments.{Runs}
 use Rattle.asm_formats.specs.Header.{Header}
 use Rattle.asm_images.specs.Kept.{header_in}
 use Rattle.group_disks.specs.Found.{counts_of, Told, AreIdsRead, AreAllRead}
-use Rattle.group_disks.specs.Probes.{id_in, IsShown, IsUsable, ids_of, size_shown}
+use Rattle.group_disks.specs.Probes.{id_in, IsShown, IsUsableProbe, ids_of, size_shown}
 use Rattle.group_disks.specs.declared.find.Probe.{Probe}
 use Rattle.group_disks.specs.declared.find.Probe.TheVariants as probe
-use Rattle.group_disks.proofs.Told.{told_later, told_before, same_id, rose_before, rose_later}
+use Rattle.group_mount.proofs.Told.{told_later, told_before, rose_before, rose_later}
+use Rattle.group_disks.proofs.Told.{same_id}
 
 -- the header of an id
 some_header : (o : Option Header) (id : ℕ) → option_map (λ (h : Header). h.id) o ≡ Some id → (h : Header) × (o ≡ Some h) × (h.id ≡ id)
@@ -114,12 +115,12 @@ no_header None is = refl
 no_header (Some h) is = absurd (none-some h.id (sym is))
 
 -- a disk that can be given to a new group had no open header
-pub usable_free : (s t : BayState) (slot units : ℕ) (p : Probe) → IsUsable p units → IsShown slot p (counts_of s) (counts_of t) → Told (counts_of s) (counts_of t) (λ image. header_in image slot ≡ None)
+pub usable_free : (s t : BayState) (slot units : ℕ) (p : Probe) → IsUsableProbe p units → IsShown slot p (counts_of s) (counts_of t) → Told (counts_of s) (counts_of t) (λ image. header_in image slot ≡ None)
 usable_free s t slot units p usable shown =
     let there = subst (λ (q : Probe). IsShown slot q (counts_of s) (counts_of t)) usable.free shown in
     λ now holds image was. no_header (header_in image slot) (there.1 now holds image was)
 
 -- it is attached, with the size that was shown
-pub usable_size : (s t : BayState) (slot units : ℕ) (p : Probe) → IsUsable p units → IsShown slot p (counts_of s) (counts_of t) → t.attached slot ≡ Some (size_shown p)
+pub usable_size : (s t : BayState) (slot units : ℕ) (p : Probe) → IsUsableProbe p units → IsShown slot p (counts_of s) (counts_of t) → t.attached slot ≡ Some (size_shown p)
 usable_size s t slot units p usable shown =
     (subst (λ (q : Probe). IsShown slot q (counts_of s) (counts_of t)) usable.free shown).0 ∙ sym (ap (λ (q : Probe). Some (size_shown q)) usable.free)

@@ -17,12 +17,12 @@ use Rattle.disk_images.specs.declared.looking.Looked.{Looked}
 use Rattle.disk_images.specs.declared.looking.Looked.TheVariants as look
 use Rattle.group_engine.specs.Frames.{SameDisk}
 use Rattle.group_disks.specs.FirstParts.{SameBut, SparesAllBut}
-use Rattle.group_disks.specs.Found.{Counts, IsSlotOf, Told, counts_of}
-use Rattle.group_disks.specs.Making.{IsFree, IsMade, IsNotFree, MakeCause, StaysBut}
+use Rattle.group_disks.specs.Found.{Counts, IsSlotOfPath, Told, counts_of}
+use Rattle.group_disks.specs.Making.{IsLookFree, IsImageMade, IsNotFree, MakeCause, StaysBut}
 use Rattle.group_disks.specs.Holding.{IsHeldSlot, SameHeld, SparesHeld}
 use Rattle.group_disks.proofs.FirstSpares.{but_trans, looks_spare}
 use Rattle.group_disks.proofs.Spared.{held_trans, looks_held}
-use Rattle.group_disks.proofs.Told.{rose_before, rose_later, same_header, told_before}
+use Rattle.group_mount.proofs.Told.{rose_before, rose_later, same_header, told_before}
 
 -- ---- before an image is looked at
 
@@ -32,7 +32,7 @@ module _ (paths : List Bytes) (path : Bytes) (held : List ℕ) where
       (λ (e : given ≡ wanted). subst (λ (x : r.Refusal). MakeCause paths path held x s t) (sym e) why)
       (λ (e : given ≡ r.NoMemory). subst (λ (x : r.Refusal). MakeCause paths path held x s t) (sym e) tt) says
 
-  pub no_slot_cause : (given : r.Refusal) (s : Counts) → ((slot : ℕ) → IsSlotOf paths path slot → ⊥) → (given ≡ r.NoDisk path) ⊎ (given ≡ r.NoMemory) → MakeCause paths path held given s s
+  pub no_slot_cause : (given : r.Refusal) (s : Counts) → ((slot : ℕ) → IsSlotOfPath paths path slot → ⊥) → (given ≡ r.NoDisk path) ⊎ (given ≡ r.NoMemory) → MakeCause paths path held given s s
   no_slot_cause given s none says = says_cause given (r.NoDisk path) s s says (refl, inl none)
 
   pub nothing_made : (s : BayState) → StaysBut paths path held s s
@@ -44,7 +44,7 @@ module _ (paths : List Bytes) (path : Bytes) (held : List ℕ) where
   pub nothing_held : (n : ℕ) (s : BayState) → SparesHeld held n s s
   nothing_held n s = started (λ x k is_held. record { size = refl; byte = λ j. refl })
 
-module _ (paths : List Bytes) (path : Bytes) (held : List ℕ) (slot : ℕ) (is_slot : IsSlotOf paths path slot) where
+module _ (paths : List Bytes) (path : Bytes) (held : List ℕ) (slot : ℕ) (is_slot : IsSlotOfPath paths path slot) where
   -- ---- causes
 
   -- the slot is one of those that are held
@@ -84,7 +84,7 @@ module _ (paths : List Bytes) (path : Bytes) (held : List ℕ) (slot : ℕ) (is_
   not_free s t looked other sound looks is why = absurd why
 
   -- the image that was looked at was absent, or bore no open header
-  pub was_free : (s m t : BayState) (looked : Looked) {slots : ℕ → Type 0} {step : Image → Image → Type 0} → IsSound m → Looks (IsSlot slot) 4 s m → IsLooked slot looked s m → IsFree looked
+  pub was_free : (s m t : BayState) (looked : Looked) {slots : ℕ → Type 0} {step : Image → Image → Type 0} → IsSound m → Looks (IsSlot slot) 4 s m → IsLooked slot looked s m → IsLookFree looked
       → Runs slots step m t → Rose (s.faults slot) (t.faults slot) ⊎ Told (counts_of s) (counts_of t) (λ image. header_in image slot ≡ None)
   was_free s m t look.Absent sound looks is free makes = inl (rose_later (s.faults slot) (m.faults slot) (t.faults slot) (makes.faults slot) is.1)
   was_free s m t (look.Read size None) sound looks is free makes =
@@ -109,7 +109,7 @@ module _ (paths : List Bytes) (path : Bytes) (held : List ℕ) (slot : ℕ) (is_
   module _ (free : IsHeldSlot held slot → ⊥) where
     pub made_stays : {s m t : BayState} → Looks (IsSlot slot) 4 s m → AttachesOnly slot m t → StaysBut paths path held s t
     made_stays {s} {m} {t} looks only = record {
-      others = λ k size other is. only.others k (λ same. other (subst (λ (j : ℕ). IsSlotOf paths path j) (sym same) is_slot)) ∙ looks.stays k size is;
+      others = λ k size other is. only.others k (λ same. other (subst (λ (j : ℕ). IsSlotOfPath paths path j) (sym same) is_slot)) ∙ looks.stays k size is;
       held = λ k size is_held is. only.others k (λ same. free (subst (λ (j : ℕ). IsHeldSlot held j) same is_held)) ∙ looks.stays k size is;
     }
 
@@ -120,7 +120,7 @@ module _ (paths : List Bytes) (path : Bytes) (held : List ℕ) (slot : ℕ) (is_
         (λ (zeros : (n : ℕ) × Makes slot n x y). record { size = zeros.1.other_size k other; byte = λ j. zeros.1.other_byte k j other }) made
 
     make_but : (x y : Image) → MayMake slot x y → SameBut paths path x y
-    make_but x y made k other = make_other x y made k (λ same. other (subst (λ (j : ℕ). IsSlotOf paths path j) (sym same) is_slot))
+    make_but x y made k other = make_other x y made k (λ same. other (subst (λ (j : ℕ). IsSlotOfPath paths path j) (sym same) is_slot))
 
     make_held : (x y : Image) → MayMake slot x y → SameHeld held x y
     make_held x y made k is_held = make_other x y made k (λ same. free (subst (λ (j : ℕ). IsHeldSlot held j) same is_held))
@@ -137,7 +137,7 @@ module _ (paths : List Bytes) (path : Bytes) (held : List ℕ) (slot : ℕ) (is_
           goes_on (held_trans held) first (stops first) (on_more (inside n below) (widened make_held makes))
 
   pub is_made : (size : ℕ) {s m t : BayState} → (IsHeldSlot held slot → ⊥) → Rose (s.faults slot) (t.faults slot) ⊎ Told (counts_of s) (counts_of t) (λ image. header_in image slot ≡ None)
-      → Looks (IsSlot slot) 4 s m → t.attached slot ≡ Some size → Ends (Makes slot size) m t → IsMade paths path held size s t
+      → Looks (IsSlot slot) 4 s m → t.attached slot ≡ Some size → Ends (Makes slot size) m t → IsImageMade paths path held size s t
   is_made size {s} {m} {t} apart free looks attached ends = record {
     slot = slot;
     is_slot = is_slot;

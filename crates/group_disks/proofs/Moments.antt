@@ -15,10 +15,10 @@ use Rattle.asm_images.specs.Members as lists
 use Rattle.asm_images.specs.Members.{all_members}
 use Rattle.asm_formats.specs.Among.{IsAmong}
 use Rattle.asm_images.proofs.Bridges.{same_is_same, same_disk}
-use Rattle.group_disks.specs.Creating.{HasMember, Creates, IsFree, MayCreate, Founds, HasCreated, made_group}
+use Rattle.group_disks.specs.Creating.{HasMember, CreatesGroupOn, HasNoOpenHeader, MayCreate, Founds, HasCreated, made_group}
 use Rattle.asm_images.specs.Kept.{header_in}
 use Rattle.group_disks.specs.Found.{counts_of, Told, AreAllRead, IsAboveAll}
-use Rattle.group_disks.specs.Planned.{Plan, IsPlan, kept_of_plan}
+use Rattle.group_disks.specs.Planned.{Plan, IsGroupPlan, kept_of_plan}
 use Rattle.group_disks.specs.Stages.{MayForm, HasFormed}
 use Rattle.group_disks.proofs.Forming.{forming_creates, formed_is_held}
 use Rattle.group_disks.proofs.Outsiders.{creates_none}
@@ -37,8 +37,8 @@ widened_from {slots} {step} {whole} {a} {b} P sound all within run = record {
   moments = λ m image low high left. let from = run.moments m image low high left in (from.0, from.1, within from.0 image (all from.0 from.1) from.2);
 }
 
-pub forms_creates : {m t : BayState} (slot size : ℕ) (plan : Plan) → IsSound m → m.attached slot ≡ Some size → IsPlan plan → plan.units * 1048576 ≤ size
-    → Runs (IsSlot slot) (MayForm slot plan) m t → Runs (IsSlot slot) (Creates slot plan.id (made_group plan.name)) m t
+pub forms_creates : {m t : BayState} (slot size : ℕ) (plan : Plan) → IsSound m → m.attached slot ≡ Some size → IsGroupPlan plan → plan.units * 1048576 ≤ size
+    → Runs (IsSlot slot) (MayForm slot plan) m t → Runs (IsSlot slot) (CreatesGroupOn slot plan.id (made_group plan.name)) m t
 forms_creates {m} {t} slot size plan sound attached is room run =
     widened_from (λ image. image.size slot ≡ size) sound (λ image left. sound.sized slot size image attached left)
     (λ x y sized step. forming_creates slot plan x y is (omega (arith, room, sized)) step) run
@@ -47,7 +47,7 @@ pub has_before : (id : ℕ) (x y : Image) → Same x y → HasMember id y → Ha
 has_before id x y same has = record { slots = has.slots; member = has.member; is = subst (λ (i : lists.Image). IsAmong (all_members id i) has.member) (same_is_same has.slots x y same) has.is }
 
 -- a creation from disks that are as they were
-same_creates : (slot id : ℕ) (g : Group) (x y z : Image) → Same x y → Creates slot id g y z → Creates slot id g x z
+same_creates : (slot id : ℕ) (g : Group) (x y z : Image) → Same x y → CreatesGroupOn slot id g y z → CreatesGroupOn slot id g x z
 same_creates slot id g x y z same creates = record {
   others = λ other slots groups completed begun apart sound. creates.others other slots groups completed begun apart (subst (λ (i : lists.Image). SoundBy other i groups completed begun) (sym (same_is_same slots x y same)) sound);
   members = λ other apart has. has_before other x y same (creates.members other apart has);
@@ -60,11 +60,11 @@ same_creates slot id g x y z same creates = record {
 
 -- what comes before the first write, and the writing on a disk that had no open header
 all_creates : {s m t : BayState} {slots : ℕ → Type 0} (slot id : ℕ) (g : Group) → slots slot → IsSound m → Told (counts_of s) (counts_of m) (λ image. header_in image slot ≡ None)
-    → Runs slots Same s m → Runs (IsSlot slot) (Creates slot id g) m t → Runs slots (MayCreate s.holds slot id g) s t
+    → Runs slots Same s m → Runs (IsSlot slot) (CreatesGroupOn slot id g) m t → Runs slots (MayCreate s.holds slot id g) s t
 all_creates {s} {m} {t} {slots} slot id g inside sound free first next =
-    let writes : Runs (IsSlot slot) (λ x y. Creates slot id g x y × IsFree s.holds slot) m t =
-    widened_from (λ image. IsFree s.holds slot) sound (λ image left. let held = sound.told image left in free held.0 held.1) (λ x y was step. (step, was)) next in
-    goes_on {done = Same} {step = λ x y. Creates slot id g x y × IsFree s.holds slot} {whole = MayCreate s.holds slot id g} (λ x y z same step. record { creates = same_creates slot id g x y z same step.0; free = inr step.1 })
+    let writes : Runs (IsSlot slot) (λ x y. CreatesGroupOn slot id g x y × HasNoOpenHeader s.holds slot) m t =
+    widened_from (λ image. HasNoOpenHeader s.holds slot) sound (λ image left. let held = sound.told image left in free held.0 held.1) (λ x y was step. (step, was)) next in
+    goes_on {done = Same} {step = λ x y. CreatesGroupOn slot id g x y × HasNoOpenHeader s.holds slot} {whole = MayCreate s.holds slot id g} (λ x y z same step. record { creates = same_creates slot id g x y z same step.0; free = inr step.1 })
     (widened (λ x y same. record { creates = same_creates slot id g x y y same (creates_none slot id g y); free = inl same }) first) (stops first)
     (on_more (λ (k : ℕ) is. subst slots (sym is) inside) writes)
 
@@ -83,7 +83,7 @@ plan_above s t paths n ids p q same len are all below =
     subst (λ (k : ℕ). IsAboveAll paths k (counts_of s) (counts_of t)) (sym is) (above_all s t paths n q.id ids len are (all (omega (arith, is, below))))
 
 -- what is done to such disks as there may be
-pub forms_founds : {m t : BayState} (slot slots size : ℕ) (plan : Plan) → IsSound m → m.attached slot ≡ Some size → IsPlan plan → plan.units * 1048576 ≤ size → slot < slots
+pub forms_founds : {m t : BayState} (slot slots size : ℕ) (plan : Plan) → IsSound m → m.attached slot ≡ Some size → IsGroupPlan plan → plan.units * 1048576 ≤ size → slot < slots
     → Ends (HasFormed slot plan) m t → Ends (Founds slots plan.id (made_group plan.name) (kept_of_plan slot plan)) m t
 forms_founds {m} {t} slot slots size plan sound attached is room inside ends = record {
   held = λ image holds. let from = ends.held image holds in (from.0, from.1, founds from.0 image (sound.sized slot size from.0 attached (sound.held from.0 from.1)) from.2);
@@ -99,7 +99,7 @@ when_ok (Err e) p is = absurd cc
 
 -- the whole creation, by a plan that is seen as another
 pub has_created : {s m t : BayState} {A E : Type 0} (n slot : ℕ) (p q : Plan) (name : Bytes) (result : Result A E) → p ≡ q → q.name ≡ name → slot < n → IsSound m
-    → Told (counts_of s) (counts_of m) (λ image. header_in image slot ≡ None) → Runs (λ k. k < n) Same s m → Runs (IsSlot slot) (Creates slot q.id (made_group q.name)) m t
+    → Told (counts_of s) (counts_of m) (λ image. header_in image slot ≡ None) → Runs (λ k. k < n) Same s m → Runs (IsSlot slot) (CreatesGroupOn slot q.id (made_group q.name)) m t
     → OnOk result (Ends (Founds n q.id (made_group q.name) (kept_of_plan slot q)) m t) → HasCreated n p.id (made_group name) (is_ok result) s t
 has_created {s} {m} {t} n slot p q name result same named inside sound free first next done =
     subst (λ (r : Plan). HasCreated n r.id (made_group name) (is_ok result) s t) (sym same)

@@ -19,12 +19,12 @@ use Rattle.asm_formats.specs.Status.{Entry, Status}
 use Rattle.asm_images.specs.Register.{greatest}
 use Rattle.asm_placement.specs.Modes.{serves}
 use Rattle.asm_placement.proofs.Membership.{among_right}
-use Rattle.catalog_tables.specs.Disks.{info_at}
+use Rattle.disk_directory.specs.Disks.{info_at}
 use Rattle.catalog_tables.specs.Tables.{Catalogued}
 use Rattle.change_directory.specs.Formatting.{AreShut}
 use Rattle.change_directory.specs.declared.copy.DirCopy.{DirCopy}
 use Rattle.directory_store.specs.Loading.{HasTakenTwins, HasTwins, LoadCause}
-use Rattle.directory_store.specs.Reading.{ArePartOf, HasDamage, IsFirstDamaged, IsUnread}
+use Rattle.directory_store.specs.Reading.{ArePartOf, HasDamage, IsFirstDamaged, IsCopyUnread}
 use Rattle.directory_store.specs.Copies.{AreKept}
 use Rattle.directory_store.specs.Stores.{Keeps, Stored}
 use Rattle.directory_store.specs.declared.error.LoadError.{LoadError}
@@ -32,13 +32,13 @@ use Rattle.directory_store.specs.declared.error.LoadError.TheVariants as load
 use Rattle.status_register.specs.Answers.{IsAnswer, Surveyed}
 use Rattle.status_register.specs.SurveyLaws.{IsMemberOn}
 use Rattle.status_register.specs.Surveys.{AreRead, claims_on, first_damage, greatest_epoch, missing, records_on}
-use Rattle.status_register.specs.Told.{Told}
+use Rattle.bay.specs.Told.{Told}
 use Rattle.status_register.specs.declared.error.SurveyError.{SurveyError}
 use Rattle.status_register.specs.declared.error.SurveyError.TheVariants as survey
 use Rattle.status_register.specs.declared.member.Member.{Member}
 use Rattle.status_register.proofs.Losing.{took_or_failed}
 use Rattle.group_mount.specs.Alike.{clashes, first_stranger, shape_in}
-use Rattle.group_mount.specs.Finding.{AreAllHeaded, AreApart, AreThere}
+use Rattle.group_mount.specs.Finding.{AreAllHeaded, AreInOwnSlots, AreThere}
 use Rattle.group_mount.specs.Founds.{FindCause, FindsNone, FoundDisks, IsFound, is_whole, not_held}
 use Rattle.group_mount.specs.Loads.{refusal_of_load}
 use Rattle.group_mount.specs.Missing.{first_missing, has_disk, is_disk_of, is_missing}
@@ -60,7 +60,7 @@ use Rattle.group_mount.proofs.Looks.{left_there}
 use Rattle.group_mount.proofs.Searches.{none_are_taken, two_are_taken}
 use Rattle.group_mount.proofs.Told.{rose_before, rose_later}
 use Rattle.group_disks.specs.Clearing.{IsLostCause}
-use Rattle.group_disks.specs.MountCauses.{AreDirectories, AreDisksWith, AreElsewhere, DamagedCause, DirectoriesLostCause, ErrorCause, HasNamedDisk, IsDisk, IsDiskThere, IsIdRead, IsRecordRead, Look, NoGroupCause, NoMajorityCause, RefusalsHaveCauses, SlotFailed, all_gone, at_record, behind_record, body, copy, fault, few_read, few_took, few_whole, has_id, last_epoch, look, none_there, one_gone, other_name, stranger}
+use Rattle.group_disks.specs.MountCauses.{AreDirectories, AreDisksWith, AreElsewhere, DamagedCause, DirectoriesLostCause, ErrorCause, HasNamedDisk, IsHeadedDisk, IsDiskThere, IsIdRead, IsRecordRead, Look, NoGroupCause, NoMajorityCause, RefusalsHaveCauses, SlotFailed, all_gone, at_record, behind_record, body, copy, fault, few_read, few_took, few_whole, has_id, last_epoch, look, none_there, one_gone, other_name, stranger}
 use Rattle.group_disks.specs.Mounting.{AreOthers, IsMountCause, IsNotQuorate, IsNotRenewed, WasQuorate, free_disks, not_cleared, not_found, not_quorate, not_renewed, of_others}
 use Rattle.group_disks.proofs.FoundIds.{has_name as named_in, taken_is_named}
 use Rattle.group_disks.proofs.LookedDisks.{before, copies_picked, free_among, holds_there, is_among, is_disk, members_picked, of_picked, of_read, own_picked, picked_all, picked_from}
@@ -167,7 +167,7 @@ pub record AreStrangers (id slot : ℕ) (hs : List Headed) : Type 0 where
   pub clash : clashes one other ≡ true
   pub is : slot ≡ other.slot
 
-strangers : (id slot : ℕ) (hs : List Headed) → AreApart hs → first_stranger id hs ≡ Some slot → AreStrangers id slot hs
+strangers : (id slot : ℕ) (hs : List Headed) → AreInOwnSlots hs → first_stranger id hs ≡ Some slot → AreStrangers id slot hs
 strangers id slot [] apart is = absurd (none-some slot is)
 strangers id slot (x ∷ xs) apart is =
     cond_both (x.header.id == id) (option_or (option_map (λ (k : Headed). k.slot) (find (clashes x) xs)) (first_stranger id xs)) (first_stranger id xs) (λ (o : Option ℕ). o ≡ Some slot → AreStrangers id slot (x ∷ xs))
@@ -231,9 +231,9 @@ part_among some (x ∷ xs) part c among = ⊎_elim
 
 -- these disks are all of an id that are there
 record AreAllOf (l : Look) (id : ℕ) (hs : List Headed) : Type 0 where
-  pub are : (h : Headed) → IsAmong hs h → IsDisk l h
+  pub are : (h : Headed) → IsAmong hs h → IsHeadedDisk l h
   pub all : (d : Headed) → IsDiskThere l d → d.header.id ≡ id → IsAmong hs d
-  pub apart : AreApart hs
+  pub apart : AreInOwnSlots hs
 
 module _ (name : Bytes) (option : MountOption) (n : ℕ) (s t : BayState) (x : Image) (holds : s.holds ≡ Some x) where
   abbrev at : Look
@@ -261,7 +261,7 @@ module _ (name : Bytes) (option : MountOption) (n : ℕ) (s t : BayState) (x : I
         let k = taken_is_named name is.headed is.choice is.unread s u found.id is.finds.judged is.taken_is in
         record { disk = k.headed; is = is_disk n s t x holds u sound looks is.headed is.finds.there k.headed k.among; member = k.member; named = k.named }
 
-    disk_of : (found : FoundDisks) → IsFound name n found s u → (h : Headed) → IsAmong (not_held held found.headed) h → IsDisk at h
+    disk_of : (found : FoundDisks) → IsFound name n found s u → (h : Headed) → IsAmong (not_held held found.headed) h → IsHeadedDisk at h
     disk_of found is h among =
         let there : AreThere n found.headed u = subst (λ (l : List Headed). AreThere n l u) (sym is.left) (left_there n is.unread is.headed u is.finds.there) in
         is_disk n s t x holds u sound looks (not_held held found.headed) (left_there n held found.headed u there) h among
@@ -398,7 +398,7 @@ module _ (name : Bytes) (option : MountOption) (n : ℕ) (s t : BayState) (x : I
       abbrev Named : Headed → Bool
       Named = is_named_copy id survey.read survey.value
 
-      named_from : (copies : List DirCopy) → copies ≡ named_copies id survey.read survey.value hs → (c : DirCopy) → IsAmong copies c → (d : Headed) × IsDisk at d × (Named d ≡ true) × (c ≡ copy_of d)
+      named_from : (copies : List DirCopy) → copies ≡ named_copies id survey.read survey.value hs → (c : DirCopy) → IsAmong copies c → (d : Headed) × IsHeadedDisk at d × (Named d ≡ true) × (c ≡ copy_of d)
       named_from copies are c among =
           let k = picked_from Named copy_of hs c (subst (λ (l : List DirCopy). IsAmong l c) (are ∙ copies_picked id survey.read survey.value hs) among) in
           (k.0, every.are k.0 k.1, k.2, k.3)
@@ -426,7 +426,7 @@ module _ (name : Bytes) (option : MountOption) (n : ℕ) (s t : BayState) (x : I
 
       -- none was read
       lost_cause : (from : BayState) → from.holds ≡ Some x → ((slot : ℕ) → Rose (from.faults slot) (t.faults slot) → SlotFailed at slot)
-          → ((c : DirCopy) → IsAmong (named_copies id survey.read survey.value hs) c → IsUnread c from t) → t.holds ≡ Some x → DirectoriesLostCause at id
+          → ((c : DirCopy) → IsAmong (named_copies id survey.read survey.value hs) c → IsCopyUnread c from t) → t.holds ≡ Some x → DirectoriesLostCause at id
       lost_cause from from_holds failed unread last = record {
         value = survey.value;
         record_ = value;

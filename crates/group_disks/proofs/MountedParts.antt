@@ -15,13 +15,13 @@ use Rattle.group_mount.specs.declared.quorum.MountOption.{MountOption}
 use Rattle.group_mount.specs.declared.quorum.Quorate.{Quorate}
 use Rattle.group_mount.specs.declared.recovering.Parts.{Parts}
 use Rattle.group_disks.specs.Holding.{IsHeldSlot}
-use Rattle.group_disks.specs.Mounting.{AreSmall, IsMountedBy, free_disks, has_name, mounted_of}
+use Rattle.group_disks.specs.Mounting.{HaveDiskNumbers, IsMountedBy, free_disks, has_name, mounted_of}
 use Rattle.group_disks.proofs.Held.{left_is, member_found, name_is}
 use Rattle.group_disks.proofs.Births.{birth_of}
 use Rattle.group_disks.proofs.Disks.{sizes_are, slots_are}
 
 module _ (q : Quorate) (now : ℕ) (parts : Parts) (t : BayState) (are : ArePartsOf q now parts t) where
-  pub parts_small : AreSmall parts.disks.items
+  pub parts_small : HaveDiskNumbers parts.disks.items
   parts_small = are.disks.small
 
   -- the copies are those that the record names

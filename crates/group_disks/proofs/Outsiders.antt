@@ -9,7 +9,7 @@ use Rattle.asm_images.specs.Bridge.{disks_in}
 use Rattle.asm_images.specs.Sound.{Sound}
 use Rattle.asm_images.proofs.Zeros.{memberless}
 use Rattle.asm_images.proofs.Spans.{widen_keeps}
-use Rattle.group_disks.specs.Creating.{HasMember, Creates}
+use Rattle.group_disks.specs.Creating.{HasMember, CreatesGroupOn}
 use Rattle.group_mount.specs.Mounting.{Allows}
 
 -- a list without an element is empty
@@ -31,7 +31,7 @@ no_member_allows id groups image none = λ slots.
     widened id (disks_in slots image) [] groups (memberless id (disks_in slots image) (nothing_among (all_members id (disks_in slots image)) (λ m is. none (record { slots = slots; member = m; is = is })))) (λ g among. absurd among)
 
 -- nothing is done
-pub creates_none : (slot id : ℕ) (g : Group) (image : Image) → Creates slot id g image image
+pub creates_none : (slot id : ℕ) (g : Group) (image : Image) → CreatesGroupOn slot id g image image
 creates_none slot id g image = record {
   others = λ other slots groups completed begun apart sound. sound;
   members = λ other apart has. has;
@@ -41,7 +41,7 @@ creates_none slot id g image = record {
 }
 
 -- what other ids stand for stays
-pub others_allow : (slot id : ℕ) (g : Group) (old new : Image) → Creates slot id g old new → (other : ℕ) (groups : List Group) → other ≢ id → Allows other groups old → Allows other groups new
+pub others_allow : (slot id : ℕ) (g : Group) (old new : Image) → CreatesGroupOn slot id g old new → (other : ℕ) (groups : List Group) → other ≢ id → Allows other groups old → Allows other groups new
 others_allow slot id g old new creates other groups apart allows = λ slots.
     let s = allows slots in
     record { completed = s.completed; begun = s.begun; holds = creates.others other slots groups s.completed s.begun apart s.holds }

@@ -21,7 +21,7 @@ use Rattle.disk_forming.specs.Forming as parts
 use Rattle.disk_forming.specs.Forming.{Shows, LogsAreShut, MetaOf, MayGiveHeader, HasHeader, RecordsOf, MayGiveRecord, HasRecord, IsRecording}
 use Rattle.group_disks.specs.Planned.{Plan, header_body, claim_body, status_body}
 use Rattle.group_disks.specs.Ready.{HasRoom}
-use Rattle.group_disks.specs.Stages.{first_copy, HasFirst, HasNoneOrFirst, IsForming, bare, headed, claimed, whole, HasAll, MayForm, HasFormed, IsHeaded}
+use Rattle.group_disks.specs.Stages.{first_copy, HasFirst, HasNoneOrFirst, IsForming, bare, headed, claimed, whole, HasAllParts, MayForm, HasFormed, IsHeaded}
 use Rattle.group_disks.proofs.FirstCopy.{shut_is}
 
 -- ---- runs, and what is known of their moments
@@ -155,8 +155,8 @@ module _ (slot : ℕ) (plan : Plan) where
   record_moments {slots} {a} {b} now run = leaves_only {P = IsFilled} {Q = IsForming slot plan}
       (λ x y before step. of_stage y (content_stays x y before step.elsewhere) (step.becomes (header_body plan) before.shows)) run now
 
-  pub record_now : {a b : BayState} → NowOnly a IsFilled → Ends (HasRecord slot 512 (claim_body plan) (status_body plan)) a b → NowOnly b (HasAll slot plan)
-  record_now {a} {b} now ends = now_only {P = IsFilled} {Q = HasAll slot plan}
+  pub record_now : {a b : BayState} → NowOnly a IsFilled → Ends (HasRecord slot 512 (claim_body plan) (status_body plan)) a b → NowOnly b (HasAllParts slot plan)
+  record_now {a} {b} now ends = now_only {P = IsFilled} {Q = HasAllParts slot plan}
       (λ x y before did. record { shows = did.becomes (header_body plan) before.shows; content = content_stays x y before did.elsewhere }) ends now
 
   record_inside : (x y : Image) → ChangesOnly (RecordsOf slot) x y → ChangesOnly (MetaOf slot 1024) x y
@@ -187,7 +187,7 @@ module _ (slot : ℕ) (plan : Plan) where
           (λ x y z header step. inr (record { is_forming = step.1; elsewhere = changes-trans (MetaOf slot 1024) x y z header.elsewhere step.0 }))
           header_run has (with_moments {P = IsForming slot plan} sound_then next only)
 
-      pub parts_done : NowOnly c (HasAll slot plan) → Ends (HasFormed slot plan) a c
-      parts_done now = both_done {first = HasHeader slot 512 1024 (header_body plan)} {second = λ x y. ChangesOnly (MetaOf slot 1024) x y × HasAll slot plan y} {whole = HasFormed slot plan}
+      pub parts_done : NowOnly c (HasAllParts slot plan) → Ends (HasFormed slot plan) a c
+      parts_done now = both_done {first = HasHeader slot 512 1024 (header_body plan)} {second = λ x y. ChangesOnly (MetaOf slot 1024) x y × HasAllParts slot plan y} {whole = HasFormed slot plan}
           (λ x y z header step. record { has_all = step.1; elsewhere = changes-trans (MetaOf slot 1024) x y z header.elsewhere step.0 })
-          has (with_now {P = HasAll slot plan} sound_then (stops next) now)
+          has (with_now {P = HasAllParts slot plan} sound_then (stops next) now)

@@ -23,7 +23,7 @@ use Rattle.status_register.specs.SurveyLaws.{IsMemberOn}
 use Rattle.status_register.specs.Surveys.{disk_in, records_on}
 use Rattle.status_register.specs.declared.member.Member.{Member}
 use Rattle.status_register.proofs.Meeting.{surveyed_record_counts}
-use Rattle.group_mount.specs.Mounting.{Allows, Names}
+use Rattle.group_mount.specs.Mounting.{Allows, NamesCopy}
 use Rattle.group_mount.specs.NamedCopies.{copy_of}
 use Rattle.group_mount.specs.Quorum.{IsQuorum}
 use Rattle.group_mount.specs.Syncing.{IsSurveyOn}
@@ -89,7 +89,7 @@ module _ (n : ℕ) (s : BayState) (x : Image) (holds : s.holds ≡ Some x) (u : 
   its_member : IsMemberOn many q.id x (member_of its.disk)
   its_member = disk_on its.disk (omega (arith, quorum.there.inside its.disk its.among)) its_header its.own
 
-  names : Names r (member_of its.disk)
+  names : NamesCopy r (member_of its.disk)
   names = (in_elements r.directories its.disk.header.number (header_number its.disk.header (quorum.there.allowed its.disk its.among).header) its.named, its.entry)
 
   pub described : (g : Group) × IsAmong groups g × ((h : Headed) → h.slot < n → header_in x h.slot ≡ Some h.header → h.header.id ≡ q.id → h.header.group ≡ g.name)

@@ -21,7 +21,7 @@ use Rattle.group_mount.specs.declared.quorum.Quorate.{Quorate}
 use Rattle.group_mount.specs.declared.recovering.Parts.{Parts}
 use Rattle.status_register.specs.declared.member.Member.{Member}
 use Rattle.status_register.specs.Registered.{AreNumbered}
-use Rattle.group_disks.specs.Bringing.{AreBrought, AreNamed, IsBrought}
+use Rattle.group_disks.specs.Bringing.{AreBrought, HasNamedCopies, IsBrought}
 use Rattle.group_disks.specs.Holding.{IsHeldSlot, SameHeld, SparesHeld}
 use Rattle.group_disks.specs.Mounting.{IsMountCause, IsMountedBy, IsRecovered, IsTakenOver, WasQuorate, free_disks, has_name, mounted_of, not_quorate, not_renewed, of_others}
 use Rattle.group_disks.proofs.Brought.{brought_since}
@@ -95,7 +95,7 @@ module _ (name : Bytes) (n : ℕ) (held : List ℕ) (option : MountOption) (foun
     was_quorate between later q was searched quorate = record { found = found; between = between; is = was; searched = searched; quorum = q; later = later; quorate = quorate_left q (state later) quorate }
 
     pub taken_over : (between later : B) (q : Quorate) (now : ℕ) (parts : Parts) (m : MountedGroup) (set : ℕ) (t : BayState) → IsFound name n found s (state between)
-        → Runs (λ slot. slot < n) Same s (state between) → IsQuorate option f q (state later) → ArePartsOf q now parts t → m ≡ mounted_of parts → AreNamed q.survey.value q.survey.read set
+        → Runs (λ slot. slot < n) Same s (state between) → IsQuorate option f q (state later) → ArePartsOf q now parts t → m ≡ mounted_of parts → HasNamedCopies q.survey.value q.survey.read set
         → IsTakenOver state name n held option now m set s t
     unfolding was_quorate
     taken_over between later q now parts m set t was searched quorate are same named =

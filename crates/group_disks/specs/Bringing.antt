@@ -28,8 +28,8 @@ is_named_in r [] d = false
 is_named_in r (m ∷ ms) d = if is_named r m then (d == m.number || is_named_in r ms d) else is_named_in r ms d
 
 -- the set has the numbers of these disks whose copies the record names
-abbrev pub AreNamed : Status → List Member → ℕ → Type 0
-AreNamed r ms set = (d : ℕ) → d < 64 → has_bit set d ≡ is_named_in r ms d
+abbrev pub HasNamedCopies : Status → List Member → ℕ → Type 0
+HasNamedCopies r ms set = (d : ℕ) → d < 64 → has_bit set d ≡ is_named_in r ms d
 
 -- At a moment of a mount, when the bay was `at`, the group stood with the directory copy of a disk: its record named it, and each copy that
 -- the record named had the content. The group went on from there.

@@ -9,7 +9,7 @@ use Rattle.asm_base.specs.declared.refusal.Refusal.TheVariants as refusal
 use Rattle.asm_formats.specs.Among.{IsAmong}
 use Rattle.asm_formats.specs.Items.{DiskInfo}
 use Rattle.asm_formats.specs.Status.{Entry, entry_of}
-use Rattle.catalog_tables.specs.Disks.{Disk, info_at, without_disk}
+use Rattle.disk_directory.specs.Disks.{Disk, info_at, without_disk}
 use Rattle.catalog_tables.specs.Tables.{Tables}
 use Rattle.status_register.specs.Registered.{is_birth}
 use Rattle.group_engine.specs.Mounts.{IsMounted, MountedGroup, slot_at}
@@ -40,12 +40,12 @@ pub record HaveDropped (entries : List Entry) (t : Tables) (n : ℕ) (u : Tables
   pub kept : (d : ℕ) → is_left_over entries t.disks d ≡ false → info_at u.disks d ≡ info_at t.disks d
 
 -- the disk of this number is attached, and failed
-abbrev pub HasFailed : MountedGroup → ℕ → BayState → BayState → Type 0
-HasFailed m d s t = (slot : ℕ) × (slot_at m.disks d ≡ Some slot) × Rose (s.faults slot) (t.faults slot)
+abbrev pub HasFailedSlot : MountedGroup → ℕ → BayState → BayState → Type 0
+HasFailedSlot m d s t = (slot : ℕ) × (slot_at m.disks d ≡ Some slot) × Rose (s.faults slot) (t.faults slot)
 
 -- The disk failed by which the group is dismounted. A change that makes no record wants memory alone besides.
 abbrev pub IsClearCause : MountedGroup → BayState → BayState → Refusal → Type 0
-IsClearCause m s t (refusal.Dismounted (disk.Number d)) = HasFailed m d s t
+IsClearCause m s t (refusal.Dismounted (disk.Number d)) = HasFailedSlot m d s t
 IsClearCause m s t (refusal.Dismounted (disk.Spelt text)) = ⊥
 IsClearCause m s t other = ⊤
 

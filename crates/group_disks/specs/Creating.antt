@@ -25,7 +25,7 @@ pub record HasMember (id : ℕ) (image : Image) : Type 0 where
 
 -- On the disk of a slot a group is created: every other id stands for its groups by the history by which it did, and gets no member; an
 -- id without a member has the new group or none.
-pub record Creates (slot id : ℕ) (g : Group) (old new : Image) : Type 0 where
+pub record CreatesGroupOn (slot id : ℕ) (g : Group) (old new : Image) : Type 0 where
   pub others : (other slots : ℕ) (groups : List Group) (completed : Option Status) (begun : List Status) → other ≢ id
       → SoundBy other (disks_in slots old) groups completed begun → SoundBy other (disks_in slots new) groups completed begun
   pub members : (other : ℕ) → other ≢ id → HasMember other new → HasMember other old
@@ -35,13 +35,13 @@ pub record Creates (slot id : ℕ) (g : Group) (old new : Image) : Type 0 where
   pub joins : (other : ℕ) → other ≢ id → IsMemberIn other new slot → IsMemberIn other old slot
 
 -- the disk in a slot had no open header
-abbrev pub IsFree : Option Image → ℕ → Type 0
-IsFree held slot = ForSome held (λ image. header_in image slot ≡ None)
+abbrev pub HasNoOpenHeader : Option Image → ℕ → Type 0
+HasNoOpenHeader held slot = ForSome held (λ image. header_in image slot ≡ None)
 
 -- Nothing has changed, or the group is being created on a disk that had no open header.
 pub record MayCreate (held : Option Image) (slot id : ℕ) (g : Group) (old new : Image) : Type 0 where
-  pub creates : Creates slot id g old new
-  pub free : Same old new ⊎ IsFree held slot
+  pub creates : CreatesGroupOn slot id g old new
+  pub free : Same old new ⊎ HasNoOpenHeader held slot
 
 -- The group is there, and this is kept of it, where the id had no member and the program has n slots: each of its members is attached.
 pub record Founds (n id : ℕ) (g : Group) (kept : Kept) (old new : Image) : Type 0 where

@@ -24,11 +24,11 @@ abbrev pub HasNoFile : MountedGroup → Type 0
 HasNoFile m = (f : ℕ) → is_file m.catalog.tables.files f ≡ false
 
 -- Why a group doesn't go: it has files, and its contents aren't to go with it; it is dismounted; or it was closed before.
-abbrev pub DropCause : MountedGroup → Bool → MountedGroup → BayState → BayState → Refusal → Type 0
-DropCause old contents new s t refusal.GroupNotEmpty = (contents ≡ false) × HasFile old
-DropCause old contents new s t (refusal.Dismounted by) = DismountCause old new s t by
-DropCause old contents new s t refusal.NoMemory = old.access ≡ access.Closed
-DropCause old contents new s t other = ⊥
+abbrev pub DropGroupCause : MountedGroup → Bool → MountedGroup → BayState → BayState → Refusal → Type 0
+DropGroupCause old contents new s t refusal.GroupNotEmpty = (contents ≡ false) × HasFile old
+DropGroupCause old contents new s t (refusal.Dismounted by) = DismountCause old new s t by
+DropGroupCause old contents new s t refusal.NoMemory = old.access ≡ access.Closed
+DropGroupCause old contents new s t other = ⊥
 
 -- ---- its headers
 
@@ -39,8 +39,8 @@ pub record HaveHeaders (m : MountedGroup) (state : BayState) : Type 0 where
   pub apart : (d e slot : ℕ) → slot_at m.disks d ≡ Some slot → slot_at m.disks e ≡ Some slot → d ≡ e
 
 -- no disk changes but that of this number
-abbrev pub OnDisk : MountedGroup → ℕ → Image → Image → Type 0
-OnDisk m d = ChangesOnly (λ slot k. slot_at m.disks d ≡ Some slot)
+abbrev pub ChangesOnlyOnDisk : MountedGroup → ℕ → Image → Image → Type 0
+ChangesOnlyOnDisk m d = ChangesOnly (λ slot k. slot_at m.disks d ≡ Some slot)
 
 -- the disk has no header any more, or its slot failed
 abbrev pub IsOut : ℕ → BayState → BayState → Type 0
@@ -53,7 +53,7 @@ AreOut m n s t = (d slot : ℕ) → d < n → slot_at m.disks d ≡ Some slot �
 -- The header of the disk of a number is closed, where it is attached: no other disk changes.
 pub record ClosesHeaderAt (m : MountedGroup) (number : ℕ) (s t : BayState) : Type 0 where
   pub attached : KeepsAttached s t
-  pub runs : Runs (λ slot. slot_at m.disks number ≡ Some slot) (OnDisk m number) s t
+  pub runs : Runs (λ slot. slot_at m.disks number ≡ Some slot) (ChangesOnlyOnDisk m number) s t
   pub out : (slot : ℕ) → slot_at m.disks number ≡ Some slot → IsOut slot s t
 
 -- The headers of the attached disks with numbers below n are closed: the group's own disks alone change.

@@ -19,7 +19,7 @@ use Rattle.status_register.specs.Keeping.{KeepsStanding}
 use Rattle.status_register.specs.Registered.{Registered}
 use Rattle.status_register.specs.declared.member.Member.{Member}
 use Rattle.group_disks.specs.Creating.{HasMember, usual_shape}
-use Rattle.group_disks.specs.Found.{IsSlotOf}
+use Rattle.group_disks.specs.Found.{IsSlotOfPath}
 use Rattle.group_disks.specs.Holding.{IsHeldSlot}
 use Rattle.group_disks.specs.Planned.{Plan, first_entries, items_of_plan, metadata_of_plan, record_of_plan}
 use Rattle.group_disks.specs.Stages.{first_copy}
@@ -47,7 +47,7 @@ pub record IsFirstStore (slot : ℕ) (plan : Plan) (store : Stored) (state : Bay
   pub keeps : Keeps store state
 
 -- The group of a plan takes calls, on the disk of this slot alone.
-pub record IsMountedAs (slot : ℕ) (plan : Plan) (m : MountedGroup) (state : BayState) : Type 0 where
+pub record IsMountedOnSlot (slot : ℕ) (plan : Plan) (m : MountedGroup) (state : BayState) : Type 0 where
   pub mounted : IsMounted m
   pub name : m.name ≡ plan.name
   pub id : m.register.id ≡ plan.id
@@ -89,7 +89,7 @@ pub record MountsNew (n : ℕ) (g : Group) (m : MountedGroup) (old new : BayStat
 
 -- each disk but that of the path stays
 abbrev pub SameBut : List Bytes → Bytes → Image → Image → Type 0
-SameBut paths path x y = (slot : ℕ) → (IsSlotOf paths path slot → ⊥) → SameDisk slot x y
+SameBut paths path x y = (slot : ℕ) → (IsSlotOfPath paths path slot → ⊥) → SameDisk slot x y
 
 -- Calls on n slots leave each disk but that of the path.
 abbrev pub SparesAllBut : List Bytes → Bytes → ℕ → BayState → BayState → Type 0

@@ -4,6 +4,7 @@ use Rattle.std.specs.Option.{ForSome}
 use Rattle.bay.specs.Image.{Image}
 use Rattle.bay.specs.State.{BayState}
 use Rattle.bay.specs.Counts.{Rose}
+use Rattle.bay.specs.Told.{ToldOf}
 use Rattle.asm_group.specs.Names.{Bytes}
 use Rattle.asm_group.specs.Refusal as r
 use Rattle.asm_formats.specs.Header.{Header}
@@ -19,13 +20,13 @@ abbrev pub counts_of : BayState → Counts
 counts_of bay = record { attached = bay.attached; holds = bay.holds; faults = bay.faults }
 
 -- the path stands among the images, in this slot
-pub record IsSlotOf (paths : List Bytes) (path : Bytes) (slot : ℕ) : Type 0 where
+pub record IsSlotOfPath (paths : List Bytes) (path : Bytes) (slot : ℕ) : Type 0 where
   pub below : slot < length paths
   pub is : get_or paths slot [] ≡ path
 
 -- what the disks held at first, where the bay tells at first and at last what they hold
 abbrev pub Told : Counts → Counts → (Image → Type 0) → Type 0
-Told s t P = ForSome t.holds (λ now. ForSome s.holds P)
+Told s t P = ToldOf s.holds t.holds P
 
 -- the ids that were read are those of headers
 pub record AreIdsRead (ids : List ℕ) (s t : Counts) : Type 0 where
@@ -45,12 +46,12 @@ pub record IsAboveAll (paths : List Bytes) (id : ℕ) (s t : Counts) : Type 0 wh
 
 -- NoDisk: the path isn't among the images, or its slot failed.
 abbrev pub NoDiskCause : List Bytes → Bytes → Counts → Counts → Type 0
-NoDiskCause paths path s t = ((slot : ℕ) → IsSlotOf paths path slot → ⊥) ⊎ ((slot : ℕ) × IsSlotOf paths path slot × Rose (s.faults slot) (t.faults slot))
+NoDiskCause paths path s t = ((slot : ℕ) → IsSlotOfPath paths path slot → ⊥) ⊎ ((slot : ℕ) × IsSlotOfPath paths path slot × Rose (s.faults slot) (t.faults slot))
 
 -- DiskTaken: the disk's header is open and names a group.
 pub record DiskTakenCause (paths : List Bytes) (path : Bytes) (s t : Counts) : Type 0 where
   pub slot : ℕ
-  pub is_slot : IsSlotOf paths path slot
+  pub is_slot : IsSlotOfPath paths path slot
   pub header : Told s t (λ image. header_in image slot ≢ None)
 
 -- TooSmall: the disk has fewer units of 1 MB than are needed.

@@ -11,12 +11,12 @@ use Rattle.asm_base.specs.Refusals.{said}
 use Rattle.change_directory.specs.StoreLaws.{RegionOf}
 use Rattle.directory_store.specs.Stores.{Stored}
 use Rattle.disk_forming.specs.Forming.{MetaOf}
-use Rattle.group_disks.specs.Creating.{Creates, Founds, made_group}
+use Rattle.group_disks.specs.Creating.{CreatesGroupOn, Founds, made_group}
 use Rattle.group_disks.specs.FirstParts.{IsFirstStore, SaysAll}
 use Rattle.group_disks.specs.Found.{counts_of}
 use Rattle.group_disks.specs.Planned.{Plan, kept_of_plan}
 use Rattle.group_disks.specs.Ready.{IsFormFault}
-use Rattle.group_disks.specs.Stages.{HasAll, HasFirst, HasFormed, HasNoneOrFirst, IsForming, MayForm, first_copy}
+use Rattle.group_disks.specs.Stages.{HasAllParts, HasFirst, HasFormed, HasNoneOrFirst, IsForming, MayForm, first_copy}
 
 -- Calls on the disk of a slot make the store of a new group.
 pub record GivesStore (slot : ℕ) (plan : Plan) (step : Image → Image → Type 0) (result : Result Stored BayError) (s t : BayState) : Type 0 where
@@ -40,7 +40,7 @@ directory_stage slot plan = record { region = RegionOf (first_copy slot); during
 
 -- all parts are given that come behind the header
 abbrev pub rest_stage : ℕ → Plan → FormingStage
-rest_stage slot plan = record { region = MetaOf slot 1024; during = IsForming slot plan; after = HasAll slot plan }
+rest_stage slot plan = record { region = MetaOf slot 1024; during = IsForming slot plan; after = HasAllParts slot plan }
 
 -- The disk goes through a stage.
 pub record GivesStage (slot : ℕ) (plan : Plan) (stage : FormingStage) (result : Result Stored BayError) (s t : BayState) : Type 0 where
@@ -58,7 +58,7 @@ pub record FormsGroup (slot slots : ℕ) (plan : Plan) (result : Result Stored R
   -- the same disks stay attached
   pub attached : KeepsAttached s t
   -- at each moment it is being created, and at Ok it is there
-  pub runs : Runs (IsSlot slot) (Creates slot plan.id (made_group plan.name)) s t
+  pub runs : Runs (IsSlot slot) (CreatesGroupOn slot plan.id (made_group plan.name)) s t
   pub done : OnOk result (Ends (Founds slots plan.id (made_group plan.name) (kept_of_plan slot plan)) s t)
   pub says : OnOk result (NowOnly t (SaysAll slot plan))
   pub store : IfOk result (λ store. IsFirstStore slot plan store t)

@@ -13,7 +13,7 @@ use Rattle.asm_formats.specs.Status.{Entry, Status}
 use Rattle.asm_images.specs.Kept.{IsMemberIn, header_in}
 use Rattle.asm_images.specs.Register.{greatest}
 use Rattle.asm_placement.specs.Modes.{serves}
-use Rattle.catalog_tables.specs.Disks.{info_at}
+use Rattle.disk_directory.specs.Disks.{info_at}
 use Rattle.catalog_tables.specs.Tables.{Catalogued}
 use Rattle.change_directory.specs.declared.copy.DirCopy.{DirCopy}
 use Rattle.change_directory.specs.Formatting.{AreShut}
@@ -54,19 +54,19 @@ abbrev pub SlotFailed : Look → ℕ → Type 0
 SlotFailed l slot = Rose (l.before.faults slot) (l.after.faults slot)
 
 -- one of the slots has this disk, with an open header
-pub record IsDisk (l : Look) (d : Headed) : Type 0 where
+pub record IsHeadedDisk (l : Look) (d : Headed) : Type 0 where
   pub below : d.slot < l.slots
   pub size : l.image.size d.slot ≡ d.size
   pub header : header_in l.image d.slot ≡ Some d.header
 
 -- and the slot didn't fail
 pub record IsDiskThere (l : Look) (d : Headed) : Type 0 where
-  pub is : IsDisk l d
+  pub is : IsHeadedDisk l d
   pub fine : SlotFailed l d.slot → ⊥
 
 -- These are disks for which the test is true, each of them that is there among them.
 pub record AreDisksWith (l : Look) (test : Headed → Bool) (ms : List Member) : Type 0 where
-  pub each : (m : Member) → IsAmong ms m → (d : Headed) × IsDisk l d × (test d ≡ true) × (m ≡ member_of d)
+  pub each : (m : Member) → IsAmong ms m → (d : Headed) × IsHeadedDisk l d × (test d ≡ true) × (m ≡ member_of d)
   pub all : (d : Headed) → IsDiskThere l d → test d ≡ true → IsAmong ms (member_of d)
 
 abbrev pub has_id : ℕ → Headed → Bool
@@ -75,7 +75,7 @@ has_id id d = d.header.id == id
 -- a disk of the id has the name
 pub record HasNamedDisk (l : Look) (name : Bytes) (id : ℕ) : Type 0 where
   pub disk : Headed
-  pub is : IsDisk l disk
+  pub is : IsHeadedDisk l disk
   pub member : disk.header.id ≡ id
   pub named : is_same_name disk.header.group name ≡ true
 
@@ -103,7 +103,7 @@ pub record IsRecordRead (l : Look) (id : ℕ) (r : Status) : Type 0 where
 
 -- Directories were read: each of their copies is one that the record names, and has them.
 pub record AreDirectories (l : Look) (id : ℕ) (r : Status) (record_ : IsRecordRead l id r) (store : Stored) : Type 0 where
-  pub copies : (c : DirCopy) → IsAmong store.copies c → (d : Headed) × IsDisk l d × (is_named_copy id record_.read r d ≡ true) × (c ≡ copy_of d)
+  pub copies : (c : DirCopy) → IsAmong store.copies c → (d : Headed) × IsHeadedDisk l d × (is_named_copy id record_.read r d ≡ true) × (c ≡ copy_of d)
   pub page : ℕ → Bytes
   pub shows : Shows store.table page
   pub kept : AreKept store.copies store.due store.number page l.image
@@ -126,7 +126,7 @@ pub data NoGroupCause (l : Look) (name : Bytes) : Type 0 where
   all_gone : ((d : Headed) → IsDiskThere l d → is_same_name d.header.group name ≡ true → IsIdRead l d.header.id true) → NoGroupCause l name
   one_gone : (id : ℕ) → HasNamedDisk l name id → IsIdRead l id true → NoGroupCause l name
   none_there : (id : ℕ) → HasNamedDisk l name id → ((d : Headed) → IsDiskThere l d → d.header.id ≡ id → ⊥) → NoGroupCause l name
-  other_name : (id : ℕ) → HasNamedDisk l name id → (d : Headed) → IsDisk l d → d.header.id ≡ id → is_same_name d.header.group name ≡ false → NoGroupCause l name
+  other_name : (id : ℕ) → HasNamedDisk l name id → (d : Headed) → IsHeadedDisk l d → d.header.id ≡ id → is_same_name d.header.group name ≡ false → NoGroupCause l name
 
 -- TwoGroups: of two ids of the name a majority was read, and none is gone.
 pub record TwoGroupsCause (l : Look) (name : Bytes) : Type 0 where
@@ -154,9 +154,9 @@ pub data NoMajorityCause (l : Look) (id seen need : ℕ) : Type 0 where
 pub data DamagedCause (l : Look) (id slot block : ℕ) : Type 0 where
   body : (read : List Member) → AreDisksWith l (has_id id) read → missing read (record_on l id read) ≡ None → first_damage l.image read ≡ Some (slot, block)
       → DamagedCause l id slot block
-  stranger : (d other : Headed) → IsDisk l d → IsDisk l other → d.slot ≢ other.slot → d.header.id ≡ id → clashes d other ≡ true → slot ≡ other.slot → block ≡ 1
+  stranger : (d other : Headed) → IsHeadedDisk l d → IsHeadedDisk l other → d.slot ≢ other.slot → d.header.id ≡ id → clashes d other ≡ true → slot ≡ other.slot → block ≡ 1
       → DamagedCause l id slot block
-  copy : (r : Status) (record_ : IsRecordRead l id r) (d : Headed) → IsDisk l d → is_named_copy id record_.read r d ≡ true → slot ≡ d.slot
+  copy : (r : Status) (record_ : IsRecordRead l id r) (d : Headed) → IsHeadedDisk l d → is_named_copy id record_.read r d ≡ true → slot ≡ d.slot
       → HasDamage (copy_of d) (Some block) l.image ⊎ HasTwins (copy_of d) block l.image → DamagedCause l id slot block
   fault : (r : Status) (record_ : IsRecordRead l id r) (store : Stored) (shape : Shape) → AreDirectories l id r record_ store → IsFaultPlace store r shape slot block
       → DamagedCause l id slot block
@@ -179,8 +179,8 @@ pub record MissingDisksCause (l : Look) (id : ℕ) (name : Bytes) : Type 0 where
 -- Dismounted: the disk of the name failed while the record was written anew, or one of the id did while lagging copies were brought up or
 -- what a stop left undone was ended.
 pub data DismountedCause (l : Look) (id : ℕ) (name : Bytes) : Type 0 where
-  at_record : (d : Headed) → IsDisk l d → d.header.disk ≡ name → SlotFailed l d.slot → DismountedCause l id name
-  behind_record : (d : Headed) → IsDisk l d → d.header.id ≡ id → SlotFailed l d.slot → DismountedCause l id name
+  at_record : (d : Headed) → IsHeadedDisk l d → d.header.disk ≡ name → SlotFailed l d.slot → DismountedCause l id name
+  behind_record : (d : Headed) → IsHeadedDisk l d → d.header.id ≡ id → SlotFailed l d.slot → DismountedCause l id name
 
 -- of an id of the name
 abbrev pub OfNamed : Look → Bytes → (ℕ → Type 0) → Type 0

@@ -9,7 +9,7 @@ use Rattle.group_engine.specs.Making.{made}
 use Rattle.group_engine.specs.Mounts.{IsMounted, IsOwn, IsReady, IsWhole, MountedGroup}
 use Rattle.group_engine.specs.declared.attached.Attached.{Attached}
 use Rattle.group_engine.specs.Own.{KeepsGroup}
-use Rattle.group_disks.specs.Bringing.{AreNamed, IsBrought, is_named_in}
+use Rattle.group_disks.specs.Bringing.{HasNamedCopies, IsBrought, is_named_in}
 use Rattle.group_disks.specs.Clearing.{IsLostCause}
 use Rattle.group_disks.specs.Holding.{IsHeldSlot}
 use Rattle.group_mount.specs.Founds.{FindCause, FoundDisks, IsFound, not_held}
@@ -37,8 +37,8 @@ abbrev pub by_number : List (Member × ℕ) → List (Option Attached)
 by_number ds = put_disks (replicate 64 None) ds
 
 -- each has the number of a disk
-abbrev pub AreSmall : List (Member × ℕ) → Type 0
-AreSmall ds = (d : Member × ℕ) → IsAmong ds d → d.0.number < 64
+abbrev pub HaveDiskNumbers : List (Member × ℕ) → Type 0
+HaveDiskNumbers ds = (d : Member × ℕ) → IsAmong ds d → d.0.number < 64
 
 abbrev pub mounted_of : Parts → MountedGroup
 mounted_of parts = made parts.name parts.catalog parts.store parts.register (by_number parts.disks.items)
@@ -77,7 +77,7 @@ pub record IsTakenOver {B : Type 0} (state : B → BayState) (name : Bytes) (n :
   pub parts : Parts
   pub are : ArePartsOf was.quorum now parts t
   pub group : m ≡ mounted_of parts
-  pub named : AreNamed was.quorum.survey.value was.quorum.survey.read set
+  pub named : HasNamedCopies was.quorum.survey.value was.quorum.survey.read set
 
 -- The group that is mounted is the one that was taken over, in a state of the call. Of the directory copies that the record that was read
 -- names those on disks that were read are brought up.

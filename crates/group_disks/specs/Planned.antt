@@ -22,7 +22,7 @@ pub record Plan : Type 0 where
   pub disk : Bytes
   pub units : ℕ
 
-pub record IsPlan (plan : Plan) : Type 0 where
+pub record IsGroupPlan (plan : Plan) : Type 0 where
   pub name : is_name plan.name ≡ true
   pub disk : is_name plan.disk ≡ true
   pub id : plan.id < 2 ^ 64

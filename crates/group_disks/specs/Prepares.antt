@@ -7,14 +7,14 @@ use Rattle.asm_base.specs.Refusals.{said}
 use Rattle.asm_group.specs.Names.{Bytes}
 use Rattle.asm_images.specs.Kept.{header_in}
 use Rattle.group_engine.specs.declared.attached.Attached.{Attached}
-use Rattle.group_disks.specs.Found.{IsSlotOf, RefusalCause, Told, counts_of}
+use Rattle.group_disks.specs.Found.{IsSlotOfPath, RefusalCause, Told, counts_of}
 use Rattle.group_disks.specs.Looks.{LooksAtAll}
-use Rattle.group_disks.specs.Planned.{IsPlan}
+use Rattle.group_disks.specs.Planned.{IsGroupPlan}
 use Rattle.group_disks.specs.Ready.{AreBodies, HasRoom}
 use Rattle.group_disks.specs.declared.create.Ready.{Ready}
 
 -- What a creation is asked for: a group of this name on the image at a path, which is one of so many, with an id from the floor on.
-pub record Asked : Type 0 where
+pub record AskedCreation : Type 0 where
   pub slots : ℕ
   pub paths : List Bytes
   pub path : Bytes
@@ -28,27 +28,27 @@ pub record IsMadeReady (place : Attached) (name : Bytes) (units id : ℕ) (ready
   pub id_is : ready.group.id ≡ id
   pub name_is : ready.group.name ≡ name
   pub units_are : ready.group.units ≡ units
-  pub plan : IsPlan ready.group
+  pub plan : IsGroupPlan ready.group
   pub bodies : AreBodies ready.bodies ready.group
 
 -- What is ready is what was asked for, and the disk is there for it.
-pub record IsReadyFor (asked : Asked) (ids : List ℕ) (ready : Ready) (s t : BayState) : Type 0 where
+pub record IsReadyFor (asked : AskedCreation) (ids : List ℕ) (ready : Ready) (s t : BayState) : Type 0 where
   pub name : ready.group.name ≡ asked.name
-  pub plan : IsPlan ready.group
+  pub plan : IsGroupPlan ready.group
   pub bodies : AreBodies ready.bodies ready.group
   -- the id is above each that was read, as long as ids don't run out
   pub floor : asked.floor ≤ ready.group.id
   pub above : ready.group.id < last_count → All (λ other. other < ready.group.id) ids
   -- the slot is that of the path
   pub slot : ready.slot < asked.slots
-  pub at : IsSlotOf asked.paths asked.path ready.slot
+  pub at : IsSlotOfPath asked.paths asked.path ready.slot
   -- the image is attached and long enough, and has no open header
   pub size : t.attached ready.slot ≡ Some ready.size
   pub room : HasRoom ready.slot ready.group.units t
   pub free : Told (counts_of s) (counts_of t) (λ image. header_in image ready.slot ≡ None)
 
 -- The images are looked at, and the new group is made ready.
-pub record Prepares (asked : Asked) (result : Result Ready Refusal) (ids : List ℕ) (s t : BayState) : Type 0 where
+pub record Prepares (asked : AskedCreation) (result : Result Ready Refusal) (ids : List ℕ) (s t : BayState) : Type 0 where
   pub looks : LooksAtAll asked.slots result ids s t
   pub ready : IfOk result (λ ready. IsReadyFor asked ids ready s t)
   pub cause : IfErr result (λ refusal. RefusalCause asked.paths asked.path (said (λ _. []) refusal) (counts_of s) (counts_of t))

@@ -36,7 +36,7 @@ size_shown (probe.Unread size) = size
 size_shown (probe.Read size id) = size
 
 -- A disk with so many units of 1 MB can be given to a new group: its header names none.
-pub record IsUsable (p : Probe) (units : ℕ) : Type 0 where
+pub record IsUsableProbe (p : Probe) (units : ℕ) : Type 0 where
   pub size : ℕ
   pub free : p ≡ probe.Read size None
   pub least : 25 ≤ units
@@ -53,5 +53,5 @@ IsUnusable path disk p r.NoMemory = ⊤
 IsUnusable path disk p other = ⊥
 
 -- It says this, or want of memory.
-abbrev pub Says : r.Refusal → Refusal → Type 0
-Says wanted given = (said (λ any. []) given ≡ wanted) ⊎ (said (λ any. []) given ≡ r.NoMemory)
+abbrev pub SaysRefusal : r.Refusal → Refusal → Type 0
+SaysRefusal wanted given = (said (λ any. []) given ≡ wanted) ⊎ (said (λ any. []) given ≡ r.NoMemory)

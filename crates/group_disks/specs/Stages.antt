@@ -32,7 +32,7 @@ pub data IsForming (slot : ℕ) (plan : Plan) (image : Image) : Type 0 where
   whole : Shows slot 512 (Some (header_body plan)) (Some (claim_body plan)) (Some (status_body plan)) image → HasFirst slot plan image → IsForming slot plan image
 
 -- all parts are there
-pub record HasAll (slot : ℕ) (plan : Plan) (image : Image) : Type 0 where
+pub record HasAllParts (slot : ℕ) (plan : Plan) (image : Image) : Type 0 where
   pub shows : Shows slot 512 (Some (header_body plan)) (Some (claim_body plan)) (Some (status_body plan)) image
   pub content : HasFirst slot plan image
 
@@ -47,7 +47,7 @@ MayForm slot plan old new = MayCloseAll slot 512 1024 old new ⊎ Forms slot pla
 
 -- the disk has all its parts, and nothing behind its directory region has changed
 pub record HasFormed (slot : ℕ) (plan : Plan) (old new : Image) : Type 0 where
-  pub has_all : HasAll slot plan new
+  pub has_all : HasAllParts slot plan new
   pub elsewhere : ChangesOnly (MetaOf slot 1024) old new
 
 -- ---- between the steps

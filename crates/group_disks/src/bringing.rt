@@ -2,7 +2,7 @@
 ghost use Rattle.std.specs.Prelude.{◌≡◌, ◌+◌, ◌*◌, ◌<◌, ◌≤◌, None, Some, get_or, OnOk, IfErr};
 ghost use Rattle.asm_base.specs.declared.refusal.Refusal.TheVariants.{NoMemory as WithoutMemory};
 ghost use Rattle.asm_formats.specs.Regions.{has_region};
-ghost use Rattle.group_disks.specs.Bringing.{AreNamed, BringsCopiesUp, BringsCopyUp, is_named};
+ghost use Rattle.group_disks.specs.Bringing.{HasNamedCopies, BringsCopiesUp, BringsCopyUp, is_named};
 ghost use Rattle.group_engine.specs.Mounts.{IsMounted, Takes};
 ghost use Rattle.group_engine.specs.declared.attached.Attached.{Attached as AttachedDisk};
 ghost use Rattle.status_register.specs.Registered.{AreNumbered};
@@ -25,7 +25,7 @@ fn is_named(status: &PstRecord, disk: Member) -> bool
 /// The disks whose directory copies a record names, of these.
 pub fn named_disks(status: &PstRecord, disks: &[Member]) -> DiskSet
     requires { AreNumbered disks.now }
-    ensures { AreNamed status.now disks.now result }
+    ensures { HasNamedCopies status.now disks.now result }
 {
     let [first, rest @ ..] = disks else {
         return DiskSet::empty();

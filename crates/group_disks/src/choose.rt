@@ -5,7 +5,7 @@ ghost use Rattle.bay.specs.Counts.{last_count};
 ghost use Rattle.asm_group.specs.Names.{is_name};
 ghost use Rattle.asm_base.specs.Refusals.{said};
 ghost use Rattle.asm_group.specs.Refusal.{NoDisk, DiskTaken, TooSmall, WriteFault};
-ghost use Rattle.group_disks.specs.Probes.{IsUsable, IsUnusable, Says, size_shown};
+ghost use Rattle.group_disks.specs.Probes.{IsUsableProbe, IsUnusable, SaysRefusal, size_shown};
 
 use crate::find::Probe;
 use asm_base::{DiskRef, Name, NoMemory, Refusal, Text};
@@ -22,7 +22,7 @@ const LEAST_UNITS: u32 = 25;
 
 /// The units of the disk that a look has shown, where it can be given to a new group.
 pub fn usable_units(alloc: Global, path: &[u8], disk: &Name, probe: Probe) -> Result<u32, Refusal>
-    ensures ok { IfOk result (λ units. IsUsable probe units) }
+    ensures ok { IfOk result (λ units. IsUsableProbe probe units) }
     ensures cause { IfErr result (λ refusal. IsUnusable path.now disk.now probe (said (λ _. []) refusal)) }
 {
     match probe {
@@ -101,7 +101,7 @@ fn numbered(alloc: Global, front: &[u8]) -> Result<Vec<u8>, NoMemory>
 
 /// The path isn't among the images, or its image can't be had.
 pub fn no_disk(alloc: Global, path: &[u8]) -> Refusal
-    ensures { Says (NoDisk path.now) result }
+    ensures { SaysRefusal (NoDisk path.now) result }
 {
     match Text::from_slice(alloc, path) {
         Ok(text) => Refusal::NoDisk {
@@ -113,7 +113,7 @@ pub fn no_disk(alloc: Global, path: &[u8]) -> Refusal
 
 /// The header of the image at the path names a group.
 pub fn disk_taken(alloc: Global, path: &[u8]) -> Refusal
-    ensures { Says (DiskTaken path.now) result }
+    ensures { SaysRefusal (DiskTaken path.now) result }
 {
     match Text::from_slice(alloc, path) {
         Ok(path) => Refusal::DiskTaken { path },
@@ -123,7 +123,7 @@ pub fn disk_taken(alloc: Global, path: &[u8]) -> Refusal
 
 /// The disk has too few units.
 fn too_small(alloc: Global, disk: &Name) -> Refusal
-    ensures { Says (TooSmall disk.now 25) result }
+    ensures { SaysRefusal (TooSmall disk.now 25) result }
 {
     match Text::from_slice(alloc, disk.as_bytes()) {
         Ok(text) => Refusal::TooSmall {
@@ -136,7 +136,7 @@ fn too_small(alloc: Global, disk: &Name) -> Refusal
 
 /// The disk failed.
 pub fn write_fault(alloc: Global, disk: &Name) -> Refusal
-    ensures { Says (WriteFault disk.now) result }
+    ensures { SaysRefusal (WriteFault disk.now) result }
 {
     match Text::from_slice(alloc, disk.as_bytes()) {
         Ok(text) => Refusal::WriteFault {

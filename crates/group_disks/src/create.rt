@@ -14,7 +14,7 @@ ghost use Rattle.group_disks.specs.FirstParts.{IsNewlyMounted, MountsNew};
 ghost use Rattle.group_disks.specs.Gives.{FormsGroup};
 ghost use Rattle.group_disks.specs.Holding.{SparesHeld};
 ghost use Rattle.group_engine.specs.Frames.{StaysAttached};
-ghost use Rattle.group_disks.specs.Planned.{IsPlan};
+ghost use Rattle.group_disks.specs.Planned.{IsGroupPlan};
 ghost use Rattle.group_disks.specs.Prepares.{IsMadeReady, Prepares};
 ghost use Rattle.group_disks.specs.Ready.{AreBodies, HasRoom};
 
@@ -185,7 +185,7 @@ fn form<B: Bay>(
     group: &NewGroup,
     bodies: &Bodies,
 ) -> Result<Store, Refusal>
-    requires plan { IsPlan group.now }
+    requires plan { IsGroupPlan group.now }
     requires bodies { AreBodies bodies.now group.now }
     requires room { HasRoom slot group.now.units (B.state bay.old) }
     requires among { slot < slots }

@@ -3,7 +3,7 @@ ghost use Rattle.bay.specs.Moments.{NowOnly};
 ghost use Rattle.change_directory.specs.Places.{IsCopy};
 ghost use Rattle.change_directory.specs.Formatting.{AreShut};
 ghost use Rattle.group_disks.specs.Gives.{GivesStage, directory_stage};
-ghost use Rattle.group_disks.specs.Planned.{IsPlan};
+ghost use Rattle.group_disks.specs.Planned.{IsGroupPlan};
 ghost use Rattle.group_disks.specs.Stages.{first_copy};
 
 use crate::first_change::first_change;
@@ -21,7 +21,7 @@ pub fn give_directory<B: Bay>(
     slot: u32,
     group: &NewGroup,
 ) -> Result<Store, BayError>
-    requires plan { IsPlan group.now }
+    requires plan { IsGroupPlan group.now }
     requires copy { IsCopy (B.state bay.old) (first_copy slot) }
     requires shut { NowOnly (B.state bay.old) (AreShut (first_copy slot)) }
     ensures { GivesStage slot group.now (directory_stage slot group.now) result (B.state bay.old) (B.state bay.new) }

@@ -1,6 +1,6 @@
 //! A group is dropped: its record is marked gone, and its disks lose their headers.
 ghost use Rattle.std.specs.Prelude.{◌≡◌, ◌⊎◌, ◌<◌, false, true, IfErr, IsTrue, OnOk};
-ghost use Rattle.group_disks.specs.Dropping.{AreOut, ClosesHeaders, ClosesHeaderAt, DropCause, HasFile, HasNoFile, HaveHeaders};
+ghost use Rattle.group_disks.specs.Dropping.{AreOut, ClosesHeaders, ClosesHeaderAt, DropGroupCause, HasFile, HasNoFile, HaveHeaders};
 ghost use Rattle.group_engine.specs.Mounts.{IsMounted, Takes};
 ghost use Rattle.group_engine.specs.Own.{KeepsGroup};
 
@@ -52,7 +52,7 @@ pub fn drop_group<B: Bay>(m: &mut Mounted, bay: &mut B, contents: bool) -> Resul
     requires takes { Takes m.old (B.state bay.old) }
     // Only disks of the group change.
     ensures keeps { KeepsGroup m.old m.new (B.state bay.old) (B.state bay.new) }
-    ensures cause { IfErr result (DropCause m.old contents m.new (B.state bay.old) (B.state bay.new)) }
+    ensures cause { IfErr result (DropGroupCause m.old contents m.new (B.state bay.old) (B.state bay.new)) }
     ensures empty { OnOk result (IsTrue contents ⊎ HasNoFile m.old) }
     // The record is marked gone, and the group takes no calls.
     ensures marked { OnOk result (m.new.register.value.gone ≡ true) }

@@ -2,19 +2,16 @@
 ghost use Rattle.std.specs.Prelude.{◌≡◌, ◌≤◌, ◌<◌, [], ℕ, Some, length, map, IfOk, IsSome, MatchOption};
 ghost use Rattle.std.specs.String.{string_bytes};
 ghost use Rattle.bay.specs.State.{size_of};
-ghost use Rattle.group_disks.specs.Found.{counts_of, IsSlotOf};
+ghost use Rattle.group_disks.specs.Found.{counts_of, IsSlotOfPath};
 ghost use Rattle.group_disks.specs.Looks.{IsDecoded, IsHeaderTold, LooksAt, LooksAtAll, Notes, ReadsDisk};
 ghost use Rattle.group_disks.specs.Probes.{IsShown};
 
-use asm_base::{Block, NoMemory};
+use asm_base::{BLOCK, Block, LEAST_SIZE, NoMemory};
 use bay::{Bay, BayError, Fault};
-use disk_forming::{BLOCK, header_slot};
+use disk_forming::header_slot;
 use disk_header::{Header, decode};
 use gate_slot::is_open;
 use std::alloc::Global;
-
-/// The bytes that a member has at least: up to its directory region.
-const LEAST_SIZE: u64 = 40_960;
 
 /// What a look at an image has shown. Sizes are in bytes.
 #[derive(Clone, Copy, Debug)]
@@ -31,8 +28,8 @@ pub enum Probe {
 pub fn slot_of(paths: &[String], path: &[u8]) -> Option<u32>
     requires few { length paths.now ≤ 512 }
     ensures { MatchOption result
-        ((slot : ℕ) → IsSlotOf (map string_bytes paths.now) path.now slot → ⊥)
-        (λ slot. IsSlotOf (map string_bytes paths.now) path.now slot) }
+        ((slot : ℕ) → IsSlotOfPath (map string_bytes paths.now) path.now slot → ⊥)
+        (λ slot. IsSlotOfPath (map string_bytes paths.now) path.now slot) }
 {
     for (slot, other) in paths.iter().enumerate() {
         if other.as_bytes() == path {

@@ -3,40 +3,27 @@ ghost use Rattle.std.specs.Prelude.{◌≡◌, [], IfOk, IsTrue};
 ghost use Rattle.asm_group.specs.Names.{is_name};
 ghost use Rattle.asm_formats.specs.Items.{disk_item};
 ghost use Rattle.asm_formats.specs.Values.{value};
-ghost use Rattle.group_disks.specs.Planned.{IsPlan, first_entries};
+ghost use Rattle.group_disks.specs.Planned.{IsGroupPlan, first_entries};
 ghost use Rattle.asm_images.specs.Created.{first_templates, first_settings};
 
 use crate::new_group::NewGroup;
 use asm_base::{
-    Block, Change, GroupKind, Key, List, Name, NoMemory, Value, Writer, put_name, put_u64,
+    Block, Change, GroupKind, Key, List, Name, NoMemory, SETTINGS_KEY, TEMPLATES_KEY, Value,
+    Writer, put_name, put_u64, record_kind,
 };
 use std::alloc::Global;
 use template_directory::{Settings, settings_value, system, templates_value};
 
 /// The record of disk 0.
 const DISK: Key = Key {
-    kind: 2,
-    a: 0,
-    b: 0,
-};
-
-/// The record of the templates.
-const TEMPLATES: Key = Key {
-    kind: 5,
-    a: 0,
-    b: 0,
-};
-
-/// The record of the settings.
-const SETTINGS: Key = Key {
-    kind: 9,
+    kind: record_kind::DISKS,
     a: 0,
     b: 0,
 };
 
 /// The first records of a group.
 pub fn first_change(alloc: Global, group: &NewGroup) -> Result<Change, NoMemory>
-    requires { IsPlan group.now }
+    requires { IsGroupPlan group.now }
     ensures put { IfOk result (λ change. change.put ≡ first_entries group.now) }
     ensures gone { IfOk result (λ change. change.gone ≡ []) }
 {
@@ -45,8 +32,8 @@ pub fn first_change(alloc: Global, group: &NewGroup) -> Result<Change, NoMemory>
     let settings = first_settings(alloc)?;
     let mut put = Vec::new(alloc);
     put.push((DISK, disk)).map_err(|_| NoMemory)?;
-    put.push((TEMPLATES, templates)).map_err(|_| NoMemory)?;
-    put.push((SETTINGS, settings)).map_err(|_| NoMemory)?;
+    put.push((TEMPLATES_KEY, templates)).map_err(|_| NoMemory)?;
+    put.push((SETTINGS_KEY, settings)).map_err(|_| NoMemory)?;
     Ok(Change {
         put: List::from_vec(put),
         gone: List::new(alloc),

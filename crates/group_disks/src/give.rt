@@ -1,7 +1,7 @@
 // The disk of a new group gets its parts: header, directory copy, claim, status record.
 ghost use Rattle.bay.specs.Moments.{NowOnly};
 ghost use Rattle.group_disks.specs.Gives.{GivesAll, GivesStage, rest_stage};
-ghost use Rattle.group_disks.specs.Planned.{IsPlan};
+ghost use Rattle.group_disks.specs.Planned.{IsGroupPlan};
 ghost use Rattle.group_disks.specs.Ready.{AreBodies, HasRoom};
 ghost use Rattle.group_disks.specs.Stages.{IsHeaded};
 
@@ -20,7 +20,7 @@ pub fn give_parts<B: Bay>(
     group: &NewGroup,
     bodies: &Bodies,
 ) -> Result<Store, BayError>
-    requires plan { IsPlan group.now }
+    requires plan { IsGroupPlan group.now }
     requires bodies { AreBodies bodies.now group.now }
     requires room { HasRoom slot group.now.units (B.state bay.old) }
     ensures { GivesAll slot group.now result (B.state bay.old) (B.state bay.new) }
@@ -39,7 +39,7 @@ fn give_rest<B: Bay>(
     group: &NewGroup,
     bodies: &Bodies,
 ) -> Result<Store, BayError>
-    requires plan { IsPlan group.now }
+    requires plan { IsGroupPlan group.now }
     requires bodies { AreBodies bodies.now group.now }
     requires room { HasRoom slot group.now.units (B.state bay.old) }
     requires headed { NowOnly (B.state bay.old) (IsHeaded slot group.now) }

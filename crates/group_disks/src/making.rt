@@ -5,9 +5,9 @@ ghost use Rattle.asm_base.specs.Refusals.{said};
 ghost use Rattle.asm_group.specs.Refusal.{ReadFault};
 ghost use Rattle.group_disks.specs.FirstParts.{SparesAllBut};
 ghost use Rattle.group_disks.specs.Found.{counts_of};
-ghost use Rattle.group_disks.specs.Making.{IsFree, IsMade, IsNotFree, MakeCause, StaysBut};
+ghost use Rattle.group_disks.specs.Making.{IsLookFree, IsImageMade, IsNotFree, MakeCause, StaysBut};
 ghost use Rattle.group_disks.specs.Holding.{SparesHeld};
-ghost use Rattle.group_disks.specs.Probes.{Says};
+ghost use Rattle.group_disks.specs.Probes.{SaysRefusal};
 
 use crate::choose::{disk_taken, is_held, no_disk};
 use crate::find::slot_of;
@@ -18,7 +18,7 @@ use std::alloc::Global;
 
 /// The image at the path couldn't be read.
 fn read_fault(alloc: Global, path: &[u8]) -> Refusal
-    ensures { Says (ReadFault path.now) result }
+    ensures { SaysRefusal (ReadFault path.now) result }
 {
     match Text::from_slice(alloc, path) {
         Ok(text) => Refusal::ReadFault {
@@ -30,7 +30,7 @@ fn read_fault(alloc: Global, path: &[u8]) -> Refusal
 
 /// Whether the image that was looked at may be made anew: it is absent, or has no open header.
 fn check_free(alloc: Global, path: &[u8], looked: Looked) -> Result<(), Refusal>
-    ensures free { OnOk result (IsFree looked) }
+    ensures free { OnOk result (IsLookFree looked) }
     ensures cause { IfErr result (λ refusal. IsNotFree path.now looked (said (λ _. []) refusal)) }
 {
     match looked {
@@ -58,7 +58,7 @@ pub fn create_disk<B: Bay>(
 ) -> Result<(), Refusal>
     requires few { length paths.now ≤ 512 }
     ensures cause { IfErr result (λ refusal. MakeCause (map string_bytes paths.now) path.now held.now (said (λ _. []) refusal) (counts_of (B.state bay.old)) (counts_of (B.state bay.new))) }
-    ensures made { OnOk result (IsMade (map string_bytes paths.now) path.now held.now size (B.state bay.old) (B.state bay.new)) }
+    ensures made { OnOk result (IsImageMade (map string_bytes paths.now) path.now held.now size (B.state bay.old) (B.state bay.new)) }
     ensures attached { StaysBut (map string_bytes paths.now) path.now held.now (B.state bay.old) (B.state bay.new) }
     // No disk changes but that of the path, and none in a slot that is held.
     ensures spares { SparesAllBut (map string_bytes paths.now) path.now (length paths.now) (B.state bay.old) (B.state bay.new) }

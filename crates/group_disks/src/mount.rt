@@ -5,7 +5,7 @@ ghost use Rattle.group_engine.specs.Mounts.{IsMounted, IsWhole, Takes};
 ghost use Rattle.group_disks.specs.Bringing.{BringsCopiesUp};
 ghost use Rattle.group_disks.specs.Holding.{SparesHeld};
 ghost use Rattle.group_disks.specs.Leaving.{LeavesRefused, WasMounted};
-ghost use Rattle.group_disks.specs.Mounting.{AreSmall, IsMountedBy, IsMountCause, IsRecovered, by_number, mounted_of};
+ghost use Rattle.group_disks.specs.Mounting.{HaveDiskNumbers, IsMountedBy, IsMountCause, IsRecovered, by_number, mounted_of};
 ghost use Rattle.group_disks.specs.Taking.{TakesOver};
 
 use crate::bringing::{bring_all, named_disks};
@@ -19,7 +19,7 @@ use std::alloc::Global;
 
 /// The attached disks by their numbers, with the sizes of their images.
 fn by_number(disks: &[(Member, u64)]) -> [Option<Attached>; 64]
-    requires { AreSmall disks.now }
+    requires { HaveDiskNumbers disks.now }
     ensures { result ≡ by_number disks.now }
 {
     let mut places = [None; 64];
@@ -34,7 +34,7 @@ fn by_number(disks: &[(Member, u64)]) -> [Option<Attached>; 64]
 
 /// The group of the parts that a mount gives.
 fn mounted_of(parts: Parts) -> Mounted
-    requires small { AreSmall parts.disks.items }
+    requires small { HaveDiskNumbers parts.disks.items }
     requires whole { IsWhole (mounted_of parts) }
     ensures { result ≡ mounted_of parts }
 {

@@ -5,8 +5,8 @@ ghost use Rattle.asm_group.specs.Refusal.{NoMemory as WithoutMemory};
 ghost use Rattle.catalog_tables.specs.Faults.{IsCatalogOf};
 ghost use Rattle.directory_store.specs.Stores.{AreFirst};
 ghost use Rattle.group_disks.specs.Creating.{usual_shape};
-ghost use Rattle.group_disks.specs.FirstParts.{IsFirstStore, IsMountedAs, first_disks};
-ghost use Rattle.group_disks.specs.Planned.{IsPlan, first_entries, record_of_plan};
+ghost use Rattle.group_disks.specs.FirstParts.{IsFirstStore, IsMountedOnSlot, first_disks};
+ghost use Rattle.group_disks.specs.Planned.{IsGroupPlan, first_entries, record_of_plan};
 
 use crate::new_group::{NewGroup, first_status};
 use asm_base::{GroupKind, NoMemory, Refusal, Shape};
@@ -44,7 +44,7 @@ fn first_catalog(
     group: &NewGroup,
     status: &PstRecord,
 ) -> Result<Catalog, NoMemory>
-    requires plan { IsPlan group.now }
+    requires plan { IsGroupPlan group.now }
     requires status { status.now ≡ record_of_plan group.now }
     requires records { AreFirst (first_entries group.now) [] store.now.table }
     ensures catalog { IfOk result (IsCatalogOf store.now.table.records status.now.entries) }
@@ -68,10 +68,10 @@ pub fn mount_new<B: Bay>(
     group: NewGroup,
     store: Store,
 ) -> Result<Mounted, Refusal>
-    requires plan { IsPlan group }
+    requires plan { IsGroupPlan group }
     requires attached { (B.state bay.now).attached disk.slot ≡ Some disk.size }
     requires store { IsFirstStore disk.slot group store (B.state bay.now) }
-    ensures mounted { IfOk result (λ m. IsMountedAs disk.slot group m (B.state bay.now)) }
+    ensures mounted { IfOk result (λ m. IsMountedOnSlot disk.slot group m (B.state bay.now)) }
     ensures err { IfErr result (λ refusal. said (λ _. []) refusal ≡ WithoutMemory) }
 {
     let status = first_status(&group);

@@ -3,7 +3,7 @@ ghost use Rattle.std.specs.Prelude.{◌≡◌, IfOk};
 ghost use Rattle.asm_formats.specs.Header.{header_spelling};
 ghost use Rattle.asm_formats.specs.Claim.{claim_spelling};
 ghost use Rattle.asm_formats.specs.Status.{status_spelling};
-ghost use Rattle.group_disks.specs.Planned.{IsPlan, header_of_plan, record_of_plan};
+ghost use Rattle.group_disks.specs.Planned.{IsGroupPlan, header_of_plan, record_of_plan};
 ghost use Rattle.group_disks.specs.Ready.{AreBodies};
 
 use asm_base::{Block, DiskSet, GroupKind, Mode, Name, NoMemory};
@@ -43,7 +43,7 @@ pub struct Bodies {
 
 /// The bodies of a new group's disk.
 pub fn first_bodies(alloc: Global, group: &NewGroup) -> Result<Bodies, NoMemory>
-    requires { IsPlan group.now }
+    requires { IsGroupPlan group.now }
     ensures { IfOk result (λ bodies. AreBodies bodies group.now) }
 {
     let header = header_block(alloc, group)?;
@@ -56,7 +56,7 @@ pub fn first_bodies(alloc: Global, group: &NewGroup) -> Result<Bodies, NoMemory>
 
 /// The disk is number 0, with birth 1, in a failure group of its own.
 fn header_block(alloc: Global, group: &NewGroup) -> Result<Block, NoMemory>
-    requires { IsPlan group.now }
+    requires { IsGroupPlan group.now }
     ensures { IfOk result (λ block. block.bytes ≡ header_spelling (header_of_plan group.now)) }
 {
     let header = Header {
@@ -89,7 +89,7 @@ fn claim_block(id: u64) -> Block
 
 /// The body of the first record.
 fn status_block(group: &NewGroup) -> Block
-    requires { IsPlan group.now }
+    requires { IsGroupPlan group.now }
     ensures { result.bytes ≡ status_spelling (record_of_plan group.now) }
 {
     let status = first_status(group);

@@ -44,8 +44,8 @@ use Rattle.change_directory.specs.Changes.{content_in}
 use Rattle.change_directory.specs.StoreLaws.{HasRegion, RegionOf}
 use Rattle.catalog_tables.specs.Items.{AreItemsOf}
 use Rattle.catalog_tables.proofs.TableItems.{from_map}
-use Rattle.directory_store.specs.Contents.{HasRecords}
-use Rattle.directory_store.specs.Copies.{IsApartFrom}
+use Rattle.directory_store.specs.Contents.{HasCopyRecords}
+use Rattle.directory_store.specs.Copies.{IsCopyApart}
 use Rattle.directory_store.specs.Copying.{IsReadable, MayBringUp, MayTakeRecords}
 use Rattle.directory_store.proofs.Joining.{still_keeps}
 use Rattle.directory_store.proofs.Renewing.{sized_now}
@@ -98,7 +98,7 @@ fewer_describe id a b x r c g le d = record {
 -- ---- one image
 
 module _ (n : ℕ) (m : MountedGroup) (whole : IsWhole m) (g : Group) (shape : g.shape ≡ m.catalog.shape) (kept : Kept) (x : bay.Image) (of : IsImageOf n m g kept x)
-    (d : ℕ) (c : DirCopy) (one : IsOneMore m d c) (apart : IsApartFrom c m.store.copies) (long : HasRegion c x)
+    (d : ℕ) (c : DirCopy) (one : IsOneMore m d c) (apart : IsCopyApart c m.store.copies) (long : HasRegion c x)
     (y : bay.Image) (up : MayBringUp m.store.table m.store.number c x y) where
   abbrev r : Status
   r = m.register.value
@@ -351,7 +351,7 @@ module _ (n : ℕ) (m : MountedGroup) (whole : IsWhole m) (g : Group) (shape : g
 -- ---- the calls
 
 module _ (n : ℕ) (m : MountedGroup) (s : BayState) (sound : IsSound s) (g : Group) (kept : Kept) (mounts : Mounts n m s g kept)
-    (d : ℕ) (c : DirCopy) (one : IsOneMore m d c) (copy_is : IsCopy s c) (small : c.number < 64) (size : c.dir_blocks ≡ m.store.table.free.units) (apart : IsApartFrom c m.store.copies)
+    (d : ℕ) (c : DirCopy) (one : IsOneMore m d c) (copy_is : IsCopy s c) (small : c.number < 64) (size : c.dir_blocks ≡ m.store.table.free.units) (apart : IsCopyApart c m.store.copies)
     (t : BayState) (run : Runs (IsSlot c.slot) (MayBringUp m.store.table m.store.number c) s t) (attached : KeepsAttached s t) where
   abbrev the_record : Status
   the_record = m.register.value
@@ -396,7 +396,7 @@ module _ (n : ℕ) (m : MountedGroup) (s : BayState) (sound : IsSound s) (g : Gr
       front_stays x y up slot lt = inl (record { size = up.elsewhere.size slot; byte = λ k below. up.elsewhere.byte slot k (λ region. omega (arith, region.1, below)) })
 
   -- Once the copy has the records, a record may name it.
-  pub may_name : ((y : bay.Image) → t.leaves t.calls y → HasRecords m.store.table m.store.number c y) → (more : ℕ) → IsWith more the_record.directories d → m.register.turn + 1 < 2 ^ 64
+  pub may_name : ((y : bay.Image) → t.leaves t.calls y → HasCopyRecords m.store.table m.store.number c y) → (more : ℕ) → IsWith more the_record.directories d → m.register.turn + 1 < 2 ^ 64
       → MayGet n m (record the_record { directories = more }) t g kept
   may_name has more with turns =
       let next : Status = record the_record { directories = more } in

@@ -16,12 +16,12 @@ use Rattle.catalog_tables.specs.Tables.{AreTables, Tables, records_of}
 use Rattle.catalog_laws.proofs.HavingItems.{have_items}
 use Rattle.change_directory.specs.declared.copy.DirCopy.{DirCopy}
 use Rattle.change_directory.specs.Changes.{content_in}
-use Rattle.directory_store.specs.Contents.{HasRecords}
+use Rattle.directory_store.specs.Contents.{HasCopyRecords}
 use Rattle.directory_store.specs.Copies.{RegionsOf}
 use Rattle.directory_store.specs.Stores.{Stored, HaveRecords, HaveEitherRecords}
 use Rattle.directory_store.proofs.Storing.{kept_have_records}
 use Rattle.status_register.specs.Holders.{numbered}
-use Rattle.group_engine.specs.Becoming.{HoldsIn, Leads}
+use Rattle.group_engine.specs.Becoming.{HoldsIn, LeadsToGroup}
 use Rattle.group_engine.specs.CommitSteps.{content_of}
 use Rattle.group_engine.specs.Mounts.{MountedGroup, Mounts}
 use Rattle.group_engine.proofs.Images.{IsImageOf, on_its_way, come, both_may, one_may}
@@ -60,14 +60,14 @@ module _ (n : ℕ) (m : MountedGroup) (s : BayState) (g : Group) (kept : Kept) (
       ((kept_have_records m.store s mounts.ready.store).now x left c among)
 
   module _ (t : BayState) {on : ℕ → Type 0} (run : Runs on (ChangesOnly (RegionsOf m.store.copies)) s t) (new : Stored) (either : LeavesOnly s t (HaveEitherRecords m.store new))
-      (u : Tables) (tried : IsTried m new u) (h : Group) (leads : Leads r u g h) (holds : NowOnly s (HoldsIn id r u h)) where
+      (u : Tables) (tried : IsTried m new u) (h : Group) (leads : LeadsToGroup r u g h) (holds : NowOnly s (HoldsIn id r u h)) where
     later : (i : List Item) × AreItemsOf u i
     later = have_items u tried.are
 
     differ : m.store.number ≢ new.number
     differ same = omega (arith, same, tried.number)
 
-    after_content : (c : DirCopy) (y : bay.Image) → HasRecords new.table new.number c y → content_in c y ≡ Some (content_of new.number later.0)
+    after_content : (c : DirCopy) (y : bay.Image) → HasCopyRecords new.table new.number c y → content_in c y ≡ Some (content_of new.number later.0)
     after_content c y has = content_is new.table new.number u later.0 c y tried.are tried.tables later.1 has
 
     either_content : (y : bay.Image) → HaveEitherRecords m.store new y → (c : DirCopy) → IsAmong m.store.copies c

@@ -19,7 +19,7 @@ use Rattle.asm_formats.specs.Status.{Status, status_spelling}
 use Rattle.asm_formats.specs.Among.{IsAmong}
 use Rattle.catalog_tables.proofs.TableItems.{from_map}
 use Rattle.change_directory.specs.declared.copy.DirCopy.{DirCopy}
-use Rattle.directory_store.specs.Copies.{IsSlotOf, RegionsOf}
+use Rattle.directory_store.specs.Copies.{IsSlotOfCopy, RegionsOf}
 use Rattle.status_register.specs.Holders.{SlotsDiffer, attached_to, numbered}
 use Rattle.status_register.specs.Registered.{Registered}
 use Rattle.status_register.specs.Rows.{PutsRow, no_put, one_put}
@@ -162,7 +162,7 @@ calls_keep {a} {b} {c} {s} {t} {u} one two =
     }
 
 module _ (m : MountedGroup) (whole : IsWhole m) where
-  own_copy : (slot : ℕ) → IsSlotOf m.store.copies slot → IsOwn m slot
+  own_copy : (slot : ℕ) → IsSlotOfCopy m.store.copies slot → IsOwn m slot
   own_copy slot of = let k = whole.copies.each of.0 of.1 in (of.0.number, k.member, k.attached, of.2 ∙ sym k.slot)
 
   own_member : (next : Status) (slot : ℕ) → tallies.IsSlotOf (attached_to m.register.members next) slot → IsOwn m slot
@@ -174,7 +174,7 @@ module _ (m : MountedGroup) (whole : IsWhole m) where
       own_joins m a y b (row_own next body a y row)
       (record { size = step.elsewhere.size; byte = λ s j out. step.elsewhere.byte s j (λ inside. out (own_member next s (k, among, inside.0))) })
 
-  pub store_own : {s t : BayState} → Runs (IsSlotOf m.store.copies) (ChangesOnly (RegionsOf m.store.copies)) s t → Runs (IsOwn m) (OnOwnDisks m) s t
+  pub store_own : {s t : BayState} → Runs (IsSlotOfCopy m.store.copies) (ChangesOnly (RegionsOf m.store.copies)) s t → Runs (IsOwn m) (OnOwnDisks m) s t
   store_own {s} {t} run = run_less own_copy (λ x y change. record { size = change.size; byte = λ slot k out. change.byte slot k (λ region. out (own_copy slot (region.0, region.1, region.2.0))) }) run
 
   pub written_own : {s t u : BayState} (next : Status) (answer : Result ℕ Dead) (reg : Registered) → Runs (IsOwn m) (OnOwnDisks m) s t → HasWritten m.register next answer reg t u → Runs (IsOwn m) (OnOwnDisks m) s u
@@ -196,7 +196,7 @@ module _ (m : MountedGroup) (whole : IsWhole m) where
       let other = from_map (λ (x : Member). x.slot) (get_or m.register.members number None) c.slot (sym (whole.disks number) ∙ at) in
       apart number c.number other.0 k.member other.1 k.attached (other.2 ∙ sym k.slot)
 
-  pub gone_lost : SlotsDiffer m.register.members → (s t : BayState) (slot number : ℕ) → IsSlotOf m.store.copies slot
+  pub gone_lost : SlotsDiffer m.register.members → (s t : BayState) (slot number : ℕ) → IsSlotOfCopy m.store.copies slot
       → ((c : DirCopy) → IsAmong m.store.copies c → Rose (s.faults c.slot) (t.faults c.slot))
       → ((k : ℕ) → k < 64 → slot_at m.disks k ≡ Some slot → slot_at m.disks number ≡ Some slot) → IsLostIn m m.register.value number s t
   gone_lost apart s t slot number of all found =

@@ -38,7 +38,7 @@ use Rattle.status_register.proofs.Ordering.{row_runs}
 use Rattle.status_register.proofs.RowFits.{AreLong}
 use Rattle.status_register.proofs.Taking.{status_gate_either}
 use Rattle.status_register.proofs.Telling.{slots_long}
-use Rattle.group_engine.specs.Becoming.{Leads}
+use Rattle.group_engine.specs.Becoming.{LeadsToGroup}
 use Rattle.group_engine.specs.Changes.{AreAfter, AppliesChange, CommitsRecords}
 use Rattle.group_engine.specs.Commits.{LeadsTo, StandsIn}
 use Rattle.group_engine.specs.Dropping.{HasWritten, WritesFewer}
@@ -127,8 +127,8 @@ module _ (m : MountedGroup) (put : List Entry) (gone : List Key) (n : ℕ) (s : 
   stored_moments = leaves_less (λ x is. stands_at_rest n id (g ∷ h ∷ []) kept x mounts.begun is) on_its_way
 
   module _ (cat : Catalogued) (applies : AppliesChange m.catalog cat put gone) (same : cat.tables ≡ to.tables) where
-    now_leads : Leads r cat.tables g h
-    now_leads = subst (λ (u : Tables). Leads r u g h) (sym same) to.leads
+    now_leads : LeadsToGroup r cat.tables g h
+    now_leads = subst (λ (u : Tables). LeadsToGroup r u g h) (sym same) to.leads
 
     -- each copy took the change
     pub all_done : new.copies ≡ m.store.copies → IsWhole (record m { catalog = cat; store = new }) → Mounts n (record m { catalog = cat; store = new }) t h kept

@@ -24,8 +24,8 @@ use Rattle.asm_images.specs.Kept.{Kept}
 use Rattle.asm_placement.proofs.Membership.{among_left, among_right, among_split}
 use Rattle.change_directory.specs.Places.{IsCopy}
 use Rattle.change_directory.specs.declared.copy.DirCopy.{DirCopy}
-use Rattle.directory_store.specs.Contents.{HasRecords}
-use Rattle.directory_store.specs.Copies.{IsApartFrom}
+use Rattle.directory_store.specs.Contents.{HasCopyRecords}
+use Rattle.directory_store.specs.Copies.{IsCopyApart}
 use Rattle.directory_store.specs.Copying.{MayBringUp}
 use Rattle.directory_store.specs.Stores.{Stored}
 use Rattle.directory_store.specs.Stores as stores
@@ -38,7 +38,7 @@ use Rattle.status_register.specs.Writes.{after_write}
 use Rattle.status_register.specs.declared.error.Dead.{Dead}
 use Rattle.status_register.specs.declared.member.Member.{Member}
 use Rattle.group_engine.specs.Commits.{IsDismountedBy, IsLostIn, turns_at_most}
-use Rattle.group_engine.specs.Copying.{CopiesTo, CopyCause, IsNotCopied, IsOneMore, LeavesGroup, MayRecord, MountsStill, StandThrough, WritesMore}
+use Rattle.group_engine.specs.Copying.{CopiesTo, DirectoryCopyCause, IsNotCopied, IsOneMore, LeavesGroup, MayRecord, MountsStill, StandThrough, WritesMore}
 use Rattle.group_engine.specs.Mounts.{AreCopiesOf, IsCopyOf, IsMounted, IsOwn, IsReady, IsWhole, MountedGroup, Takes, slot_at}
 use Rattle.group_engine.specs.Making.{IsShut}
 use Rattle.group_engine.specs.Own.{IsSameGroup, OnOwnDisks}
@@ -88,7 +88,7 @@ module _ (m : MountedGroup) (whole : IsWhole m) (s : BayState) (ready : IsReady 
     not_stored : (k : DirCopy) → IsAmong m.store.copies k → k.number ≢ d
     not_stored k among same = false≢true (sym unnamed ∙ ap (has_bit m.register.value.directories) (sym same) ∙ element_bit m.register.value.directories k.number (whole.copies.each k among).named)
 
-    pub copy_apart : IsApartFrom c m.store.copies
+    pub copy_apart : IsCopyApart c m.store.copies
     copy_apart k among =
         let is = whole.copies.each k among in (
           (λ same. not_stored k among (sym (ready.register.apart d k.number one.member is.member one.attached is.attached (sym one.slot ∙ same ∙ sym is.slot)))),
@@ -114,7 +114,7 @@ module _ (m : MountedGroup) (whole : IsWhole m) (s : BayState) (ready : IsReady 
       up_mounts n g kept mounts = copied_mounts n m s sound g kept mounts d c one copy_is copy_small copy_pages copy_apart t run attached
 
       -- nothing came of it
-      pub ends_uncopied : (refusal : Refusal) → new ≡ m.store → LeavesGroup m (record m { store = new }) refusal → CopyCause m d (record m { store = new }) s t refusal
+      pub ends_uncopied : (refusal : Refusal) → new ≡ m.store → LeavesGroup m (record m { store = new }) refusal → DirectoryCopyCause m d (record m { store = new }) s t refusal
           → CopiesTo m d (Err refusal) (record m { store = new }) s t
       ends_uncopied refusal same leaves why = record {
         keeps = record {
@@ -235,9 +235,9 @@ module _ (m : MountedGroup) (whole : IsWhole m) (s : BayState) (ready : IsReady 
         both = attached-trans attached writes.written.attached
 
         -- the record may be written
-        has_records : (y : bay.Image) → t.leaves t.calls y → HasRecords m.store.table m.store.number c y
-        has_records y left = subst (λ (k : ℕ). HasRecords m.store.table k c y) number
-            (subst (λ (x : PageTable). HasRecords x new.number c y) table
+        has_records : (y : bay.Image) → t.leaves t.calls y → HasCopyRecords m.store.table m.store.number c y
+        has_records y left = subst (λ (k : ℕ). HasCopyRecords m.store.table k c y) number
+            (subst (λ (x : PageTable). HasCopyRecords x new.number c y) table
             ((kept_have_records new t keeps).now y left c (subst (λ (l : List DirCopy). IsAmong l c) (sym copies) (among_right m.store.copies (c ∷ []) c (inl refl)))))
 
         gets : (n : ℕ) (g : Group) (kept : Kept) → MayRecord n m s g kept → MayGet n m next t g kept
@@ -290,7 +290,7 @@ module _ (m : MountedGroup) (whole : IsWhole m) (s : BayState) (ready : IsReady 
               tables = ap (λ (v : MountedGroup). v.catalog) by.new_is;
               mounted = tt;
               named = tt;
-              cause = subst (λ (x : Refusal). CopyCause m d after s w x) (sym by.refusal_is) (inr (ap (λ (v : MountedGroup). v.access) by.new_is, lost));
+              cause = subst (λ (x : Refusal). DirectoryCopyCause m d after s w x) (sym by.refusal_is) (inr (ap (λ (v : MountedGroup). v.access) by.new_is, lost));
               refused = subst (λ (x : Refusal). LeavesGroup m after x) (sym by.refusal_is)
                   (ap (λ (v : MountedGroup). v.register.value) by.new_is ∙ ap (λ (x : Registered). x.value) (writes.written.register ∙ ap (λ (a : Result ℕ Dead). after_write m.register next a) is));
               moments = both_moments;
@@ -332,7 +332,7 @@ pub leaves_itself : (m : MountedGroup) (refusal : Refusal) → LeavesGroup m m r
 leaves_itself m (cause.Dismounted by) = refl
 leaves_itself m _ = refl
 
-pub copied_not : (m : MountedGroup) (s : BayState) (d : ℕ) (refusal : Refusal) → Takes m s → CopyCause m d m s s refusal → CopiesTo m d (Err refusal) m s s
+pub copied_not : (m : MountedGroup) (s : BayState) (d : ℕ) (refusal : Refusal) → Takes m s → DirectoryCopyCause m d m s s refusal → CopiesTo m d (Err refusal) m s s
 copied_not m s d refusal takes why = record {
   keeps = nothing_kept m s (λ t. (takes t).0) (λ t. (takes t).1);
   flight = refl;
@@ -349,12 +349,12 @@ copied_not m s d refusal takes why = record {
 
 -- no image is attached as the disk
 pub copied_nowhere : (m : MountedGroup) (s : BayState) (d : ℕ) (refusal : Refusal) → Takes m s → refusal ≡ cause.WriteFault (Number d) → slot_at m.disks d ≡ None → CopiesTo m d (Err refusal) m s s
-copied_nowhere m s d refusal takes is none = copied_not m s d refusal takes (subst (CopyCause m d m s s) (sym is) (refl, inl none))
+copied_nowhere m s d refusal takes is none = copied_not m s d refusal takes (subst (DirectoryCopyCause m d m s s) (sym is) (refl, inl none))
 
-pub shut_copy : (m : MountedGroup) (s : BayState) (d : ℕ) (refusal : Refusal) (x : Access) → m.access ≡ x → IsShut x refusal → CopyCause m d m s s refusal
+pub shut_copy : (m : MountedGroup) (s : BayState) (d : ℕ) (refusal : Refusal) (x : Access) → m.access ≡ x → IsShut x refusal → DirectoryCopyCause m d m s s refusal
 shut_copy m s d refusal Mounted is shut = absurd shut
-shut_copy m s d refusal (Dismounted k) is shut = subst (CopyCause m d m s s) (sym shut) (inl is)
-shut_copy m s d refusal Closed is shut = subst (CopyCause m d m s s) (sym shut) tt
+shut_copy m s d refusal (Dismounted k) is shut = subst (DirectoryCopyCause m d m s s) (sym shut) (inl is)
+shut_copy m s d refusal Closed is shut = subst (DirectoryCopyCause m d m s s) (sym shut) tt
 
 -- ---- the copy that is tried
 

@@ -10,7 +10,7 @@ use Rattle.status_register.specs.declared.error.Dead.{Dead}
 use Rattle.status_register.specs.declared.member.Member.{Member}
 use Rattle.group_engine.specs.Commits.{IsDismountedBy, IsLostIn}
 use Rattle.group_engine.specs.Dropping.{HasWritten}
-use Rattle.group_engine.specs.Gone.{EndCause, EndsGroup, gone_of}
+use Rattle.group_engine.specs.Gone.{GoneCause, EndsGroup, gone_of}
 use Rattle.group_engine.specs.Mounts.{IsOwn, IsWhole, MountedGroup}
 use Rattle.group_engine.specs.Own.{IsSameGroup, OnOwnDisks}
 use Rattle.group_engine.specs.declared.access.Access.TheVariants as access
@@ -67,5 +67,5 @@ module _ (was : MountedGroup) (whole : IsWhole was) (s t : BayState) (answer : R
         keeps = keeps_dismounted was now after s t dead.slot refusal same_group by written.attached runs;
         closed = out_of_calls now after dead.slot refusal by;
         gone = tt;
-        cause = subst (λ (x : Refusal). EndCause was after s t x) (sym by.refusal_is) (inr (ap (λ (v : MountedGroup). v.access) by.new_is, lost));
+        cause = subst (λ (x : Refusal). GoneCause was after s t x) (sym by.refusal_is) (inr (ap (λ (v : MountedGroup). v.access) by.new_is, lost));
       }

@@ -34,7 +34,7 @@ use Rattle.status_register.specs.SurveyLaws.{IsMemberOn}
 use Rattle.status_register.specs.Surveys.{disk_in}
 use Rattle.status_register.specs.declared.member.Member.{Member as Disk}
 use Rattle.status_register.proofs.Holding.{entry_birth}
-use Rattle.group_engine.specs.Becoming.{HoldsIn, Leads}
+use Rattle.group_engine.specs.Becoming.{HoldsIn, LeadsToGroup}
 use Rattle.group_engine.specs.CommitSteps.{content_of, ChangesRegion, IsCommitting, AllHave, Becomes}
 use Rattle.group_engine.specs.Mounts.{MountedGroup, IsOwn, IsWhole}
 use Rattle.std.specs.List.{range_with_len}
@@ -226,7 +226,7 @@ module _ (n : ℕ) (m : MountedGroup) (whole : IsWhole m) (g : Group) (shape : g
         there = λ slot has. let is = of.is_held.there slot has in (is.0, same_header slot ∙ is.1, is.2);
       }
 
-      module _ (differ : number ≢ next) (t : Tables) (h : Group) (leads : Leads r t g h) (holds : HoldsIn id r t h x) (are : AreItemsOf t later) where
+      module _ (differ : number ≢ next) (t : Tables) (h : Group) (leads : LeadsToGroup r t g h) (holds : HoldsIn id r t h x) (are : AreItemsOf t later) where
         becomes : (slots : ℕ) → Becomes id r g later h (disks_in slots x)
         becomes slots = record { name = leads.name; shape = leads.shape; describes = leads.describes later are; bytes = holds slots later are }
 

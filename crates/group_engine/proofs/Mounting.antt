@@ -29,7 +29,7 @@ use Rattle.status_register.specs.Reaching.{Reaches}
 use Rattle.status_register.specs.Registered.{Registered}
 use Rattle.status_register.specs.declared.member.Member.{Member}
 use Rattle.status_register.proofs.Elsewhere as register_proofs
-use Rattle.group_engine.specs.Becoming.{Leads}
+use Rattle.group_engine.specs.Becoming.{LeadsToGroup}
 use Rattle.group_engine.specs.Dropping.{IsWithout}
 use Rattle.group_engine.specs.declared.attached.Attached.{Attached}
 use Rattle.group_engine.specs.Mounts.{MountedGroup, AreCopiesOf, IsCopyOf, IsReady, IsWhole, Represents}
@@ -170,7 +170,7 @@ still_ready m new s t same disks keeps attached ready =
     }
 
 -- the tables after represent the group after
-pub represents_after : {m : MountedGroup} {g h : Group} (cat : Catalogued) (new : Stored) (register : Registered) → Represents m g → Leads m.register.value cat.tables g h → cat.shape ≡ m.catalog.shape
+pub represents_after : {m : MountedGroup} {g h : Group} (cat : Catalogued) (new : Stored) (register : Registered) → Represents m g → LeadsToGroup m.register.value cat.tables g h → cat.shape ≡ m.catalog.shape
     → register.value.entries ≡ m.register.value.entries → Represents (record m { catalog = cat; store = new; register = register }) h
 represents_after {m} {g} {h} cat new register was leads shape same = record {
   name = leads.name ∙ was.name;

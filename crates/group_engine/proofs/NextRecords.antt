@@ -1,11 +1,10 @@
 -- A record with the same disks may come next.
-use Rattle.std.proofs.Common.{◌≡◌, ℕ, Bool, true, false, cond, List, [], ◌∷◌, map, refl, sym, ap, subst, ◌∙◌, Option, Some, None, ◌==◌}
-use Rattle.std.specs.Prelude.{find}
-use Rattle.std.specs.List.{flat_map, range_with_len}
+use Rattle.std.proofs.Common.{◌≡◌, ℕ, List, map, refl, sym, ap, subst, ◌∙◌, Option, Some, None}
+use Rattle.std.specs.List.{range_with_len}
 use Rattle.std.specs.Option.{option_map}
 use Rattle.std.proofs.lemmas.Option.{same_Some}
 use Rattle.allocator.specs.UnitMaps.{UnitMap, unused}
-use Rattle.asm_formats.specs.Following.{holder_of, disks_of, sets_of, sets}
+use Rattle.asm_formats.specs.Following.{sets_of, sets}
 use Rattle.asm_formats.specs.Regions.{reserved_units}
 use Rattle.asm_formats.specs.Sets.{elements, most_disks}
 use Rattle.asm_formats.specs.Status.{Entry, entry_of}
@@ -13,44 +12,13 @@ use Rattle.asm_formats.proofs.Orders.{same_sets_follow}
 use Rattle.asm_group.specs.Shape.{Shape}
 use Rattle.asm_formats.specs.Among.{IsAmong}
 use Rattle.asm_images.specs.RecordLaws.{bare}
+use Rattle.asm_images.proofs.Bare.{Bare, same_entry, same_sets}
 use Rattle.catalog_tables.specs.Placing.{after_chunks, disk_units, entry_units, unused_maps}
 use Rattle.status_register.specs.Holders.{is_of}
 use Rattle.status_register.specs.Registered.{is_birth}
 use Rattle.status_register.specs.declared.member.Member.{Member}
 use Rattle.status_register.proofs.Reaching.{same_sets_reach}
 use Rattle.group_engine.specs.NextRecords.{SameDisksAreNext}
-
-abbrev Bare : Type 0
-Bare = ℕ × ℕ × ℕ × Bool
-
-bare_entry : (entries : List Entry) (d : ℕ) → option_map bare (entry_of entries d) ≡ find (λ (b : Bare). b.0 == d) (map bare entries)
-unfolding entry_of
-bare_entry [] d = refl
-bare_entry (e ∷ entries) d = go (e.number == d) (bare_entry entries d)
-  where
-    go : (b : Bool) → option_map bare (entry_of entries d) ≡ find (λ (b : Bare). b.0 == d) (map bare entries)
-        → option_map bare (cond b (Some e) (entry_of entries d)) ≡ cond b (Some (bare e)) (find (λ (b : Bare). b.0 == d) (map bare entries))
-    go true same = refl
-    go false same = same
-
-same_entry : (xs ys : List Entry) (d : ℕ) → map bare xs ≡ map bare ys → option_map bare (entry_of xs d) ≡ option_map bare (entry_of ys d)
-same_entry xs ys d e = bare_entry xs d ∙ ap (λ (l : List Bare). find (λ (b : Bare). b.0 == d) l) e ∙ sym (bare_entry ys d)
-
--- ---- the sets
-
-same_holder : (d : ℕ) (o p : Option Entry) → option_map bare o ≡ option_map bare p → holder_of d o ≡ holder_of d p
-same_holder d None None e = refl
-same_holder d None (Some y) e = absurd cc
-same_holder d (Some x) None e = absurd cc
-same_holder d (Some x) (Some y) e = ap (λ (b : Bare). (d, b.1) ∷ []) (same_Some (bare x) (bare y) e)
-
-same_disks : (xs ys : List Entry) (set : ℕ) → map bare xs ≡ map bare ys → disks_of xs set ≡ disks_of ys set
-unfolding disks_of
-same_disks xs ys set e = λ i. flat_map (λ (d : ℕ). same_holder d (entry_of xs d) (entry_of ys d) (same_entry xs ys d e) i) (elements set)
-
-same_sets : (xs ys : List Entry) (holders next : ℕ) → map bare xs ≡ map bare ys → sets_of xs holders next ≡ sets_of ys holders next
-unfolding sets_of
-same_sets xs ys holders next e = λ i. same_disks xs ys holders e i ∷ (cond (next == 0) [] (same_disks xs ys next e i ∷ []))
 
 -- ---- births and units
 

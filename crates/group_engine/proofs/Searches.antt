@@ -18,8 +18,8 @@ use Rattle.catalog_tables.specs.Tables.{AreTables, Catalogued, Tables}
 use Rattle.catalog_tables.proofs.AfterLaws.{one_after}
 use Rattle.catalog.proofs.NumberedEntries.{passes_each, passes_more}
 use Rattle.catalog_tables.proofs.TableItems.{among_found, chunks_exact, found_is}
-use Rattle.rebalance.specs.Cursors.{IsFollowed, IsSameBut, Places, passes_at, passes_found}
-use Rattle.group_engine.specs.Searches.{IsPlanIn, IsSearchOf, Searched, WasSearchOf}
+use Rattle.rebalance.specs.Cursors.{IsFollowed, IsSameBut, SearchPlaces, passes_at, passes_found}
+use Rattle.group_engine.specs.Searches.{IsPlanIn, IsSearchOf, SearchState, WasSearchOf}
 
 -- ---- homes on regular disks
 
@@ -48,7 +48,7 @@ regular_on es at t u tables is regular there = all_pass (is_regular_chunk es) u.
 
 -- ---- the search
 
-pub followed_search : (at : Chunk) (c : Catalogued) (r : Status) (s : Searched) (k : Places) (b : Bool) → AreTables c.tables → WasSearchOf at c r s → IsFollowed at s.cursor c r k → b ≡ (s.is_regular && passes_at (is_regular_chunk r.entries) c.tables.extents at)
+pub followed_search : (at : Chunk) (c : Catalogued) (r : Status) (s : SearchState) (k : SearchPlaces) (b : Bool) → AreTables c.tables → WasSearchOf at c r s → IsFollowed at s.cursor c r k → b ≡ (s.is_regular && passes_at (is_regular_chunk r.entries) c.tables.extents at)
     → IsSearchOf c r (record { cursor = k; is_regular = b })
 followed_search at c r s k b tables was follows is = record {
   cursor = follows was.old was.status was.search.cursor was.shape was.entries was.same;
@@ -61,7 +61,7 @@ followed_search at c r s k b tables was follows is = record {
     by false new there regular = tt
 
 -- a plan's change of one chunk was committed
-pub plan_search : (at : Chunk) (old new : Catalogued) (r q : Status) (s : Searched) (put : List records.Entry) (gone : List Key) → IsPlanIn at old put gone → IsAfter old.tables put gone new.tables → IsSearchOf old r s → new.shape ≡ old.shape → q.entries ≡ r.entries
+pub plan_search : (at : Chunk) (old new : Catalogued) (r q : Status) (s : SearchState) (put : List records.Entry) (gone : List Key) → IsPlanIn at old put gone → IsAfter old.tables put gone new.tables → IsSearchOf old r s → new.shape ≡ old.shape → q.entries ≡ r.entries
     → WasSearchOf at new q s
 plan_search at old new r q s put gone plan after search shape entries = record {
   old = old;

@@ -8,7 +8,7 @@ use Rattle.asm_formats.specs.Among.{IsAmong}
 use Rattle.asm_formats.specs.Sets.{has_bit}
 use Rattle.asm_formats.specs.Status.{Status}
 use Rattle.change_directory.specs.declared.copy.DirCopy.{DirCopy}
-use Rattle.directory_store.specs.Copies.{FailedAlone}
+use Rattle.directory_store.specs.Copies.{HasOnlyFailedCopies}
 use Rattle.directory_store.specs.Stores.{others}
 use Rattle.status_register.specs.Registered.{Registered}
 use Rattle.status_register.specs.Writes.{after_write}
@@ -49,7 +49,7 @@ shorter failed (x ∷ copies) c among has = ⊎_elim
     among
 
 -- some copy failed
-pub fewer_copies : (failed : ℕ) (copies : List DirCopy) (s t : BayState) → failed ≢ 0 → failed < 2 ^ 64 → FailedAlone copies failed s t → length (others failed copies) + 1 ≤ length copies
+pub fewer_copies : (failed : ℕ) (copies : List DirCopy) (s t : BayState) → failed ≢ 0 → failed < 2 ^ 64 → HasOnlyFailedCopies copies failed s t → length (others failed copies) + 1 ≤ length copies
 fewer_copies failed copies s t some small alone =
     let k = some_bit 64 failed some small in
     let c = alone k.0 k.1 k.2 in

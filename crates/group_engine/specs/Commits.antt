@@ -26,7 +26,7 @@ use Rattle.status_register.specs.Holders.{attached_to}
 use Rattle.status_register.specs.Surveys.{AreRead}
 use Rattle.status_register.specs.Writes.{IsLost}
 use Rattle.status_register.specs.declared.member.Member.{Member}
-use Rattle.group_engine.specs.Becoming.{HoldsIn, Leads}
+use Rattle.group_engine.specs.Becoming.{HoldsIn, LeadsToGroup}
 use Rattle.group_engine.specs.Changes.{IsAsBefore}
 use Rattle.group_engine.specs.Mounts.{IsMounted, MountedGroup, Mounts, slot_at}
 use Rattle.group_engine.specs.Own.{KeepsGroup}
@@ -45,7 +45,7 @@ pub record LeadsTo (n : ℕ) (m : MountedGroup) (put : List Entry) (gone : List 
   pub mounts : Mounts n m s g kept
   pub tables : Tables
   pub after : IsAfter m.catalog.tables put gone tables
-  pub leads : Leads m.register.value tables g h
+  pub leads : LeadsToGroup m.register.value tables g h
   pub holds : NowOnly s (HoldsIn m.register.id m.register.value tables h)
   -- turns don't run out
   pub turns : m.register.turn + 1 < 2 ^ 64

@@ -56,11 +56,11 @@ abbrev pub IsNotCopied : MountedGroup → ℕ → BayState → BayState → Type
 IsNotCopied m d s t = (slot_at m.disks d ≡ None) ⊎ ((slot : ℕ) × (slot_at m.disks d ≡ Some slot) × Rose (s.faults slot) (t.faults slot))
 
 -- Why the directories aren't stored on a disk. Want of memory is free.
-abbrev pub CopyCause : MountedGroup → ℕ → MountedGroup → BayState → BayState → Refusal → Type 0
-CopyCause old d new s t (cause.WriteFault by) = (by ≡ disk.Number d) × IsNotCopied old d s t
-CopyCause old d new s t (cause.Dismounted by) = DismountCause old new s t by
-CopyCause old d new s t cause.NoMemory = ⊤
-CopyCause old d new s t _ = ⊥
+abbrev pub DirectoryCopyCause : MountedGroup → ℕ → MountedGroup → BayState → BayState → Refusal → Type 0
+DirectoryCopyCause old d new s t (cause.WriteFault by) = (by ≡ disk.Number d) × IsNotCopied old d s t
+DirectoryCopyCause old d new s t (cause.Dismounted by) = DismountCause old new s t by
+DirectoryCopyCause old d new s t cause.NoMemory = ⊤
+DirectoryCopyCause old d new s t _ = ⊥
 
 -- What a refusal leaves: all as it was, but for what a dismounted group has besides its record.
 abbrev pub LeavesGroup : MountedGroup → MountedGroup → Refusal → Type 0
@@ -91,7 +91,7 @@ pub record CopiesTo (old : MountedGroup) (d : ℕ) (answer : Result (Unit {0}) R
   pub tables : new.catalog ≡ old.catalog
   pub mounted : OnOk answer (IsMounted new)
   pub named : OnOk answer (has_bit new.register.value.directories d ≡ true)
-  pub cause : IfErr answer (CopyCause old d new s t)
+  pub cause : IfErr answer (DirectoryCopyCause old d new s t)
   pub refused : IfErr answer (LeavesGroup old new)
   pub moments : StandThrough old s t
   pub done : OnOk answer (MountsLater old new s t)

@@ -21,14 +21,14 @@ pub record IsGone (old new : MountedGroup) (s t : BayState) : Type 0 where
   pub written : HasWritten old.register (gone_of old.register.value) (Ok failed) new.register s t
 
 -- Why a group isn't dropped. It takes no memory, so that want of memory is said of a group alone that was closed before.
-abbrev pub EndCause : MountedGroup → MountedGroup → BayState → BayState → Refusal → Type 0
-EndCause old new s t (cause.Dismounted by) = DismountCause old new s t by
-EndCause old new s t cause.NoMemory = old.access ≡ access.Closed
-EndCause old new s t _ = ⊥
+abbrev pub GoneCause : MountedGroup → MountedGroup → BayState → BayState → Refusal → Type 0
+GoneCause old new s t (cause.Dismounted by) = DismountCause old new s t by
+GoneCause old new s t cause.NoMemory = old.access ≡ access.Closed
+GoneCause old new s t _ = ⊥
 
 -- The dropping of a group that takes calls.
 pub record EndsGroup (old : MountedGroup) (answer : Result (Unit {0}) Refusal) (new : MountedGroup) (s t : BayState) : Type 0 where
   pub keeps : KeepsGroup old new s t
   pub closed : IsMounted new → ⊥
   pub gone : OnOk answer (IsGone old new s t)
-  pub cause : IfErr answer (EndCause old new s t)
+  pub cause : IfErr answer (GoneCause old new s t)

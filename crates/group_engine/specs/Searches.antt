@@ -10,24 +10,24 @@ use Rattle.catalog.specs.Plans.{IsPlan}
 use Rattle.catalog_tables.specs.Rules.{AreOnRegular}
 use Rattle.catalog_tables.specs.Tables.{Catalogued, Tables}
 use Rattle.asm_base.specs.Chunks.{Chunk}
-use Rattle.rebalance.specs.Cursors.{IsCursor, IsSameBut, Places}
+use Rattle.rebalance.specs.Cursors.{IsCursor, IsSameBut, SearchPlaces}
 use Rattle.rebalance.specs.Falling.{Falls}
 use Rattle.rebalance.specs.Moves.{next_meant}
 use Rattle.rebalance.specs.declared.moves.Next.{Next}
 use Rattle.group_engine.specs.declared.attached.Attached.{Attached}
 
 -- where the search goes on, and whether no home is known to lie on a disk of a quorum failure group
-pub record Searched : Type 0 where
-  pub cursor : Places
+pub record SearchState : Type 0 where
+  pub cursor : SearchPlaces
   pub is_regular : Bool
 
 -- It is so of the group with these tables and this record.
-pub record IsSearchOf (c : Catalogued) (r : Status) (s : Searched) : Type 0 where
+pub record IsSearchOf (c : Catalogued) (r : Status) (s : SearchState) : Type 0 where
   pub cursor : IsCursor c r s.cursor
   pub regular : OnTrue s.is_regular (AreOnRegular r.entries c.tables)
 
 -- It was so before a change of one chunk, by which the entries of the record stay.
-pub record WasSearchOf (at : Chunk) (c : Catalogued) (r : Status) (s : Searched) : Type 0 where
+pub record WasSearchOf (at : Chunk) (c : Catalogued) (r : Status) (s : SearchState) : Type 0 where
   pub old : Catalogued
   pub status : Status
   pub search : IsSearchOf old status s
@@ -42,7 +42,7 @@ pub record IsPlanIn (at : Chunk) (c : Catalogued) (put : List Entry) (gone : Lis
   pub same : IsSameBut at c.tables tables
 
 -- What is hidden of a mounted group: its disks have 64 places, and what is known of the search is so of its tables and its record.
-pub record AreParts (disks : List (Option Attached)) (c : Catalogued) (r : Status) (s : Searched) : Type 0 where
+pub record AreHiddenParts (disks : List (Option Attached)) (c : Catalogued) (r : Status) (s : SearchState) : Type 0 where
   pub places : length disks ≡ 64
   pub search : IsSearchOf c r s
 

@@ -15,12 +15,12 @@ abbrev pub birth_in : List Entry → ℕ → Option ℕ
 birth_in entries d = option_map (λ (e : Entry). e.birth) (entry_of entries d)
 
 -- where the disk has an entry, it has this birth
-abbrev pub HasBirth : List Entry → ℕ → ℕ → Type 0
-HasBirth entries d birth = (e : Entry) → entry_of entries d ≡ Some e → birth ≡ e.birth
+abbrev pub HasEntryBirth : List Entry → ℕ → ℕ → Type 0
+HasEntryBirth entries d birth = (e : Entry) → entry_of entries d ≡ Some e → birth ≡ e.birth
 
 -- the same of the attached disk of a number
 abbrev pub HasBirthAt : List Entry → List (Option Member) → ℕ → Type 0
-HasBirthAt entries members d = (x : Member) → get_or members d None ≡ Some x → HasBirth entries d x.birth
+HasBirthAt entries members d = (x : Member) → get_or members d None ≡ Some x → HasEntryBirth entries d x.birth
 
 -- the record is one of the group, isn't marked gone, may be written after the one that holds, and is reached
 pub record IsRecordOf (m : MountedGroup) (next : Status) : Type 0 where
@@ -30,8 +30,8 @@ pub record IsRecordOf (m : MountedGroup) (next : Status) : Type 0 where
   pub reached : Reaches m.register.members next
 
 -- a disk has a copy
-abbrev pub HasCopy : List DirCopy → ℕ → Type 0
-HasCopy copies d = (c : DirCopy) × IsAmong copies c × (c.number ≡ d)
+abbrev pub HasDirectoryCopy : List DirCopy → ℕ → Type 0
+HasDirectoryCopy copies d = (c : DirCopy) × IsAmong copies c × (c.number ≡ d)
 
 -- where the record names the copy, it is that of an attached disk with the record's entry
 abbrev pub IsRightCopy : MountedGroup → Status → DirCopy → Type 0

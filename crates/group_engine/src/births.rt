@@ -1,7 +1,7 @@
 // The births of disks by their entries.
 ghost use Rattle.std.specs.Prelude.{◌≡◌};
 ghost use Rattle.std.specs.Bool.{OnTrue};
-ghost use Rattle.group_engine.specs.Trying.{HasBirth, birth_in};
+ghost use Rattle.group_engine.specs.Trying.{HasEntryBirth, birth_in};
 
 use status_table::PstEntry;
 
@@ -20,7 +20,7 @@ fn birth_of(entries: &[PstEntry], disk: u8) -> Option<u64>
 
 /// Whether a disk has this birth by its entry, where it has one.
 pub(crate) fn has_birth(entries: &[PstEntry], disk: u8, birth: u64) -> bool
-    ensures { OnTrue result (HasBirth entries.now disk birth) }
+    ensures { OnTrue result (HasEntryBirth entries.now disk birth) }
 {
     match birth_of(entries, disk) {
         Some(other) => birth == other,

@@ -5,7 +5,7 @@ ghost use Rattle.asm_formats.specs.Status.{has_entry, is_status};
 ghost use Rattle.asm_base.specs.declared.refusal.DiskRef.TheVariants as refused;
 ghost use Rattle.asm_base.specs.declared.refusal.Refusal.TheVariants as cause;
 ghost use Rattle.group_engine.specs.Commits.{turns_at_most};
-ghost use Rattle.group_engine.specs.Copying.{CopiesTo, CopyCause, IsOneMore, LeavesGroup, MountsLater, MountsStill, StandThrough, WritesMore};
+ghost use Rattle.group_engine.specs.Copying.{CopiesTo, DirectoryCopyCause, IsOneMore, LeavesGroup, MountsLater, MountsStill, StandThrough, WritesMore};
 ghost use Rattle.group_engine.specs.Mounts.{IsMounted, IsReady, IsWhole, Takes};
 ghost use Rattle.group_engine.specs.Own.{KeepsGroup};
 ghost use Rattle.status_register.specs.Keeping.{IsReady as IsWritable};
@@ -56,7 +56,7 @@ impl Mounted {
         // Once it is done, the group takes calls still, and the record names the disk.
         ensures mounted { OnOk result (IsMounted self.new) }
         ensures named { OnOk result (has_bit self.new.register.value.directories to ≡ true) }
-        ensures cause { IfErr result (CopyCause self.old to self.new (B.state bay.old) (B.state bay.new)) }
+        ensures cause { IfErr result (DirectoryCopyCause self.old to self.new (B.state bay.old) (B.state bay.new)) }
         // Refused, it leaves the record that holds, and unless the group is dismounted all as before.
         ensures refused { IfErr result (LeavesGroup self.old self.new) }
         // At each moment each image stands for the group. Once it is done the group is mounted with the record that names the disk, and

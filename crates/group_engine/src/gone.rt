@@ -4,7 +4,7 @@ ghost use Rattle.asm_formats.specs.Status.{is_status};
 ghost use Rattle.status_register.specs.Keeping.{IsReady as IsWritable};
 ghost use Rattle.status_register.specs.Reaching.{Reaches};
 ghost use Rattle.group_engine.specs.Dropping.{HasWritten};
-ghost use Rattle.group_engine.specs.Gone.{EndCause, EndsGroup, IsGone, gone_of};
+ghost use Rattle.group_engine.specs.Gone.{GoneCause, EndsGroup, IsGone, gone_of};
 ghost use Rattle.group_engine.specs.Mounts.{IsMounted, IsReady, IsWhole};
 ghost use Rattle.group_engine.specs.Own.{KeepsGroup};
 
@@ -41,7 +41,7 @@ impl Mounted {
         // Once it is done, a majority of each set shows the record. It is done of a group that took calls alone.
         ensures mounted { OnOk result (IsMounted self.old) }
         ensures gone { OnOk result (IsGone self.old self.new (B.state bay.old) (B.state bay.new)) }
-        ensures cause { IfErr result (EndCause self.old self.new (B.state bay.old) (B.state bay.new)) }
+        ensures cause { IfErr result (GoneCause self.old self.new (B.state bay.old) (B.state bay.new)) }
     {
         match self.access {
             Access::Mounted => self.write_gone(bay),

@@ -38,13 +38,13 @@ pub struct Mounted {
 
 impl Model for Mounted {
     ghost use Rattle.group_engine.specs.Mounts.{MountedGroup};
-    ghost use Rattle.group_engine.specs.Searches.{AreParts};
+    ghost use Rattle.group_engine.specs.Searches.{AreHiddenParts};
 
     ghost Value = { MountedGroup };
 
     ghost view = { λ m. record { name = m.name; catalog = m.catalog; store = m.store; register = m.register; disks = m.disks; flight = m.flight; access = m.access } };
 
-    ghost invariant = { λ m. AreParts m.disks m.catalog m.register.value m.search };
+    ghost invariant = { λ m. AreHiddenParts m.disks m.catalog m.register.value m.search };
 }
 
 impl Mounted {

@@ -6,7 +6,7 @@ ghost use Rattle.asm_formats.specs.Sets.{elements};
 ghost use Rattle.asm_formats.specs.Among.{IsAmong};
 ghost use Rattle.group_engine.specs.Mounts.{HaveBirths};
 ghost use Rattle.group_engine.specs.Statuses.{IsNextOf, NamesCopies};
-ghost use Rattle.group_engine.specs.Trying.{HasBirthAt, HasCopy, IsRecordOf, IsRightCopy};
+ghost use Rattle.group_engine.specs.Trying.{HasBirthAt, HasDirectoryCopy, IsRecordOf, IsRightCopy};
 
 use crate::births::{has_birth, has_same_birth};
 use crate::mounted::Mounted;
@@ -107,7 +107,7 @@ impl Mounted {
 
     /// Whether each disk of a set has a copy in the store.
     fn has_copies(&self, dirs: DiskSet) -> bool
-        ensures { OnTrue result ((d : ℕ) → IsAmong (elements dirs) d → HasCopy self.now.store.copies d) }
+        ensures { OnTrue result ((d : ℕ) → IsAmong (elements dirs) d → HasDirectoryCopy self.now.store.copies d) }
     {
         for disk in 0..64u8 {
             if dirs.has(disk) && !self.store.has(disk) {

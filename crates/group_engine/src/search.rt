@@ -21,9 +21,9 @@ pub(crate) struct Search {
 }
 
 impl Model for Search {
-    ghost use Rattle.group_engine.specs.Searches.{Searched};
+    ghost use Rattle.group_engine.specs.Searches.{SearchState};
 
-    ghost Value = { Searched };
+    ghost Value = { SearchState };
 
     ghost view = { λ s. record { cursor = s.cursor; is_regular = s.is_regular } };
 

@@ -26,11 +26,11 @@ IsEditPlan c (Tree edit) put gone = IsTreePlan c (names.edit_meant edit) put gon
 IsEditPlan c (Templates edit) put gone = IsTemplatePlan c (templates.edit_meant edit) put gone
 IsEditPlan c (SetAttribute name value) put gone = IsAttributePlan c name value put gone
 
-abbrev pub IsRefusedAs : Catalogued → GroupEdit → Refusal → Type 0
-IsRefusedAs c (Tree edit) refusal = IsTreeRefusal c (names.edit_meant edit) refusal
-IsRefusedAs c (Templates edit) refusal = IsTemplateRefusal c (templates.edit_meant edit) refusal
-IsRefusedAs c (SetAttribute name value) refusal = IsAttributeRefusal c name value refusal
+abbrev pub IsEditRefusedAs : Catalogued → GroupEdit → Refusal → Type 0
+IsEditRefusedAs c (Tree edit) refusal = IsTreeRefusal c (names.edit_meant edit) refusal
+IsEditRefusedAs c (Templates edit) refusal = IsTemplateRefusal c (templates.edit_meant edit) refusal
+IsEditRefusedAs c (SetAttribute name value) refusal = IsAttributeRefusal c name value refusal
 
 -- why no change is the edit: it isn't allowed, or want of memory, or as its kind is refused
 abbrev pub IsEditRefusal : Catalogued → GroupEdit → Refusal → Type 0
-IsEditRefusal c edit refusal = ((is_group_edit edit ≡ false) × (refusal ≡ cause.NoName)) ⊎ IsRefusedAs c edit refusal
+IsEditRefusal c edit refusal = ((is_group_edit edit ≡ false) × (refusal ≡ cause.NoName)) ⊎ IsEditRefusedAs c edit refusal

@@ -13,12 +13,12 @@ use Rattle.asm_formats.specs.Status.{Entry, entry_of}
 use Rattle.asm_group.specs.Shape.{Shape}
 use Rattle.asm_images.specs.RecordLaws.{bare}
 use Rattle.asm_placement.specs.Naming.{is_birth}
-use Rattle.catalog_tables.specs.Disks.{info_at}
+use Rattle.disk_directory.specs.Disks.{info_at}
 use Rattle.catalog_tables.specs.Faults.{IsCatalogOf}
 use Rattle.catalog_tables.specs.Placing.{after_chunks, disk_units, entry_units, unused_maps}
 use Rattle.catalog_tables.specs.Rules.{AreOnRegular, first_unknown, first_wrong, has_info, is_on_regular}
 use Rattle.catalog_tables.specs.Tables.{Catalogued, Tables}
-use Rattle.group_mount.proofs.Bare.{same_entry, same_regular}
+use Rattle.asm_images.proofs.Bare.{same_entry, same_regular}
 
 abbrev Bare : Type 0
 Bare = ℕ × ℕ × ℕ × Bool

@@ -14,7 +14,7 @@ use Rattle.asm_formats.specs.Status.{Status, Entry, entry_of}
 use Rattle.asm_formats.specs.Among.{IsAmong}
 use Rattle.asm_images.proofs.Members.{member_shape}
 use Rattle.change_directory.specs.declared.copy.DirCopy.{DirCopy}
-use Rattle.directory_store.specs.Copies.{AreApart, AreNamed, IsNamed, IsSlotOf}
+use Rattle.directory_store.specs.Copies.{AreCopiesApart, AreNamedCopies, IsNamedCopy, IsSlotOfCopy}
 use Rattle.directory_store.specs.Loading.{AreDurable as AreSettled}
 use Rattle.directory_store.specs.Stores.{HaveOneSize}
 use Rattle.status_register.specs.Holders.{is_of}
@@ -22,10 +22,10 @@ use Rattle.status_register.specs.declared.member.Member.{Member}
 use Rattle.status_register.proofs.Holding.{entry_birth}
 use Rattle.status_register.proofs.Meeting.{found}
 use Rattle.group_mount.specs.Alike.{first_stranger}
-use Rattle.group_mount.specs.Finding.{AreApart as AreApartDisks, AreThere}
+use Rattle.group_mount.specs.Finding.{AreInOwnSlots as AreApartDisks, AreThere}
 use Rattle.group_mount.specs.Missing.{has_units}
 use Rattle.group_mount.specs.NamedCopies.{copy_of, is_named_copy, named_copies}
-use Rattle.group_mount.specs.Syncing.{AreDurable}
+use Rattle.group_mount.specs.Syncing.{AreMembersDurable}
 use Rattle.group_mount.specs.Verdicts.{IsSlotIn, has_slot, member_of}
 use Rattle.group_mount.specs.declared.finding.Headed.{Headed}
 use Rattle.group_mount.proofs.Alikes.{alike_rest, further_in, one_shape}
@@ -76,12 +76,12 @@ module _ (id : ℕ) (read : List Member) (r : Status) where
   one_birth h k one two number = same_Some k.header.birth h.header.birth
       (sym (entry_birth r.entries (member_of k) two) ∙ ap (λ (d : ℕ). option_map (λ (e : Entry). e.birth) (entry_of r.entries d)) number ∙ entry_birth r.entries (member_of h) one)
 
-  pub copies_apart : (hs : List Headed) → AreApartDisks hs → first_stranger id hs ≡ None → AreApart (named_copies id read r hs)
+  pub copies_apart : (hs : List Headed) → AreApartDisks hs → first_stranger id hs ≡ None → AreCopiesApart (named_copies id read r hs)
   unfolding parts
   copies_apart [] apart alike = tt
   copies_apart (x ∷ xs) (here, rest) alike =
-      let later : AreApart (named_copies id read r xs) = copies_apart xs rest (alike_rest id x xs alike) in
-      cond_both (is_named_copy id read r x) (copy_of x ∷ named_copies id read r xs) (named_copies id read r xs) AreApart
+      let later : AreCopiesApart (named_copies id read r xs) = copies_apart xs rest (alike_rest id x xs alike) in
+      cond_both (is_named_copy id read r x) (copy_of x ∷ named_copies id read r xs) (named_copies id read r xs) AreCopiesApart
       (λ is.
       let mine = parts x (x ∷ xs) (copy_of x) refl (inl refl) is in (
         (λ c among.
@@ -100,14 +100,14 @@ module _ (id : ℕ) (read : List Member) (r : Status) where
       let k = copy_from hs d two in
       ap (λ (x : DirCopy). x.dir_blocks) f.copy ∙ ap (λ (s : Shape). s.dir_blocks) (one_shape id hs alike f.disk k.disk f.among k.among f.own k.own) ∙ ap (λ (x : DirCopy). x.dir_blocks) (sym k.copy)
 
-  pub copies_named : (n : ℕ) (hs : List Headed) (state : BayState) → AreThere n hs state → AreNamed (named_copies id read r hs) [] state
+  pub copies_named : (n : ℕ) (hs : List Headed) (state : BayState) → AreThere n hs state → AreNamedCopies (named_copies id read r hs) [] state
   copies_named n hs state there c among =
       let f = copy_from hs c among in
       let h = f.disk in
       let ok = (there.allowed h f.among).header in
       let blocks = blocks_of h.header.shape (member_shape h.header ok) in
       let slots = there_attached n hs state there h f.among in
-      let mine : IsNamed [] state (copy_of h) = record {
+      let mine : IsNamedCopy [] state (copy_of h) = record {
         copy_is = record {
           attached = slots.attached;
           sector_size = slots.sector_size;
@@ -118,14 +118,14 @@ module _ (id : ℕ) (read : List Member) (r : Status) where
         number = header_number h.header ok;
         due = refl;
       } in
-      subst (IsNamed [] state) (sym f.copy) mine
+      subst (IsNamedCopy [] state) (sym f.copy) mine
 
-  pub copies_in : (hs : List Headed) (slot : ℕ) → IsSlotOf (named_copies id read r hs) slot → IsSlotIn hs slot
+  pub copies_in : (hs : List Headed) (slot : ℕ) → IsSlotOfCopy (named_copies id read r hs) slot → IsSlotIn hs slot
   copies_in hs slot of =
       let f = copy_from hs of.0 of.1 in
       (f.disk, f.among, of.2 ∙ ap (λ (x : DirCopy). x.slot) f.copy)
 
-  pub copies_settled : (hs : List Headed) (ms : List Member) (state : BayState) → ((m : Member) → IsAmong read m → IsAmong ms m) → AreDurable ms state → AreSettled (named_copies id read r hs) state
+  pub copies_settled : (hs : List Headed) (ms : List Member) (state : BayState) → ((m : Member) → IsAmong read m → IsAmong ms m) → AreMembersDurable ms state → AreSettled (named_copies id read r hs) state
   copies_settled hs ms state among durable c h =
       let f = copy_from hs c h in
       let m = found (λ (k : Member). k.slot == f.disk.slot) read f.seen in

@@ -18,7 +18,7 @@ use Rattle.status_table.proofs.Kept.{kept_more}
 use Rattle.group_mount.specs.Missing.{has_disk, is_missing}
 use Rattle.group_mount.specs.NextRecord.{entry_after, moded}
 use Rattle.group_mount.specs.declared.quorum.Quorate.{Quorate}
-use Rattle.group_mount.proofs.Bare.{same_entry}
+use Rattle.asm_images.proofs.Bare.{same_entry}
 
 -- ---- one entry
 

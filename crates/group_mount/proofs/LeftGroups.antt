@@ -43,16 +43,16 @@ use Rattle.status_register.proofs.Meeting.{any_among, enough_there, found}
 use Rattle.status_register.proofs.Placing.{placed_is}
 use Rattle.status_register.proofs.RowFits.{next_claim_allowed}
 use Rattle.status_table.proofs.Allowed.{parts_are, parts_of}
-use Rattle.group_mount.specs.Finding.{AreApart}
-use Rattle.group_mount.specs.Mounting.{Allows, AllTaken, DescribesIn, HasTaken, IsMount, MeansOne, Mount, Names}
+use Rattle.group_mount.specs.Finding.{AreInOwnSlots}
+use Rattle.group_mount.specs.Mounting.{Allows, AllTaken, DescribesIn, HasTaken, IsMount, MeansOne, MountReading, NamesCopy}
 use Rattle.group_mount.specs.NamedCopies.{copy_of}
 use Rattle.group_mount.specs.NextRecord.{IsNextRecord}
 use Rattle.group_mount.specs.Quorum.{IsQuorum}
-use Rattle.group_mount.specs.Recovered.{ChangesMembers, IsMeant, KeepsDisk, LeavesOneGroup, StoodFor, is_own_slot}
+use Rattle.group_mount.specs.Recovered.{ChangesMembers, IsMeant, KeepsSlot, LeavesOneGroup, StoodFor, is_own_slot}
 use Rattle.group_mount.specs.Recovering.{IsAnew, disks_with, is_own, name_in, own_members}
 use Rattle.group_mount.specs.Renewing.{Renews}
 use Rattle.group_mount.specs.Verdicts.{member_of, members_with}
-use Rattle.group_mount.specs.Writing.{AreMembersOn, FrontOf, HoldsOne, IsReadNow, KeepsAnyRegister, KeepsGroups, mount_of}
+use Rattle.group_mount.specs.Writing.{AreMembersOn, FrontOf, HoldsOneGroup, IsReadNow, KeepsAnyRegister, KeepsGroups, mount_of}
 use Rattle.group_mount.specs.declared.finding.Headed.{Headed}
 use Rattle.group_mount.specs.declared.quorum.Quorate.{Quorate}
 use Rattle.group_mount.specs.declared.recovering.Anew.{Anew}
@@ -102,7 +102,7 @@ some_copy [] some = absurd (omega (arith, some))
 some_copy (c ∷ copies) some = (c, inl refl)
 
 -- the disks are in slots of their own
-one_slot : (hs : List Headed) → AreApart hs → (h k : Headed) → IsAmong hs h → IsAmong hs k → h.slot ≡ k.slot → h ≡ k
+one_slot : (hs : List Headed) → AreInOwnSlots hs → (h k : Headed) → IsAmong hs h → IsAmong hs k → h.slot ≡ k.slot → h ≡ k
 one_slot [] apart h k one two same = absurd one
 one_slot (x ∷ xs) (here, rest) h k (inl a) (inl b) same = a ∙ sym b
 one_slot (x ∷ xs) (here, rest) h k (inl a) (inr b) same = absurd (here k b (sym same ∙ ap (λ (y : Headed). y.slot) a))
@@ -180,7 +180,7 @@ module _ (q : Quorate) (s : BayState) (quorum : IsQuorum q s) where
     abbrev v : Status
     v = numbered (registered q.survey) next
 
-    abbrev mount : Mount
+    abbrev mount : MountReading
     mount = mount_of q.survey next taken
 
     renews : Renews q.survey.value next
@@ -197,7 +197,7 @@ module _ (q : Quorate) (s : BayState) (quorum : IsQuorum q s) where
         let f = from q s quorum c among in
         same_is_of next.entries q.survey.value.entries (member_of f.disk) renews.entries ∙ f.entry
 
-    names_copy : (c : DirCopy) (among : IsAmong q.store.copies c) → IsAmong (elements next.directories) c.number → Names mount.next (member_of (from q s quorum c among).disk)
+    names_copy : (c : DirCopy) (among : IsAmong q.store.copies c) → IsAmong (elements next.directories) c.number → NamesCopy mount.next (member_of (from q s quorum c among).disk)
     names_copy c among named =
         let f = from q s quorum c among in
         (subst (λ (k : ℕ). IsAmong (elements next.directories) k) (ap (λ (x : DirCopy). x.number) f.copy) named, entry_still c among)
@@ -373,7 +373,7 @@ module _ (q : Quorate) (s : BayState) (quorum : IsQuorum q s) where
         held_here g sound = record { sound = sound; standing = stands g (sound q.slots); there = disks_there }
 
       -- one group is held with the attached disks, and the register keeps its history
-      module _ (one : (content : Content) → HoldsOne (mount_of q.survey next content) s t) (g : Group) (among : IsAmong groups g) (meant : NowOnly s (IsMeant q q.survey.value g)) where
+      module _ (one : (content : Content) → HoldsOneGroup (mount_of q.survey next content) s t) (g : Group) (among : IsAmong groups g) (meant : NowOnly s (IsMeant q q.survey.value g)) where
         sound_now : (y : Image) → t.leaves t.calls y → (slots : ℕ) → SoundBy q.id (disks_in slots y) (g ∷ []) (Some v) []
         sound_now y left slots =
             let held = one taken q.slots source groups g is_mount read_now (record { now = all_taken }) among (record { now = λ image at. means image at g (meant.now image at) }) in
@@ -395,7 +395,7 @@ module _ (q : Quorate) (s : BayState) (quorum : IsQuorum q s) where
   pub leaves_one : (now : ℕ) (a : Anew) → IsAnew q now a → (groups : List Group) → StoodFor q groups s → (register : Registered)
       → register ≡ first_register (numbered (registered q.survey) a.next) (own_members q.id a.next.entries q.headed.items) → (t : BayState) → KeepsAttached s t
       → Runs (IsSlotOf q.survey.members) (ChangesOnly (FrontOf q.survey.members)) s t
-      → ((content : Content) → HoldsOne (mount_of q.survey a.next content) s t) → ((content : Content) → KeepsAnyRegister (mount_of q.survey a.next content) register s t)
+      → ((content : Content) → HoldsOneGroup (mount_of q.survey a.next content) s t) → ((content : Content) → KeepsAnyRegister (mount_of q.survey a.next content) register s t)
       → LeavesOneGroup q groups (record { name = a.name; id = q.id; shape = q.shape; catalog = q.catalog; store = q.store; register = register; disks = a.disks }) s t
   leaves_one now a is groups may register same t attached run one kept =
       let own = own_members q.id a.next.entries q.headed.items in
@@ -427,7 +427,7 @@ either true = inl refl
 either false = inr refl
 
 -- the disks of other slots than those of some members stay
-stays_but : (ms : List Member) (slot : ℕ) (x y : Image) → ChangesOnly (FrontOf ms) x y → slots_of ms slot ≡ false → KeepsDisk slot x y
+stays_but : (ms : List Member) (slot : ℕ) (x y : Image) → ChangesOnly (FrontOf ms) x y → slots_of ms slot ≡ false → KeepsSlot slot x y
 stays_but ms slot x y step out = record {
   size = step.size slot;
   byte = λ k. step.byte slot k (λ inside.

@@ -1,4 +1,3 @@
-pub mod Bare
 pub mod Renewing
 pub mod Taking
 pub mod Narrowing
@@ -20,7 +19,6 @@ pub mod Alikes
 pub mod CopyLoads
 pub mod Quorums
 pub mod Entries
-pub mod PartnersAnew
 pub mod NextRecords
 pub mod Catalogs
 pub mod Fronts

@@ -17,7 +17,7 @@ use Rattle.disk_images.specs.Looks.{IsAllowed, IsLooked, Looks}
 use Rattle.disk_images.specs.declared.looking.Looked.{Looked}
 use Rattle.disk_images.specs.declared.looking.Looked.TheVariants as looked
 use Rattle.disk_images.proofs.Settling.{still}
-use Rattle.group_mount.specs.Finding.{AttachedStays, headed_in, AreApart, AreThere, IsFoundIn, AreAllHeaded}
+use Rattle.group_mount.specs.Finding.{AttachedStays, headed_in, AreInOwnSlots, AreThere, IsFoundIn, AreAllHeaded}
 use Rattle.group_mount.specs.Founds.{is_held, not_held}
 use Rattle.group_mount.specs.declared.finding.Headed.{Headed}
 use Rattle.group_mount.proofs.Told.{same_header, rose_before, rose_later}
@@ -34,12 +34,12 @@ one_more [] slot l = omega (arith, at_most_one slot l)
 one_more (x ∷ xs) slot l = omega (arith, one_more xs slot l)
 
 -- those behind others are in other slots
-apart_more : (found more : List Headed) → AreApart found → AreApart more → ((k h : Headed) → IsAmong found k → IsAmong more h → h.slot ≢ k.slot) → AreApart (found ++ more)
+apart_more : (found more : List Headed) → AreInOwnSlots found → AreInOwnSlots more → ((k h : Headed) → IsAmong found k → IsAmong more h → h.slot ≢ k.slot) → AreInOwnSlots (found ++ more)
 apart_more [] more one two differ = two
 apart_more (k ∷ found) more (here, rest) two differ =
     (λ h among. ⊎_elim (λ old. here h old) (λ new. differ k h (inl refl) new) (among_split found more h among), apart_more found more rest two (λ x h old new. differ x h (inr old) new))
 
-apart_seen : (slot : ℕ) (l : Looked) → AreApart (headed_in slot l)
+apart_seen : (slot : ℕ) (l : Looked) → AreInOwnSlots (headed_in slot l)
 apart_seen slot looked.Absent = tt
 apart_seen slot (looked.Unread size) = tt
 apart_seen slot (looked.Read size None) = tt
@@ -128,11 +128,11 @@ stays_keeps s m t stays keeps k size is = keeps.same k ∙ stays k size is
 
 -- ---- without some of the images
 
-left_apart : (held : List ℕ) (hs : List Headed) → AreApart hs → AreApart (not_held held hs)
+left_apart : (held : List ℕ) (hs : List Headed) → AreInOwnSlots hs → AreInOwnSlots (not_held held hs)
 left_apart held [] apart = tt
 left_apart held (h ∷ hs) (here, rest) =
-    let later : AreApart (not_held held hs) = left_apart held hs rest in
-    cond_both (not (is_held held h.slot)) (h ∷ not_held held hs) (not_held held hs) AreApart
+    let later : AreInOwnSlots (not_held held hs) = left_apart held hs rest in
+    cond_both (not (is_held held h.slot)) (h ∷ not_held held hs) (not_held held hs) AreInOwnSlots
     (λ is. ((λ k among. here k (among_filter (λ (x : Headed). not (is_held held x.slot)) hs k among)), later)) (λ no. later)
 
 pub left_there : (n : ℕ) (held : List ℕ) (hs : List Headed) (state : BayState) → AreThere n hs state → AreThere n (not_held held hs) state

@@ -53,10 +53,10 @@ use Rattle.status_register.proofs.Seeing.{shows_record}
 use Rattle.group_mount.specs.Bringing.{MayTake}
 use Rattle.group_mount.specs.Histories.{IsSoundBelow}
 use Rattle.group_mount.specs.Leaving.{LeavesUsers}
-use Rattle.group_mount.specs.Mounting.{Mount, claim_of, Names, IsMount, HasTaken, IsRead, HasClaimed, HasRecorded, BringsUp, BringsAll, none_yet, one_more, own, IsCopying, MayMount, claiming, recording, copying, HasMounted, IsSource, Allows, MountingKeeps, DescribesIn, MountedIsHeld, ReadMeansOne, OneGroupIsMeant, IsRegisterOf, RecordedHasHistory, RecordedIsMounted}
+use Rattle.group_mount.specs.Mounting.{MountReading, claim_of, NamesCopy, IsMount, HasTaken, IsMountRead, HasClaimed, HasRecorded, BringsUp, BringsAll, none_yet, one_more, own, IsCopying, MayMount, claiming, recording, copying, HasMounted, IsSource, Allows, MountingKeeps, DescribesIn, MountedIsHeld, ReadMeansOne, OneGroupIsMeant, IsRegisterOf, RecordedHasHistory, RecordedIsMounted}
 use Rattle.group_mount.specs.Narrowing.{HasCopy}
 use Rattle.group_mount.specs.Renewing.{Renews}
-use Rattle.group_mount.proofs.Bare.{births_in, has_bare}
+use Rattle.asm_images.proofs.Bare.{births_in, has_bare}
 use Rattle.group_mount.proofs.Bringing.{bringing_keeps}
 use Rattle.asm_images.proofs.Enough.{more_enough}
 use Rattle.asm_images.proofs.Held.{complete_stands}
@@ -124,7 +124,7 @@ renewed_named r s h n named =
     }
 
 -- the record names the copy on a disk with this header
-pub is_named : (r : Status) (m : Member) (h : Header) → Names r m → h.number ≡ m.number → h.birth ≡ m.birth → IsNamed r h
+pub is_named : (r : Status) (m : Member) (h : Header) → NamesCopy r m → h.number ≡ m.number → h.birth ≡ m.birth → IsNamed r h
 is_named r m h named number birth = go (entry_of r.entries m.number) refl (entry_birth r.entries m named.1)
   where
     go : (o : Option Entry) → entry_of r.entries m.number ≡ o → option_map (λ (e : Entry). e.birth) (entry_of r.entries m.number) ≡ Some m.birth → IsNamed r h
@@ -137,14 +137,14 @@ is_named r m h named number birth = go (entry_of r.entries m.number) refl (entry
     }
 
 -- a named disk of an entry has its birth
-named_birth : (r : Status) (m : Member) (h : Header) → IsNamed r h → Names r m → m.number ≡ h.number → m.birth ≡ h.birth
+named_birth : (r : Status) (m : Member) (h : Header) → IsNamed r h → NamesCopy r m → m.number ≡ h.number → m.birth ≡ h.birth
 named_birth r m h named names number =
     let entry : entry_of r.entries m.number ≡ Some named.entry = ap (entry_of r.entries) number ∙ named.entry_is in
     same_Some m.birth named.entry.birth (sym (entry_birth r.entries m names.1) ∙ ap (option_map (λ (e : Entry). e.birth)) entry) ∙ named.birth
 
 -- ---- one mount
 
-module _ (n : ℕ) (mount : Mount) (source : Member) (groups : List Group) (old : Image) (is : IsMount mount) (read : IsRead n mount old) (src : IsSource mount source old) where
+module _ (n : ℕ) (mount : MountReading) (source : Member) (groups : List Group) (old : Image) (is : IsMount mount) (read : IsMountRead n mount old) (src : IsSource mount source old) where
   abbrev id : ℕ
   id = mount.id
 
@@ -275,7 +275,7 @@ module _ (n : ℕ) (mount : Mount) (source : Member) (groups : List Group) (old 
     -- ---- while copies are brought up
 
     -- the copies that the record names on attached disks
-    named_there : (x : Image) → LeavesUsers old x → (m : Member) → IsAmong mount.members m → Names next m → (t : IsThere slots id x m) × IsNamed next t.member.header
+    named_there : (x : Image) → LeavesUsers old x → (m : Member) → IsAmong mount.members m → NamesCopy next m → (t : IsThere slots id x m) × IsNamed next t.member.header
     named_there x leaves m h named =
         let t = is_there slots id x m (on x leaves m h) in
         (t, is_named next m t.member.header named t.number t.birth)

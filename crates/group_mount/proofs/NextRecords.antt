@@ -29,7 +29,7 @@ use Rattle.group_mount.specs.declared.quorum.Quorate.{Quorate}
 use Rattle.group_mount.proofs.CopyLoads.{IsFrom, copy_from}
 use Rattle.group_mount.proofs.Entries.{moded_all, moded_bare, moded_forced, same_has}
 use Rattle.group_mount.proofs.Modes.{changed_is_renewed}
-use Rattle.group_mount.proofs.PartnersAnew.{has_partners}
+use Rattle.asm_placement.proofs.PartnersAnew.{has_partners}
 use Rattle.group_mount.proofs.Surveyed.{header_number}
 
 -- ---- sets of disks

@@ -11,12 +11,12 @@ use Rattle.asm_images.specs.RecordLaws.{bare}
 use Rattle.status_register.specs.Holders.{is_of}
 use Rattle.status_register.specs.Registered.{is_birth}
 use Rattle.status_register.specs.declared.member.Member.{Member}
-use Rattle.group_mount.specs.Finding.{AreApart}
+use Rattle.group_mount.specs.Finding.{AreInOwnSlots}
 use Rattle.group_mount.specs.Missing.{has_units, has_units_of}
 use Rattle.group_mount.specs.Recovering.{is_own, own_members}
 use Rattle.group_mount.specs.Verdicts.{member_of}
 use Rattle.group_mount.specs.declared.finding.Headed.{Headed}
-use Rattle.group_mount.proofs.Bare.{same_entry}
+use Rattle.asm_images.proofs.Bare.{same_entry}
 use Rattle.status_register.proofs.Holding.{Apart}
 
 abbrev Bare : Type 0
@@ -86,7 +86,7 @@ own_with id entries (x ∷ xs) k (inr h) own =
     let later = own_with id entries xs k h own in
     cond_both (is_own id entries x) (member_of x ∷ own_members id entries xs) (own_members id entries xs) (λ (l : List Member). IsAmong l (member_of k)) (λ is. inr later) (λ no. later)
 
-pub owns_apart : (id : ℕ) (entries : List Entry) (hs : List Headed) → AreApart hs → Apart (own_members id entries hs)
+pub owns_apart : (id : ℕ) (entries : List Entry) (hs : List Headed) → AreInOwnSlots hs → Apart (own_members id entries hs)
 owns_apart id entries [] apart = tt
 owns_apart id entries (h ∷ hs) (here, rest) =
     let later : Apart (own_members id entries hs) = owns_apart id entries hs rest in

@@ -10,19 +10,19 @@ use Rattle.bay.proofs.Calls.{stops}
 use Rattle.asm_formats.specs.Among.{IsAmong}
 use Rattle.change_directory.specs.declared.copy.DirCopy.{DirCopy}
 use Rattle.directory_store.specs.Loading.{HasBehind, HasNumber, HasTakenTwins, HasTwins, IsLeastOf, LoadCause}
-use Rattle.directory_store.specs.Reading.{HasDamage, IsFirstDamaged, IsUndamaged, IsUnread, RoseOn}
+use Rattle.directory_store.specs.Reading.{HasDamage, IsFirstDamaged, IsUndamaged, IsCopyUnread, RoseOnCopy}
 use Rattle.directory_store.specs.declared.error.LoadError.{LoadError}
 use Rattle.directory_store.specs.declared.error.LoadError.TheVariants.{DirectoriesLost, Damaged, NoMemory}
 use Rattle.change_directory.specs.Formatting.{AreShut}
 use Rattle.status_register.specs.Answers.{Surveyed}
 use Rattle.status_register.specs.SurveyLaws.{IsMemberOn}
-use Rattle.status_register.specs.Told.{Told}
+use Rattle.bay.specs.Told.{Told}
 use Rattle.status_register.specs.declared.member.Member.{Member}
 use Rattle.status_register.proofs.Filling.{still_slots}
 use Rattle.asm_formats.specs.Status.{Status, is_entry, is_status}
 use Rattle.asm_group.specs.Shape.{Shape, is_shape}
 use Rattle.asm_images.proofs.Members.{member_shape}
-use Rattle.catalog_tables.specs.Faults.{IsAtFault, Names}
+use Rattle.catalog_tables.specs.Faults.{IsAtFault, NamesFault}
 use Rattle.catalog_tables.specs.declared.error.CatalogError.{CatalogError}
 use Rattle.catalog_tables.specs.declared.error.CatalogError.TheVariants as answer
 use Rattle.directory_store.specs.Loading.{AreDurable as AreSettled}
@@ -34,7 +34,7 @@ use Rattle.group_mount.specs.Finding.{AreThere}
 use Rattle.group_mount.specs.Loads.{LoadRefusal, copies_read}
 use Rattle.group_mount.specs.Founds.{FoundDisks}
 use Rattle.group_mount.specs.Missing.{first_missing}
-use Rattle.group_mount.specs.Quorum.{CatalogRefusal, CataloguedCause, IsCatalogued, IsLoaded, IsQuorate, IsQuorum, IsReadOf, QuorumCause, RefusesCatalog}
+use Rattle.group_mount.specs.Quorum.{CatalogRefusal, CataloguedCause, IsCatalogued, IsStoreLoaded, IsQuorate, IsQuorum, IsReadOf, QuorumCause, RefusesCatalog}
 use Rattle.group_mount.specs.Verdicts.{members_with}
 use Rattle.group_mount.specs.declared.finding.Headed.{Headed}
 use Rattle.group_mount.specs.declared.error.MountError.TheVariants as error
@@ -79,10 +79,10 @@ module _ (s m t : BayState) {early later : ℕ → Type 0} (first : Runs early S
       let start = first.held mid.0 mid.1 in
       subst P (same_Some start.0 image (sym start.1 ∙ was)) (subst P (sym (image_is start.0 mid.0 start.2)) (told now holds mid.0 mid.1))
 
-  rose_back : (c : DirCopy) → RoseOn m t c → RoseOn s t c
+  rose_back : (c : DirCopy) → RoseOnCopy m t c → RoseOnCopy s t c
   rose_back c rose = rose_before (s.faults c.slot) (m.faults c.slot) (t.faults c.slot) (first.faults c.slot) rose
 
-  unread : (c : DirCopy) → IsUnread c m t → IsUnread c s t
+  unread : (c : DirCopy) → IsCopyUnread c m t → IsCopyUnread c s t
   unread c is = ⊎_elim (λ rose. inl (rose_back c rose)) (λ told. inr (back (AreShut c) told)) is
 
   undamaged : (c : DirCopy) → IsUndamaged m t c → IsUndamaged s t c
@@ -160,7 +160,7 @@ module _ (s m t : BayState) {early later : ℕ → Type 0} (first : Runs early S
 -- ---- with the catalog
 
 module _ (option : MountOption) (found : FoundDisks) (read : GroupRead) (s t : BayState) (is : IsReadOf found read t) where
-  loaded : IsLoaded found read.survey read.store read.shape t
+  loaded : IsStoreLoaded found read.survey read.store read.shape t
   loaded = record { copies = is.copies; kept = is.kept; shape_is = is.shape }
 
   quorate : (q : Quorate) → IsCatalogued option found.id found.slots found.headed read q → IsQuorate option found q t
@@ -220,7 +220,7 @@ module _ (option : MountOption) (found : FoundDisks) (read : GroupRead) (s t : B
 -- ---- a catalog of records
 
 pub catalog_refused : (store : Stored) (r : Status) (shape : Shape) (answer : CatalogError) (e : MountError)
-    → Names (IsAtFault store.table.records shape r.entries) answer → RefusesCatalog store answer e → CatalogRefusal store r shape e
+    → NamesFault (IsAtFault store.table.records shape r.entries) answer → RefusesCatalog store answer e → CatalogRefusal store r shape e
 catalog_refused store r shape (answer.Damaged key) (error.Damaged slot block) fault is = record { key = key; fault = fault; slot_is = is.0; block_is = is.1 }
 catalog_refused store r shape (answer.Damaged key) error.NoGroup fault is = absurd is
 catalog_refused store r shape (answer.Damaged key) error.TwoGroups fault is = absurd is

@@ -28,7 +28,7 @@ use Rattle.status_register.proofs.Holding.{apart_list, entry_birth}
 use Rattle.status_register.proofs.Placing.{placed_good, placed_is, placed_of}
 use Rattle.group_mount.specs.NextRecord.{IsNextRecord}
 use Rattle.group_mount.specs.Quorum.{IsCatalogIn, IsQuorum}
-use Rattle.group_mount.specs.Recovering.{AnewCause, AreAttachedCopies, AreDisksOf, ArePartsOf, DeadCause, IsAnew, IsAttachedCopy, IsPlaced, IsRegisterAnew, IsShortRefusal, MayRenew, RecoverCause, RefusesAnew, StandsAnew, disks_with, is_own, own_members}
+use Rattle.group_mount.specs.Recovering.{AnewCause, AreAttachedCopies, AreDisksOf, ArePartsOf, DeadCause, IsAnew, IsAttachedCopy, IsPlaced, IsRegisterAnew, IsShortRefusal, MayRenewRecord, RecoverCause, RefusesAnew, StandsAnew, disks_with, is_own, own_members}
 use Rattle.group_mount.specs.Renewing.{Renews}
 use Rattle.group_mount.specs.Verdicts.{IsSlotIn, member_of, members_with}
 use Rattle.group_mount.specs.Writing.{FrontOf, RenewCause}
@@ -140,7 +140,7 @@ module _ (q : Quorate) (s : BayState) (quorum : IsQuorum q s) where
       let k = own_of q.id hs m (own_in r m h) in
       omega (arith, ap (λ (x : Member). x.number) k.2, header_number k.0.header (quorum.there.allowed k.0 k.1).header)
 
-  pub may_renew : (next : Status) → IsTrue (is_status next) → Renews q.survey.value next → next.id ≡ q.survey.value.id → missing (own next) (Some next) ≡ None → MayRenew q.survey next (own next) s
+  pub may_renew : (next : Status) → IsTrue (is_status next) → Renews q.survey.value next → next.id ≡ q.survey.value.id → missing (own next) (Some next) ≡ None → MayRenewRecord q.survey next (own next) s
   may_renew next ok renews group enough = record {
     slots = fewer_slots s (own next) ms (own_in next) (members_attached q.id hs s (there_attached q.slots hs s quorum.there));
     apart = apart_list (own next) (owns_apart q.id next.entries hs quorum.there.apart);

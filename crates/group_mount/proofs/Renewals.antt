@@ -17,16 +17,16 @@ use Rattle.status_register.specs.History.{FitsIn}
 use Rattle.status_register.specs.Keeping.{EpochStands, KeepsStanding}
 use Rattle.status_register.specs.SurveyLaws.{IsMemberOn}
 use Rattle.status_register.specs.Writes.{first_register}
-use Rattle.status_register.specs.Rows.{HasBody, HaveBody, PutsRow, no_put, one_put}
+use Rattle.status_register.specs.Rows.{HasClaim, HasStatus, HaveStatus, PutsRow, no_put, one_put}
 use Rattle.status_register.specs.Slots.{claim_gate, status_gate}
 use Rattle.status_register.specs.Surveys.{missing}
 use Rattle.status_register.specs.Tallies.{IsSlotOf}
 use Rattle.status_register.specs.declared.member.Member.{Member}
 use Rattle.status_register.proofs.Taking.{kept_among}
 use Rattle.status_register.proofs.Tallying.{RoseAt}
-use Rattle.group_mount.specs.Mounting.{HasClaimed, HasRecorded, MayMount, claiming, recording, Mount, IsRead, IsSource, Allows}
+use Rattle.group_mount.specs.Mounting.{HasClaimed, HasRecorded, MayMount, claiming, recording, MountReading, IsMountRead, IsSource, Allows}
 use Rattle.group_mount.specs.Renewing.{Renews}
-use Rattle.group_mount.specs.Writing.{FrontOf, RenewCause, WritesAnew, mount_of, renewed_register, KeepsAnyRegister, KeepsGroups, HoldsOne, KeepsRegister}
+use Rattle.group_mount.specs.Writing.{FrontOf, RenewCause, WritesAnew, mount_of, renewed_register, KeepsAnyRegister, KeepsGroups, HoldsOneGroup, KeepsRegister}
 use Rattle.group_mount.proofs.Mounting.{mounting_keeps, mounted_is_held, recorded_is_mounted, recorded_has_history}
 use Rattle.asm_formats.specs.Following.{rank}
 use Rattle.group_mount.specs.declared.writing.RenewError.{RenewError}
@@ -65,7 +65,7 @@ module _ (s m : BayState) (survey : Surveyed) (next : Status) (renews : Renews s
     is_reached reached = same_sets_reach register.members register.value next sets_same reached
 
     claims : (content : Content) (x y : Image) → PutsRow (claim_gate survey.id) survey.members (claim_spelling (claim_of survey)) x y
-        → ((k : Member) → IsAmong took k → HasBody 2 4 (claim_spelling (claim_of survey)) k.slot y) → HasClaimed (mount_of survey next content) x y
+        → ((k : Member) → IsAmong took k → HasClaim (claim_spelling (claim_of survey)) k.slot y) → HasClaimed (mount_of survey next content) x y
     claims content x y row shown = record { row = row; took = took; among = took_among; shown = shown; enough = answer.3.0 }
 
     claimed_done : (content : Content) → Ends (HasClaimed (mount_of survey next content)) s m
@@ -99,7 +99,7 @@ module _ (s m : BayState) (survey : Surveyed) (next : Status) (renews : Renews s
       pub renewed_done : (answer_2 : Result Renewed RenewError) → WritesAnew register next answer_2 m t → OnOk answer_2 ((content : Content) → Ends (HasRecorded (mount_of survey next content)) s t)
       renewed_done (Err e) written = tt
       renewed_done (Ok renewed) (on, on_among, shown, enough, is) = λ content.
-          both_done {first = HasClaimed (mount_of survey next content)} {second = λ x y. PutsRecord x y × HaveBody 6 8 (status_spelling (numbered (registered survey) next)) on x y}
+          both_done {first = HasClaimed (mount_of survey next content)} {second = λ x y. PutsRecord x y × HaveStatus (status_spelling (numbered (registered survey) next)) on x y}
           (λ x y z claimed records. record {
             between = y;
             claimed = claimed;
@@ -114,9 +114,9 @@ module _ (s m : BayState) (survey : Surveyed) (next : Status) (renews : Renews s
             now = λ image left. let r = (stops record_run).now image left in let d = shown.now image left in (r.0, r.1, (r.2, body image d.2));
           })
         where
-          body : (image : Image) → ((k : Member) → IsAmong on k → HasBody 6 8 (status_spelling (numbered register next)) k.slot image)
-              → (k : Member) → IsAmong on k → HasBody 6 8 (status_spelling (numbered (registered survey) next)) k.slot image
-          body image has k h = subst (λ (r : Registered). HasBody 6 8 (status_spelling (numbered r next)) k.slot image) register_is (has k h)
+          body : (image : Image) → ((k : Member) → IsAmong on k → HasStatus (status_spelling (numbered register next)) k.slot image)
+              → (k : Member) → IsAmong on k → HasStatus (status_spelling (numbered (registered survey) next)) k.slot image
+          body image has k h = subst (λ (r : Registered). HasStatus (status_spelling (numbered r next)) k.slot image) register_is (has k h)
 
       pub renew_cause : (answer_2 : Result Renewed RenewError) → WritesAnew register next answer_2 m t → IfErr answer_2 (λ e. RenewCause survey next e s t)
       renew_cause (Ok renewed) written = tt
@@ -125,15 +125,15 @@ module _ (s m : BayState) (survey : Surveyed) (next : Status) (renews : Renews s
 
 -- ---- what is kept
 
-module _ (mount : Mount) (s t : BayState) where
+module _ (mount : MountReading) (s t : BayState) where
   pub groups_kept : ((source : Member) → Runs (IsSlotOf mount.members) (MayMount mount source) s t) → KeepsGroups mount s t
   groups_kept run n source groups is now = leaves_only
-      {P = λ x. IsRead n mount x × IsSource mount source x × Allows mount.id groups x} {Q = Allows mount.id groups}
+      {P = λ x. IsMountRead n mount x × IsSource mount source x × Allows mount.id groups x} {Q = Allows mount.id groups}
       (λ x y p step. mounting_keeps n mount source groups x y is p.0 p.1 p.2 step) (run source)
       (record { now = λ image left. (now.read.now image left, now.source_.now image left, now.allows.now image left) })
 
   module _ (done : Ends (HasRecorded mount) s t) where
-    pub one_held : HoldsOne mount s t
+    pub one_held : HoldsOneGroup mount s t
     one_held n source groups g is now all among means = record {
       now = λ image left.
           let from = done.now image left in
@@ -172,10 +172,10 @@ module _ (s m t : BayState) (survey : Surveyed) (next : Status) (renews : Renews
   pub renew_groups : (content : Content) → KeepsGroups (mount_of survey next content) s t
   renew_groups content = groups_kept (mount_of survey next content) s t (renewing_runs s m survey next renews small run register answer t write_run content)
 
-  pub renew_held : OnOk answer_2 ((content : Content) → HoldsOne (mount_of survey next content) s t)
+  pub renew_held : OnOk answer_2 ((content : Content) → HoldsOneGroup (mount_of survey next content) s t)
   renew_held = go answer_2 all_done
     where
-      go : (a : Result Renewed RenewError) → OnOk a ((content : Content) → Ends (HasRecorded (mount_of survey next content)) s t) → OnOk a ((content : Content) → HoldsOne (mount_of survey next content) s t)
+      go : (a : Result Renewed RenewError) → OnOk a ((content : Content) → Ends (HasRecorded (mount_of survey next content)) s t) → OnOk a ((content : Content) → HoldsOneGroup (mount_of survey next content) s t)
       go (Err e) done = tt
       go (Ok renewed) done = λ content. one_held (mount_of survey next content) s t (done content)
 

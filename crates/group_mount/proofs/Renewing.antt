@@ -19,7 +19,7 @@ use Rattle.asm_images.specs.RecordLaws.{ChangesModes}
 use Rattle.asm_images.proofs.Covers.{fewer_copies_are_covered, modes_are_covered}
 use Rattle.asm_images.proofs.Mounts.{claim_is_seen}
 use Rattle.group_mount.specs.Renewing.{Renews}
-use Rattle.group_mount.proofs.Bare.{same_entry, same_sets, same_places, same_regular, all_info, has_bare, births_in}
+use Rattle.asm_images.proofs.Bare.{same_entry, same_sets, same_places, same_regular, all_info, has_bare, births_in}
 
 pub renewed_follows : (r s : Status) → Renews r s → sets s ≡ sets r
 renewed_follows r s n = (λ i. sets_of s.entries (n.holders i) (n.next_holders i)) ∙ same_sets s.entries r.entries r.holders r.next_holders n.entries

@@ -20,13 +20,13 @@ use Rattle.status_register.specs.Surveys.{AreRead, none_yet, one_read, one_faile
 use Rattle.status_register.specs.declared.member.Member.{Member}
 use Rattle.status_register.proofs.Holding.{Apart}
 use Rattle.status_register.proofs.Taking.{kept_among}
-use Rattle.group_mount.specs.Finding.{AreApart, AreThere}
+use Rattle.group_mount.specs.Finding.{AreInOwnSlots, AreThere}
 use Rattle.group_mount.specs.Surveying.{IsGoneOn, IsSurveyedNow, AreSurveyed, MembersCause, SurveyedIsRead, answer_of, refusal_of}
 use Rattle.group_mount.specs.declared.error.MountError.{MountError}
 use Rattle.group_mount.specs.declared.error.MountError.TheVariants as error
 use Rattle.std.specs.Option.{option_map}
-use Rattle.status_register.specs.Told.{Told}
-use Rattle.group_mount.specs.Syncing.{AreDurable, AreSynced, IsSurveyNow, IsWellRead}
+use Rattle.bay.specs.Told.{Told}
+use Rattle.group_mount.specs.Syncing.{AreMembersDurable, AreSynced, IsSurveyNow, IsWellRead}
 use Rattle.status_register.specs.declared.error.SurveyError.{SurveyError}
 use Rattle.status_register.specs.declared.error.SurveyError.TheVariants.{NoMajority, Damaged}
 use Rattle.status_register.specs.Surveys.{records_on, first_damage, missing}
@@ -49,7 +49,7 @@ no_more (y ∷ xs) x e = cc
 
 -- ---- slots of their own
 
-pub members_apart : (id : ℕ) (hs : List Headed) → AreApart hs → Apart (members_with id hs)
+pub members_apart : (id : ℕ) (hs : List Headed) → AreInOwnSlots hs → Apart (members_with id hs)
 members_apart id [] apart = tt
 members_apart id (h ∷ hs) (here, rest) =
     let later : Apart (members_with id hs) = members_apart id hs rest in
@@ -170,13 +170,13 @@ module _ (s m t : BayState) {early later : ℕ → Type 0} (first : Runs early S
     gone = sym (ap (λ (l : List Status). option_map (λ (r : Status). r.gone) (greatest l)) (records_before id read x y same)) ∙ is.gone;
   }) told
 
-  pub surveyed : (survey : Surveyed) → IsSurveyed id synced (Ok survey) m t → (survey.id ≡ id) × (survey.members ≡ synced) → IsSurveyNow survey t → AreDurable synced t → IsWellRead survey → survey.value.gone ≡ false → AreSurveyed id ms survey s t
+  pub surveyed : (survey : Surveyed) → IsSurveyed id synced (Ok survey) m t → (survey.id ≡ id) × (survey.members ≡ synced) → IsSurveyNow survey t → AreMembersDurable synced t → IsWellRead survey → survey.value.gone ≡ false → AreSurveyed id ms survey s t
   surveyed survey answered of now durable well stays = record {
     well = well;
     not_gone = stays;
     id_is = of.0;
     are = subst (λ (l : List Member). AreRead (RoseAt s t) ms l) (sym of.1) synced_read;
-    durable = subst (λ (l : List Member). AreDurable l t) (sym of.1) durable;
+    durable = subst (λ (l : List Member). AreMembersDurable l t) (sym of.1) durable;
     now = now;
   }
 
@@ -198,7 +198,7 @@ module _ (s m t : BayState) {early later : ℕ → Type 0} (first : Runs early S
       ))
 
   pub answer_surveyed : (answer : Result Surveyed SurveyError) → IsSurveyed id synced answer m t → IfOk answer (λ survey. (survey.id ≡ id) × (survey.members ≡ synced)) → IfOk answer (λ survey. IsSurveyNow survey t)
-      → AreDurable synced t → IfOk answer IsWellRead → IfOk (answer_of answer) (λ survey. AreSurveyed id ms survey s t)
+      → AreMembersDurable synced t → IfOk answer IsWellRead → IfOk (answer_of answer) (λ survey. AreSurveyed id ms survey s t)
   answer_surveyed (Err e) answered of now durable well = tt
   answer_surveyed (Ok survey) answered of now durable well =
       cond_both survey.value.gone (Err error.NoGroup) (Ok survey) (λ (a : Result Surveyed MountError). IfOk a (λ survey. AreSurveyed id ms survey s t))

@@ -20,7 +20,7 @@ use Rattle.asm_images.specs.Stands.{Describes}
 use Rattle.status_register.specs.Holders.{is_of}
 use Rattle.status_register.specs.Keeping.{HasHistory}
 use Rattle.status_register.specs.Registered.{Registered, AreNumbered}
-use Rattle.status_register.specs.Rows.{HasBody, PutsRow}
+use Rattle.status_register.specs.Rows.{HasClaim, HasStatus, PutsRow}
 use Rattle.status_register.specs.Slots.{claim_gate, status_gate}
 use Rattle.status_register.specs.SurveyLaws.{IsMemberOn, slots_of}
 use Rattle.status_register.specs.Surveys.{claims_on, records_on, greatest_epoch, disk_in, missing}
@@ -30,7 +30,7 @@ use Rattle.asm_images.specs.Kept.{IsHeld}
 use Rattle.group_mount.specs.Renewing.{Renews}
 
 -- The id, the attached disks, those of them that were read, the record that was read, the record that is written anew, and the content that is taken.
-pub record Mount : Type 0 where
+pub record MountReading : Type 0 where
   pub id : ℕ
   pub members : List Member
   pub seen : List Member
@@ -39,31 +39,31 @@ pub record Mount : Type 0 where
   pub content : Content
 
 -- the claim of the new record's epoch
-abbrev pub claim_of : Mount → Claim
+abbrev pub claim_of : MountReading → Claim
 claim_of mount = record { id = mount.id; epoch = mount.next.epoch }
 
 -- the record names the directory copy on the disk, which is that of its number's entry
-abbrev pub Names : Status → Member → Type 0
-Names r m = IsAmong (elements r.directories) m.number × (is_of r.entries m ≡ true)
+abbrev pub NamesCopy : Status → Member → Type 0
+NamesCopy r m = IsAmong (elements r.directories) m.number × (is_of r.entries m ≡ true)
 
 -- The new record is the old one anew, under the claimed epoch. It names copies on attached disks alone.
-pub record IsMount (mount : Mount) : Type 0 where
+pub record IsMount (mount : MountReading) : Type 0 where
   pub renews : Renews mount.read mount.next
   pub not_gone : mount.read.gone ≡ false
   pub group : mount.next.id ≡ mount.id
   pub is_record : IsTrue (is_status mount.next)
   pub is_a_claim : IsTrue (is_claim (claim_of mount))
   pub on_attached : (d : ℕ) → IsAmong (elements mount.next.directories) d
-      → (m : Member) × IsAmong mount.members m × Names mount.next m × (m.number ≡ d)
+      → (m : Member) × IsAmong mount.members m × NamesCopy mount.next m × (m.number ≡ d)
   pub numbers : AreNumbered mount.members
 
 -- the disk has the content that is taken
-abbrev pub HasTaken : Mount → Member → Image → Type 0
+abbrev pub HasTaken : MountReading → Member → Image → Type 0
 HasTaken mount m image = (disk_in image m.slot).content ≡ Some mount.content
 
 -- What a mount has read of an image of n slots: the attached disks are members; those that were read are a majority of each set of their greatest
 -- record; and no claim and no record on these is of the epoch that is claimed or of a later one.
-pub record IsRead (n : ℕ) (mount : Mount) (image : Image) : Type 0 where
+pub record IsMountRead (n : ℕ) (mount : MountReading) (image : Image) : Type 0 where
   pub members : (m : Member) → IsAmong mount.members m → IsMemberOn n mount.id image m
   pub among : (m : Member) → IsAmong mount.seen m → IsAmong mount.members m
   pub greatest_is : greatest (records_on mount.id image mount.seen) ≡ Some mount.read
@@ -74,26 +74,26 @@ pub record IsRead (n : ℕ) (mount : Mount) (image : Image) : Type 0 where
 -- ---- the three stages
 
 -- the new record's epoch is claimed on a majority of each set
-pub record HasClaimed (mount : Mount) (old new : Image) : Type 0 where
+pub record HasClaimed (mount : MountReading) (old new : Image) : Type 0 where
   pub row : PutsRow (claim_gate mount.id) mount.members (claim_spelling (claim_of mount)) old new
   pub took : List Member
   pub among : (m : Member) → IsAmong took m → IsAmong mount.members m
-  pub shown : (m : Member) → IsAmong took m → HasBody 2 4 (claim_spelling (claim_of mount)) m.slot new
+  pub shown : (m : Member) → IsAmong took m → HasClaim (claim_spelling (claim_of mount)) m.slot new
   pub enough : missing took (Some mount.read) ≡ None
 
 -- and it stands on a majority of each set
-pub record HasRecorded (mount : Mount) (old new : Image) : Type 0 where
+pub record HasRecorded (mount : MountReading) (old new : Image) : Type 0 where
   pub between : Image
   pub claimed : HasClaimed mount old between
   pub row : PutsRow (status_gate mount.id) mount.members (status_spelling mount.next) between new
   pub took : List Member
   pub among : (m : Member) → IsAmong took m → IsAmong mount.members m
-  pub shown : (m : Member) → IsAmong took m → HasBody 6 8 (status_spelling mount.next) m.slot new
+  pub shown : (m : Member) → IsAmong took m → HasStatus (status_spelling mount.next) m.slot new
   pub enough : missing took (Some mount.next) ≡ None
 
 -- The copy on a disk is being brought up, while another copy has the content: in its directory region anything may change, so long as its content
 -- stays, is gone, or is the one that is taken.
-pub record BringsUp (mount : Mount) (m source : Member) (old new : Image) : Type 0 where
+pub record BringsUp (mount : MountReading) (m source : Member) (old new : Image) : Type 0 where
   pub header : Header
   pub header_is : header_in old m.slot ≡ Some header
   pub elsewhere : ChangesOnly (Range m.slot (region_start * block_size) ((region_end header.shape.dir_blocks - region_start) * block_size)) old new
@@ -101,31 +101,31 @@ pub record BringsUp (mount : Mount) (m source : Member) (old new : Image) : Type
   pub apart : source.slot ≢ m.slot
 
 -- copies are being brought up, one after another, from a disk whose copy isn't touched
-pub data BringsAll (mount : Mount) (source : Member) (old : Image) : Image → Type 0 where
+pub data BringsAll (mount : MountReading) (source : Member) (old : Image) : Image → Type 0 where
   none_yet : (x : Image) → Same old x → BringsAll mount source old x
   one_more : (x y : Image) (m : Member) → IsAmong mount.members m → BringsAll mount source old x → BringsUp mount m source x y → BringsAll mount source old y
 
 -- copies are being brought up once the record is complete
-pub record IsCopying (mount : Mount) (source : Member) (old new : Image) : Type 0 where
+pub record IsCopying (mount : MountReading) (source : Member) (old new : Image) : Type 0 where
   pub between : Image
   pub recorded : HasRecorded mount old between
   pub row : BringsAll mount source between new
 
 -- While a group is mounted, its epoch is claimed, its record is written anew, and its copies are brought up, in this order.
-pub data MayMount (mount : Mount) (source : Member) (old new : Image) : Type 0 where
+pub data MayMount (mount : MountReading) (source : Member) (old new : Image) : Type 0 where
   claiming : PutsRow (claim_gate mount.id) mount.members (claim_spelling (claim_of mount)) old new → MayMount mount source old new
   recording : (between : Image) → HasClaimed mount old between → PutsRow (status_gate mount.id) mount.members (status_spelling mount.next) between new → MayMount mount source old new
   copying : IsCopying mount source old new → MayMount mount source old new
 
 -- It is mounted: each copy that the record names has the content.
-pub record HasMounted (mount : Mount) (source : Member) (old new : Image) : Type 0 where
+pub record HasMounted (mount : MountReading) (source : Member) (old new : Image) : Type 0 where
   pub copying : IsCopying mount source old new
-  pub contents : (m : Member) → IsAmong mount.members m → Names mount.next m → HasTaken mount m new
+  pub contents : (m : Member) → IsAmong mount.members m → NamesCopy mount.next m → HasTaken mount m new
 
 -- the disk has a copy that is taken, and the record names it
-pub record IsSource (mount : Mount) (m : Member) (image : Image) : Type 0 where
+pub record IsSource (mount : MountReading) (m : Member) (image : Image) : Type 0 where
   pub among : IsAmong mount.members m
-  pub named : Names mount.next m
+  pub named : NamesCopy mount.next m
   pub taken : HasTaken mount m image
 
 -- the disks of these entries: a member whose number has another birth there left the group while it wasn't read
@@ -133,7 +133,7 @@ abbrev pub own : List Entry → List Member → List Member
 own entries ms = filter (is_of entries) ms
 
 -- What is kept of the mounted group: the record is complete, none was begun after it, and these are the slots of its attached disks.
-abbrev pub kept_of : Mount → Kept
+abbrev pub kept_of : MountReading → Kept
 kept_of mount = record { completed = mount.next; begun = []; slots = slots_of (own mount.next.entries mount.members) }
 
 -- ---- the laws
@@ -145,7 +145,7 @@ Allows id groups image = (slots : ℕ) → Sound id (disks_in slots image) group
 -- At each moment of a mount the image may stand for the groups that it might stand for before, and for no others.
 abbrev pub MountingKeeps : Type 0
 MountingKeeps =
-    (n : ℕ) (mount : Mount) (source : Member) (groups : List Group) (old new : Image) → IsMount mount → IsRead n mount old → IsSource mount source old
+    (n : ℕ) (mount : MountReading) (source : Member) (groups : List Group) (old new : Image) → IsMount mount → IsMountRead n mount old → IsSource mount source old
     → Allows mount.id groups old → MayMount mount source old new → Allows mount.id groups new
 
 -- with this record as Status and this content as Directories the disks of so many slots hold the group
@@ -153,30 +153,30 @@ abbrev pub DescribesIn : ℕ → ℕ → Image → Status → Content → Group 
 DescribesIn slots id image r c g = Describes (disks_in slots image) (all_members id (disks_in slots image)) (all_members id (disks_in slots image)) r c g
 
 -- what was read and taken stands for the group, however many slots from n on are looked at
-abbrev pub MeansOne : ℕ → Mount → Group → Image → Type 0
+abbrev pub MeansOne : ℕ → MountReading → Group → Image → Type 0
 MeansOne n mount g image = (slots : ℕ) → n ≤ slots → DescribesIn slots mount.id image mount.read mount.content g
 
 -- Once it is done, the group for which the content stood is held, and it alone.
 abbrev pub MountedIsHeld : Type 0
 MountedIsHeld =
-    (n : ℕ) (mount : Mount) (source : Member) (groups : List Group) (g : Group) (old new : Image) → IsMount mount → IsRead n mount old → IsSource mount source old
+    (n : ℕ) (mount : MountReading) (source : Member) (groups : List Group) (g : Group) (old new : Image) → IsMount mount → IsMountRead n mount old → IsSource mount source old
     → Allows mount.id groups old → IsAmong groups g → MeansOne n mount g old → HasMounted mount source old new
     → IsHeld n mount.id (g ∷ []) (kept_of mount) new
 
 -- What was read and taken stands for one of the groups, on each image.
 abbrev pub ReadMeansOne : Type 0
 ReadMeansOne =
-    (slots n : ℕ) (mount : Mount) (source : Member) (groups : List Group) (old : Image) → IsMount mount → IsRead n mount old → IsSource mount source old → n ≤ slots
+    (slots n : ℕ) (mount : MountReading) (source : Member) (groups : List Group) (old : Image) → IsMount mount → IsMountRead n mount old → IsSource mount source old → n ≤ slots
     → Sound mount.id (disks_in slots old) groups → (g : Group) × IsAmong groups g × DescribesIn slots mount.id old mount.read mount.content g
 
 -- Where the image may stand for one group alone, it stands for that one.
 abbrev pub OneGroupIsMeant : Type 0
 OneGroupIsMeant =
-    (n : ℕ) (mount : Mount) (source : Member) (g : Group) (old : Image) → IsMount mount → IsRead n mount old → IsSource mount source old
+    (n : ℕ) (mount : MountReading) (source : Member) (g : Group) (old : Image) → IsMount mount → IsMountRead n mount old → IsSource mount source old
     → Allows mount.id (g ∷ []) old → MeansOne n mount g old
 
 -- the register of the new record, in its epoch: its members are attached disks
-pub record IsRegisterOf (mount : Mount) (register : Registered) : Type 0 where
+pub record IsRegisterOf (mount : MountReading) (register : Registered) : Type 0 where
   pub group : register.id ≡ mount.id
   pub value : register.value ≡ mount.next
   pub epoch : register.epoch ≡ mount.next.epoch
@@ -185,14 +185,14 @@ pub record IsRegisterOf (mount : Mount) (register : Registered) : Type 0 where
 -- Once the record is complete, the register keeps the history that begins with it, whichever histories the images had before.
 abbrev pub RecordedHasHistory : Type 0
 RecordedHasHistory =
-    (slots n : ℕ) (mount : Mount) (source : Member) (groups : List Group) (register : Registered) (old new : Image) → IsMount mount → IsRead n mount old → IsSource mount source old
+    (slots n : ℕ) (mount : MountReading) (source : Member) (groups : List Group) (register : Registered) (old new : Image) → IsMount mount → IsMountRead n mount old → IsSource mount source old
     → n ≤ slots → Sound mount.id (disks_in slots old) groups → HasRecorded mount old new → IsRegisterOf mount register → HasHistory slots register (Some mount.next) [] new
 
 -- each copy that the new record names has the content that is taken: none lags behind
-abbrev pub AllTaken : Mount → Image → Type 0
-AllTaken mount image = (m : Member) → IsAmong mount.members m → Names mount.next m → HasTaken mount m image
+abbrev pub AllTaken : MountReading → Image → Type 0
+AllTaken mount image = (m : Member) → IsAmong mount.members m → NamesCopy mount.next m → HasTaken mount m image
 
 -- So it is mounted once the record is complete.
 abbrev pub RecordedIsMounted : Type 0
 RecordedIsMounted =
-    (n : ℕ) (mount : Mount) (source : Member) (old new : Image) → IsMount mount → IsRead n mount old → AllTaken mount old → HasRecorded mount old new → HasMounted mount source old new
+    (n : ℕ) (mount : MountReading) (source : Member) (old new : Image) → IsMount mount → IsMountRead n mount old → AllTaken mount old → HasRecorded mount old new → HasMounted mount source old new

@@ -30,8 +30,8 @@ IsMarkOf t d true = (x : ℕ × ℕ) × IsFirstMarked t d (0, 0) x
 IsMarkOf t d false = HasNoneMarked t d (0, 0)
 
 -- of the disks with entries the set has those on which a stale copy lies
-abbrev pub AreMarks : Tables → List Entry → ℕ → Type 0
-AreMarks t entries set = (d : ℕ) → d < 64 → has_number entries d ≡ true → IsMarkOf t d (has_bit set d)
+abbrev pub HasStaleDisks : Tables → List Entry → ℕ → Type 0
+HasStaleDisks t entries set = (d : ℕ) → d < 64 → has_number entries d ≡ true → IsMarkOf t d (has_bit set d)
 
 -- the entry of a disk after a mount: a missing one is Offline since this second, with this repair time, and an Online one with a stale
 -- copy is Syncing
@@ -48,7 +48,7 @@ moded q marked now e =
 -- The record of the mount is the one that was read with other modes and their partners, and names the store's copies alone.
 pub record IsNextRecord (q : Quorate) (now : ℕ) (next : Status) : Type 0 where
   pub marked : ℕ
-  pub marks : AreMarks q.catalog.tables q.survey.value.entries marked
+  pub marks : HasStaleDisks q.catalog.tables q.survey.value.entries marked
   pub named : ℕ
   pub small : named < 2 ^ 64
   pub copies : (d : ℕ) → d < 64 → has_bit named d ≡ has_disk d q.store.copies

@@ -6,7 +6,7 @@ use Rattle.asm_group.specs.Shape.{Shape}
 use Rattle.asm_formats.specs.Items.{DiskInfo, Key}
 use Rattle.asm_formats.specs.Status.{Status, Entry}
 use Rattle.asm_formats.specs.Among.{IsAmong}
-use Rattle.catalog_tables.specs.Disks.{info_at}
+use Rattle.disk_directory.specs.Disks.{info_at}
 use Rattle.catalog_tables.specs.Faults.{IsAtFault, IsCatalogOf}
 use Rattle.catalog_tables.specs.Tables.{Catalogued, Tables}
 use Rattle.catalog_tables.specs.declared.error.CatalogError.{CatalogError}
@@ -137,7 +137,7 @@ CataloguedCause option id headed read e = CatalogRefusal read.store read.survey.
     ⊎ ((c : Catalogued) × IsCatalogIn read.store read.survey.value read.shape c × IsMissingRefusal option c.tables (first_missing id headed read.survey.value.entries) e)
 
 -- the store has the directories that were loaded from copies of the found disks
-pub record IsLoaded (found : FoundDisks) (survey : Surveyed) (store : Stored) (shape : Shape) (t : BayState) : Type 0 where
+pub record IsStoreLoaded (found : FoundDisks) (survey : Surveyed) (store : Stored) (shape : Shape) (t : BayState) : Type 0 where
   pub copies : ArePartOf store.copies (copies_read found.id found.headed survey)
   pub kept : Keeps store t
   pub shape_is : shape_in found.id found.headed ≡ Some shape
@@ -146,7 +146,7 @@ pub record IsLoaded (found : FoundDisks) (survey : Surveyed) (store : Stored) (s
 pub record IsDamagedRefusal (found : FoundDisks) (survey : Surveyed) (e : MountError) (t : BayState) : Type 0 where
   pub store : Stored
   pub shape : Shape
-  pub loaded : IsLoaded found survey store shape t
+  pub loaded : IsStoreLoaded found survey store shape t
   pub cause : CatalogRefusal store survey.value shape e
 
 -- by the directories that were loaded a disk is missing
@@ -154,7 +154,7 @@ pub record IsForceRefusal (option : MountOption) (found : FoundDisks) (survey : 
   pub store : Stored
   pub shape : Shape
   pub catalog : Catalogued
-  pub loaded : IsLoaded found survey store shape t
+  pub loaded : IsStoreLoaded found survey store shape t
   pub catalogued : IsCatalogIn store survey.value shape catalog
   pub cause : IsMissingRefusal option catalog.tables (first_missing found.id found.headed survey.value.entries) e
 

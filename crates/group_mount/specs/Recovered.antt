@@ -66,10 +66,10 @@ pub record LeavesGroups (q : Quorate) (groups : List Group) (answer : Result Par
 -- ---- other ids
 
 -- the disk in a slot stays
-pub record KeepsDisk (slot : ℕ) (old new : Image) : Type 0 where
+pub record KeepsSlot (slot : ℕ) (old new : Image) : Type 0 where
   pub size : new.size slot ≡ old.size slot
   pub byte : (k : ℕ) → new.byte slot k ≡ old.byte slot k
 
 -- Each disk stays, or is a member of the id before and after.
 abbrev pub ChangesMembers : ℕ → Image → Image → Type 0
-ChangesMembers id old new = (slot : ℕ) → KeepsDisk slot old new ⊎ (IsMemberIn id old slot × IsMemberIn id new slot)
+ChangesMembers id old new = (slot : ℕ) → KeepsSlot slot old new ⊎ (IsMemberIn id old slot × IsMemberIn id new slot)

@@ -67,7 +67,7 @@ pub record IsAnew (q : Quorate) (now : ℕ) (a : Anew) : Type 0 where
 
 -- what the record of a survey is written anew from: these members, which are enough for it, and those that were surveyed have slots of
 -- their own
-pub record MayRenew (survey : Surveyed) (next : Status) (ms : List Member) (state : BayState) : Type 0 where
+pub record MayRenewRecord (survey : Surveyed) (next : Status) (ms : List Member) (state : BayState) : Type 0 where
   pub slots : HaveSlots state ms
   pub apart : AreApart ms
   pub numbers : AreNumbered ms

@@ -15,13 +15,13 @@ use Rattle.status_register.specs.Rows.{AreApart}
 use Rattle.status_register.specs.SurveyLaws.{IsMemberOn}
 use Rattle.status_register.specs.Surveys.{AreRead, records_on, first_damage, missing}
 use Rattle.status_register.specs.Tallies.{HaveSlots}
-use Rattle.status_register.specs.Told.{Told}
+use Rattle.bay.specs.Told.{Told}
 use Rattle.status_register.specs.declared.member.Member.{Member}
 use Rattle.status_register.specs.declared.error.SurveyError.{SurveyError}
 use Rattle.status_register.specs.declared.error.SurveyError.TheVariants as survey_error
 use Rattle.group_mount.specs.declared.finding.Headed.{Headed}
-use Rattle.group_mount.specs.Mounting.{IsRead}
-use Rattle.group_mount.specs.Syncing.{AreDurable, IsSurveyOn, IsWellRead}
+use Rattle.group_mount.specs.Mounting.{IsMountRead}
+use Rattle.group_mount.specs.Syncing.{AreMembersDurable, IsSurveyOn, IsWellRead}
 use Rattle.group_mount.specs.Verdicts.{members_with}
 use Rattle.group_mount.specs.Writing.{mount_of}
 use Rattle.group_mount.specs.declared.error.MountError.{MountError}
@@ -33,7 +33,7 @@ pub record IsSurveyedNow (n id : ℕ) (survey : Surveyed) (state : BayState) : T
   pub slots : HaveSlots state survey.members
   pub apart : AreApart survey.members
   pub numbers : AreNumbered survey.members
-  pub durable : AreDurable survey.members state
+  pub durable : AreMembersDurable survey.members state
   pub not_gone : survey.value.gone ≡ false
   pub well : IsWellRead survey
   pub members : NowOnly state (λ image. (m : Member) → IsAmong survey.members m → IsMemberOn n survey.id image m)
@@ -43,7 +43,7 @@ pub record IsSurveyedNow (n id : ℕ) (survey : Surveyed) (state : BayState) : T
 pub record AreSurveyed (id : ℕ) (ms : List Member) (survey : Surveyed) (s t : BayState) : Type 0 where
   pub id_is : survey.id ≡ id
   pub are : AreRead (λ slot. Rose (s.faults slot) (t.faults slot)) ms survey.members
-  pub durable : AreDurable survey.members t
+  pub durable : AreMembersDurable survey.members t
   pub not_gone : survey.value.gone ≡ false
   pub well : IsWellRead survey
   pub now : NowOnly t (IsSurveyOn survey)
@@ -82,4 +82,4 @@ SurveyCause id named e s t = MembersCause id (members_with id named) e s t
 abbrev pub SurveyedIsRead : Type 0
 SurveyedIsRead =
     (n : ℕ) (survey : Surveyed) (next : Status) (content : Content) (image : Image) → ((m : Member) → IsAmong survey.members m → IsMemberOn n survey.id image m) → IsSurveyOn survey image
-    → survey.epoch + 1 < 2 ^ 64 → IsRead n (mount_of survey next content) image
+    → survey.epoch + 1 < 2 ^ 64 → IsMountRead n (mount_of survey next content) image

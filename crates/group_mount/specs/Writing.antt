@@ -13,7 +13,7 @@ use Rattle.asm_formats.specs.Status.{Status, status_spelling}
 use Rattle.status_register.specs.Answers.{Surveyed}
 use Rattle.status_register.specs.Holders.{attached_to, next_turn, numbered}
 use Rattle.status_register.specs.Registered.{Registered, registered}
-use Rattle.status_register.specs.Rows.{HaveBody, PutsRow}
+use Rattle.status_register.specs.Rows.{HaveStatus, PutsRow}
 use Rattle.status_register.specs.Slots.{status_gate}
 use Rattle.status_register.specs.SurveyLaws.{IsMemberOn}
 use Rattle.status_register.specs.Surveys.{AreRead, missing}
@@ -21,13 +21,13 @@ use Rattle.status_register.specs.Tallies.{IsSlotOf}
 use Rattle.status_register.specs.declared.member.Member.{Member}
 use Rattle.status_register.specs.Keeping.{Keeps}
 use Rattle.asm_images.specs.Kept.{IsHeld}
-use Rattle.group_mount.specs.Mounting.{Allows, AllTaken, HasRecorded, IsMount, MayMount, IsRead, IsSource, MeansOne, Mount, kept_of}
+use Rattle.group_mount.specs.Mounting.{Allows, AllTaken, HasRecorded, IsMount, MayMount, IsMountRead, IsSource, MeansOne, MountReading, kept_of}
 use Rattle.group_mount.specs.declared.writing.RenewError.{RenewError}
 use Rattle.group_mount.specs.declared.writing.Renewed.{Renewed}
 use Rattle.group_mount.specs.declared.writing.RenewError.TheVariants.{NoMajority, Dead}
 
 -- what a mount does that has surveyed this, with the record that is written anew and the content that is taken
-abbrev pub mount_of : Surveyed → Status → Content → Mount
+abbrev pub mount_of : Surveyed → Status → Content → MountReading
 mount_of survey next content = record {
   id = survey.id;
   members = survey.members;
@@ -38,11 +38,11 @@ mount_of survey next content = record {
 }
 
 -- so it is of a mount by this survey and record, whichever content is taken
-abbrev pub EachMount : Surveyed → Status → (Mount → Type 0) → Type 0
+abbrev pub EachMount : Surveyed → Status → (MountReading → Type 0) → Type 0
 EachMount survey next P = (content : Content) → P (mount_of survey next content)
 
 -- the calls are those of a mount, whichever copy the content was read on
-abbrev pub RunsAsMount : Mount → BayState → BayState → Type 0
+abbrev pub RunsAsMount : MountReading → BayState → BayState → Type 0
 RunsAsMount mount s t = (source : Member) → Runs (IsSlotOf mount.members) (MayMount mount source) s t
 
 -- the claim and status slots of these disks
@@ -50,7 +50,7 @@ abbrev pub FrontOf : List Member → ℕ → ℕ → Type 0
 FrontOf ms s k = IsSlotOf ms s × (2 * block_size ≤ k) × (k < region_start * block_size)
 
 -- the record is complete in the end
-abbrev pub HasRenewed : Mount → BayState → BayState → Type 0
+abbrev pub HasRenewed : MountReading → BayState → BayState → Type 0
 HasRenewed mount s t = Ends (HasRecorded mount) s t
 
 -- the register of the record anew
@@ -73,30 +73,30 @@ RenewCause survey next (Dead slot) s t = IsSlotOf survey.members slot × Rose (s
 abbrev pub WritesAnew : Registered → Status → Result Renewed RenewError → BayState → BayState → Type 0
 WritesAnew register next answer s t = MatchResult answer
     (λ renewed. (took : List Member) × ((m : Member) → IsAmong took m → IsAmong (attached_to register.members next) m)
-    × Ends (HaveBody 6 8 (status_spelling (numbered register next)) took) s t × (missing took (Some (numbered register next)) ≡ None)
+    × Ends (HaveStatus (status_spelling (numbered register next)) took) s t × (missing took (Some (numbered register next)) ≡ None)
     × (renewed.register ≡ record register { value = numbered register next; turn = next_turn register.turn; is_fresh = false }))
     (λ error. (slot : ℕ) × (error ≡ Dead slot) × IsSlotOf (attached_to register.members next) slot × Rose (s.faults slot) (t.faults slot))
 
 -- ---- what is kept over it
 
 -- What a mount has read is so on each image that a stop may leave now, and each stands for groups of the list.
-pub record IsReadNow (n : ℕ) (mount : Mount) (source : Member) (groups : List Group) (state : BayState) : Type 0 where
-  pub read : NowOnly state (IsRead n mount)
+pub record IsReadNow (n : ℕ) (mount : MountReading) (source : Member) (groups : List Group) (state : BayState) : Type 0 where
+  pub read : NowOnly state (IsMountRead n mount)
   pub source_ : NowOnly state (IsSource mount source)
   pub allows : NowOnly state (Allows mount.id groups)
 
 -- Each image of each moment stands for groups of the list.
-abbrev pub KeepsGroups : Mount → BayState → BayState → Type 0
+abbrev pub KeepsGroups : MountReading → BayState → BayState → Type 0
 KeepsGroups mount s t = (n : ℕ) (source : Member) (groups : List Group) → IsMount mount → IsReadNow n mount source groups s → LeavesOnly s t (Allows mount.id groups)
 
 -- Where no copy lags behind, in the end the one group is held for which the content stood on each image.
-abbrev pub HoldsOne : Mount → BayState → BayState → Type 0
-HoldsOne mount s t =
+abbrev pub HoldsOneGroup : MountReading → BayState → BayState → Type 0
+HoldsOneGroup mount s t =
     (n : ℕ) (source : Member) (groups : List Group) (g : Group) → IsMount mount → IsReadNow n mount source groups s → NowOnly s (AllTaken mount) → IsAmong groups g → NowOnly s (MeansOne n mount g)
     → NowOnly t (IsHeld n mount.id (g ∷ []) (kept_of mount))
 
 -- The register keeps the history that begins with the record.
-abbrev pub KeepsRegister : Mount → Registered → BayState → BayState → Type 0
+abbrev pub KeepsRegister : MountReading → Registered → BayState → BayState → Type 0
 KeepsRegister mount register s t =
     (n slots : ℕ) (source : Member) (groups : List Group) → IsMount mount → IsReadNow n mount source groups s → n ≤ slots → Keeps slots register (Some mount.next) [] t
 
@@ -105,7 +105,7 @@ abbrev pub AreMembersOn : ℕ → ℕ → Registered → Image → Type 0
 AreMembersOn slots id register image = (i : ℕ) (m : Member) → get_or register.members i None ≡ Some m → IsMemberOn slots id image m
 
 -- So does a register of other attached disks, also of those that weren't surveyed, where each is a member on each image.
-abbrev pub KeepsAnyRegister : Mount → Registered → BayState → BayState → Type 0
+abbrev pub KeepsAnyRegister : MountReading → Registered → BayState → BayState → Type 0
 KeepsAnyRegister mount register s t =
     (n slots : ℕ) (source : Member) (groups : List Group) → IsMount mount → IsReadNow n mount source groups s → n ≤ slots → NowOnly t (AreMembersOn slots mount.id register)
     → Keeps slots register (Some mount.next) [] t

@@ -9,14 +9,11 @@ ghost use Rattle.group_mount.specs.NamedCopies.{copy_of, is_named_copy, named_co
 use crate::choosing::{has_slot, member_of};
 use crate::finding::Headed;
 use crate::missing::has_units;
-use asm_base::NoMemory;
+use asm_base::{BLOCK, NoMemory};
 use change_directory::DirCopy;
 use status_register::{Member, is_of_entry};
 use status_table::PstRecord;
 use std::alloc::Global;
-
-/// The bytes of a block.
-const BLOCK: u64 = 4096;
 
 /// The directory copy of a disk.
 fn copy_of(headed: &Headed) -> DirCopy

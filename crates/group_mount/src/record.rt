@@ -6,7 +6,7 @@ ghost use Rattle.asm_formats.specs.Status.{have_entries, is_entry, is_status};
 ghost use Rattle.asm_formats.specs.Among.{IsAmong};
 ghost use Rattle.change_directory.specs.declared.copy.DirCopy.{DirCopy as Copy};
 ghost use Rattle.directory_store.specs.Stores.{has_disk};
-ghost use Rattle.group_mount.specs.NextRecord.{AreMarks, IsMarkOf, IsNextRecord, MakesRecord, entry_after, has_number, moded};
+ghost use Rattle.group_mount.specs.NextRecord.{HasStaleDisks, IsMarkOf, IsNextRecord, MakesRecord, entry_after, has_number, moded};
 
 use crate::missing::is_missing;
 use crate::quorum::Quorate;
@@ -14,7 +14,7 @@ use asm_base::{DiskSet, ExtentId, Mode, NoMemory};
 use catalog::Catalog;
 use change_directory::DirCopy;
 use partnership::partners;
-use status_table::{PstEntry, PstRecord, with_dirs, with_partners};
+use status_table::{PstEntry, PstRecord, with_dirs, with_entries, with_partners};
 use std::alloc::Global;
 
 /// Whether a stale copy of an extent lies on a disk.
@@ -55,7 +55,7 @@ fn with_mark(set: DiskSet, catalog: &Catalog, entries: &[PstEntry], disk: u8) ->
 
 /// The disks with entries on which a stale copy lies.
 fn marked_disks(catalog: &Catalog, entries: &[PstEntry]) -> DiskSet
-    ensures { AreMarks catalog.now.tables entries.now result }
+    ensures { HasStaleDisks catalog.now.tables entries.now result }
 {
     let mut set = DiskSet::empty();
     for disk in 0..64u8 {
@@ -108,25 +108,6 @@ fn all_moded(quorate: &Quorate, entries: &[PstEntry], marked: DiskSet, now: u64)
         after[i] = moded(quorate, *entry, marked, now);
     }
     after
-}
-
-/// The record with the first `count` of these entries.
-fn with_entries(status: &PstRecord, count: u8, entries: [PstEntry; 64]) -> PstRecord
-    requires { count ≤ 64 }
-    ensures { result ≡ record status.now { entries = take count entries } }
-{
-    PstRecord {
-        id: status.id,
-        epoch: status.epoch,
-        turn: status.turn,
-        gone: status.gone,
-        births: status.births,
-        holders: status.holders,
-        next_holders: status.next_holders,
-        dirs: status.dirs,
-        count,
-        entries,
-    }
 }
 
 /// The record with the modes that a mount leaves. A record of the format stays one.

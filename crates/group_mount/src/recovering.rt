@@ -14,10 +14,10 @@ ghost use Rattle.status_register.specs.Writes.{first_register};
 ghost use Rattle.group_mount.specs.NextRecord.{IsNextRecord, MakesRecord};
 ghost use Rattle.group_mount.specs.Quorum.{IsQuorum};
 ghost use Rattle.group_mount.specs.Recovered.{ChangesMembers, LeavesGroups, StoodFor};
-ghost use Rattle.group_mount.specs.Recovering.{AnewCause, ArePartsOf, DeadCause, IsAnew, IsShortRefusal, MayRenew, RecoverCause, RefusesAnew, StandsAnew, disks_with, is_own, name_in, own_members};
+ghost use Rattle.group_mount.specs.Recovering.{AnewCause, ArePartsOf, DeadCause, IsAnew, IsShortRefusal, MayRenewRecord, RecoverCause, RefusesAnew, StandsAnew, disks_with, is_own, name_in, own_members};
 ghost use Rattle.group_mount.specs.Renewing.{Renews};
 ghost use Rattle.group_mount.specs.Verdicts.{IsSlotIn, members_with};
-ghost use Rattle.group_mount.specs.Writing.{EachMount, FrontOf, HoldsOne, KeepsAnyRegister, KeepsGroups, RenewCause};
+ghost use Rattle.group_mount.specs.Writing.{EachMount, FrontOf, HoldsOneGroup, KeepsAnyRegister, KeepsGroups, RenewCause};
 
 use crate::choosing::member_of;
 use crate::error::MountError;
@@ -209,7 +209,7 @@ fn write_register<B: Bay>(
     next: &PstRecord,
     members: &[Member],
 ) -> Result<Register, RenewError>
-    requires { MayRenew survey next.now members.now (B.state bay.old) }
+    requires { MayRenewRecord survey next.now members.now (B.state bay.old) }
     ensures register { IfOk result (λ register. register ≡ first_register (numbered (registered survey) next.now) members.now) }
     ensures stands { IfOk result (λ register. StandsAnew register (B.state bay.new)) }
     ensures cause { IfErr result (λ error. RenewCause survey next.now error (B.state bay.old) (B.state bay.new)) }
@@ -217,7 +217,7 @@ fn write_register<B: Bay>(
     ensures front { Runs (IsSlotOf survey.members) (ChangesOnly (FrontOf survey.members)) (B.state bay.old) (B.state bay.new) }
     // What `renew` says of the groups, and that the register keeps the history with all these members.
     ensures groups { EachMount survey next.now (λ mount. KeepsGroups mount (B.state bay.old) (B.state bay.new)) }
-    ensures held { OnOk result (EachMount survey next.now (λ mount. HoldsOne mount (B.state bay.old) (B.state bay.new))) }
+    ensures held { OnOk result (EachMount survey next.now (λ mount. HoldsOneGroup mount (B.state bay.old) (B.state bay.new))) }
     ensures history { IfOk result (λ register. EachMount survey next.now (λ mount. KeepsAnyRegister mount register (B.state bay.old) (B.state bay.new))) }
 {
     match renew(bay, survey, next) {

@@ -6,7 +6,7 @@ ghost use Rattle.bay.specs.Moments.{Runs};
 ghost use Rattle.status_register.specs.Answers.{IsSurveyed};
 ghost use Rattle.status_register.specs.Places.{HasSlots};
 ghost use Rattle.status_register.specs.Tallies.{HaveSlots, IsSlotOf};
-ghost use Rattle.group_mount.specs.Syncing.{AreDurable, AreSynced, IsSurveyNow, IsWellRead, SyncsOne};
+ghost use Rattle.group_mount.specs.Syncing.{AreMembersDurable, AreSynced, IsSurveyNow, IsWellRead, SyncsOne};
 
 use asm_base::NoMemory;
 use bay::Bay;
@@ -54,12 +54,12 @@ pub fn survey_synced<B: Bay>(
 ) -> Result<Survey, SurveyError>
     requires slots { HaveSlots (B.state bay.old) members.now }
     requires few { length members.now ≤ 512 }
-    requires durable { AreDurable members.now (B.state bay.old) }
+    requires durable { AreMembersDurable members.now (B.state bay.old) }
     ensures answer { IsSurveyed id members.now result (B.state bay.old) (B.state bay.new) }
     ensures surveyed { IfOk result (λ survey. (survey.id ≡ id) × (survey.members ≡ members.now)) }
     ensures now { IfOk result (λ survey. IsSurveyNow survey (B.state bay.new)) }
     ensures record_is { IfOk result IsWellRead }
-    ensures durable { AreDurable members.now (B.state bay.new) }
+    ensures durable { AreMembersDurable members.now (B.state bay.new) }
     ensures attached { KeepsAttached (B.state bay.old) (B.state bay.new) }
     ensures calls { (B.state bay.new).calls ≤ (B.state bay.old).calls + 8 * length members.now }
     ensures runs { Runs (IsSlotOf members.now) Same (B.state bay.old) (B.state bay.new) }

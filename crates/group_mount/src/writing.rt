@@ -11,7 +11,7 @@ ghost use Rattle.status_register.specs.Registered.{AreNumbered};
 ghost use Rattle.status_register.specs.Rows.{AreApart};
 ghost use Rattle.status_register.specs.Tallies.{HaveSlots, IsSlotOf};
 ghost use Rattle.group_mount.specs.Renewing.{Renews};
-ghost use Rattle.group_mount.specs.Writing.{EachMount, FrontOf, HasRenewed, HoldsOne, KeepsGroups, KeepsRegister, RenewCause, RunsAsMount, RunsAsRecord, WritesAnew, renewed_register};
+ghost use Rattle.group_mount.specs.Writing.{EachMount, FrontOf, HasRenewed, HoldsOneGroup, KeepsGroups, KeepsRegister, RenewCause, RunsAsMount, RunsAsRecord, WritesAnew, renewed_register};
 
 use asm_base::DiskSet;
 use bay::Bay;
@@ -55,7 +55,7 @@ pub fn renew<B: Bay>(bay: &mut B, survey: Survey, next: &PstRecord) -> Result<Re
     ensures calls { (B.state bay.new).calls ≤ (B.state bay.old).calls + 13 * (length survey.members + 64) }
     // Each image of each moment stands for what those at the start did, and in the end one group is held.
     ensures groups { EachMount survey next.now (λ mount. KeepsGroups mount (B.state bay.old) (B.state bay.new)) }
-    ensures held { OnOk result (EachMount survey next.now (λ mount. HoldsOne mount (B.state bay.old) (B.state bay.new))) }
+    ensures held { OnOk result (EachMount survey next.now (λ mount. HoldsOneGroup mount (B.state bay.old) (B.state bay.new))) }
     ensures history { IfOk result (λ renewed. EachMount survey next.now (λ mount. KeepsRegister mount renewed.register (B.state bay.old) (B.state bay.new))) }
 {
     match survey.claim(bay) {

@@ -18,7 +18,7 @@ use Rattle.extent_map.specs.Extents as extents
 use Rattle.alias_tree.specs.Nodes as nodes
 use Rattle.staleness_directory.specs.Marks as stale
 use Rattle.operations_directory.specs.Operations as operations
-use Rattle.catalog_tables.specs.Disks as disks
+use Rattle.disk_directory.specs.Disks as disks
 use Rattle.catalog_tables.specs.Tables.{AreTables, Tables}
 use Rattle.catalog_tables.specs.Rules.{blocks_used}
 use Rattle.catalog_tables.specs.Items.{AreItemsOf}

@@ -22,7 +22,7 @@ use Rattle.file_directory.specs.Files as heads
 use Rattle.file_directory.specs.Files.{head_at}
 use Rattle.alias_tree.specs.Trees.{tree_of}
 use Rattle.alias_edits.proofs.Growing as trees
-use Rattle.catalog_tables.specs.Disks.{Disk, info_at}
+use Rattle.disk_directory.specs.Disks.{Disk, info_at}
 use Rattle.catalog_tables.specs.Tables.{AreTables, Tables}
 use Rattle.catalog_tables.specs.Rules as rules
 use Rattle.catalog_tables.specs.Rules.{KeepsRules}

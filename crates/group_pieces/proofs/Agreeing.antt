@@ -39,7 +39,7 @@ use Rattle.group_engine.proofs.Slots.{member_there}
 use Rattle.piece_laws.specs.Targets.{AgreesIn}
 use Rattle.piece_laws.proofs.Settling.{listed_byte}
 use Rattle.group_pieces.specs.declared.copies.Place.{Place}
-use Rattle.group_pieces.specs.Copies.{IsUsable, SomeHas}
+use Rattle.group_pieces.specs.Copies.{IsUsablePiece, SomeHas}
 use Rattle.group_pieces.specs.Usable.{FitsExtent, extent_of, piece_of, places_at}
 use Rattle.group_pieces.proofs.Places.{IsPlaceAt, member_at, places_usable, size_is, some_place}
 
@@ -111,7 +111,7 @@ module _ (n : ℕ) (m : MountedGroup) (s : BayState) (g : Group) (kept : Kept) (
   abbrev e : Extent
   e = extent_of m x
 
-  at_place : (image : bay.Image) → s.leaves s.calls image → (k : ℕ) (p : Place) → IsPlaceAt m e inner k p → IsUsable s len p → AgreesIn g (piece_of x inner len) (window (image.byte p.slot) p.at len)
+  at_place : (image : bay.Image) → s.leaves s.calls image → (k : ℕ) (p : Place) → IsPlaceAt m e inner k p → IsUsablePiece s len p → AgreesIn g (piece_of x inner len) (window (image.byte p.slot) p.at len)
   at_place image left k p at usable file o b q is_file cell lies low high =
       let its = have_items m.catalog.tables mounts.whole.are_tables in
       let say = items_say m.catalog.tables its.0 mounts.whole.are_tables its.1 in

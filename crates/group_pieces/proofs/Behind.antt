@@ -15,7 +15,7 @@ use Rattle.catalog_laws.proofs.ItemLists.{items_say}
 use Rattle.group_engine.specs.Mounts.{IsReady, IsWhole, MountedGroup}
 use Rattle.group_pieces.specs.declared.copies.Place.{Place}
 use Rattle.group_pieces.specs.Bytes.{UserBytes, WritesBytes}
-use Rattle.group_pieces.specs.Copies.{IsSlotOf, PlacesOf}
+use Rattle.group_pieces.specs.Copies.{IsSlotOfPlace, PlacesOf}
 use Rattle.group_pieces.specs.Usable.{FitsExtent, extent_of, places_at}
 use Rattle.group_pieces.proofs.Agreeing.{item_home, raw_home}
 use Rattle.group_pieces.proofs.Homes.{homes_behind}
@@ -38,8 +38,8 @@ module _ (m : MountedGroup) (s : BayState) (x : ExtentId) (inner n : ℕ) (whole
   place_user slot k inside = (place_own m s x inner n whole ready piece slot (inside.0, inside.1, inside.2.0), omega (arith, place_behind inside.0 inside.1, inside.2.1))
 
   -- a write at the places
-  pub piece_writes : (t : BayState) → KeepsAttached s t → Runs (IsSlotOf (places_at m x inner)) (ChangesOnly (PlacesOf (places_at m x inner) n)) s t → WritesBytes m (PlacesOf (places_at m x inner) n) s t
-  piece_writes t attached runs = writes_bytes m s t (IsSlotOf (places_at m x inner)) (PlacesOf (places_at m x inner) n) whole ready (place_own m s x inner n whole ready piece) place_user
+  pub piece_writes : (t : BayState) → KeepsAttached s t → Runs (IsSlotOfPlace (places_at m x inner)) (ChangesOnly (PlacesOf (places_at m x inner) n)) s t → WritesBytes m (PlacesOf (places_at m x inner) n) s t
+  piece_writes t attached runs = writes_bytes m s t (IsSlotOfPlace (places_at m x inner)) (PlacesOf (places_at m x inner) n) whole ready (place_own m s x inner n whole ready piece) place_user
       (λ y z change. changes-within (UserBytes m) (PlacesOf (places_at m x inner) n) y z place_user change) attached runs
 
   -- none

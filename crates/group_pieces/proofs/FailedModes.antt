@@ -24,7 +24,7 @@ use Rattle.record_laws.proofs.Partners.{table_is_made, table_stays}
 use Rattle.group_engine.specs.Mounts.{MountedGroup}
 use Rattle.group_engine.proofs.Records.{record_parts}
 use Rattle.group_pieces.specs.Failing.{AreServing, FailsModes, entry_failed, is_dropping_in, status_failed, taken_off}
-use Rattle.group_pieces.specs.Copies.{FailedAlone}
+use Rattle.group_pieces.specs.Copies.{HasOnlyFailedPlaces}
 use Rattle.group_pieces.specs.Usable.{extent_of, places_at}
 use Rattle.group_pieces.proofs.Failed.{bare_failed}
 use Rattle.group_pieces.proofs.Places.{some_place}
@@ -119,7 +119,7 @@ module _ (failed since repair : ℕ) (r : Status) (allowed : is_status r ≡ tru
 -- ---- disks of places
 
 -- the disks of usable copies serve
-pub failed_serve : (m : MountedGroup) (x : ExtentId) (inner failed : ℕ) (s t : BayState) → FailedAlone (places_at m x inner) failed s t → AreServing m.register.value.entries failed
+pub failed_serve : (m : MountedGroup) (x : ExtentId) (inner failed : ℕ) (s t : BayState) → HasOnlyFailedPlaces (places_at m x inner) failed s t → AreServing m.register.value.entries failed
 failed_serve m x inner failed s t alone k small bit =
     let entries = m.register.value.entries in
     let f = alone k small bit in

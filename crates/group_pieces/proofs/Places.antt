@@ -18,7 +18,7 @@ use Rattle.status_register.specs.declared.member.Member.{Member}
 use Rattle.group_engine.specs.declared.attached.Attached.{Attached}
 use Rattle.group_engine.specs.Mounts.{IsOwn, IsReady, IsWhole, MountedGroup, slot_at}
 use Rattle.group_pieces.specs.declared.copies.Place.{Place}
-use Rattle.group_pieces.specs.Copies.{AreApart, AreUsable, IsSlotOf, IsUsable}
+use Rattle.group_pieces.specs.Copies.{AreCopyPlacesApart, AreUsable, IsSlotOfPlace, IsUsablePiece}
 use Rattle.group_pieces.specs.Usable.{AreNone, FitsExtent, at_home, extent_of, first_disk, in_image, on_disk, on_slot, place_at, places_in, size_at}
 
 -- ---- a place is that of a copy
@@ -169,7 +169,7 @@ module _ (m : MountedGroup) (s : BayState) (x : ExtentId) (inner n : ℕ) (whole
   abbrev e : Extent
   e = extent_of m x
 
-  usable_at : (k : ℕ) (p : Place) → IsPlaceAt m e inner k p → IsUsable s n p
+  usable_at : (k : ℕ) (p : Place) → IsPlaceAt m e inner k p → IsUsablePiece s n p
   usable_at k p at =
       let is = size_is m s ready at.home.disk p.slot at.size at.slot at.sized in
       record {
@@ -194,7 +194,7 @@ module _ (m : MountedGroup) (s : BayState) (x : ExtentId) (inner n : ℕ) (whole
         λ same. one_copy (sym at_p.disk ∙ same ∙ at_q.disk),
       )
 
-  pub places_apart : are_on_disks e.homes ≡ true → AreApart (places_in m e inner)
+  pub places_apart : are_on_disks e.homes ≡ true → AreCopyPlacesApart (places_in m e inner)
   places_apart apart =
       let on = on_disks e.homes apart in (
         λ p q at h. ⊎_elim (λ first. two_apart 0 1 p q on.first at (sym first)) (λ more. ⊎_elim (λ second. two_apart 0 2 p q on.second at (sym second)) (λ none. absurd none) more) h,
@@ -202,7 +202,7 @@ module _ (m : MountedGroup) (s : BayState) (x : ExtentId) (inner n : ℕ) (whole
       )
 
   -- the slots of the places are the group's own
-  pub place_own : (slot : ℕ) → IsSlotOf (places_in m e inner) slot → IsOwn m slot
+  pub place_own : (slot : ℕ) → IsSlotOfPlace (places_in m e inner) slot → IsOwn m slot
   place_own slot is =
       let place = some_place m e inner is.0 is.1 in
       own_slot m whole place.at.home.disk slot (place.at.slot ∙ ap (λ (k : ℕ). Some k) (sym is.2))

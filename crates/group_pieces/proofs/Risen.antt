@@ -10,7 +10,7 @@ use Rattle.asm_formats.specs.Sets.{has_bit}
 use Rattle.asm_formats.specs.Among.{IsAmong}
 use Rattle.group_engine.specs.Mounts.{MountedGroup, slot_at}
 use Rattle.group_pieces.specs.declared.copies.Place.{Place}
-use Rattle.group_pieces.specs.Copies.{AllFailed, FailedAlone}
+use Rattle.group_pieces.specs.Copies.{AllFailed, HasOnlyFailedPlaces}
 use Rattle.group_pieces.specs.Faults.{AreRisen, IsFault}
 use Rattle.group_pieces.specs.Usable.{extent_of, first_disk, places_at}
 use Rattle.group_pieces.specs.Writes.{SomeTook, have_failed}
@@ -51,11 +51,11 @@ module _ (m : MountedGroup) (x : ExtentId) (inner : ℕ) where
   place_slot p among = let place = some_place m (extent_of m x) inner p among in ap (slot_at m.disks) place.at.disk ∙ place.at.slot
 
   -- the disks of the set failed
-  pub are_risen : (failed : ℕ) (s t : BayState) → FailedAlone (places_at m x inner) failed s t → AreRisen m failed s t
+  pub are_risen : (failed : ℕ) (s t : BayState) → HasOnlyFailedPlaces (places_at m x inner) failed s t → AreRisen m failed s t
   are_risen failed s t alone k small is = let f = alone k small is in (f.0.slot, ap (slot_at m.disks) (sym f.2) ∙ place_slot f.0 f.1, f.3)
 
   -- where each of the disks is in the set, all slots failed
-  pub all_failed : (failed : ℕ) (s t : BayState) → ((p : Place) → IsAmong (places_at m x inner) (Some p) → p.disk < 64) → FailedAlone (places_at m x inner) failed s t → have_failed failed (places_at m x inner) ≡ true
+  pub all_failed : (failed : ℕ) (s t : BayState) → ((p : Place) → IsAmong (places_at m x inner) (Some p) → p.disk < 64) → HasOnlyFailedPlaces (places_at m x inner) failed s t → have_failed failed (places_at m x inner) ≡ true
       → AllFailed (places_at m x inner) s t
   all_failed failed s t small alone all p among =
       let f = alone p.disk (small p among) (each_failed failed (places_at m x inner) all p among) in

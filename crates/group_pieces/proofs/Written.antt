@@ -19,7 +19,7 @@ use Rattle.group_pieces.specs.Marking.{left_of}
 use Rattle.group_pieces.specs.Spare.{IsRunAt}
 use Rattle.group_pieces.specs.Usable.{places_at}
 use Rattle.group_pieces.specs.Writes.{SomeTook}
-use Rattle.group_pieces.specs.Written.{FlightBytes, WritesPiece, HomeBytes, IsAtHome, IsPlain, MovedBytes}
+use Rattle.group_pieces.specs.Written.{FlightBytes, WritesPiece, HomeBytes, IsPlaceOfHome, IsPlain, MovedBytes}
 
 -- ---- regions
 
@@ -49,7 +49,7 @@ pub moved_user : (m : MountedGroup) (x : ExtentId) (inner n slot k : ℕ) → Mo
 moved_user m x inner n slot k inside = inside.2.1.0
 
 -- a write of a run is one at its home
-pub home_writes : (m : MountedGroup) (s t : BayState) (h : Home) (inner n : ℕ) (p : Place) → IsRunAt m n p → IsAtHome m h inner p → WritesBytes m (Range p.slot p.at n) s t
+pub home_writes : (m : MountedGroup) (s t : BayState) (h : Home) (inner n : ℕ) (p : Place) → IsRunAt m n p → IsPlaceOfHome m h inner p → WritesBytes m (Range p.slot p.at n) s t
     → WritesBytes m (HomeBytes m h inner n) s t
 home_writes m s t h inner n p run at writes = writes_more m s t (Range p.slot p.at n) (HomeBytes m h inner n)
     (λ slot k inside. (

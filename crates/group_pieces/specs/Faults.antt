@@ -9,15 +9,15 @@ use Rattle.group_pieces.specs.Copies.{AllFailed}
 use Rattle.group_pieces.specs.Usable.{first_disk, places_at}
 
 -- disk d is attached, and its slot failed
-abbrev pub RoseOn : MountedGroup → ℕ → BayState → BayState → Type 0
-RoseOn m d s t = (slot : ℕ) × (slot_at m.disks d ≡ Some slot) × Rose (s.faults slot) (t.faults slot)
+abbrev pub RoseOnDisk : MountedGroup → ℕ → BayState → BayState → Type 0
+RoseOnDisk m d s t = (slot : ℕ) × (slot_at m.disks d ≡ Some slot) × Rose (s.faults slot) (t.faults slot)
 
 -- each disk of the set is attached, and its slot failed
 abbrev pub AreRisen : MountedGroup → ℕ → BayState → BayState → Type 0
-AreRisen m failed s t = (k : ℕ) → k < 64 → has_bit failed k ≡ true → RoseOn m k s t
+AreRisen m failed s t = (k : ℕ) → k < 64 → has_bit failed k ≡ true → RoseOnDisk m k s t
 
 -- the slots of all usable copies of an extent failed, and the disk is that of the first
 pub record IsFault (m : MountedGroup) (x : ExtentId) (inner : ℕ) (s t : BayState) (disk : ℕ) : Type 0 where
   pub all : AllFailed (places_at m x inner) s t
   pub first : first_disk (places_at m x inner) ≡ Some disk
-  pub rose : RoseOn m disk s t
+  pub rose : RoseOnDisk m disk s t

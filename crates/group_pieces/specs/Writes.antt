@@ -12,8 +12,8 @@ use Rattle.group_pieces.specs.Faults.{IsFault}
 use Rattle.group_pieces.specs.Usable.{AreNone, places_at}
 
 -- the disks of the places have numbers
-abbrev pub AreNumbered : List (Option Place) → Type 0
-AreNumbered places = (p : Place) → IsAmong places (Some p) → p.disk < 64
+abbrev pub ArePlacesNumbered : List (Option Place) → Type 0
+ArePlacesNumbered places = (p : Place) → IsAmong places (Some p) → p.disk < 64
 
 -- the disk of each place that is there is in the set
 abbrev pub have_failed : ℕ → List (Option Place) → Bool

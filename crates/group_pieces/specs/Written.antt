@@ -18,8 +18,8 @@ use Rattle.group_pieces.specs.Writes.{SomeTook}
 -- ---- the new copy of a move
 
 -- the place is on the disk of a home, at an inner byte of it
-abbrev pub IsAtHome : MountedGroup → Home → ℕ → Place → Type 0
-IsAtHome m h inner p = (p.disk ≡ h.disk) × (p.at ≡ h.unit * m.catalog.shape.au + inner)
+abbrev pub IsPlaceOfHome : MountedGroup → Home → ℕ → Place → Type 0
+IsPlaceOfHome m h inner p = (p.disk ≡ h.disk) × (p.at ≡ h.unit * m.catalog.shape.au + inner)
 
 -- the users' bytes among n from an inner byte of a home on
 abbrev pub HomeBytes : MountedGroup → Home → ℕ → ℕ → ℕ → ℕ → Type 0

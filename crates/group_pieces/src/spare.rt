@@ -7,11 +7,10 @@ ghost use Rattle.group_engine.specs.Mounts.{IsMounted, Takes};
 ghost use Rattle.group_engine.specs.Own.{KeepsGroup};
 ghost use Rattle.group_pieces.specs.Bytes.{WritesBytes};
 ghost use Rattle.group_pieces.specs.Spare.{IsRunAt, IsRunOf, OnDisk};
-ghost use Rattle.group_pieces.specs.Written.{HomeBytes, IsAtHome};
+ghost use Rattle.group_pieces.specs.Written.{HomeBytes, IsPlaceOfHome};
 
 use crate::copies::{Place, write_synced};
-use crate::usable::DISKS;
-use asm_base::Home;
+use asm_base::{Home, MOST_DISKS};
 use bay::{Bay, Fault};
 use group_engine::Mounted;
 
@@ -71,9 +70,9 @@ pub(crate) fn write_moved<B: Bay>(
 fn run_at(m: &Mounted, home: Home, inner: u64, len: u64) -> Option<Place>
     requires { inner < 2 ^ 32 }
     ensures run { IfSome result (IsRunAt m.now len) }
-    ensures at { IfSome result (IsAtHome m.now home inner) }
+    ensures at { IfSome result (IsPlaceOfHome m.now home inner) }
 {
-    if home.disk >= DISKS {
+    if home.disk >= MOST_DISKS {
         return None;
     }
     let slot = m.slot(home.disk)?;

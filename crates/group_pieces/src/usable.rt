@@ -6,13 +6,10 @@ ghost use Rattle.catalog_tables.specs.Rules.{are_on_disks};
 ghost use Rattle.group_pieces.specs.Usable.{IsLost, at_home, extent_of, first_disk, on_disk, place_at, places_at, places_in};
 
 use crate::copies::Place;
-use asm_base::{DiskSet, ExtentId, Home, Homes};
+use asm_base::{DiskSet, ExtentId, Home, Homes, MOST_DISKS};
 use extent_copies::Extent;
 use group_engine::Mounted;
 use striping::units_of;
-
-/// How many disk numbers a group has.
-pub(crate) const DISKS: u8 = 64;
 
 /// The extent as the tables have it, with the numbers of three copies.
 pub(crate) fn extent_of(m: &Mounted, x: ExtentId) -> Extent
@@ -80,7 +77,7 @@ pub(crate) fn place(m: &Mounted, extent: &Extent, copy: u8, inner: u64) -> Optio
     ensures { result ≡ place_at m.now extent.now inner copy }
 {
     let home = extent.home(copy)?;
-    if home.disk >= DISKS {
+    if home.disk >= MOST_DISKS {
         return None;
     }
     let alone = DiskSet::empty().with(home.disk);

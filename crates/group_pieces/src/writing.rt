@@ -9,7 +9,7 @@ ghost use Rattle.group_pieces.specs.Failing.{AreServing};
 ghost use Rattle.group_pieces.specs.Faults.{AreRisen};
 ghost use Rattle.group_pieces.specs.Held.{WritesHeld};
 ghost use Rattle.group_pieces.specs.Usable.{AreNone, FitsExtent, places_at};
-ghost use Rattle.group_pieces.specs.Writes.{AreNumbered, IsWriteCause, SomeTook, have_failed};
+ghost use Rattle.group_pieces.specs.Writes.{ArePlacesNumbered, IsWriteCause, SomeTook, have_failed};
 
 use crate::copies::{Place, write_copies};
 use crate::usable::{first_disk, usable_copies};
@@ -65,7 +65,7 @@ pub fn write_usable<B: Bay>(
 
 /// Whether the disk of each place that is there is in the set.
 fn have_failed(places: &[Option<Place>], failed: DiskSet) -> bool
-    requires { AreNumbered places.now }
+    requires { ArePlacesNumbered places.now }
     ensures { result ≡ have_failed failed places.now }
 {
     let [first, rest @ ..] = places else {

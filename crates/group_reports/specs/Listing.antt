@@ -93,9 +93,9 @@ abbrev pub list_refusal : Tables → List Bytes → Option Refusal
 list_refusal t parts = if has_star (last_part parts) then refusal_in (directory_in t (node_named t (up parts))) else if_missing (node_named t parts)
 
 -- Want of memory is free, and any other refusal is this one.
-abbrev pub IsRefusedAs : Option Refusal → Refusal → Type 0
-IsRefusedAs due cause.NoMemory = ⊤
-IsRefusedAs due refusal = due ≡ Some refusal
+abbrev pub IsDueRefusal : Option Refusal → Refusal → Type 0
+IsDueRefusal due cause.NoMemory = ⊤
+IsDueRefusal due refusal = due ≡ Some refusal
 
 abbrev pub IsListCause : Tables → List Bytes → Refusal → Type 0
-IsListCause t parts refusal = IsRefusedAs (list_refusal t parts) refusal
+IsListCause t parts refusal = IsDueRefusal (list_refusal t parts) refusal

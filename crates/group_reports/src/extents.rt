@@ -10,7 +10,7 @@ use extent_copies::Extent;
 use extent_map::has_home;
 
 /// The extent of a file with so many copies that has these homes, where it is there.
-pub(crate) fn extent_there(
+pub fn extent_there(
     catalog: &Catalog,
     file: u32,
     copies: u8,

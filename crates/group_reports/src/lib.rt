@@ -19,6 +19,7 @@ pub use attributes::attribute_rows;
 pub use checking::{Checked, check, first_lost};
 pub use disks::{GroupTotals, group_totals};
 pub use expiry::{expiring, is_moving, syncing};
+pub use extents::extent_there;
 pub use listing::{directory_row, path_to, row_at, rows_listed, rows_under};
 pub use places::{directory_at, is_directory, path_at};
 pub use rows::{disk_name, disk_rows, dismounted_row, group_row, template_rows};

@@ -7,7 +7,7 @@ ghost use Rattle.asm_group.specs.TreeEdits.{last_part, up};
 ghost use Rattle.asm_world.specs.Listings.{has_star};
 ghost use Rattle.asm_world.specs.Reports.{AliasName, Directory, SystemName};
 ghost use Rattle.asmcmd.specs.Texts.{listed_row};
-ghost use Rattle.group_reports.specs.Listing.{AreRowsAt, AreRowsIn, AreRowsOf, AreRowsUnder, IsListCause, IsRefusedAs, if_missing, listed, node_row, path_to, refusal_in, row_at, rows_at, star};
+ghost use Rattle.group_reports.specs.Listing.{AreRowsAt, AreRowsIn, AreRowsOf, AreRowsUnder, IsListCause, IsDueRefusal, if_missing, listed, node_row, path_to, refusal_in, row_at, rows_at, star};
 ghost use Rattle.group_reports.specs.Places.{directory_in, node_named};
 
 use crate::places::{directory_in, is_directory, node_named, path_at};
@@ -69,7 +69,7 @@ fn rows_matching(
     pattern: &[u8],
 ) -> Result<Vec<LsRow>, Refusal>
     ensures rows { IfOk result (λ rows. AreRowsIn catalog.now.tables group.now pattern.now (directory_in catalog.now.tables (node_named catalog.now.tables above.now)) rows.items) }
-    ensures cause { IfErr result (IsRefusedAs (refusal_in (directory_in catalog.now.tables (node_named catalog.now.tables above.now)))) }
+    ensures cause { IfErr result (IsDueRefusal (refusal_in (directory_in catalog.now.tables (node_named catalog.now.tables above.now)))) }
 {
     let node = node_named(alloc, group, catalog, above).map_err(no_memory)?;
     let directory = directory_in(catalog, node)?;
@@ -84,7 +84,7 @@ fn rows_named(
     parts: &[Text],
 ) -> Result<Vec<LsRow>, Refusal>
     ensures rows { IfOk result (λ rows. IsSomeAnd (node_named catalog.now.tables parts.now) (λ n. AreRowsOf catalog.now.tables group.now n rows.items)) }
-    ensures cause { IfErr result (IsRefusedAs (if_missing (node_named catalog.now.tables parts.now))) }
+    ensures cause { IfErr result (IsDueRefusal (if_missing (node_named catalog.now.tables parts.now))) }
 {
     let Some(node) = node_named(alloc, group, catalog, parts).map_err(no_memory)? else {
         return Err(Refusal::NoName);

@@ -10,7 +10,7 @@ use Rattle.asm_group.specs.Names.{Bytes}
 use Rattle.asm_world.specs.Grammar as g
 use Rattle.asm_world.specs.Meaning.{Says, statement_of}
 use Rattle.asm_world.specs.Statement as s
-use Rattle.group_sql.specs.Answers.{asked, IsRead}
+use Rattle.group_sql.specs.Answers.{asked, IsStatementRead}
 use Rattle.group_sql.specs.Said.{statement_said}
 use Rattle.group_sql.specs.declared.reading.ReadError.{ReadError}
 use Rattle.group_sql.specs.declared.statement.Statement.{Statement}
@@ -65,6 +65,6 @@ pub ended_err : (text : List ℕ) (left : ℕ) → ended_at text (length text) �
 unfolding asked
 ended_err text left e = finish_err statement_of g.semicolon (length text) (parse g.statement text (length text)) left (ended_is text (length text) ∙ e)
 
-pub only_result : (r : Result Statement ReadError) (text : Bytes) → IsRead r text → IfOk r (λ x. (t : s.Statement) → Says text t → t ≡ statement_said x)
+pub only_result : (r : Result Statement ReadError) (text : Bytes) → IsStatementRead r text → IfOk r (λ x. (t : s.Statement) → Says text t → t ≡ statement_said x)
 only_result (Ok x) text e = λ t says. only text (statement_said x) t e says
 only_result (Err e) text k = tt

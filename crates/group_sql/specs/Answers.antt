@@ -16,12 +16,12 @@ unfoldable pub asked : Bytes → Result s.Statement ℕ
 asked text = result_of statement_of (whole g.statement g.semicolon text)
 
 -- What reading by the grammar of statements gives, unless memory was wanted.
-abbrev pub IsRead : Result Statement ReadError → Bytes → Type 0
-IsRead (Ok x) text = asked text ≡ Ok (statement_said x)
-IsRead (Err (Syntax at)) text = asked text ≡ Err at
-IsRead (Err NoMemory) text = Unit {0}
+abbrev pub IsStatementRead : Result Statement ReadError → Bytes → Type 0
+IsStatementRead (Ok x) text = asked text ≡ Ok (statement_said x)
+IsStatementRead (Err (Syntax at)) text = asked text ≡ Err at
+IsStatementRead (Err NoMemory) text = Unit {0}
 
 -- The text says no statement, and so many of its bytes, and no more, begin one.
-abbrev pub IsRefused : ReadError → Bytes → Type 0
-IsRefused (Syntax at) text = IsLongestFront g.statement 59 text at × ((x : s.Statement) → Says text x → ⊥)
-IsRefused NoMemory text = Unit {0}
+abbrev pub IsTextRefused : ReadError → Bytes → Type 0
+IsTextRefused (Syntax at) text = IsLongestFront g.statement 59 text at × ((x : s.Statement) → Says text x → ⊥)
+IsTextRefused NoMemory text = Unit {0}

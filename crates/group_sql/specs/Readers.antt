@@ -7,10 +7,10 @@ use Rattle.asm_grammar.specs.declared.words.Place.{Place}
 use Rattle.asm_grammar.specs.declared.words.ReadError.{ReadError}
 
 -- What was returned, seen by view, and the place behind it are what reading gives.
-abbrev pub Gives : {X Y : Type 0} → (X → Y) → Result X ReadError → Place → Outcome Y → Type 0
-Gives view (Ok x) to read = read ≡ Took (view x) to.rest.now to.left
-Gives view (Err e) to read = Refuses e read
+abbrev pub GivesPart : {X Y : Type 0} → (X → Y) → Result X ReadError → Place → Outcome Y → Type 0
+GivesPart view (Ok x) to read = read ≡ Took (view x) to.rest.now to.left
+GivesPart view (Err e) to read = Refuses e read
 
 -- A part that may be absent is always read.
-abbrev pub Finds : {A : Type 0} → A → Place → Outcome A → Type 0
-Finds value to read = read ≡ Took value to.rest.now to.left
+abbrev pub FindsPart : {A : Type 0} → A → Place → Outcome A → Type 0
+FindsPart value to read = read ≡ Took value to.rest.now to.left

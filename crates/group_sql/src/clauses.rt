@@ -1,7 +1,7 @@
 //! The clauses of ALTER DISKGROUP.
 
 ghost use Rattle.group_sql.specs.Choices.{added_at, added_disks_at, check_at, clause_at, drop_disks_at, drop_failgroup_at, dropped_at, last_clause_at, later_clause_at, modified_at, offline_at, online_at, other_added_at, paths_at, renamed_at, resize_at, resized_at, set_at};
-ghost use Rattle.group_sql.specs.Readers.{Finds, Gives};
+ghost use Rattle.group_sql.specs.Readers.{FindsPart, GivesPart};
 ghost use Rattle.asm_grammar.specs.Reads.{reads};
 ghost use Rattle.group_sql.specs.Said.{clause_said};
 
@@ -22,7 +22,7 @@ fn two_paths<'a>(
     between: &[u8],
     place: &mut Place<'a>,
 ) -> Result<(Text, Text), ReadError>
-    ensures { Gives (λ p. p) result place.new (paths_at between.now place.old.rest.now place.old.left) }
+    ensures { GivesPart (λ p. p) result place.new (paths_at between.now place.old.rest.now place.old.left) }
 {
     let first = read_text(alloc, place)?;
     expect(place, between)?;
@@ -37,7 +37,7 @@ fn added_disks<'a>(
     first: NewFailgroup,
     place: &mut Place<'a>,
 ) -> Result<Clause, ReadError>
-    ensures { Gives clause_said result place.new (added_disks_at first place.old.rest.now place.old.left) }
+    ensures { GivesPart clause_said result place.new (added_disks_at first place.old.rest.now place.old.left) }
 {
     let groups = failgroups_behind(alloc, first, place)?;
     let rebalance = rebalance(place)?;
@@ -47,7 +47,7 @@ fn added_disks<'a>(
 /// A template, a directory or an alias that is added.
 #[tactic(auto, unfolding(crate::specs::Choices::other_added_at))]
 fn other_added<'a>(alloc: Global, place: &mut Place<'a>) -> Result<Clause, ReadError>
-    ensures { Gives clause_said result place.new (other_added_at place.old.rest.now place.old.left) }
+    ensures { GivesPart clause_said result place.new (other_added_at place.old.rest.now place.old.left) }
 {
     if takes(place, b"TEMPLATE") {
         let (name, words) = template(alloc, place)?;
@@ -65,7 +65,7 @@ fn other_added<'a>(alloc: Global, place: &mut Place<'a>) -> Result<Clause, ReadE
 /// What stands behind ADD.
 #[tactic(auto, using(crate::proofs::Groups::added_is, crate::proofs::Groups::bad_added, crate::proofs::Groups::other_is))]
 fn added<'a>(alloc: Global, place: &mut Place<'a>) -> Result<Clause, ReadError>
-    ensures { Gives clause_said result place.new (added_at place.old.rest.now place.old.left) }
+    ensures { GivesPart clause_said result place.new (added_at place.old.rest.now place.old.left) }
 {
     match try_failgroup(alloc, place)? {
         Some(first) => added_disks(alloc, first, place),
@@ -76,7 +76,7 @@ fn added<'a>(alloc: Global, place: &mut Place<'a>) -> Result<Clause, ReadError>
 /// What stands behind DROP DISK.
 #[tactic(auto, unfolding(crate::specs::Choices::drop_disks_at, crate::specs::Choices::rebalance_at))]
 fn drop_disks<'a>(alloc: Global, place: &mut Place<'a>) -> Result<Clause, ReadError>
-    ensures { Gives clause_said result place.new (drop_disks_at place.old.rest.now place.old.left) }
+    ensures { GivesPart clause_said result place.new (drop_disks_at place.old.rest.now place.old.left) }
 {
     let disks = read_drops(alloc, place)?;
     let rebalance = rebalance(place)?;
@@ -86,7 +86,7 @@ fn drop_disks<'a>(alloc: Global, place: &mut Place<'a>) -> Result<Clause, ReadEr
 /// What stands behind DROP DISKS.
 #[tactic(auto, unfolding(crate::specs::Choices::drop_failgroup_at))]
 fn drop_failgroup<'a>(alloc: Global, place: &mut Place<'a>) -> Result<Clause, ReadError>
-    ensures { Gives clause_said result place.new (drop_failgroup_at place.old.rest.now place.old.left) }
+    ensures { GivesPart clause_said result place.new (drop_failgroup_at place.old.rest.now place.old.left) }
 {
     let (kind, name) = in_failgroup(alloc, place)?;
     let force = is_forced(place);
@@ -102,7 +102,7 @@ fn drop_failgroup<'a>(alloc: Global, place: &mut Place<'a>) -> Result<Clause, Re
 /// What stands behind DROP.
 #[tactic(auto, unfolding(crate::specs::Choices::dropped_at))]
 fn dropped<'a>(alloc: Global, place: &mut Place<'a>) -> Result<Clause, ReadError>
-    ensures { Gives clause_said result place.new (dropped_at place.old.rest.now place.old.left) }
+    ensures { GivesPart clause_said result place.new (dropped_at place.old.rest.now place.old.left) }
 {
     if takes(place, b"DISK") {
         return drop_disks(alloc, place);
@@ -130,7 +130,7 @@ fn dropped<'a>(alloc: Global, place: &mut Place<'a>) -> Result<Clause, ReadError
 /// A size and a rebalance, where they are said.
 #[tactic(auto, unfolding(crate::specs::Choices::resized_at))]
 fn resized<'a>(place: &mut Place<'a>) -> Result<(Option<u64>, Option<Rebalance>), ReadError>
-    ensures { Gives (λ r. r) result place.new (resized_at place.old.rest.now place.old.left) }
+    ensures { GivesPart (λ r. r) result place.new (resized_at place.old.rest.now place.old.left) }
 {
     let size = sized(place)?;
     let rebalance = rebalance(place)?;
@@ -140,7 +140,7 @@ fn resized<'a>(place: &mut Place<'a>) -> Result<(Option<u64>, Option<Rebalance>)
 /// What stands behind RESIZE.
 #[tactic(auto, unfolding(crate::specs::Choices::resize_at))]
 fn resize<'a>(alloc: Global, place: &mut Place<'a>) -> Result<Clause, ReadError>
-    ensures { Gives clause_said result place.new (resize_at place.old.rest.now place.old.left) }
+    ensures { GivesPart clause_said result place.new (resize_at place.old.rest.now place.old.left) }
 {
     if takes(place, b"ALL") {
         let (size, rebalance) = resized(place)?;
@@ -159,7 +159,7 @@ fn resize<'a>(alloc: Global, place: &mut Place<'a>) -> Result<Clause, ReadError>
 /// What stands behind CHECK, where REPAIR and NOREPAIR say the same.
 #[tactic(auto, unfolding(crate::specs::Choices::check_at))]
 fn check<'a>(place: &mut Place<'a>) -> Clause
-    ensures { Finds (clause_said result) place.new (check_at place.old.rest.now place.old.left) }
+    ensures { FindsPart (clause_said result) place.new (check_at place.old.rest.now place.old.left) }
 {
     if !takes(place, b"REPAIR") {
         takes(place, b"NOREPAIR");
@@ -170,7 +170,7 @@ fn check<'a>(place: &mut Place<'a>) -> Clause
 /// What stands behind ONLINE.
 #[tactic(auto, unfolding(crate::specs::Choices::online_at))]
 fn online<'a>(alloc: Global, place: &mut Place<'a>) -> Result<Clause, ReadError>
-    ensures { Gives clause_said result place.new (online_at place.old.rest.now place.old.left) }
+    ensures { GivesPart clause_said result place.new (online_at place.old.rest.now place.old.left) }
 {
     if takes(place, b"ALL") {
         let wait = is_waiting(place);
@@ -184,7 +184,7 @@ fn online<'a>(alloc: Global, place: &mut Place<'a>) -> Result<Clause, ReadError>
 /// What stands behind OFFLINE.
 #[tactic(auto, unfolding(crate::specs::Choices::offline_at))]
 fn offline<'a>(alloc: Global, place: &mut Place<'a>) -> Result<Clause, ReadError>
-    ensures { Gives clause_said result place.new (offline_at place.old.rest.now place.old.left) }
+    ensures { GivesPart clause_said result place.new (offline_at place.old.rest.now place.old.left) }
 {
     let disks = read_some_disks(alloc, place)?;
     let minutes = dropped_after(place)?;
@@ -194,7 +194,7 @@ fn offline<'a>(alloc: Global, place: &mut Place<'a>) -> Result<Clause, ReadError
 /// What stands behind MODIFY or ALTER.
 #[tactic(auto, unfolding(crate::specs::Choices::modified_at))]
 fn modified<'a>(alloc: Global, place: &mut Place<'a>) -> Result<Clause, ReadError>
-    ensures { Gives clause_said result place.new (modified_at place.old.rest.now place.old.left) }
+    ensures { GivesPart clause_said result place.new (modified_at place.old.rest.now place.old.left) }
 {
     expect(place, b"TEMPLATE")?;
     let (name, words) = template(alloc, place)?;
@@ -204,7 +204,7 @@ fn modified<'a>(alloc: Global, place: &mut Place<'a>) -> Result<Clause, ReadErro
 /// What stands behind RENAME.
 #[tactic(auto, unfolding(crate::specs::Choices::renamed_at, crate::specs::Choices::paths_at))]
 fn renamed<'a>(alloc: Global, place: &mut Place<'a>) -> Result<Clause, ReadError>
-    ensures { Gives clause_said result place.new (renamed_at place.old.rest.now place.old.left) }
+    ensures { GivesPart clause_said result place.new (renamed_at place.old.rest.now place.old.left) }
 {
     if takes(place, b"DIRECTORY") {
         let (old, new) = two_paths(alloc, b"TO", place)?;
@@ -218,7 +218,7 @@ fn renamed<'a>(alloc: Global, place: &mut Place<'a>) -> Result<Clause, ReadError
 /// What stands behind SET.
 #[tactic(auto, unfolding(crate::specs::Choices::set_at))]
 fn set<'a>(alloc: Global, place: &mut Place<'a>) -> Result<Clause, ReadError>
-    ensures { Gives clause_said result place.new (set_at place.old.rest.now place.old.left) }
+    ensures { GivesPart clause_said result place.new (set_at place.old.rest.now place.old.left) }
 {
     expect(place, b"ATTRIBUTE")?;
     let attribute = read_attribute(alloc, place)?;
@@ -228,7 +228,7 @@ fn set<'a>(alloc: Global, place: &mut Place<'a>) -> Result<Clause, ReadError>
 /// A clause from OFFLINE on.
 #[tactic(auto, unfolding(crate::specs::Choices::last_clause_at))]
 fn last_clause<'a>(alloc: Global, place: &mut Place<'a>) -> Result<Clause, ReadError>
-    ensures { Gives clause_said result place.new (last_clause_at place.old.rest.now place.old.left) }
+    ensures { GivesPart clause_said result place.new (last_clause_at place.old.rest.now place.old.left) }
 {
     if takes(place, b"OFFLINE") {
         return offline(alloc, place);
@@ -249,7 +249,7 @@ fn last_clause<'a>(alloc: Global, place: &mut Place<'a>) -> Result<Clause, ReadE
 /// A clause from CHECK on.
 #[tactic(auto, unfolding(crate::specs::Choices::later_clause_at))]
 fn later_clause<'a>(alloc: Global, place: &mut Place<'a>) -> Result<Clause, ReadError>
-    ensures { Gives clause_said result place.new (later_clause_at place.old.rest.now place.old.left) }
+    ensures { GivesPart clause_said result place.new (later_clause_at place.old.rest.now place.old.left) }
 {
     if takes(place, b"CHECK") {
         return Ok(check(place));
@@ -271,7 +271,7 @@ fn later_clause<'a>(alloc: Global, place: &mut Place<'a>) -> Result<Clause, Read
 /// A clause.
 #[tactic(auto, unfolding(crate::specs::Choices::clause_at))]
 pub fn read_clause<'a>(alloc: Global, place: &mut Place<'a>) -> Result<Clause, ReadError>
-    ensures { Gives clause_said result place.new (clause_at place.old.rest.now place.old.left) }
+    ensures { GivesPart clause_said result place.new (clause_at place.old.rest.now place.old.left) }
 {
     if takes(place, b"ADD") {
         return added(alloc, place);

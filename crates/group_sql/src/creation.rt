@@ -4,7 +4,7 @@ ghost use Rattle.asm_grammar.specs.Reads.{items_from, items_of, reads};
 ghost use Rattle.asm_world.specs.Grammar as g;
 ghost use Rattle.asm_world.specs.Meaning.{attribute_of, attributes_of};
 ghost use Rattle.group_sql.specs.Choices.{attributes_at, created_at, drop_group_at, groups_and_attributes_at, kind_at, new_disk_at, new_group_at};
-ghost use Rattle.group_sql.specs.Readers.{Finds, Gives};
+ghost use Rattle.group_sql.specs.Readers.{FindsPart, GivesPart};
 ghost use Rattle.group_sql.specs.Rows.{contents_of, maybe_contents};
 ghost use Rattle.group_sql.specs.Said.{statement_said};
 
@@ -17,7 +17,7 @@ use std::alloc::Global;
 
 /// An attribute's name and its value.
 pub fn read_attribute<'a>(alloc: Global, place: &mut Place<'a>) -> Result<Attribute, ReadError>
-    ensures { Gives (λ a. a) result place.new (reads g.attribute attribute_of place.old) }
+    ensures { GivesPart (λ a. a) result place.new (reads g.attribute attribute_of place.old) }
 {
     let name = read_text(alloc, place)?;
     expect_mark(place, b'=')?;
@@ -32,7 +32,7 @@ fn more_attributes<'a>(
     attributes: &mut List<Attribute>,
     place: &mut Place<'a>,
 ) -> Result<(), ReadError>
-    ensures { Gives (λ _. attributes.new) result place.new (items_from g.attribute attribute_of 44 attributes.old place.old.rest.now place.old.left) }
+    ensures { GivesPart (λ _. attributes.new) result place.new (items_from g.attribute attribute_of 44 attributes.old place.old.rest.now place.old.left) }
 {
     while takes_mark(place, b',') {
         let attribute = read_attribute(alloc, place)?;
@@ -44,7 +44,7 @@ fn more_attributes<'a>(
 /// An attribute, and others behind commas.
 #[tactic(auto, using(crate::proofs::Items::attributes_from))]
 fn listed_attributes<'a>(alloc: Global, place: &mut Place<'a>) -> Result<List<Attribute>, ReadError>
-    ensures { Gives (λ l. l) result place.new (reads (g.listed g.attribute) (λ v. items_of attribute_of v) place.old) }
+    ensures { GivesPart (λ l. l) result place.new (reads (g.listed g.attribute) (λ v. items_of attribute_of v) place.old) }
 {
     let mut attributes = List::new(alloc);
     let attribute = read_attribute(alloc, place)?;
@@ -56,7 +56,7 @@ fn listed_attributes<'a>(alloc: Global, place: &mut Place<'a>) -> Result<List<At
 /// ATTRIBUTE and a list of attributes, where it is said.
 #[tactic(auto, unfolding(crate::specs::Choices::attributes_at))]
 fn read_attributes<'a>(alloc: Global, place: &mut Place<'a>) -> Result<List<Attribute>, ReadError>
-    ensures { Gives (λ l. l) result place.new (attributes_at place.old.rest.now place.old.left) }
+    ensures { GivesPart (λ l. l) result place.new (attributes_at place.old.rest.now place.old.left) }
 {
     if !takes(place, b"ATTRIBUTE") {
         return Ok(List::new(alloc));
@@ -67,7 +67,7 @@ fn read_attributes<'a>(alloc: Global, place: &mut Place<'a>) -> Result<List<Attr
 /// The kind of a group and REDUNDANCY, where they are said.
 #[tactic(auto, unfolding(crate::specs::Choices::kind_at))]
 fn group_kind<'a>(place: &mut Place<'a>) -> Result<Option<GroupKind>, ReadError>
-    ensures { Gives (λ k. k) result place.new (kind_at place.old.rest.now place.old.left) }
+    ensures { GivesPart (λ k. k) result place.new (kind_at place.old.rest.now place.old.left) }
 {
     let kind = if takes(place, b"EXTERNAL") {
         GroupKind::External
@@ -88,7 +88,7 @@ fn groups_and_attributes<'a>(
     alloc: Global,
     place: &mut Place<'a>,
 ) -> Result<(List<NewFailgroup>, List<Attribute>), ReadError>
-    ensures { Gives (λ p. p) result place.new (groups_and_attributes_at place.old.rest.now place.old.left) }
+    ensures { GivesPart (λ p. p) result place.new (groups_and_attributes_at place.old.rest.now place.old.left) }
 {
     let groups = read_failgroups(alloc, place)?;
     let attributes = read_attributes(alloc, place)?;
@@ -98,7 +98,7 @@ fn groups_and_attributes<'a>(
 /// What stands behind CREATE DISKGROUP.
 #[tactic(auto, unfolding(crate::specs::Choices::new_group_at))]
 fn create_group<'a>(alloc: Global, place: &mut Place<'a>) -> Result<Statement, ReadError>
-    ensures { Gives statement_said result place.new (new_group_at place.old.rest.now place.old.left) }
+    ensures { GivesPart statement_said result place.new (new_group_at place.old.rest.now place.old.left) }
 {
     let name = read_name(alloc, place)?;
     let kind = group_kind(place)?;
@@ -114,7 +114,7 @@ fn create_group<'a>(alloc: Global, place: &mut Place<'a>) -> Result<Statement, R
 /// What stands behind CREATE DISK.
 #[tactic(auto, unfolding(crate::specs::Choices::new_disk_at))]
 fn create_disk<'a>(alloc: Global, place: &mut Place<'a>) -> Result<Statement, ReadError>
-    ensures { Gives statement_said result place.new (new_disk_at place.old.rest.now place.old.left) }
+    ensures { GivesPart statement_said result place.new (new_disk_at place.old.rest.now place.old.left) }
 {
     let path = read_text(alloc, place)?;
     expect(place, b"SIZE")?;
@@ -125,7 +125,7 @@ fn create_disk<'a>(alloc: Global, place: &mut Place<'a>) -> Result<Statement, Re
 /// What stands behind CREATE.
 #[tactic(auto, unfolding(crate::specs::Choices::created_at))]
 pub fn created<'a>(alloc: Global, place: &mut Place<'a>) -> Result<Statement, ReadError>
-    ensures { Gives statement_said result place.new (created_at place.old.rest.now place.old.left) }
+    ensures { GivesPart statement_said result place.new (created_at place.old.rest.now place.old.left) }
 {
     if takes(place, b"DISK") {
         return create_disk(alloc, place);
@@ -136,7 +136,7 @@ pub fn created<'a>(alloc: Global, place: &mut Place<'a>) -> Result<Statement, Re
 
 /// Whether INCLUDING CONTENTS is said, where it or EXCLUDING CONTENTS may stand.
 fn with_contents<'a>(place: &mut Place<'a>) -> Result<bool, ReadError>
-    ensures { Gives (λ c. c) result place.new (reads maybe_contents contents_of place.old) }
+    ensures { GivesPart (λ c. c) result place.new (reads maybe_contents contents_of place.old) }
 {
     let contents = if takes(place, b"INCLUDING") {
         true
@@ -152,7 +152,7 @@ fn with_contents<'a>(place: &mut Place<'a>) -> Result<bool, ReadError>
 /// What stands behind DROP.
 #[tactic(auto, unfolding(crate::specs::Choices::drop_group_at))]
 pub fn drop_group<'a>(alloc: Global, place: &mut Place<'a>) -> Result<Statement, ReadError>
-    ensures { Gives statement_said result place.new (drop_group_at place.old.rest.now place.old.left) }
+    ensures { GivesPart statement_said result place.new (drop_group_at place.old.rest.now place.old.left) }
 {
     expect(place, b"DISKGROUP")?;
     let name = read_name(alloc, place)?;

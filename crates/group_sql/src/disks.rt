@@ -6,7 +6,7 @@ ghost use Rattle.asm_grammar.specs.Syntax.{Maybe};
 ghost use Rattle.asm_world.specs.Grammar as g;
 ghost use Rattle.asm_world.specs.Meaning.{behind, disk_of, dropped_of, failgroups_of, some_disks_of};
 ghost use Rattle.group_sql.specs.Choices.{group_at, groups_after, groups_at, in_group_at};
-ghost use Rattle.group_sql.specs.Readers.{Gives};
+ghost use Rattle.group_sql.specs.Readers.{GivesPart};
 ghost use Rattle.group_sql.specs.Rows.{disks_in, dropped_disk, group_and_disks, group_name_and_disks, maybe_name, named_in};
 ghost use Rattle.group_sql.specs.Said.{disks_said, kind_and_name};
 
@@ -24,7 +24,7 @@ fn more_names<'a>(
     names: &mut List<Name>,
     place: &mut Place<'a>,
 ) -> Result<(), ReadError>
-    ensures { Gives (λ _. names.new) result place.new (items_from g.name (λ n. n) 44 names.old place.old.rest.now place.old.left) }
+    ensures { GivesPart (λ _. names.new) result place.new (items_from g.name (λ n. n) 44 names.old place.old.rest.now place.old.left) }
 {
     while takes_mark(place, b',') {
         let name = read_name(alloc, place)?;
@@ -36,7 +36,7 @@ fn more_names<'a>(
 /// A name, and others behind commas.
 #[tactic(auto, using(crate::proofs::Items::names_from))]
 pub fn read_names<'a>(alloc: Global, place: &mut Place<'a>) -> Result<List<Name>, ReadError>
-    ensures { Gives (λ ns. ns) result place.new (reads (g.listed g.name) (λ v. items_of (λ n. n) v) place.old) }
+    ensures { GivesPart (λ ns. ns) result place.new (reads (g.listed g.name) (λ v. items_of (λ n. n) v) place.old) }
 {
     let mut names = List::new(alloc);
     let name = read_name(alloc, place)?;
@@ -47,7 +47,7 @@ pub fn read_names<'a>(alloc: Global, place: &mut Place<'a>) -> Result<List<Name>
 
 #[tactic(auto, unfolding(crate::specs::Choices::forced_at))]
 fn read_dropped<'a>(alloc: Global, place: &mut Place<'a>) -> Result<DroppedDisk, ReadError>
-    ensures { Gives (λ d. d) result place.new (reads dropped_disk dropped_of place.old) }
+    ensures { GivesPart (λ d. d) result place.new (reads dropped_disk dropped_of place.old) }
 {
     let name = read_name(alloc, place)?;
     let force = is_forced(place);
@@ -61,7 +61,7 @@ fn more_drops<'a>(
     disks: &mut List<DroppedDisk>,
     place: &mut Place<'a>,
 ) -> Result<(), ReadError>
-    ensures { Gives (λ _. disks.new) result place.new (items_from dropped_disk dropped_of 44 disks.old place.old.rest.now place.old.left) }
+    ensures { GivesPart (λ _. disks.new) result place.new (items_from dropped_disk dropped_of 44 disks.old place.old.rest.now place.old.left) }
 {
     while takes_mark(place, b',') {
         let disk = read_dropped(alloc, place)?;
@@ -73,7 +73,7 @@ fn more_drops<'a>(
 /// A disk that is dropped, and others behind commas.
 #[tactic(auto, using(crate::proofs::Items::drops_from))]
 pub fn read_drops<'a>(alloc: Global, place: &mut Place<'a>) -> Result<List<DroppedDisk>, ReadError>
-    ensures { Gives (λ ds. ds) result place.new (reads (g.listed dropped_disk) (λ v. items_of dropped_of v) place.old) }
+    ensures { GivesPart (λ ds. ds) result place.new (reads (g.listed dropped_disk) (λ v. items_of dropped_of v) place.old) }
 {
     let mut disks = List::new(alloc);
     let disk = read_dropped(alloc, place)?;
@@ -84,7 +84,7 @@ pub fn read_drops<'a>(alloc: Global, place: &mut Place<'a>) -> Result<List<Dropp
 
 /// NAME and a name, where it is said.
 fn named<'a>(alloc: Global, place: &mut Place<'a>) -> Result<Option<Name>, ReadError>
-    ensures { Gives (λ n. n) result place.new (reads maybe_name behind place.old) }
+    ensures { GivesPart (λ n. n) result place.new (reads maybe_name behind place.old) }
 {
     if !takes(place, b"NAME") {
         return Ok(None);
@@ -96,7 +96,7 @@ fn named<'a>(alloc: Global, place: &mut Place<'a>) -> Result<Option<Name>, ReadE
 /// A disk's path and its options.
 #[tactic(auto, unfolding(crate::specs::Choices::forced_at, crate::specs::Choices::size_at))]
 fn read_disk<'a>(alloc: Global, place: &mut Place<'a>) -> Result<NewDisk, ReadError>
-    ensures { Gives (λ d. d) result place.new (reads g.disk disk_of place.old) }
+    ensures { GivesPart (λ d. d) result place.new (reads g.disk disk_of place.old) }
 {
     let path = read_text(alloc, place)?;
     let name = named(alloc, place)?;
@@ -117,7 +117,7 @@ fn more_disks<'a>(
     disks: &mut List<NewDisk>,
     place: &mut Place<'a>,
 ) -> Result<(), ReadError>
-    ensures { Gives (λ _. disks.new) result place.new (items_from g.disk disk_of 44 disks.old place.old.rest.now place.old.left) }
+    ensures { GivesPart (λ _. disks.new) result place.new (items_from g.disk disk_of 44 disks.old place.old.rest.now place.old.left) }
 {
     while takes_mark(place, b',') {
         let disk = read_disk(alloc, place)?;
@@ -129,7 +129,7 @@ fn more_disks<'a>(
 /// A disk, and others behind commas.
 #[tactic(auto, using(crate::proofs::Items::disks_from))]
 fn read_disks<'a>(alloc: Global, place: &mut Place<'a>) -> Result<List<NewDisk>, ReadError>
-    ensures { Gives (λ ds. ds) result place.new (reads (g.listed g.disk) (λ v. items_of disk_of v) place.old) }
+    ensures { GivesPart (λ ds. ds) result place.new (reads (g.listed g.disk) (λ v. items_of disk_of v) place.old) }
 {
     let mut disks = List::new(alloc);
     let disk = read_disk(alloc, place)?;
@@ -144,7 +144,7 @@ fn disks_of_group<'a>(
     quorum: bool,
     place: &mut Place<'a>,
 ) -> Result<NewFailgroup, ReadError>
-    ensures { Gives (λ f. f) result place.new (reads group_name_and_disks (named_in quorum) place.old) }
+    ensures { GivesPart (λ f. f) result place.new (reads group_name_and_disks (named_in quorum) place.old) }
 {
     let name = read_name(alloc, place)?;
     expect(place, b"DISK")?;
@@ -162,7 +162,7 @@ fn disks_behind_kind<'a>(
     quorum: bool,
     place: &mut Place<'a>,
 ) -> Result<NewFailgroup, ReadError>
-    ensures { Gives (λ f. f) result place.new (reads group_and_disks (disks_in quorum) place.old) }
+    ensures { GivesPart (λ f. f) result place.new (reads group_and_disks (disks_in quorum) place.old) }
 {
     if takes(place, b"FAILGROUP") {
         return disks_of_group(alloc, quorum, place);
@@ -182,7 +182,7 @@ pub fn try_failgroup<'a>(
     alloc: Global,
     place: &mut Place<'a>,
 ) -> Result<Option<NewFailgroup>, ReadError>
-    ensures { Gives (λ f. f) result place.new (group_at place.old.rest.now place.old.left) }
+    ensures { GivesPart (λ f. f) result place.new (group_at place.old.rest.now place.old.left) }
 {
     if takes(place, b"QUORUM") {
         let group = disks_behind_kind(alloc, true, place)?;
@@ -214,7 +214,7 @@ fn more_failgroups<'a>(
     groups: &mut List<NewFailgroup>,
     place: &mut Place<'a>,
 ) -> Result<(), ReadError>
-    ensures { Gives (λ _. groups.new) result place.new (groups_after groups.old place.old.rest.now place.old.left) }
+    ensures { GivesPart (λ _. groups.new) result place.new (groups_after groups.old place.old.rest.now place.old.left) }
 {
     while let Some(group) = try_failgroup(alloc, place)? {
         push(groups, group)?;
@@ -228,7 +228,7 @@ pub fn failgroups_behind<'a>(
     first: NewFailgroup,
     place: &mut Place<'a>,
 ) -> Result<List<NewFailgroup>, ReadError>
-    ensures { Gives (λ fs. fs) result place.new (groups_after (first ∷ []) place.old.rest.now place.old.left) }
+    ensures { GivesPart (λ fs. fs) result place.new (groups_after (first ∷ []) place.old.rest.now place.old.left) }
 {
     let mut groups = List::new(alloc);
     push(&mut groups, first)?;
@@ -242,7 +242,7 @@ pub fn read_failgroups<'a>(
     alloc: Global,
     place: &mut Place<'a>,
 ) -> Result<List<NewFailgroup>, ReadError>
-    ensures { Gives (λ fs. fs) result place.new (groups_at place.old.rest.now place.old.left) }
+    ensures { GivesPart (λ fs. fs) result place.new (groups_at place.old.rest.now place.old.left) }
 {
     let Some(first) = try_failgroup(alloc, place)? else {
         return Err(ReadError::Syntax { left: place.left });
@@ -256,7 +256,7 @@ pub fn in_failgroup<'a>(
     alloc: Global,
     place: &mut Place<'a>,
 ) -> Result<(Option<FailgroupKind>, Name), ReadError>
-    ensures { Gives kind_and_name result place.new (in_group_at place.old.rest.now place.old.left) }
+    ensures { GivesPart kind_and_name result place.new (in_group_at place.old.rest.now place.old.left) }
 {
     expect(place, b"IN")?;
     let kind = failgroup_kind(place);
@@ -268,7 +268,7 @@ pub fn in_failgroup<'a>(
 /// Disks by their names, or those of a failure group.
 #[tactic(auto, unfolding(crate::specs::Choices::in_group_at))]
 pub fn read_some_disks<'a>(alloc: Global, place: &mut Place<'a>) -> Result<Disks, ReadError>
-    ensures { Gives disks_said result place.new (reads g.some_disks some_disks_of place.old) }
+    ensures { GivesPart disks_said result place.new (reads g.some_disks some_disks_of place.old) }
 {
     if takes(place, b"DISK") {
         let names = read_names(alloc, place)?;

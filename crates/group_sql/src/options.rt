@@ -4,7 +4,7 @@ ghost use Rattle.asm_grammar.specs.Syntax.{Maybe};
 ghost use Rattle.asm_world.specs.Grammar as g;
 ghost use Rattle.asm_world.specs.Meaning.{after_of, behind, is_said};
 ghost use Rattle.group_sql.specs.Choices.{forced_at, options_at, rebalance_at, size_at};
-ghost use Rattle.group_sql.specs.Readers.{Finds, Gives};
+ghost use Rattle.group_sql.specs.Readers.{FindsPart, GivesPart};
 ghost use Rattle.asm_grammar.specs.Reads.{reads};
 ghost use Rattle.group_sql.specs.Rows.{maybe_after, maybe_kind_of, maybe_power};
 ghost use Rattle.group_sql.specs.Said.{maybe_kind_said};
@@ -16,7 +16,7 @@ use asm_grammar::{Place, ReadError};
 /// Whether FORCE is said, where FORCE or NOFORCE may stand.
 #[tactic(auto, unfolding(crate::specs::Choices::forced_at))]
 pub fn is_forced<'a>(place: &mut Place<'a>) -> bool
-    ensures { Finds result place.new (forced_at place.old.rest.now place.old.left) }
+    ensures { FindsPart result place.new (forced_at place.old.rest.now place.old.left) }
 {
     if takes(place, b"FORCE") {
         return true;
@@ -27,7 +27,7 @@ pub fn is_forced<'a>(place: &mut Place<'a>) -> bool
 
 /// Whether WAIT is said, where WAIT or NOWAIT may stand.
 pub fn is_waiting<'a>(place: &mut Place<'a>) -> bool
-    ensures { Finds result place.new (reads g.waiting is_said place.old) }
+    ensures { FindsPart result place.new (reads g.waiting is_said place.old) }
 {
     if takes(place, b"WAIT") {
         return true;
@@ -38,7 +38,7 @@ pub fn is_waiting<'a>(place: &mut Place<'a>) -> bool
 
 /// The kind of a failure group, where one is said.
 pub fn failgroup_kind<'a>(place: &mut Place<'a>) -> Option<FailgroupKind>
-    ensures { Finds (maybe_kind_said result) place.new (reads (Maybe g.group_word) maybe_kind_of place.old) }
+    ensures { FindsPart (maybe_kind_said result) place.new (reads (Maybe g.group_word) maybe_kind_of place.old) }
 {
     if takes(place, b"QUORUM") {
         return Some(FailgroupKind::Quorum);
@@ -52,7 +52,7 @@ pub fn failgroup_kind<'a>(place: &mut Place<'a>) -> Option<FailgroupKind>
 /// SIZE and a size, where it is said.
 #[tactic(auto, unfolding(crate::specs::Choices::size_at))]
 pub fn sized<'a>(place: &mut Place<'a>) -> Result<Option<u64>, ReadError>
-    ensures { Gives (λ n. n) result place.new (size_at place.old.rest.now place.old.left) }
+    ensures { GivesPart (λ n. n) result place.new (size_at place.old.rest.now place.old.left) }
 {
     if !takes(place, b"SIZE") {
         return Ok(None);
@@ -63,7 +63,7 @@ pub fn sized<'a>(place: &mut Place<'a>) -> Result<Option<u64>, ReadError>
 
 /// DROP AFTER and a time, where it is said.
 pub fn dropped_after<'a>(place: &mut Place<'a>) -> Result<Option<u64>, ReadError>
-    ensures { Gives (λ n. n) result place.new (reads maybe_after after_of place.old) }
+    ensures { GivesPart (λ n. n) result place.new (reads maybe_after after_of place.old) }
 {
     if !takes(place, b"DROP") {
         return Ok(None);
@@ -75,7 +75,7 @@ pub fn dropped_after<'a>(place: &mut Place<'a>) -> Result<Option<u64>, ReadError
 
 /// POWER and a number, where it is said.
 fn power<'a>(place: &mut Place<'a>) -> Result<Option<u64>, ReadError>
-    ensures { Gives (λ n. n) result place.new (reads maybe_power behind place.old) }
+    ensures { GivesPart (λ n. n) result place.new (reads maybe_power behind place.old) }
 {
     if !takes(place, b"POWER") {
         return Ok(None);
@@ -87,7 +87,7 @@ fn power<'a>(place: &mut Place<'a>) -> Result<Option<u64>, ReadError>
 /// What stands behind REBALANCE.
 #[tactic(auto, unfolding(crate::specs::Choices::options_at))]
 pub fn rebalance_options<'a>(place: &mut Place<'a>) -> Result<Rebalance, ReadError>
-    ensures { Gives (λ r. r) result place.new (options_at place.old.rest.now place.old.left) }
+    ensures { GivesPart (λ r. r) result place.new (options_at place.old.rest.now place.old.left) }
 {
     let power = power(place)?;
     let wait = is_waiting(place);
@@ -97,7 +97,7 @@ pub fn rebalance_options<'a>(place: &mut Place<'a>) -> Result<Rebalance, ReadErr
 /// REBALANCE with its options, where it is said.
 #[tactic(auto, unfolding(crate::specs::Choices::rebalance_at, crate::specs::Choices::options_at))]
 pub fn rebalance<'a>(place: &mut Place<'a>) -> Result<Option<Rebalance>, ReadError>
-    ensures { Gives (λ r. r) result place.new (rebalance_at place.old.rest.now place.old.left) }
+    ensures { GivesPart (λ r. r) result place.new (rebalance_at place.old.rest.now place.old.left) }
 {
     if !takes(place, b"REBALANCE") {
         return Ok(None);

@@ -3,9 +3,9 @@
 ghost use Rattle.std.specs.Prelude.{◌≡◌, IfOk, IfErr};
 ghost use Rattle.asm_world.specs.Meaning.{Says};
 ghost use Rattle.asm_world.specs.Statement as s;
-ghost use Rattle.group_sql.specs.Answers.{IsRead, IsRefused};
+ghost use Rattle.group_sql.specs.Answers.{IsStatementRead, IsTextRefused};
 ghost use Rattle.group_sql.specs.Choices.{ended_at, statement_at};
-ghost use Rattle.group_sql.specs.Readers.{Gives};
+ghost use Rattle.group_sql.specs.Readers.{GivesPart};
 ghost use Rattle.group_sql.specs.Said.{statement_said};
 
 use crate::clauses::read_clause;
@@ -26,7 +26,7 @@ pub enum ReadError {
 /// A statement without its semicolon.
 #[tactic(auto, unfolding(crate::specs::Choices::statement_at))]
 fn statement<'a>(alloc: Global, place: &mut Place<'a>) -> Result<Statement, asm_grammar::ReadError>
-    ensures { Gives statement_said result place.new (statement_at place.old.rest.now place.old.left) }
+    ensures { GivesPart statement_said result place.new (statement_at place.old.rest.now place.old.left) }
 {
     if takes(place, b"CREATE") {
         return created(alloc, place);
@@ -44,7 +44,7 @@ fn statement<'a>(alloc: Global, place: &mut Place<'a>) -> Result<Statement, asm_
 /// A statement and the semicolon that ends the text.
 #[tactic(auto, unfolding(crate::specs::Choices::ended_at))]
 fn ended<'a>(alloc: Global, place: &mut Place<'a>) -> Result<Statement, asm_grammar::ReadError>
-    ensures { Gives statement_said result place.new (ended_at place.old.rest.now place.old.left) }
+    ensures { GivesPart statement_said result place.new (ended_at place.old.rest.now place.old.left) }
 {
     let statement = statement(alloc, place)?;
     expect_end(place, b';')?;
@@ -54,7 +54,7 @@ fn ended<'a>(alloc: Global, place: &mut Place<'a>) -> Result<Statement, asm_gram
 /// What reading the whole text gives.
 #[tactic(auto, using(crate::proofs::Exact::ended_ok, crate::proofs::Exact::ended_err))]
 fn read_whole(alloc: Global, text: &[u8]) -> Result<Statement, ReadError>
-    ensures { IsRead result text.now }
+    ensures { IsStatementRead result text.now }
 {
     let mut place = Place {
         rest: text,
@@ -72,10 +72,10 @@ fn read_whole(alloc: Global, text: &[u8]) -> Result<Statement, ReadError>
 /// The statement that a whole text says, up to a semicolon at its end.
 #[tactic(auto, using(crate::proofs::Exact::found, crate::proofs::Exact::only, crate::proofs::Exact::refused))]
 pub fn read_statement(alloc: Global, text: &[u8]) -> Result<Statement, ReadError>
-    ensures read { IsRead result text.now }
+    ensures read { IsStatementRead result text.now }
     ensures found { IfOk result (λ x. Says text.now (statement_said x)) }
     ensures only { IfOk result (λ x. (t : s.Statement) → Says text.now t → t ≡ statement_said x) }
-    ensures refused { IfErr result (λ e. IsRefused e text.now) }
+    ensures refused { IfErr result (λ e. IsTextRefused e text.now) }
 {
     read_whole(alloc, text)
 }

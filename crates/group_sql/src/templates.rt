@@ -4,7 +4,7 @@ ghost use Rattle.asm_grammar.specs.Syntax.{Maybe};
 ghost use Rattle.asm_world.specs.Grammar as g;
 ghost use Rattle.asm_world.specs.Meaning.{words_of};
 ghost use Rattle.group_sql.specs.Choices.{redundancy_at, stripe_at, template_at, words_at};
-ghost use Rattle.group_sql.specs.Readers.{Finds, Gives};
+ghost use Rattle.group_sql.specs.Readers.{FindsPart, GivesPart};
 ghost use Rattle.asm_grammar.specs.Reads.{reads};
 ghost use Rattle.group_sql.specs.Redundancies.{redundancy_said};
 
@@ -17,7 +17,7 @@ use std::alloc::Global;
 /// A redundancy, and the stripe behind it where one is said.
 #[tactic(auto, unfolding(crate::specs::Choices::stripe_at))]
 fn behind_redundancy<'a>(redundancy: Redundancy, place: &mut Place<'a>) -> TemplateWords
-    ensures { Finds result place.new (stripe_at (redundancy_said redundancy) place.old.rest.now place.old.left) }
+    ensures { FindsPart result place.new (stripe_at (redundancy_said redundancy) place.old.rest.now place.old.left) }
 {
     let stripe = if takes(place, b"COARSE") {
         Some(Stripe::Coarse)
@@ -35,7 +35,7 @@ fn behind_redundancy<'a>(redundancy: Redundancy, place: &mut Place<'a>) -> Templ
 /// A stripe, and the redundancy behind it where one is said.
 #[tactic(auto, unfolding(crate::specs::Choices::redundancy_at))]
 fn behind_stripe<'a>(stripe: Stripe, place: &mut Place<'a>) -> TemplateWords
-    ensures { Finds result place.new (redundancy_at stripe place.old.rest.now place.old.left) }
+    ensures { FindsPart result place.new (redundancy_at stripe place.old.rest.now place.old.left) }
 {
     let redundancy = if takes(place, b"UNPROTECTED") {
         Some(Redundancy::Unprotected)
@@ -55,7 +55,7 @@ fn behind_stripe<'a>(stripe: Stripe, place: &mut Place<'a>) -> TemplateWords
 /// One word of one kind and at most one of the other, in either order.
 #[tactic(auto, unfolding(crate::specs::Choices::words_at))]
 fn template_words<'a>(place: &mut Place<'a>) -> Result<TemplateWords, ReadError>
-    ensures { Gives (λ w. w) result place.new (words_at place.old.rest.now place.old.left) }
+    ensures { GivesPart (λ w. w) result place.new (words_at place.old.rest.now place.old.left) }
 {
     if takes(place, b"UNPROTECTED") {
         return Ok(behind_redundancy(Redundancy::Unprotected, place));
@@ -79,7 +79,7 @@ pub fn template<'a>(
     alloc: Global,
     place: &mut Place<'a>,
 ) -> Result<(Name, TemplateWords), ReadError>
-    ensures { Gives (λ t. t) result place.new (template_at place.old.rest.now place.old.left) }
+    ensures { GivesPart (λ t. t) result place.new (template_at place.old.rest.now place.old.left) }
 {
     let name = read_name(alloc, place)?;
     expect(place, b"ATTRIBUTES")?;

@@ -19,9 +19,9 @@ use Rattle.directory_store.specs.Contents.{ArePutItems, IsPutItem}
 use Rattle.page_map.specs.Changes.{is_gone, is_put, last_put}
 use Rattle.page_map.proofs.Changing.{is_put_end, last_put_none}
 use Rattle.page_map.proofs.Keys.{one_or_other, same_key}
-use Rattle.group_tests.specs.Commits.{MayCommit, PutsNone}
+use Rattle.group_tests.specs.Commits.{MayCommitChange, PutsNone}
 
-planned : (c : Catalogued) (put : List Entry) (gone : List Key) (u : Tables) → IsPlan c put gone u → MayCommit c put gone
+planned : (c : Catalogued) (put : List Entry) (gone : List Key) (u : Tables) → IsPlan c put gone u → MayCommitChange c put gone
 planned c put gone u plan = record {
   tables = u;
   leaves = record { after = plan.after; rules = plan.rules; units = plan.units };
@@ -29,11 +29,11 @@ planned c put gone u plan = record {
   items = plan.items;
 }
 
-pub tree_planned : (c : Catalogued) (edit : trees.TreeEdit) (put : List Entry) (gone : List Key) → IsTreePlan c edit put gone → MayCommit c put gone
+pub tree_planned : (c : Catalogued) (edit : trees.TreeEdit) (put : List Entry) (gone : List Key) → IsTreePlan c edit put gone → MayCommitChange c put gone
 tree_planned c edit put gone plan = planned c put gone _ plan.plan
 
 -- an operation, where there is no chunk
-pub owned_planned : (c : Catalogued) (put : List Entry) (gone : List Key) (u : Tables) → u.extents ≡ [] → (AreOwned u → IsPlan c put gone u) → MayCommit c put gone
+pub owned_planned : (c : Catalogued) (put : List Entry) (gone : List Key) (u : Tables) → u.extents ≡ [] → (AreOwned u → IsPlan c put gone u) → MayCommitChange c put gone
 owned_planned c put gone u none plan = planned c put gone u (plan (ap (λ (xs : List Chunked). first_wrong (is_owned u) xs) none))
 
 -- ---- records that are put and go
@@ -104,7 +104,7 @@ puts_one t put put2 gone gone2 file head e before absent is same puts goes =
     (subst (λ (x : Entry). PutsNone t (put ++ x ∷ []) (gone ++ x.0 ∷ [])) (sym same) one))
 
 -- they leave the tables as they are
-pub none_commits : (c : Catalogued) (put : List Entry) (gone : List Key) → IsCatalog c → PutsNone c.tables put gone → length put + length gone ≤ 64 → MayCommit c put gone
+pub none_commits : (c : Catalogued) (put : List Entry) (gone : List Key) → IsCatalog c → PutsNone c.tables put gone → length put + length gone ≤ 64 → MayCommitChange c put gone
 none_commits c put gone is none few = record {
   tables = c.tables;
   leaves = record {

@@ -3,18 +3,18 @@ use Rattle.std.proofs.Common.{◌≡◌, ◌≢◌, ⊎_elim, ℕ, ◌+◌, ◌<
 use Rattle.std.specs.Prelude.{IsSome, unwrap_or}
 use Rattle.bay.specs.State.{AttachesOnly, BayState, KeepsAttached}
 use Rattle.group_pieces.specs.declared.copies.Place.{Place}
-use Rattle.group_pieces.specs.Copies.{AreApart, AreUsable, IsUsable}
-use Rattle.group_tests.specs.Places.{AreThree, IsOn, place_on}
+use Rattle.group_pieces.specs.Copies.{AreCopyPlacesApart, AreUsable, IsUsablePiece}
+use Rattle.group_tests.specs.Places.{AreThree, IsPlaceOn, place_on}
 
-usable_on : (s : BayState) (k : ℕ) (p : Place) → s.attached k ≡ Some 4096 → k < 3 → p ≡ place_on k → IsUsable s 512 p
-usable_on s k p at small is = subst (λ (q : Place). IsUsable s 512 q) (sym is) (record {
+usable_on : (s : BayState) (k : ℕ) (p : Place) → s.attached k ≡ Some 4096 → k < 3 → p ≡ place_on k → IsUsablePiece s 512 p
+usable_on s k p at small is = subst (λ (q : Place). IsUsablePiece s 512 q) (sym is) (record {
   number = omega (arith, small);
   attached = subst (λ (o : Option ℕ). IsSome o) (sym at) refl;
   inside = subst (λ (o : Option ℕ). 1024 + 512 ≤ unwrap_or o 0) (sym at) (omega arith);
   sectors = (refl, refl);
 })
 
-pub are_usable : (s : BayState) (a b c : Option Place) → AreThree s → IsOn 0 a → IsOn 1 b → IsOn 2 c → AreUsable (a ∷ b ∷ c ∷ []) 512 s
+pub are_usable : (s : BayState) (a b c : Option Place) → AreThree s → IsPlaceOn 0 a → IsPlaceOn 1 b → IsPlaceOn 2 c → AreUsable (a ∷ b ∷ c ∷ []) 512 s
 are_usable s a b c three on_a on_b on_c p h = ⊎_elim (λ zeroth. usable_on s 0 p three.zeroth (omega arith) (on_a p (sym zeroth)))
     (λ more. ⊎_elim (λ first. usable_on s 1 p three.first (omega arith) (on_b p (sym first)))
     (λ last. ⊎_elim (λ second. usable_on s 2 p three.second (omega arith) (on_c p (sym second))) (λ none. absurd none) last) more) h
@@ -27,7 +27,7 @@ apart_on j k p q other at_j at_k = (
       other (omega (arith, more)),
 )
 
-pub are_apart : (a b c : Option Place) → IsOn 0 a → IsOn 1 b → IsOn 2 c → AreApart (a ∷ b ∷ c ∷ [])
+pub are_apart : (a b c : Option Place) → IsPlaceOn 0 a → IsPlaceOn 1 b → IsPlaceOn 2 c → AreCopyPlacesApart (a ∷ b ∷ c ∷ [])
 are_apart a b c on_a on_b on_c = (
   λ p q is among. ⊎_elim (λ first. apart_on 0 1 p q (λ e. omega (arith, e)) (on_a p is) (on_b q (sym first)))
       (λ more. ⊎_elim (λ second. apart_on 0 2 p q (λ e. omega (arith, e)) (on_a p is) (on_c q (sym second))) (λ none. absurd none) more) among,

@@ -8,7 +8,7 @@ use Rattle.directory_store.specs.Contents.{ArePutItems}
 use Rattle.page_map.specs.Changes.{is_gone, is_put}
 
 -- The change leaves tables, has at most 64 keys, and puts records of the formats.
-pub record MayCommit (c : Catalogued) (put : List Entry) (gone : List Key) : Type 0 where
+pub record MayCommitChange (c : Catalogued) (put : List Entry) (gone : List Key) : Type 0 where
   pub tables : Tables
   pub leaves : Leaves c put gone tables
   pub few : length put + length gone ≤ 64

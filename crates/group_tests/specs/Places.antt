@@ -14,5 +14,5 @@ abbrev pub place_on : ℕ → Place
 place_on k = record { disk = k + 5; slot = k; at = 1024 }
 
 -- there is no place, or this one
-abbrev pub IsOn : ℕ → Option Place → Type 0
-IsOn k o = (p : Place) → o ≡ Some p → p ≡ place_on k
+abbrev pub IsPlaceOn : ℕ → Option Place → Type 0
+IsPlaceOn k o = (p : Place) → o ≡ Some p → p ≡ place_on k

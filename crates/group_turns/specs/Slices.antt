@@ -8,11 +8,11 @@ use Rattle.asm_base.specs.declared.refusal.Refusal.{Refusal}
 use Rattle.asm_base.specs.declared.refusal.Refusal.TheVariants as cause
 use Rattle.asm_world.specs.Reply as w
 use Rattle.asm_world.specs.Text.{event_text}
-use Rattle.catalog_tables.specs.Disks.{info_at}
+use Rattle.disk_directory.specs.Disks.{info_at}
 use Rattle.group_engine.specs.Mounts.{MountedGroup}
 use Rattle.group_turns.specs.declared.failure.Failure.{Failure}
 use Rattle.group_turns.specs.declared.failure.Failure.TheVariants as failure
-use Rattle.relocation.specs.Shortfalls.{HasNoPlace, HasNoSource}
+use Rattle.relocation.specs.Shortfalls.{HasNoDiskFor, HasNoSource}
 use Rattle.relocation.specs.declared.asking.Slice.{Slice}
 use Rattle.relocation.specs.declared.asking.Slice.TheVariants as slice
 use Rattle.resync.specs.declared.slice.Resynced.{Resynced}
@@ -69,7 +69,7 @@ resynced_by m (Err refusal) steps = failed_resync m (failure_of refusal) steps
 -- where a slice of a rebalance ended before all was done: by the group's tables and record no disk can take a copy of the extent that is
 -- to be elsewhere, or no copy of it can be read
 abbrev pub RebalancedCause : MountedGroup → w.Rebalanced → Type 0
-RebalancedCause m (w.OutOfSpace steps file index) = HasNoPlace m (record { file = file; index = index })
+RebalancedCause m (w.OutOfSpace steps file index) = HasNoDiskFor m (record { file = file; index = index })
 RebalancedCause m (w.LostExtent steps file index) = HasNoSource m (record { file = file; index = index })
 RebalancedCause m another = ⊤
 

@@ -13,27 +13,27 @@ use Rattle.group_turns.specs.declared.taking.Turned.{Turned}
 use Rattle.group_turns.specs.declared.taking.Turned.TheVariants as turned
 
 -- Before a command's text expired disks are dropped, after its reply slices run.
-pub data When : Type 0 where
-  BeforeText : When
-  AfterReply : When
+pub data TurnMoment : Type 0 where
+  BeforeText : TurnMoment
+  AfterReply : TurnMoment
 
-abbrev pub when_of : Turn → When
+abbrev pub when_of : Turn → TurnMoment
 when_of (turn.Expiry now) = BeforeText
 when_of turn.Resync = AfterReply
 when_of turn.Rebalance = AfterReply
 
 -- where the session stands then
-abbrev pub phase_at : When → List SessionEntry → Phase
+abbrev pub phase_at : TurnMoment → List SessionEntry → Phase
 phase_at BeforeText entries = Expiring (mounted_groups entries)
 phase_at AfterReply entries = Slicing (slices_of (mounted_groups entries))
 
 -- an event that comes then, as a move
-abbrev pub move_at : When → Event → Move
+abbrev pub move_at : TurnMoment → Event → Move
 move_at BeforeText event = Expires event
 move_at AfterReply event = Slices event
 
 -- the event comes then, in the group of a name
-abbrev pub IsEventOf : Bytes → When → Event → Type 0
+abbrev pub IsEventOf : Bytes → TurnMoment → Event → Type 0
 IsEventOf name BeforeText (Expired group disk) = group ≡ name
 IsEventOf name BeforeText (ExpiryEnds group disk) = group ≡ name
 IsEventOf name AfterReply (Moved group how) = group ≡ name
@@ -41,20 +41,20 @@ IsEventOf name AfterReply (Synced group disk how) = group ≡ name
 IsEventOf name when another = ⊥
 
 -- a move of such a time: an event, or the end for want of memory
-abbrev pub IsTurnMove : When → Move → Type 0
+abbrev pub IsTurnMove : TurnMoment → Move → Type 0
 IsTurnMove BeforeText (Expires event) = ⊤
 IsTurnMove AfterReply (Slices event) = ⊤
 IsTurnMove when Stops = ⊤
 IsTurnMove when another = ⊥
 
 -- the line of an event that comes then, in the group of a name
-pub record IsLineOf (name : Bytes) (when : When) (line : Bytes) : Type 0 where
+pub record IsLineOf (name : Bytes) (when : TurnMoment) (line : Bytes) : Type 0 where
   pub event : Event
   pub is_event : IsEventOf name when event
   pub text : line ≡ event_text event
 
 -- the same in one of these groups
-pub record HasLine (groups : List MountedGroup) (when : When) (line : Bytes) : Type 0 where
+pub record HasLine (groups : List MountedGroup) (when : TurnMoment) (line : Bytes) : Type 0 where
   pub group : MountedGroup
   pub among : IsAmong groups group
   pub is_line : IsLineOf group.name when line

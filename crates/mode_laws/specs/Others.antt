@@ -6,7 +6,7 @@ use Rattle.asm_formats.specs.Sets.{has_bit}
 use Rattle.asm_formats.specs.Status.{Entry, Status, entry_of, is_status}
 use Rattle.asm_placement.specs.Modes.{serves}
 use Rattle.catalog_tables.specs.MarkedExtents.{IsFirstMarked}
-use Rattle.disk_modes.specs.Effects.{Expires}
+use Rattle.disk_modes.specs.Effects.{DropsExpiredDisk}
 use Rattle.group_engine.specs.Mounts.{MountedGroup}
 use Rattle.group_mount.specs.Founds.{FoundDisks}
 use Rattle.group_mount.specs.Missing.{is_missing}
@@ -35,7 +35,7 @@ pub record ExpiryTakes (r : Status) (now : ℕ) (expired : Option ℕ) (d : ℕ)
 -- Modes change by expiry alone, and where no disk expires none does.
 abbrev pub ExpiryChanges : Type 0
 ExpiryChanges =
-    (now : ℕ) (expired : Option ℕ) (old new : MountedGroup) → IsTrue (is_status old.register.value) → Expires now old expired new
+    (now : ℕ) (expired : Option ℕ) (old new : MountedGroup) → IsTrue (is_status old.register.value) → DropsExpiredDisk now old expired new
     → ModeChange (ExpiryTakes old.register.value now expired) (group_entries old) (group_entries new)
 
 -- ---- a mount

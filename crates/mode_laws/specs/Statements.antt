@@ -8,9 +8,9 @@ use Rattle.group_engine.specs.Mounts.{MountedGroup}
 use Rattle.disk_modes.specs.declared.checking.Statement.{Statement}
 use Rattle.disk_modes.specs.declared.checking.Statement.TheVariants as statement
 use Rattle.disk_modes.specs.declared.dropping.DropDisk.{DropDisk}
-use Rattle.disk_modes.specs.Effects.{Drops, PutsRebalance, TakesOffline, Undrops, option_of}
+use Rattle.disk_modes.specs.Effects.{DropsDisks, PutsRebalance, TakesOffline, Undrops, option_of}
 use Rattle.disk_modes.specs.Modes.{drop_as, takes}
-use Rattle.disk_modes.specs.Sizes.{Resizes, units_asked}
+use Rattle.disk_modes.specs.Sizes.{ResizesDisks, units_asked}
 use Rattle.mode_laws.specs.Events.{ModeChange, ModeEvent, by_drop, by_force, by_offline, by_resize, by_undrop}
 
 -- the entries of a group
@@ -60,7 +60,7 @@ DropNames disks d v = (force : Bool) × (option_of disks d ≡ Some force) × (v
 -- Once disks are dropped, modes have changed by the DROP that names them alone.
 abbrev pub DropChanges : Type 0
 DropChanges =
-    (disks : List DropDisk) (power : ℕ) (old new : MountedGroup) → StatementTakes (named_drop disks) (group_entries old) → Drops disks power old new
+    (disks : List DropDisk) (power : ℕ) (old new : MountedGroup) → StatementTakes (named_drop disks) (group_entries old) → DropsDisks disks power old new
     → ModeChange (DropNames disks) (group_entries old) (group_entries new)
 
 -- the group is named
@@ -80,7 +80,7 @@ ResizeNames m disks size d v = (has_bit disks d ≡ true) × (v ≡ by_resize (u
 -- Once disks are resized, entries have changed by the RESIZE alone: no mode did.
 abbrev pub ResizeChanges : Type 0
 ResizeChanges =
-    (disks : ℕ) (size : Option ℕ) (power : ℕ) (old new : MountedGroup) → Resizes disks size power old new
+    (disks : ℕ) (size : Option ℕ) (power : ℕ) (old new : MountedGroup) → ResizesDisks disks size power old new
     → ModeChange (ResizeNames old disks size) (group_entries old) (group_entries new)
 
 -- Once a rebalance is active, or none is, no entry has changed.

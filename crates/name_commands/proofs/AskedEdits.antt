@@ -35,7 +35,7 @@ use Rattle.group_files.specs.declared.edit.GroupEdit.TheVariants.{Tree, SetAttri
 use Rattle.group_of.specs.Edits.{attribute_meant}
 use Rattle.world_steps.specs.Steps.{asks_edit, at_led, by_alias, by_clause, by_tree, change_of, is_edit_clause, makes_name}
 use Rattle.world_steps.proofs.Said.{attributes_have_parts, paths_have_parts}
-use Rattle.name_commands.specs.Asking.{AsksAlias, AsksAsRead, AsksAt, AsksChange, AsksFor, AsksInVain, wants_record}
+use Rattle.name_commands.specs.Asking.{AsksAlias, AsksAsRead, AsksAt, AsksChange, AsksForEdit, AsksInVain, wants_record}
 use Rattle.session.specs.Families as families
 use Rattle.session.specs.Families.{IsRefused}
 use Rattle.session.specs.Leading.{IsLedTo}
@@ -147,8 +147,8 @@ module _ (place : List Bytes) (text name : Bytes) (clause : s.Clause) (asked : c
   clause_asked by (Err e) is = tt
 
   -- an edit that makes no name
-  pub settings_asked : (edit : GroupEdit) → wants_record edit ≡ false → ((g : Group) → by_clause name clause g ≡ edited_by g edit) → AsksFor place (meaning text) name edit
-  settings_asked edit none each = subst (λ (c : Command). AsksFor place c name edit) (sym (means text command asked is)) (record {
+  pub settings_asked : (edit : GroupEdit) → wants_record edit ≡ false → ((g : Group) → by_clause name clause g ≡ edited_by g edit) → AsksForEdit place (meaning text) name edit
+  settings_asked edit none each = subst (λ (c : Command). AsksForEdit place c name edit) (sym (means text command asked is)) (record {
     change = by_clause name clause;
     asks = changes;
     same = λ g same. each g;
@@ -211,7 +211,7 @@ module _ (place : List Bytes) (command : Command) (path : Bytes) (kind : AtPath)
   edits_there p g = e.edited g (edit_at kind p)
 
   -- in the group to which its path leads, under a copy of its name
-  pub led_asked : (led : code.Path) (name : Bytes) → IsLedTo place path led → name ≡ led.group → (edit : TreeEdit) → edit_meant edit ≡ edit_at kind led.parts → AsksFor place command name (Tree edit)
+  pub led_asked : (led : code.Path) (name : Bytes) → IsLedTo place path led → name ≡ led.group → (edit : TreeEdit) → edit_meant edit ≡ edit_at kind led.parts → AsksForEdit place command name (Tree edit)
   led_asked led name leads copied edit meant = record {
     change = edits_there led.parts;
     asks = record {
@@ -274,7 +274,7 @@ module _ (place : List Bytes) (command : Command) (alias : code.Path) (path name
   }
 
   -- it leads into the alias's group
-  pub alias_asked : (file : code.Path) → Some (file.group, file.parts) ≡ target_from place path → is_same_name file.group name ≡ true → AsksFor place command name (Tree (tree.AddAlias alias file))
+  pub alias_asked : (file : code.Path) → Some (file.group, file.parts) ≡ target_from place path → is_same_name file.group name ≡ true → AsksForEdit place command name (Tree (tree.AddAlias alias file))
   alias_asked file leads own = record {
     change = by_file (Some (file.group, file.parts));
     asks = changes_by (Some (file.group, file.parts)) leads;

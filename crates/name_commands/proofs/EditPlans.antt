@@ -17,7 +17,7 @@ use Rattle.catalog_tables.specs.Changing.{IsAfter}
 use Rattle.catalog_tables.specs.Tables.{Catalogued, Tables}
 use Rattle.edit_laws.specs.Edits.{edited_by}
 use Rattle.edit_laws.proofs.OfTables.{refusal_is_of_tables}
-use Rattle.group_files.specs.GroupEdits.{IsEditPlan, IsRefusedAs}
+use Rattle.group_files.specs.GroupEdits.{IsEditPlan, IsEditRefusedAs}
 use Rattle.group_files.specs.declared.edit.GroupEdit.{GroupEdit}
 use Rattle.group_files.specs.declared.edit.GroupEdit.TheVariants.{Tree, Templates, SetAttribute}
 use Rattle.group_of.specs.Edits.{IsRefusedBeside, IsWorldsRefusal, full, no_memory, refused, with_settings, with_templates, with_tree, worlds}
@@ -58,7 +58,7 @@ lacks : (answer : Result Group r.Refusal) (edit : GroupEdit) (refusal : Refusal)
 lacks answer edit refusal wants (worlds why) = inl why
 lacks answer edit refusal wants (full need free done is few answer_is) = inr (record { need = need; free = free; done = done; wants = wants; is = is; answer_is = answer_is })
 
-pub refused_by : (name : Bytes) (c : Catalogued) (cells : ℕ → List Cell) (edit : GroupEdit) (refusal : Refusal) → IsRefusedAs c edit refusal → IsRefusedBy (edited_by (group_of name c.shape c.tables cells) edit) edit refusal
+pub refused_by : (name : Bytes) (c : Catalogued) (cells : ℕ → List Cell) (edit : GroupEdit) (refusal : Refusal) → IsEditRefusedAs c edit refusal → IsRefusedBy (edited_by (group_of name c.shape c.tables cells) edit) edit refusal
 unfolding group_of
 refused_by name c cells (Tree edit) refusal (inl memory) = inl (no_memory memory)
 refused_by name c cells (Tree edit) refusal (inr (inl same)) =

@@ -52,7 +52,7 @@ use Rattle.world_steps.proofs.Told.{named_among, one_entry, torn_apart}
 use Rattle.session.specs.Counts.{ReplyCause}
 use Rattle.session.specs.declared.reply.Reply as code
 use Rattle.session.specs.declared.reply.Reply.TheVariants as replies
-use Rattle.name_commands.specs.Asking.{AsksFor}
+use Rattle.name_commands.specs.Asking.{AsksForEdit}
 use Rattle.session.specs.Editing.{EditsGroup}
 use Rattle.session.specs.Effects.{IsServed, Past, below_with}
 use Rattle.session.specs.Entries.{by_disk, disk_name, state_view}
@@ -108,7 +108,7 @@ at_id w w' id list is = is id ∙ ap (λ (b : Bool). if b then list else groups_
 elsewhere : (w w' : World) (id : ℕ) (list : List Group) → ReplacesGroups w id list w' → (other : ℕ) → other ≢ id → groups_of w' other ≡ groups_of w other
 elsewhere w w' id list is other differ = is other ∙ ap (λ (b : Bool). if b then list else groups_of w other) (ne_eqb other id differ)
 
-module _ (paths : List Bytes) (text name : Bytes) (edit : GroupEdit) (allowed : is_group_edit edit ≡ true) (w : World) (below : ℕ → GroupBelow) (asks : AsksFor w.place (meaning text) name edit)
+module _ (paths : List Bytes) (text name : Bytes) (edit : GroupEdit) (allowed : is_group_edit edit ≡ true) (w : World) (below : ℕ → GroupBelow) (asks : AsksForEdit w.place (meaning text) name edit)
     (was now : Roster) (same_given : now.given ≡ was.given) (entries' : List SessionEntry) (s t : BayState) (sound : IsSound s) (later : IsSound t)
     (calls : s.calls ≤ t.calls) (past : Past s t) (all_told : AreToldBy w was.groups) (before after : MountedGroup) (entry : SessionEntry) (edited : IsEdited w.session entries' was.groups now.groups name before after entry)
     (on : entry.state ≡ Mounted) (mounted : IsMounted before) (keeps : KeepsGroup before after s t) where
@@ -440,7 +440,7 @@ reply_is (Err refusal) reply ok err = ap reply_view err
 
 -- ---- on the session
 
-pub edited_session : (paths : List Bytes) (text name : Bytes) (edit : GroupEdit) → is_group_edit edit ≡ true → (old new : SessionView) → AsksFor old.place (meaning text) name edit → (s t : BayState) → IsSound s → IsSound t
+pub edited_session : (paths : List Bytes) (text name : Bytes) (edit : GroupEdit) → is_group_edit edit ≡ true → (old new : SessionView) → AsksForEdit old.place (meaning text) name edit → (s t : BayState) → IsSound s → IsSound t
     → AreNamesApart old.entries → length old.groups ≡ length old.entries → CarriesOn old new s t
     → (result : Result (Unit {0}) Refusal) → EditsGroup name edit result old new s t → (w : World) (below : ℕ → GroupBelow) → Knows old w below
     → (w' : World) × (below' : ℕ → GroupBelow) × Knows new w' below' × IsServed paths unread text (reply_of result) (roster_of old) (roster_of new) s t below w w'
@@ -449,7 +449,7 @@ edited_session paths text name edit allowed old new asks s t sound later apart p
     subst (λ (es : List SessionEntry). IsEdited es new.entries old.groups new.groups name done.before done.after done.entry) (sym knows.entries_are)
     (record { named = done.named; found = done.is.named; apart = apart; lengths = paired; groups_are = done.groups; entries_are = done.entries }) in
     let on : done.entry.state ≡ Mounted = done.state ∙ ap (λ (a : Access). by_disk done.before (dismounted_by a)) done.is.mounted in
-    let asks_there = subst (λ (p : List Bytes). AsksFor p (meaning text) name edit) (sym knows.place_is) asks in
+    let asks_there = subst (λ (p : List Bytes). AsksForEdit p (meaning text) name edit) (sym knows.place_is) asks in
     let x = ends paths text name edit allowed w below asks_there (roster_of old) (roster_of new) carries.given new.entries s t sound later carries.calls carries.past
     (knows.told (paired ∙ ap (λ (l : List SessionEntry). length l) (sym knows.entries_are))) done.before done.after done.entry edited on done.is.mounted done.does.0 done.answer result done.spelt done.does.1 in
     (x.0, groups_below new.entries new.groups, record { entries_are = x.1; place_is = x.2 ∙ knows.place_is ∙ sym carries.place; below_is = refl; told = λ lengths. x.3 }, x.4)

@@ -34,7 +34,7 @@ wants_record (Templates edit) = false
 wants_record (SetAttribute name value) = false
 
 -- The command asks for this edit of the group of a name.
-pub record AsksFor (place : List Bytes) (command : Command) (name : Bytes) (edit : GroupEdit) : Type 0 where
+pub record AsksForEdit (place : List Bytes) (command : Command) (name : Bytes) (edit : GroupEdit) : Type 0 where
   pub change : Group → Result Group r.Refusal
   pub asks : AsksChange place command name change
   pub same : (g : Group) → is_same_name g.name name ≡ true → change g ≡ edited_by g edit
@@ -49,7 +49,7 @@ pub record AsksInVain (place : List Bytes) (command : Command) (name : Bytes) (r
 -- The edit of names that a clause was read as, which is allowed. It is in vain where a path isn't one of the group.
 abbrev pub AsksAsRead : List Bytes → Command → Bytes → Option TreeEdit → Type 0
 AsksAsRead place command name None = AsksInVain place command name cause.NoName
-AsksAsRead place command name (Some edit) = AsksFor place command name (Tree edit) × (is_group_edit (Tree edit) ≡ true)
+AsksAsRead place command name (Some edit) = AsksForEdit place command name (Tree edit) × (is_group_edit (Tree edit) ≡ true)
 
 -- The command asks for an edit of names of one kind, where the path of a verb leads.
 pub record AsksAt (place : List Bytes) (command : Command) (path : Bytes) (kind : AtPath) : Type 0 where

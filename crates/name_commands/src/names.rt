@@ -9,7 +9,7 @@ ghost use Rattle.asm_world.specs.Statement.{Alter, AddDirectory, DropDirectory, 
 ghost use Rattle.asm_world.specs.Step.{on_path, on_paths};
 ghost use Rattle.group_files.specs.GroupEdits.{is_group_edit};
 ghost use Rattle.session.specs.Desks.{IsAnswered};
-ghost use Rattle.name_commands.specs.Asking.{AsksAlias, AsksAsRead, AsksAt, AsksFor, AsksInVain};
+ghost use Rattle.name_commands.specs.Asking.{AsksAlias, AsksAsRead, AsksAt, AsksForEdit, AsksInVain};
 ghost use Rattle.session.specs.Meaning.{meaning};
 ghost use Rattle.name_commands.specs.NameEdits.{edit_at, edit_between};
 ghost use Rattle.session.specs.Sessions.{AreReady};
@@ -108,7 +108,7 @@ pub fn edit_named<B: Bay, H: Host>(
     group: &Name,
     edit: &GroupEdit,
 ) -> Answer
-    requires asks { AsksFor desk.old.session.place (meaning text.now) group.now edit.now }
+    requires asks { AsksForEdit desk.old.session.place (meaning text.now) group.now edit.now }
     requires allowed { is_group_edit edit.now ≡ true }
     requires ready { AreReady desk.old.session.groups (B.state desk.old.bay) }
     ensures answers { IsAnswered text.now result desk.old desk.new }
@@ -163,7 +163,7 @@ fn edit_by_verb<B: Bay, H: Host>(
     group: &Name,
     edit: &GroupEdit,
 ) -> Answer
-    requires asks { AsksFor desk.old.session.place (meaning text.now) group.now edit.now }
+    requires asks { AsksForEdit desk.old.session.place (meaning text.now) group.now edit.now }
     requires ready { AreReady desk.old.session.groups (B.state desk.old.bay) }
     ensures answers { IsAnswered text.now result desk.old desk.new }
 {

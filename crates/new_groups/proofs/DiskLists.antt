@@ -32,7 +32,7 @@ use Rattle.status_register.specs.declared.member.Member.{Member}
 use Rattle.status_register.proofs.Holding.{Apart, apart_list, disk_is, entry_birth}
 use Rattle.status_register.proofs.Placing.{placed_good, placed_is, placed_of}
 use Rattle.group_engine.specs.Mounts.{AreCopiesOf, IsCopyOf}
-use Rattle.new_groups.specs.Drafts.{Agrees, AreApart, copy_list, disk_list, holder_list, member_list}
+use Rattle.new_groups.specs.Drafts.{HasAgreeingParts, AreDisksApart, copy_list, disk_list, holder_list, member_list}
 use Rattle.new_groups.specs.Forming.{AreDisks}
 use Rattle.new_groups.specs.declared.draft.Draft.{Draft}
 
@@ -95,25 +95,25 @@ in_disks (k ∷ ks) h (inr later) = inr (in_disks ks h later)
 
 -- ---- apart
 
-members_apart : (hs : List Headed) → AreApart hs → Apart (member_list hs)
+members_apart : (hs : List Headed) → AreDisksApart hs → Apart (member_list hs)
 members_apart [] apart = tt
 members_apart (h ∷ hs) apart = (
   (λ n among same. let k = from_members hs n among in (apart.0 k.0 k.1).0 (ap (λ (x : Member). x.slot) (sym k.2) ∙ same)),
   members_apart hs apart.1,
 )
 
-holders_apart : (set : ℕ) (hs : List Headed) → AreApart hs → Apart (holder_list set hs)
+holders_apart : (set : ℕ) (hs : List Headed) → AreDisksApart hs → Apart (holder_list set hs)
 holders_apart set [] apart = tt
 holders_apart set (h ∷ hs) apart =
     let later : Apart (holder_list set hs) = holders_apart set hs apart.1 in
     cond_both (has_bit set h.header.number) (member_of h ∷ holder_list set hs) (holder_list set hs) Apart
     (λ is. ((λ n among same. let k = from_holders set hs n among in (apart.0 k.0 k.1).0 (ap (λ (x : Member). x.slot) (sym k.2) ∙ same)), later)) (λ no. later)
 
-copies_apart : (set : ℕ) (hs : List Headed) → AreApart hs → copies.AreApart (copy_list set hs)
+copies_apart : (set : ℕ) (hs : List Headed) → AreDisksApart hs → copies.AreCopiesApart (copy_list set hs)
 copies_apart set [] apart = tt
 copies_apart set (h ∷ hs) apart =
-    let later : copies.AreApart (copy_list set hs) = copies_apart set hs apart.1 in
-    cond_both (has_bit set h.header.number) (copy_of h ∷ copy_list set hs) (copy_list set hs) copies.AreApart
+    let later : copies.AreCopiesApart (copy_list set hs) = copies_apart set hs apart.1 in
+    cond_both (has_bit set h.header.number) (copy_of h ∷ copy_list set hs) (copy_list set hs) copies.AreCopiesApart
     (λ is. (
       (λ c among. let k = from_copies set hs c among in (
         (λ same. (apart.0 k.0 k.1).0 (ap (λ (x : DirCopy). x.slot) (sym k.2) ∙ sym same)),
@@ -123,7 +123,7 @@ copies_apart set (h ∷ hs) apart =
     )) (λ no. later)
 
 -- a number is that of one disk
-one_number : (hs : List Headed) → AreApart hs → (h k : Headed) → IsAmong hs h → IsAmong hs k → h.header.number ≡ k.header.number → h ≡ k
+one_number : (hs : List Headed) → AreDisksApart hs → (h k : Headed) → IsAmong hs h → IsAmong hs k → h.header.number ≡ k.header.number → h ≡ k
 one_number [] apart h k in_h in_k same = absurd in_h
 one_number (x ∷ xs) apart h k (inl e) (inl f) same = e ∙ sym f
 one_number (x ∷ xs) apart h k (inl e) (inr b) same = absurd ((apart.0 k b).1 (sym same ∙ ap (λ (y : Headed). y.header.number) e))
@@ -147,7 +147,7 @@ pages_of s ok =
     let b = and_parts (leb 128 s.dir_blocks) (leb s.dir_blocks 16384) r.1 in
     (leb-true 128 s.dir_blocks b.0, leb-true s.dir_blocks 16384 b.1)
 
-module _ (d : Draft) (agrees : Agrees d) where
+module _ (d : Draft) (agrees : HasAgreeingParts d) where
   abbrev hs : List Headed
   hs = d.disks.items
 
@@ -203,12 +203,12 @@ module _ (d : Draft) (agrees : Agrees d) where
           inside = omega (arith, size_at h among, (disks h among).long);
         }
 
-    pub copies_named : copies.AreNamed (copy_list d.status.directories hs) [] state
+    pub copies_named : copies.AreNamedCopies (copy_list d.status.directories hs) [] state
     copies_named c among =
         let k = from_copies d.status.directories hs c among in
-        subst (λ (x : DirCopy). copies.IsNamed [] state x) (sym k.2) (record { copy_is = copy_at k.0 k.1; number = header_of k.0 k.1; due = refl })
+        subst (λ (x : DirCopy). copies.IsNamedCopy [] state x) (sym k.2) (record { copy_is = copy_at k.0 k.1; number = header_of k.0 k.1; due = refl })
 
-  pub copies_are_apart : copies.AreApart (copy_list d.status.directories hs)
+  pub copies_are_apart : copies.AreCopiesApart (copy_list d.status.directories hs)
   copies_are_apart = copies_apart d.status.directories hs agrees.apart
 
   pub one_size : HaveOneSize (copy_list d.status.directories hs)

@@ -39,7 +39,7 @@ use Rattle.status_table.proofs.Allowed.{parts_of}
 use Rattle.status_register.specs.Reaching.{Reaches}
 use Rattle.status_register.specs.Registered.{Registered}
 use Rattle.status_register.specs.Writes.{first_register}
-use Rattle.new_groups.specs.Drafts.{Agrees, AreFree, copy_list, disk_list, member_list}
+use Rattle.new_groups.specs.Drafts.{HasAgreeingParts, AreFree, copy_list, disk_list, member_list}
 use Rattle.new_groups.specs.Forming.{AreDisks, AreHeadable, AreLong, AreParts, IsFormed, IsMountedOf, Works}
 use Rattle.new_groups.specs.declared.draft.Draft.{Draft}
 use Rattle.new_groups.specs.declared.forming.Formed.{Formed}
@@ -69,7 +69,7 @@ headable_stays hs {a} {b} keeps can h among =
     let r = can h among in
     record { header = r.header; place = record { attached = rw (keeps.same h.slot) r.place.attached; sector_size = r.place.sector_size; long = rw (keeps.same h.slot) r.place.long } }
 
-module _ (d : Draft) (agrees : Agrees d) (s : BayState) (disks : AreDisks d.disks.items s) where
+module _ (d : Draft) (agrees : HasAgreeingParts d) (s : BayState) (disks : AreDisks d.disks.items s) where
   size_at : (h : Headed) → IsAmong d.disks.items h → unwrap_or (s.attached h.slot) 0 ≡ h.size
   size_at h among = ap (λ (o : Option ℕ). unwrap_or o 0) (disks h among).attached
 
@@ -103,7 +103,7 @@ directories_stay hs store {s} {t} attached run keeps = keeps_elsewhere store (λ
 
 -- ---- the mounted group
 
-module _ (d : Draft) (agrees : Agrees d) where
+module _ (d : Draft) (agrees : HasAgreeingParts d) where
   abbrev hs : List Headed
   hs = d.disks.items
 

@@ -6,10 +6,10 @@ use Rattle.asm_base.specs.declared.refusal.Refusal.{Refusal}
 use Rattle.asm_group.specs.Refusal as r
 use Rattle.asm_world.specs.Settings.{Creation, created_with, with_creation_attribute}
 use Rattle.asm_world.specs.Statement.{Attribute}
-use Rattle.group_disks.specs.Probes.{Says}
+use Rattle.group_disks.specs.Probes.{SaysRefusal}
 use Rattle.new_groups.specs.Refusing.{IsNotTaken, IsRefusedAs}
 
-pub refused_as : {A : Type 0} (answer : Result A r.Refusal) (wanted : r.Refusal) (refusal : Refusal) → answer ≡ Err wanted → Says wanted refusal → IsRefusedAs answer (said (λ any. []) refusal)
+pub refused_as : {A : Type 0} (answer : Result A r.Refusal) (wanted : r.Refusal) (refusal : Refusal) → answer ≡ Err wanted → SaysRefusal wanted refusal → IsRefusedAs answer (said (λ any. []) refusal)
 refused_as answer wanted refusal is says = ⊎_elim (λ (same : said (λ any. []) refusal ≡ wanted). inl (is ∙ ap (λ (x : r.Refusal). Err x) (sym same))) (λ short. inr short) says
 
 pub with_next : (c next : Creation) (a : Attribute) (rest : List Attribute) → with_creation_attribute c a ≡ Some next → created_with c (a ∷ rest) ≡ created_with next rest
@@ -18,7 +18,7 @@ with_next c next a rest is = rw (is, created_with) refl
 pub with_none : (c : Creation) (a : Attribute) (rest : List Attribute) → with_creation_attribute c a ≡ None → created_with c (a ∷ rest) ≡ Err (r.BadAttribute a.name)
 with_none c a rest is = rw (is, created_with) refl
 
-pub not_taken : (c : Creation) (a : Attribute) (wanted : r.Refusal) (refusal : Refusal) → with_creation_attribute c a ≡ None → wanted ≡ r.BadAttribute a.name → Says wanted refusal → IsNotTaken c a (said (λ any. []) refusal)
+pub not_taken : (c : Creation) (a : Attribute) (wanted : r.Refusal) (refusal : Refusal) → with_creation_attribute c a ≡ None → wanted ≡ r.BadAttribute a.name → SaysRefusal wanted refusal → IsNotTaken c a (said (λ any. []) refusal)
 not_taken c a wanted refusal none is says = ⊎_elim (λ (same : said (λ any. []) refusal ≡ wanted). inl (none, same ∙ is)) (λ short. inr short) says
 
 pub refused_next : (c : Creation) (a : Attribute) (rest all : List Attribute) (refusal : r.Refusal) → all ≡ a ∷ rest → IsNotTaken c a refusal → IsRefusedAs (created_with c all) refusal

@@ -18,7 +18,7 @@ use Rattle.disk_images.specs.Looks.{AreLooked, IsLooked}
 use Rattle.disk_images.specs.declared.looking.Looked.{Looked}
 use Rattle.disk_images.specs.declared.looking.Looked.TheVariants.{Absent, Unread, Read}
 use Rattle.group_mount.specs.declared.finding.Headed.{Headed}
-use Rattle.new_groups.specs.Drafts.{Agrees, AreApart, AreFree, IsFree, IsRight}
+use Rattle.new_groups.specs.Drafts.{HasAgreeingParts, AreDisksApart, AreFree, IsFree, IsRight}
 use Rattle.new_groups.specs.Preparing.{IsPrepared}
 use Rattle.new_groups.specs.Tests.{are_apart, are_fit, has_disk, have_disks, is_apart, is_right, is_there, may_form, shows_size}
 use Rattle.group_mount.specs.Founds.{is_held}
@@ -85,7 +85,7 @@ apart_one h (x ∷ xs) passes k among =
     ))
     (λ later. apart_one h xs q.1 k later) among
 
-apart_is : (hs : List Headed) → are_apart hs ≡ true → AreApart hs
+apart_is : (hs : List Headed) → are_apart hs ≡ true → AreDisksApart hs
 apart_is [] passes = tt
 apart_is (h ∷ hs) passes =
     let p = and_parts (is_apart h hs) _ passes in
@@ -156,7 +156,7 @@ module _ (d : Draft) (looked : List Looked) (held : List ℕ) where
     sets_part : (have_disks d.disks.items d.status.holders 64 ≡ true) × (have_disks d.disks.items d.status.directories 64 ≡ true)
     sets_part = and_parts (have_disks d.disks.items d.status.holders 64) (have_disks d.disks.items d.status.directories 64) apart_part.1
 
-    pub agrees : ArePutItems d.first.put → Agrees d
+    pub agrees : ArePutItems d.first.put → HasAgreeingParts d
     agrees items = record {
       status = status_part.0;
       alive = not-true d.status.gone alive_part.0;
@@ -174,7 +174,7 @@ module _ (d : Draft) (looked : List Looked) (held : List ℕ) where
 
 -- ---- a group that is ready
 
-pub prepared_agrees : (looked : List Looked) (held : List ℕ) (name : Bytes) (id : ℕ) (r : Ready) → IsPrepared looked held name id r → Agrees r.draft
+pub prepared_agrees : (looked : List Looked) (held : List ℕ) (name : Bytes) (id : ℕ) (r : Ready) → IsPrepared looked held name id r → HasAgreeingParts r.draft
 prepared_agrees looked held name id r is = agrees r.draft looked held is.passes is.items
 
 pub prepared_free : (n : ℕ) (found looked : List Looked) (held : List ℕ) (name : Bytes) (id : ℕ) (r : Ready) (s t : BayState) → looked ≡ found → length found ≡ n → AreLooked found s t

@@ -10,22 +10,22 @@ use Rattle.asm_world.specs.NewDisks.{PlannedDisk, is_name_taken, needed_groups, 
 use Rattle.asm_group.specs.Refusal as r
 use Rattle.asm_base.specs.Refusals.{said}
 use Rattle.asm_base.specs.declared.refusal.Refusal.{Refusal}
-use Rattle.group_disks.specs.Probes.{Says}
-use Rattle.group_disks.proofs.Told.{rose_before}
+use Rattle.group_disks.specs.Probes.{SaysRefusal}
+use Rattle.group_mount.proofs.Told.{rose_before}
 use Rattle.group_mount.specs.declared.finding.Headed.{Headed}
-use Rattle.new_groups.specs.Causes.{IsFirst, clash_refusal, first_of, first_refused, groups_refusal}
+use Rattle.new_groups.specs.Causes.{IsThisRefusal, clash_refusal, first_of, first_refused, groups_refusal}
 use Rattle.new_groups.specs.Drafts.{AreFree}
 use Rattle.new_groups.specs.Forming.{IsFormRefusal}
 use Rattle.new_groups.specs.Preparing.{IsFormFailure}
 
 -- what is said is the one that there is
-pub first_says : (first : Option r.Refusal) (wanted : r.Refusal) (refusal : Refusal) → first ≡ Some wanted → Says wanted refusal → IsFirst first (said (λ any. []) refusal)
+pub first_says : (first : Option r.Refusal) (wanted : r.Refusal) (refusal : Refusal) → first ≡ Some wanted → SaysRefusal wanted refusal → IsThisRefusal first (said (λ any. []) refusal)
 first_says first wanted refusal is says = ⊎_elim (λ (same : said (λ any. []) refusal ≡ wanted). inl (is ∙ ap (λ (x : r.Refusal). Some x) (sym same))) (λ short. inr short) says
 
 pub first_passed : {A : Type 0} (test : A → Option r.Refusal) (x : A) (xs : List A) → test x ≡ None → first_refused test (x ∷ xs) ≡ first_refused test xs
 first_passed test x xs none = rw none refl
 
-pub first_failed : {A : Type 0} (test : A → Option r.Refusal) (x : A) (xs : List A) (refusal : r.Refusal) → IsFirst (test x) refusal → IsFirst (first_refused test (x ∷ xs)) refusal
+pub first_failed : {A : Type 0} (test : A → Option r.Refusal) (x : A) (xs : List A) (refusal : r.Refusal) → IsThisRefusal (test x) refusal → IsThisRefusal (first_refused test (x ∷ xs)) refusal
 first_failed test x xs refusal why = ⊎_elim (λ (some : test x ≡ Some refusal). inl (rw some refl)) (λ short. inr short) why
 
 -- the first of more
@@ -39,10 +39,10 @@ first_later [] ys none = refl
 first_later (None ∷ xs) ys none = first_later xs ys none
 first_later (Some x ∷ xs) ys none = absurd (cc)
 
-pub is_first_more : (xs ys : List (Option r.Refusal)) (refusal : r.Refusal) → IsFirst (first_of xs) refusal → IsFirst (first_of (xs ++ ys)) refusal
+pub is_first_more : (xs ys : List (Option r.Refusal)) (refusal : r.Refusal) → IsThisRefusal (first_of xs) refusal → IsThisRefusal (first_of (xs ++ ys)) refusal
 is_first_more xs ys refusal why = ⊎_elim (λ some. inl (first_more xs ys refusal some)) (λ short. inr short) why
 
-pub is_first_later : (xs ys : List (Option r.Refusal)) (refusal : r.Refusal) → first_of xs ≡ None → IsFirst (first_of ys) refusal → IsFirst (first_of (xs ++ ys)) refusal
+pub is_first_later : (xs ys : List (Option r.Refusal)) (refusal : r.Refusal) → first_of xs ≡ None → IsThisRefusal (first_of ys) refusal → IsThisRefusal (first_of (xs ++ ys)) refusal
 is_first_later xs ys refusal none why = ⊎_elim (λ some. inl (first_later xs ys none ∙ some)) (λ short. inr short) why
 
 -- ---- tests of all

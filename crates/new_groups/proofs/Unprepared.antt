@@ -9,7 +9,7 @@ use Rattle.asm_world.specs.Settings.{Creation, creation}
 use Rattle.asm_world.specs.Statement.{Attribute, NewFailgroup}
 use Rattle.disk_images.specs.Looks.{AreLooked}
 use Rattle.disk_images.specs.declared.looking.Looked.{Looked}
-use Rattle.new_groups.specs.Causes.{IsFirst, look_refusal, terms_of}
+use Rattle.new_groups.specs.Causes.{IsThisRefusal, look_refusal, terms_of}
 use Rattle.new_groups.specs.Planning.{planned_after}
 use Rattle.new_groups.specs.Preparing.{IsPrepareRefusal, by_attribute, by_count, by_look, by_memory}
 use Rattle.new_groups.specs.Refusing.{IsRefusedAs, IsTooMany}
@@ -29,7 +29,7 @@ module _ (paths : List Bytes) (asked : GroupAsked) (known : Known) (s t : BaySta
   -- by what was looked at
   pub look_refused : (attributes : List Attribute) (groups : List NewFailgroup) (made : Creation) (found looked : List Looked) (disks : List PlannedDisk) (terms : List Terms) (refusal : r.Refusal)
       → attributes ≡ asked.attributes → groups ≡ asked.groups → creation (Some asked.kind) attributes ≡ Ok made → looked ≡ found → length found ≡ length paths → AreLooked found s t
-      → disks ≡ planned_after asked.name 0 groups → terms ≡ terms_of groups → IsFirst (look_refusal known made.shape paths looked disks terms) refusal → IsPrepareRefusal paths asked known refusal s t
+      → disks ≡ planned_after asked.name 0 groups → terms ≡ terms_of groups → IsThisRefusal (look_refusal known made.shape paths looked disks terms) refusal → IsPrepareRefusal paths asked known refusal s t
   look_refused attributes groups made found looked disks terms refusal same_attributes same_groups is_made same count are is_disks is_terms why = ⊎_elim
       (λ first. by_look (record {
         made = made;

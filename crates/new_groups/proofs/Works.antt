@@ -22,7 +22,7 @@ use Rattle.disk_forming.specs.Places.{all_gates}
 use Rattle.group_mount.specs.Verdicts.{IsSlotIn}
 use Rattle.group_mount.specs.Writing.{FrontOf}
 use Rattle.group_mount.specs.declared.finding.Headed.{Headed}
-use Rattle.group_disks.proofs.Told.{rose_before}
+use Rattle.group_mount.proofs.Told.{rose_before}
 use Rattle.group_mount.proofs.Fronts.{claims_change, front_runs, record_changes}
 use Rattle.status_register.specs.Registered.{AreNumbered}
 use Rattle.status_register.specs.Rows.{PutsRow, RunsInOrder}
@@ -68,7 +68,7 @@ heading_works h hs among place body {s} {t} attached run =
     one_works h hs among (PlaceOf place h.slot) (λ slot k inside. ⊎_elim (λ gate. gate.0) (λ rest. rest.0) inside) (λ x y step. step.elsewhere) attached run
 
 -- directory copies are made
-pub directories_work : (set : ℕ) (hs : List Headed) (cs : List DirCopy) {s t : BayState} → cs ≡ copy_list set hs → KeepsAttached s t → Runs (copies.IsSlotOf cs) (ChangesOnly (copies.RegionsOf cs)) s t → Works hs s t
+pub directories_work : (set : ℕ) (hs : List Headed) (cs : List DirCopy) {s t : BayState} → cs ≡ copy_list set hs → KeepsAttached s t → Runs (copies.IsSlotOfCopy cs) (ChangesOnly (copies.RegionsOf cs)) s t → Works hs s t
 directories_work set hs cs {s} {t} is attached run = record {
   attached = attached;
   runs = on_more (λ slot of. at slot of.0 of.1 of.2)

@@ -57,15 +57,15 @@ terms_of [] = []
 terms_of (g ∷ gs) = terms_in g.disks ++ terms_of gs
 
 -- a disk with what is said of it, and its image
-pub record Candidate : Type 0 where
+pub record CreationDisk : Type 0 where
   pub disk : PlannedDisk
   pub terms : Terms
   pub place : Place
 
-abbrev pub candidate : PlannedDisk → Terms → Place → Candidate
+abbrev pub candidate : PlannedDisk → Terms → Place → CreationDisk
 candidate d t p = record { disk = d; terms = t; place = p }
 
-abbrev pub candidates : List PlannedDisk → List Terms → List Place → List Candidate
+abbrev pub candidates : List PlannedDisk → List Terms → List Place → List CreationDisk
 candidates [] terms places = []
 candidates (d ∷ ds) [] places = []
 candidates (d ∷ ds) (t ∷ ts) [] = []
@@ -100,7 +100,7 @@ is_unread shown.Free = false
 is_unread (shown.Member member) = false
 
 -- WriteFault where the header couldn't be read, by which alone it can be told whether the disk is taken; else DiskTaken
-abbrev pub taken_refusal : Known → Candidate → Option r.Refusal
+abbrev pub taken_refusal : Known → CreationDisk → Option r.Refusal
 taken_refusal known c =
     if is_unread c.place.shown then Some (r.WriteFault c.disk.name)
     else (if is_taken known c.terms.force c.place then Some (r.DiskTaken c.disk.path) else None)
@@ -111,7 +111,7 @@ units_asked s None size = units_in s size
 units_asked s (Some said) size = said / s.au
 
 -- TooSmall: the image has fewer, or they are fewer than those without user bytes and 16 more
-abbrev pub small_refusal : Shape → Candidate → Option r.Refusal
+abbrev pub small_refusal : Shape → CreationDisk → Option r.Refusal
 small_refusal s c =
     let units = units_asked s c.terms.size c.place.size in
     let least = reserved_units s + 16 in
@@ -150,5 +150,5 @@ look_refusal known s paths looked disks terms =
     first_of (image_refusals known paths looked disks terms ++ shape_refusals s disks terms (places_at paths looked disks))
 
 -- the refusal is this one, or there was no memory
-abbrev pub IsFirst : Option r.Refusal → r.Refusal → Type 0
-IsFirst first refusal = (first ≡ Some refusal) ⊎ (refusal ≡ r.NoMemory)
+abbrev pub IsThisRefusal : Option r.Refusal → r.Refusal → Type 0
+IsThisRefusal first refusal = (first ≡ Some refusal) ⊎ (refusal ≡ r.NoMemory)

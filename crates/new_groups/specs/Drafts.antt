@@ -55,9 +55,9 @@ pub record IsRight (s : Shape) (entries : List Entry) (h : Headed) : Type 0 wher
   pub entry : is_of entries (member_of h) ≡ true
 
 -- no two of the disks have one slot or one number
-abbrev pub AreApart : List Headed → Type 0
-AreApart [] = ⊤
-AreApart (h ∷ hs) = ((k : Headed) → IsAmong hs k → (k.slot ≢ h.slot) × (k.header.number ≢ h.header.number)) × AreApart hs
+abbrev pub AreDisksApart : List Headed → Type 0
+AreDisksApart [] = ⊤
+AreDisksApart (h ∷ hs) = ((k : Headed) → IsAmong hs k → (k.slot ≢ h.slot) × (k.header.number ≢ h.header.number)) × AreDisksApart hs
 
 -- each disk of the set is there
 abbrev pub HaveDisks : ℕ → List Headed → Type 0
@@ -65,13 +65,13 @@ HaveDisks set hs = (d : ℕ) → d < 64 → has_bit set d ≡ true → (h : Head
 
 -- The parts of the draft agree: its record is one of the formats, its disks are those of the entries, and the disks of the record's sets
 -- are among them.
-pub record Agrees (d : Draft) : Type 0 where
+pub record HasAgreeingParts (d : Draft) : Type 0 where
   pub status : IsTrue (is_status d.status)
   pub alive : d.status.gone ≡ false
   pub shape : IsTrue (is_shape d.shape)
   pub few : length d.disks.items ≤ 64
   pub right : (h : Headed) → IsAmong d.disks.items h → IsRight d.shape d.status.entries h
-  pub apart : AreApart d.disks.items
+  pub apart : AreDisksApart d.disks.items
   pub holders : HaveDisks d.status.holders d.disks.items
   pub directories : HaveDisks d.status.directories d.disks.items
   pub items : ArePutItems d.first.put

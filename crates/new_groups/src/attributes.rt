@@ -3,7 +3,7 @@ ghost use Rattle.std.specs.Prelude.{◌≡◌, [], IfErr, IfOk, IsTrue, Ok, Some
 ghost use Rattle.asm_base.specs.Refusals.{said};
 ghost use Rattle.asm_group.specs.Shape.{is_shape};
 ghost use Rattle.asm_world.specs.Settings.{created_with, creation, with_creation_attribute};
-ghost use Rattle.attribute_values.specs.Creations.{IsNew, creation_meant};
+ghost use Rattle.attribute_values.specs.Creations.{IsNewCreation, creation_meant};
 ghost use Rattle.new_groups.specs.Refusing.{IsNotTaken, IsRefusedAs};
 
 use crate::refusals::bad_attribute;
@@ -15,9 +15,9 @@ use std::alloc::Global;
 /// The creation with all its attributes, whose unit must have eight sectors at least. NoMemory is answered, too, where the
 /// shape isn't one of the formats, which no attribute leaves so.
 fn finished(alloc: Global, creation: Creation) -> Result<Creation, Refusal>
-    requires { IsNew creation }
+    requires { IsNewCreation creation }
     ensures given { IfOk result (λ c. created_with (creation_meant creation) [] ≡ Ok (creation_meant c)) }
-    ensures new { IfOk result IsNew }
+    ensures new { IfOk result IsNewCreation }
     ensures shape { IfOk result (λ c. IsTrue (is_shape c.shape)) }
     ensures refused { IfErr result (λ refusal. IsRefusedAs (created_with (creation_meant creation) []) (said (λ _. []) refusal)) }
 {
@@ -33,9 +33,9 @@ fn finished(alloc: Global, creation: Creation) -> Result<Creation, Refusal>
 
 /// The creation with the value of one attribute more.
 fn with_one(alloc: Global, creation: &Creation, attribute: &Attribute) -> Result<Creation, Refusal>
-    requires { IsNew creation.now }
+    requires { IsNewCreation creation.now }
     ensures given { IfOk result (λ next. with_creation_attribute (creation_meant creation.now) attribute.now ≡ Some (creation_meant next)) }
-    ensures new { IfOk result IsNew }
+    ensures new { IfOk result IsNewCreation }
     ensures refused { IfErr result (λ refusal. IsNotTaken (creation_meant creation.now) attribute.now (said (λ _. []) refusal)) }
 {
     let name = attribute.name.as_slice();
@@ -52,9 +52,9 @@ fn with_attributes(
     creation: Creation,
     attributes: &[Attribute],
 ) -> Result<Creation, Refusal>
-    requires { IsNew creation }
+    requires { IsNewCreation creation }
     ensures given { IfOk result (λ c. created_with (creation_meant creation) attributes.now ≡ Ok (creation_meant c)) }
-    ensures new { IfOk result IsNew }
+    ensures new { IfOk result IsNewCreation }
     ensures shape { IfOk result (λ c. IsTrue (is_shape c.shape)) }
     ensures refused { IfErr result (λ refusal. IsRefusedAs (created_with (creation_meant creation) attributes.now) (said (λ _. []) refusal)) }
 {
@@ -75,7 +75,7 @@ pub fn creation_of(
     attributes: &[Attribute],
 ) -> Result<Creation, Refusal>
     ensures given { IfOk result (λ c. creation (Some kind) attributes.now ≡ Ok (creation_meant c)) }
-    ensures new { IfOk result IsNew }
+    ensures new { IfOk result IsNewCreation }
     ensures shape { IfOk result (λ c. IsTrue (is_shape c.shape)) }
     ensures refused { IfErr result (λ refusal. IsRefusedAs (creation (Some kind) attributes.now) (said (λ _. []) refusal)) }
 {

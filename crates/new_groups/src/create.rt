@@ -7,7 +7,7 @@ ghost use Rattle.bay.specs.Counts.{last_count};
 ghost use Rattle.group_disks.specs.FirstParts.{IsNewlyMounted};
 ghost use Rattle.group_disks.specs.Holding.{SparesHeld};
 ghost use Rattle.group_engine.specs.Frames.{StaysAttached};
-ghost use Rattle.new_groups.specs.Drafts.{Agrees, AreFree, AreLists};
+ghost use Rattle.new_groups.specs.Drafts.{HasAgreeingParts, AreFree, AreLists};
 ghost use Rattle.new_groups.specs.Forming.{IsFormRefusal, Works};
 ghost use Rattle.new_groups.specs.Preparing.{IsCreationRefusal};
 
@@ -28,7 +28,7 @@ fn form_ready<B: Bay>(
     slots: usize,
     held: &[u32],
 ) -> Result<Mounted, Refusal>
-    requires agrees { Agrees ready.draft }
+    requires agrees { HasAgreeingParts ready.draft }
     requires lists { AreLists ready.draft ready.lists }
     requires free { AreFree slots held.now ready.draft.disks.items (B.state bay.old) }
     ensures works { Works ready.draft.disks.items (B.state bay.old) (B.state bay.new) }

@@ -9,7 +9,7 @@ ghost use Rattle.group_mount.specs.Verdicts.{IsSlotIn};
 ghost use Rattle.group_mount.specs.Writing.{FrontOf};
 ghost use Rattle.status_register.specs.Keeping.{IsReady};
 ghost use Rattle.status_register.specs.Writes.{first_register};
-ghost use Rattle.new_groups.specs.Drafts.{Agrees, AreLists, copy_list, member_list};
+ghost use Rattle.new_groups.specs.Drafts.{HasAgreeingParts, AreLists, copy_list, member_list};
 ghost use Rattle.new_groups.specs.Forming.{AreDisks, AreHeadable, AreLong, FormCause, IsErrorSaid, IsFaultOf, IsFormed, IsFormRefusal, Works};
 
 use crate::draft::Draft;
@@ -84,7 +84,7 @@ fn give_directories<B: Bay>(
     draft: &Draft,
     lists: &Lists,
 ) -> Result<Store, FormError>
-    requires agrees { Agrees draft.now }
+    requires agrees { HasAgreeingParts draft.now }
     requires lists { AreLists draft.now lists.now }
     requires disks { AreDisks draft.now.disks.items (B.state bay.old) }
     ensures works { Works draft.now.disks.items (B.state bay.old) (B.state bay.new) }
@@ -106,7 +106,7 @@ fn give_directories<B: Bay>(
 
 /// Claims the first epoch, and writes the first record.
 fn give_record<B: Bay>(bay: &mut B, draft: &Draft, lists: &Lists) -> Result<Register, FormError>
-    requires agrees { Agrees draft.now }
+    requires agrees { HasAgreeingParts draft.now }
     requires lists { AreLists draft.now lists.now }
     requires disks { AreDisks draft.now.disks.items (B.state bay.old) }
     ensures works { Works draft.now.disks.items (B.state bay.old) (B.state bay.new) }
@@ -123,7 +123,7 @@ fn give_record<B: Bay>(bay: &mut B, draft: &Draft, lists: &Lists) -> Result<Regi
 
 /// Writes the first record.
 fn write_record<B: Bay>(bay: &mut B, draft: &Draft, lists: &Lists) -> Result<Register, FormError>
-    requires agrees { Agrees draft.now }
+    requires agrees { HasAgreeingParts draft.now }
     requires lists { AreLists draft.now lists.now }
     requires disks { AreDisks draft.now.disks.items (B.state bay.old) }
     ensures works { Works draft.now.disks.items (B.state bay.old) (B.state bay.new) }
@@ -152,7 +152,7 @@ fn give_rest<B: Bay>(
     draft: &Draft,
     lists: &Lists,
 ) -> Result<Formed, FormError>
-    requires agrees { Agrees draft.now }
+    requires agrees { HasAgreeingParts draft.now }
     requires lists { AreLists draft.now lists.now }
     requires disks { AreDisks draft.now.disks.items (B.state bay.old) }
     ensures works { Works draft.now.disks.items (B.state bay.old) (B.state bay.new) }
@@ -179,7 +179,7 @@ fn give_parts<B: Bay>(
     draft: &Draft,
     lists: &Lists,
 ) -> Result<Formed, FormError>
-    requires agrees { Agrees draft.now }
+    requires agrees { HasAgreeingParts draft.now }
     requires lists { AreLists draft.now lists.now }
     requires disks { AreDisks draft.now.disks.items (B.state bay.old) }
     ensures works { Works draft.now.disks.items (B.state bay.old) (B.state bay.new) }
@@ -217,7 +217,7 @@ fn refusal_of(alloc: Global, disks: &[Headed], error: FormError) -> Refusal
 
 /// Forms a group on its disks.
 pub fn form<B: Bay>(alloc: Global, bay: &mut B, ready: &Ready) -> Result<Formed, Refusal>
-    requires agrees { Agrees ready.now.draft }
+    requires agrees { HasAgreeingParts ready.now.draft }
     requires lists { AreLists ready.now.draft ready.now.lists }
     requires disks { AreDisks ready.now.draft.disks.items (B.state bay.old) }
     ensures works { Works ready.now.draft.disks.items (B.state bay.old) (B.state bay.new) }

@@ -5,7 +5,7 @@ ghost use Rattle.group_disks.specs.Mounting.{by_number};
 ghost use Rattle.group_engine.specs.Making.{made};
 ghost use Rattle.group_engine.specs.Mounts.{IsWhole};
 ghost use Rattle.status_register.specs.Reaching.{Reaches};
-ghost use Rattle.new_groups.specs.Drafts.{Agrees, disk_list};
+ghost use Rattle.new_groups.specs.Drafts.{HasAgreeingParts, disk_list};
 ghost use Rattle.new_groups.specs.Forming.{AreDisks, AreParts, IsMountedOf};
 
 use crate::draft::Draft;
@@ -21,7 +21,7 @@ use std::alloc::Global;
 
 /// The catalog of a new group's records. Want of memory is answered, too, where one were at fault.
 fn first_catalog(alloc: Global, store: &Store, draft: &Draft) -> Result<Catalog, NoMemory>
-    requires { Agrees draft.now }
+    requires { HasAgreeingParts draft.now }
     ensures catalog { IfOk result (IsCatalogOf store.now.table.records draft.now.status.entries) }
     ensures shape { IfOk result (λ c. c.shape ≡ draft.now.shape) }
 {
@@ -34,7 +34,7 @@ fn first_catalog(alloc: Global, store: &Store, draft: &Draft) -> Result<Catalog,
 
 /// The group of a draft that was formed.
 fn mounted_of<B: Bay>(bay: &B, draft: Draft, formed: Formed, catalog: Catalog) -> Mounted
-    requires agrees { Agrees draft }
+    requires agrees { HasAgreeingParts draft }
     requires disks { AreDisks draft.disks.items (B.state bay.now) }
     requires parts { AreParts draft formed }
     requires reached { Reaches formed.register.members formed.register.value }
@@ -57,7 +57,7 @@ pub fn mount_formed<B: Bay>(
     draft: Draft,
     formed: Formed,
 ) -> Result<Mounted, NoMemory>
-    requires agrees { Agrees draft }
+    requires agrees { HasAgreeingParts draft }
     requires disks { AreDisks draft.disks.items (B.state bay.now) }
     requires parts { AreParts draft formed }
     ensures made { IfOk result (IsMountedOf draft formed) }

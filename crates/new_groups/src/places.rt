@@ -4,7 +4,7 @@ ghost use Rattle.std.specs.Prelude.{◌≡◌, ◌≤◌, ◌+◌, ◌++◌, [],
 ghost use Rattle.std.specs.List.{list_any};
 ghost use Rattle.std.specs.String.{string_bytes};
 ghost use Rattle.asm_base.specs.Refusals.{said};
-ghost use Rattle.new_groups.specs.Causes.{IsFirst, candidate, candidates, first_refused, is_member_taken, is_same_disk, is_taken, is_unread, missing_refusal, place_at, place_in, places_at, shown_by, slot_from, taken_refusal};
+ghost use Rattle.new_groups.specs.Causes.{IsThisRefusal, candidate, candidates, first_refused, is_member_taken, is_same_disk, is_taken, is_unread, missing_refusal, place_at, place_in, places_at, shown_by, slot_from, taken_refusal};
 
 use crate::asked::{Known, Taken};
 use crate::planned::Terms;
@@ -107,7 +107,7 @@ fn put_places(
     requires few { length paths.now ≤ 512 }
     ensures places { OnOk result (places.new.items ≡ places.old.items ++ places_at (map string_bytes paths.now) looked.now disks.now) }
     ensures all { OnOk result (first_refused (missing_refusal (map string_bytes paths.now) looked.now) disks.now ≡ None) }
-    ensures refused { IfErr result (λ refusal. IsFirst (first_refused (missing_refusal (map string_bytes paths.now) looked.now) disks.now) (said (λ _. []) refusal)) }
+    ensures refused { IfErr result (λ refusal. IsThisRefusal (first_refused (missing_refusal (map string_bytes paths.now) looked.now) disks.now) (said (λ _. []) refusal)) }
 {
     let [disk, rest @ ..] = disks else {
         return Ok(());
@@ -132,7 +132,7 @@ pub fn find_places(
     requires few { length paths.now ≤ 512 }
     ensures places { IfOk result (λ places. places.items ≡ places_at (map string_bytes paths.now) looked.now disks.now) }
     ensures all { OnOk result (first_refused (missing_refusal (map string_bytes paths.now) looked.now) disks.now ≡ None) }
-    ensures refused { IfErr result (λ refusal. IsFirst (first_refused (missing_refusal (map string_bytes paths.now) looked.now) disks.now) (said (λ _. []) refusal)) }
+    ensures refused { IfErr result (λ refusal. IsThisRefusal (first_refused (missing_refusal (map string_bytes paths.now) looked.now) disks.now) (said (λ _. []) refusal)) }
 {
     let mut places = Vec::new(alloc);
     match put_places(alloc, paths, looked, disks, &mut places) {
@@ -193,7 +193,7 @@ fn check_free(
     place: Place,
 ) -> Result<(), Refusal>
     ensures free { OnOk result (taken_refusal known.now (candidate disk.now terms place) ≡ None) }
-    ensures refused { IfErr result (λ refusal. IsFirst (taken_refusal known.now (candidate disk.now terms place)) (said (λ _. []) refusal)) }
+    ensures refused { IfErr result (λ refusal. IsThisRefusal (taken_refusal known.now (candidate disk.now terms place)) (said (λ _. []) refusal)) }
 {
     if is_unread(place.shown) {
         return Err(write_fault(alloc, &disk.name));
@@ -215,7 +215,7 @@ pub fn check_all_free(
     places: &[Place],
 ) -> Result<(), Refusal>
     ensures free { OnOk result (first_refused (taken_refusal known.now) (candidates disks.now terms.now places.now) ≡ None) }
-    ensures refused { IfErr result (λ refusal. IsFirst (first_refused (taken_refusal known.now) (candidates disks.now terms.now places.now)) (said (λ _. []) refusal)) }
+    ensures refused { IfErr result (λ refusal. IsThisRefusal (first_refused (taken_refusal known.now) (candidates disks.now terms.now places.now)) (said (λ _. []) refusal)) }
 {
     let [disk, disks @ ..] = disks else {
         return Ok(());

@@ -8,8 +8,8 @@ ghost use Rattle.asm_group.specs.Shape.{is_shape};
 ghost use Rattle.bay.specs.Counts.{last_count};
 ghost use Rattle.directory_store.specs.Contents.{ArePutItems};
 ghost use Rattle.disk_images.specs.Looks.{AreLooked, Looks};
-ghost use Rattle.new_groups.specs.Causes.{IsFirst, clash_refusal, first_of, groups_refusal, image_refusals, look_refusal, places_at, shape_refusals};
-ghost use Rattle.new_groups.specs.Drafts.{Agrees, AreFree, AreLists};
+ghost use Rattle.new_groups.specs.Causes.{IsThisRefusal, clash_refusal, first_of, groups_refusal, image_refusals, look_refusal, places_at, shape_refusals};
+ghost use Rattle.new_groups.specs.Drafts.{HasAgreeingParts, AreFree, AreLists};
 ghost use Rattle.new_groups.specs.Preparing.{IsPrepareRefusal, IsPrepared};
 
 use crate::asked::{GroupAsked, Known};
@@ -49,7 +49,7 @@ fn next_id(floor: u64, ids: &[u64]) -> u64
 /// Whether names, paths and failure groups don't clash.
 fn check_names(disks: &[PlannedDisk]) -> Result<(), Refusal>
     ensures none { OnOk result (clash_refusal disks.now ≡ None) }
-    ensures refused { IfErr result (λ refusal. IsFirst (clash_refusal disks.now) (said (λ _. []) refusal)) }
+    ensures refused { IfErr result (λ refusal. IsThisRefusal (clash_refusal disks.now) (said (λ _. []) refusal)) }
 {
     if is_name_taken(&[], disks) {
         Err(Refusal::NameTaken)
@@ -61,7 +61,7 @@ fn check_names(disks: &[PlannedDisk]) -> Result<(), Refusal>
 /// Whether there are as many regular failure groups as the kind needs.
 fn check_groups(kind: GroupKind, disks: &[PlannedDisk]) -> Result<(), Refusal>
     ensures none { OnOk result (groups_refusal kind disks.now ≡ None) }
-    ensures refused { IfErr result (λ refusal. IsFirst (groups_refusal kind disks.now) (said (λ _. []) refusal)) }
+    ensures refused { IfErr result (λ refusal. IsThisRefusal (groups_refusal kind disks.now) (said (λ _. []) refusal)) }
 {
     let need = needed_groups(kind);
     let have = regular_groups(disks);
@@ -86,7 +86,7 @@ fn free_places(
     requires few { length paths.now ≤ 512 }
     ensures places { IfOk result (λ places. places.items ≡ places_at (map string_bytes paths.now) looked.now planned.now.disks.items) }
     ensures none { OnOk result (first_of (image_refusals known.now (map string_bytes paths.now) looked.now planned.now.disks.items planned.now.terms.items) ≡ None) }
-    ensures refused { IfErr result (λ refusal. IsFirst (first_of (image_refusals known.now (map string_bytes paths.now) looked.now planned.now.disks.items planned.now.terms.items)) (said (λ _. []) refusal)) }
+    ensures refused { IfErr result (λ refusal. IsThisRefusal (first_of (image_refusals known.now (map string_bytes paths.now) looked.now planned.now.disks.items planned.now.terms.items)) (said (λ _. []) refusal)) }
 {
     let places = match find_places(alloc, paths, looked, &planned.disks) {
         Ok(places) => places,
@@ -106,7 +106,7 @@ fn right_units(
     places: &[Place],
 ) -> Result<Vec<u32>, Refusal>
     requires shape { IsTrue (is_shape shape.now) }
-    ensures refused { IfErr result (λ refusal. IsFirst (first_of (shape_refusals shape.now planned.now.disks.items planned.now.terms.items places.now)) (said (λ _. []) refusal)) }
+    ensures refused { IfErr result (λ refusal. IsThisRefusal (first_of (shape_refusals shape.now planned.now.disks.items planned.now.terms.items places.now)) (said (λ _. []) refusal)) }
 {
     match check_names(&planned.disks) {
         Ok(()) => {}
@@ -174,7 +174,7 @@ fn planned_group(
     requires few { length paths.now ≤ 512 }
     requires shape { IsTrue (is_shape creation.now.shape) }
     ensures prepared { IfOk result (IsPrepared looked.now known.now.held.items asked.now.name id) }
-    ensures refused { IfErr result (λ refusal. IsFirst (look_refusal known.now creation.now.shape (map string_bytes paths.now) looked.now planned.now.disks.items planned.now.terms.items) (said (λ _. []) refusal)) }
+    ensures refused { IfErr result (λ refusal. IsThisRefusal (look_refusal known.now creation.now.shape (map string_bytes paths.now) looked.now planned.now.disks.items planned.now.terms.items) (said (λ _. []) refusal)) }
 {
     let places = match free_places(alloc, paths, known, looked, planned) {
         Ok(places) => places,
@@ -229,7 +229,7 @@ pub fn prepare<B: Bay>(
     requires few { length paths.now ≤ 512 }
     ensures looks { Looks (λ slot. slot < length paths.now) (4 * length paths.now) (B.state bay.old) (B.state bay.new) }
     ensures name { IfOk result (λ ready. ready.draft.name ≡ asked.now.name) }
-    ensures agrees { IfOk result (λ ready. Agrees ready.draft) }
+    ensures agrees { IfOk result (λ ready. HasAgreeingParts ready.draft) }
     ensures lists { IfOk result (λ ready. AreLists ready.draft ready.lists) }
     ensures free { IfOk result (λ ready. AreFree (length paths.now) known.now.held.items ready.draft.disks.items (B.state bay.new)) }
     ensures floor { IfOk result (λ ready. known.now.floor ≤ ready.draft.status.id) }

@@ -1,13 +1,13 @@
 //! Refusals of a creation. Each wants memory for the text that it names: where there is none, it is NoMemory.
 ghost use Rattle.asm_group.specs.Refusal.{BadAttribute, TooSmall};
-ghost use Rattle.group_disks.specs.Probes.{Says};
+ghost use Rattle.group_disks.specs.Probes.{SaysRefusal};
 
 use asm_base::{DiskRef, Name, NoMemory, Refusal, Text};
 use std::alloc::Global;
 
 /// The attribute isn't one, or can't have the value.
 pub fn bad_attribute(alloc: Global, name: &[u8]) -> Refusal
-    ensures { Says (BadAttribute name.now) result }
+    ensures { SaysRefusal (BadAttribute name.now) result }
 {
     match Text::from_slice(alloc, name) {
         Ok(name) => Refusal::BadAttribute { name },
@@ -17,7 +17,7 @@ pub fn bad_attribute(alloc: Global, name: &[u8]) -> Refusal
 
 /// The disk has fewer units than it needs.
 pub fn too_small(alloc: Global, disk: &Name, need: u64) -> Refusal
-    ensures { Says (TooSmall disk.now need) result }
+    ensures { SaysRefusal (TooSmall disk.now need) result }
 {
     match Text::from_slice(alloc, disk.as_bytes()) {
         Ok(text) => Refusal::TooSmall {

@@ -3,7 +3,7 @@ ghost use Rattle.std.specs.Prelude.{◌≡◌, ◌+◌, [], IfErr, IsTrue, None,
 ghost use Rattle.asm_base.specs.Refusals.{said};
 ghost use Rattle.asm_formats.specs.Regions.{reserved_units, units_in};
 ghost use Rattle.asm_group.specs.Shape.{is_shape};
-ghost use Rattle.new_groups.specs.Causes.{IsFirst, candidate, candidates, first_refused, small_refusal, units_asked};
+ghost use Rattle.new_groups.specs.Causes.{IsThisRefusal, candidate, candidates, first_refused, small_refusal, units_asked};
 
 use crate::places::Place;
 use crate::planned::Terms;
@@ -60,7 +60,7 @@ fn units_for(
 ) -> Result<u32, Refusal>
     requires shape { IsTrue (is_shape shape.now) }
     ensures fit { OnOk result (small_refusal shape.now (candidate disk.now terms place) ≡ None) }
-    ensures refused { IfErr result (λ refusal. IsFirst (small_refusal shape.now (candidate disk.now terms place)) (said (λ _. []) refusal)) }
+    ensures refused { IfErr result (λ refusal. IsThisRefusal (small_refusal shape.now (candidate disk.now terms place)) (said (λ _. []) refusal)) }
 {
     let units = units_asked(shape, terms.size, place.size);
     if image_units(shape, place.size) < units {
@@ -84,7 +84,7 @@ pub fn all_units(
 ) -> Result<(), Refusal>
     requires shape { IsTrue (is_shape shape.now) }
     ensures fit { OnOk result (first_refused (small_refusal shape.now) (candidates disks.now terms.now places.now) ≡ None) }
-    ensures refused { IfErr result (λ refusal. IsFirst (first_refused (small_refusal shape.now) (candidates disks.now terms.now places.now)) (said (λ _. []) refusal)) }
+    ensures refused { IfErr result (λ refusal. IsThisRefusal (first_refused (small_refusal shape.now) (candidates disks.now terms.now places.now)) (said (λ _. []) refusal)) }
 {
     let [disk, disks @ ..] = disks else {
         return Ok(());

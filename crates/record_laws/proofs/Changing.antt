@@ -8,7 +8,7 @@ use Rattle.asm_placement.specs.Modes.{is_forced}
 use Rattle.asm_images.specs.RecordLaws.{bare}
 use Rattle.record_laws.specs.Changing.{ModesJoin, ModesOfEach}
 use Rattle.asm_placement.proofs.Chosen.{entry_among}
-use Rattle.group_mount.proofs.Bare.{has_bare}
+use Rattle.asm_images.proofs.Bare.{has_bare}
 
 bare_map : (change : Entry → Entry) (es : List Entry) → ((e : Entry) → IsAmong es e → bare (change e) ≡ bare e) → map bare (map change es) ≡ map bare es
 bare_map change [] same = refl

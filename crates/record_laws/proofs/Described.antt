@@ -6,7 +6,7 @@ use Rattle.asm_images.specs.Describing.{DescribesGroup}
 use Rattle.group_of.specs.Groups.{cells_of}
 use Rattle.group_of.proofs.Describes.{describe, described_has_cells, described_is_of_tables}
 use Rattle.record_laws.specs.Describing.{EntriesDescribe, ModesDescribe}
-use Rattle.group_mount.proofs.Bare.{all_info, same_entry, same_places, same_regular}
+use Rattle.asm_images.proofs.Bare.{all_info, same_entry, same_places, same_regular}
 
 pub modes_describe : ModesDescribe
 modes_describe r s items g change d = record {

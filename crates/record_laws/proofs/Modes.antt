@@ -16,7 +16,7 @@ use Rattle.asm_images.specs.RecordLaws.{ChangesModes, bare}
 use Rattle.group_engine.proofs.Calls.{items}
 use Rattle.group_engine.proofs.NextRecords.{same_disks_are_next}
 use Rattle.record_laws.specs.Getting.{ChangesModesAlone, ModesAloneAreModes, ModesMayBeGot, MountedHasPartners, SameDisksMayBeGot, SameEntriesMayBeGot}
-use Rattle.group_mount.proofs.Bare.{births_in, has_bare}
+use Rattle.asm_images.proofs.Bare.{births_in, has_bare}
 use Rattle.record_laws.proofs.Described.{modes_describe}
 use Rattle.record_laws.proofs.Getting.{may_be_got}
 

@@ -29,14 +29,14 @@ use Rattle.group_engine.specs.declared.attached.Attached.{Attached}
 use Rattle.group_engine.specs.declared.flight.Flight.{Flight}
 use Rattle.group_engine.proofs.Causes.{nothing_own}
 use Rattle.group_engine.proofs.Members.{cause_lets, keeps_lets, lets_join, letting_on}
-use Rattle.group_pieces.specs.Faults.{RoseOn}
+use Rattle.group_pieces.specs.Faults.{RoseOnDisk}
 use Rattle.file_extents.proofs.Chains.{kept}
 use Rattle.resync.specs.Copying.{CopyCause, refusal_of}
 use Rattle.resync.specs.declared.copying.CopyError.{CopyError}
 use Rattle.resync.specs.declared.copying.CopyError.TheVariants as copies
 use Rattle.resync.proofs.Chains.{on_err}
-use Rattle.relocation.specs.Endings.{Ends}
-use Rattle.relocation.specs.Slices.{FailedBy, Goes, HasFault, SliceCause}
+use Rattle.relocation.specs.Endings.{FinishesRebalance}
+use Rattle.relocation.specs.Slices.{FailedBy, Goes, HasCopyFault, SliceCause}
 
 -- ---- what is kept
 
@@ -93,7 +93,7 @@ own_at m whole d slot at = let f = from_map (λ (x : Member). x.slot) (get_or m.
 pub own_slot : (m : MountedGroup) → IsWhole m → (d slot : ℕ) → slot_at m.disks d ≡ Some slot → IsOwn m slot
 own_slot = own_at
 
-rose_failed : (m : MountedGroup) → IsWhole m → (new : MountedGroup) → new.disks ≡ m.disks → (d : ℕ) (s t : BayState) → RoseOn m d s t → HasFailed m new d s t
+rose_failed : (m : MountedGroup) → IsWhole m → (new : MountedGroup) → new.disks ≡ m.disks → (d : ℕ) (s t : BayState) → RoseOnDisk m d s t → HasFailed m new d s t
 rose_failed m whole new same d s t rose = record {
   slot = rose.0;
   at = ap (λ (l : List (Option Attached)). slot_at l d) same ∙ rose.1;
@@ -110,12 +110,12 @@ pub status_slices : {a b : MountedGroup} {s t : BayState} → IsWhole a → Keep
 status_slices {a} {b} {s} {t} whole keeps e why = letting_slices a b s t e (cause_lets a b s t whole keeps e why)
 
 -- bytes that weren't copied
-pub copy_faults : (m : MountedGroup) (to : ℕ) (s t : BayState) (e : CopyError) → CopyCause m to s t e → HasFault m s t e
+pub copy_faults : (m : MountedGroup) (to : ℕ) (s t : BayState) (e : CopyError) → CopyCause m to s t e → HasCopyFault m s t e
 copy_faults m to s t (copies.Unread d) why = why
 copy_faults m to s t (copies.Unwritten d) why = why.1
 copy_faults m to s t copies.Nowhere why = tt
 
-pub copy_slices : (m : MountedGroup) → IsWhole m → (new : MountedGroup) → new.disks ≡ m.disks → (s t : BayState) (e : CopyError) → HasFault m s t e → SliceCause m new s t (refusal_of e)
+pub copy_slices : (m : MountedGroup) → IsWhole m → (new : MountedGroup) → new.disks ≡ m.disks → (s t : BayState) (e : CopyError) → HasCopyFault m s t e → SliceCause m new s t (refusal_of e)
 copy_slices m whole new same s t (copies.Unread d) why = rose_failed m whole new same d s t why
 copy_slices m whole new same s t (copies.Unwritten d) why = rose_failed m whole new same d s t why
 copy_slices m whole new same s t copies.Nowhere why = tt
@@ -171,32 +171,32 @@ not_copied m whole new same d slot at s t (inl none) = absurd (none-some slot (s
 not_copied m whole new same d slot at s t (inr failed) = rose_failed m whole new same d s t failed
 
 module _ {a b : MountedGroup} {s t : BayState} (whole : IsWhole a) (keeps : KeepsGroup a b s t) (d slot : ℕ) (at : slot_at a.disks d ≡ Some slot) where
-  directory_slices : (e : Refusal) → engine.CopyCause a d b s t e → SliceCause a b s t e
+  directory_slices : (e : Refusal) → engine.DirectoryCopyCause a d b s t e → SliceCause a b s t e
   directory_slices (cause.WriteFault by) why = subst (λ (x : DiskRef). FailedBy a b s t x) (sym why.0) (not_copied a whole b keeps.same.disks d slot at s t why.1)
   directory_slices (cause.Dismounted by) why = cause_lets a b s t whole keeps (cause.Dismounted by) why
   directory_slices cause.NoMemory why = tt
   directory_slices _ why = absurd why
 
-  pub copy_goes : (r : Result (Unit {0}) Refusal) → OnOk r (IsMounted b) → IfErr r (engine.CopyCause a d b s t) → Goes a r b s t
+  pub copy_goes : (r : Result (Unit {0}) Refusal) → OnOk r (IsMounted b) → IfErr r (engine.DirectoryCopyCause a d b s t) → Goes a r b s t
   copy_goes r mounted why = record {
     lets = keeps_lets keeps;
     mounted = mounted;
-    cause = on_err (engine.CopyCause a d b s t) (SliceCause a b s t) r directory_slices why;
+    cause = on_err (engine.DirectoryCopyCause a d b s t) (SliceCause a b s t) r directory_slices why;
   }
 
 -- ---- ends
 
-pub ends_done : (m : MountedGroup) (s : BayState) → IsMounted m → Takes m s → Ends m (Ok tt) m s s
+pub ends_done : (m : MountedGroup) (s : BayState) → IsMounted m → Takes m s → FinishesRebalance m (Ok tt) m s s
 ends_done m s mounted takes = record { lets = nothing_lets m s takes; mounted = mounted; cause = tt }
 
-pub ends_more : {a b c : MountedGroup} {s t u : BayState} (r : Result (Unit {0}) Refusal) → LetsGo a b s t → IsMounted b → Ends b r c t u → Ends a r c s u
+pub ends_more : {a b c : MountedGroup} {s t u : BayState} (r : Result (Unit {0}) Refusal) → LetsGo a b s t → IsMounted b → FinishesRebalance b r c t u → FinishesRebalance a r c s u
 ends_more {a} {b} {c} {s} {t} {u} r one mounted two = record {
   lets = lets_join one two.lets;
   mounted = two.mounted;
   cause = on_err (LettingCause b c t u) (LettingCause a c s u) r (letting_on a b c s t u one mounted) two.cause;
 }
 
-pub commits_end : {a b : MountedGroup} {s t : BayState} (r : Result (Unit {0}) Refusal) → IsWhole a → GoesOn a r b s t → Ends a r b s t
+pub commits_end : {a b : MountedGroup} {s t : BayState} (r : Result (Unit {0}) Refusal) → IsWhole a → GoesOn a r b s t → FinishesRebalance a r b s t
 commits_end {a} {b} {s} {t} r whole is = record {
   lets = keeps_lets is.keeps;
   mounted = is.mounted;

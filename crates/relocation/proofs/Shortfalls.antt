@@ -39,7 +39,7 @@ use Rattle.relocation.specs.declared.asking.Asked.{Asked}
 use Rattle.relocation.specs.declared.asking.Asked.TheVariants as asked
 use Rattle.relocation.specs.declared.asking.Slice.{Slice}
 use Rattle.relocation.specs.declared.asking.Slice.TheVariants as slice
-use Rattle.relocation.specs.Shortfalls.{EndCause, EndsActive, HasNoPlace, HasNoSource, IsCopyOf, IsNoEnd, IsShort, LacksPlace, LacksSource, OnEnd, without_rebalance}
+use Rattle.relocation.specs.Shortfalls.{EndCause, EndsActive, HasNoDiskFor, HasNoSource, IsCopyOfExtent, IsNoEnd, IsSliceShort, LacksPlace, LacksSource, OnEnd, without_rebalance}
 
 -- ---- what is not said in a list
 
@@ -222,7 +222,7 @@ module _ (s : Shape) (r : Status) (items : List Item) where
 pub lost_cause : (m : MountedGroup) (x : ExtentId) → IsNextMove m.catalog m.register.value (code.Lost x) → HasNoSource m x
 lost_cause m x is items are = lost_so m.catalog.shape m.register.value items x (sym (is.is_next items are))
 
-pub space_cause : (m : MountedGroup) (x : ExtentId) → IsNextMove m.catalog m.register.value (code.NoSpace x) → HasNoPlace m x
+pub space_cause : (m : MountedGroup) (x : ExtentId) → IsNextMove m.catalog m.register.value (code.NoSpace x) → HasNoDiskFor m x
 space_cause m x is items are = space_so m.catalog.shape m.register.value items x (sym (is.is_next items are))
 
 -- what is no end has any cause
@@ -257,10 +257,10 @@ module _ (t : Tables) (its items : List Item) (a : SayTables t its) (b : SayTabl
   room_same s n e =
       ap (λ (ps : List Placed). is_some (find (is_free_run ps e.number n) (range_with_len (reserved_units s) (e.units + 1 - (reserved_units s + n))))) (b.placed s.step ∙ sym (a.placed s.step))
 
-  copy_on : (x : ExtentId) (c : Copy) → IsCopyOf its x c → IsCopyOf items x c
+  copy_on : (x : ExtentId) (c : Copy) → IsCopyOfExtent its x c → IsCopyOfExtent items x c
   copy_on x c of = record { among = subst (λ (cs : List Copy). IsAmong cs c) (sym copies_same) of.among; file = of.file; index = of.index }
 
-  copy_back : (x : ExtentId) (c : Copy) → IsCopyOf items x c → IsCopyOf its x c
+  copy_back : (x : ExtentId) (c : Copy) → IsCopyOfExtent items x c → IsCopyOfExtent its x c
   copy_back x c of = record { among = subst (λ (cs : List Copy). IsAmong cs c) copies_same of.among; file = of.file; index = of.index }
 
   source_on : (es : List Entry) (x : ExtentId) → LacksSource es its x → LacksSource es items x
@@ -290,7 +290,7 @@ module _ (have : TablesHaveItems) (say : ItemsSayTables) (old new : MountedGroup
       subst (λ (es : List Entry). LacksSource es items x) (sym ends.entries)
       (source_on old.catalog.tables before.0 items (say old.catalog.tables before.0 are before.1) (said_now items is) old.register.value.entries x (cause before.0 before.1))
 
-  place_stays : (x : ExtentId) → HasNoPlace old x → HasNoPlace new x
+  place_stays : (x : ExtentId) → HasNoDiskFor old x → HasNoDiskFor new x
   place_stays x cause items is =
       subst (λ (s : Shape). LacksPlace s new.register.value.entries items x) (sym ends.shape)
       (subst (λ (es : List Entry). LacksPlace old.catalog.shape es items x) (sym ends.entries)
@@ -298,7 +298,7 @@ module _ (have : TablesHaveItems) (say : ItemsSayTables) (old new : MountedGroup
 
 -- an end that is short has its cause in the group that is left
 pub cause_stays : TablesHaveItems → ItemsSayTables → (old new : MountedGroup) → AreTables old.catalog.tables → AreTables new.catalog.tables → (end : Slice)
-    → (IsShort end → EndsActive old new) → EndCause old end → EndCause new end
+    → (IsSliceShort end → EndsActive old new) → EndCause old end → EndCause new end
 cause_stays have say old new are later slice.More ends cause = tt
 cause_stays have say old new are later slice.Done ends cause = tt
 cause_stays have say old new are later (slice.NoSpace x) ends cause = place_stays have say old new are later (ends tt) x cause

@@ -20,7 +20,7 @@ pub record ClosesOn (m : MountedGroup) (slot : ℕ) (s t : BayState) : Type 0 wh
   pub takes : Takes m t
 
 -- What the end of a rebalance does, or a part of it: some disks may leave.
-pub record Ends (old : MountedGroup) (answer : Result (Unit {0}) Refusal) (new : MountedGroup) (s t : BayState) : Type 0 where
+pub record FinishesRebalance (old : MountedGroup) (answer : Result (Unit {0}) Refusal) (new : MountedGroup) (s t : BayState) : Type 0 where
   pub lets : LetsGo old new s t
   pub mounted : OnOk answer (IsMounted new)
   pub cause : IfErr answer (LettingCause old new s t)

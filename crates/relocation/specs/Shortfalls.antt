@@ -17,7 +17,7 @@ use Rattle.relocation.specs.declared.asking.Slice.{Slice}
 use Rattle.relocation.specs.declared.asking.Slice.TheVariants as slice
 
 -- The copy is one of the extent's.
-pub record IsCopyOf (items : List Item) (x : ExtentId) (copy : Copy) : Type 0 where
+pub record IsCopyOfExtent (items : List Item) (x : ExtentId) (copy : Copy) : Type 0 where
   pub among : IsAmong (all_copies items) copy
   pub file : copy.file ≡ x.file
   pub index : copy.index ≡ x.index
@@ -25,7 +25,7 @@ pub record IsCopyOf (items : List Item) (x : ExtentId) (copy : Copy) : Type 0 wh
 -- A copy of the extent is to be elsewhere, and no disk that may take its place has room for it.
 pub record LacksPlace (s : Shape) (es : List Entry) (items : List Item) (x : ExtentId) : Type 0 where
   pub copy : Copy
-  pub is_copy : IsCopyOf items x copy
+  pub is_copy : IsCopyOfExtent items x copy
   -- it is absent or on a Forced disk, or on a Dropping disk or in the failure group of an earlier copy
   pub wants : IsTrue (wants_fill es copy || wants_shift es copy)
   pub full : (e : Entry) → IsAmong es e → IsTrue (is_eligible es copy.copy copy.homes e) → has_room s items (units s copy) e ≡ false
@@ -33,12 +33,12 @@ pub record LacksPlace (s : Shape) (es : List Entry) (items : List Item) (x : Ext
 -- The extent has copies, and none of them is there unmarked on a disk that serves.
 pub record LacksSource (es : List Entry) (items : List Item) (x : ExtentId) : Type 0 where
   pub copy : Copy
-  pub is_copy : IsCopyOf items x copy
-  pub unread : (y : Copy) → IsCopyOf items x y → can_be_read es items y ≡ false
+  pub is_copy : IsCopyOfExtent items x copy
+  pub unread : (y : Copy) → IsCopyOfExtent items x y → can_be_read es items y ≡ false
 
 -- by the group's tables and record, no disk can take a copy of the extent that is to be elsewhere
-abbrev pub HasNoPlace : MountedGroup → ExtentId → Type 0
-HasNoPlace m x = (items : List Item) → AreItemsOf m.catalog.tables items → LacksPlace m.catalog.shape m.register.value.entries items x
+abbrev pub HasNoDiskFor : MountedGroup → ExtentId → Type 0
+HasNoDiskFor m x = (items : List Item) → AreItemsOf m.catalog.tables items → LacksPlace m.catalog.shape m.register.value.entries items x
 
 -- by the group's tables and record, no copy of the extent can be read
 abbrev pub HasNoSource : MountedGroup → ExtentId → Type 0
@@ -48,15 +48,15 @@ HasNoSource m x = (items : List Item) → AreItemsOf m.catalog.tables items → 
 abbrev pub EndCause : MountedGroup → Slice → Type 0
 EndCause m slice.More = ⊤
 EndCause m slice.Done = ⊤
-EndCause m (slice.NoSpace x) = HasNoPlace m x
+EndCause m (slice.NoSpace x) = HasNoDiskFor m x
 EndCause m (slice.Lost x) = HasNoSource m x
 
 -- something is left that can't be done
-abbrev pub IsShort : Slice → Type 0
-IsShort slice.More = ⊥
-IsShort slice.Done = ⊥
-IsShort (slice.NoSpace x) = ⊤
-IsShort (slice.Lost x) = ⊤
+abbrev pub IsSliceShort : Slice → Type 0
+IsSliceShort slice.More = ⊥
+IsSliceShort slice.Done = ⊥
+IsSliceShort (slice.NoSpace x) = ⊤
+IsSliceShort (slice.Lost x) = ⊤
 
 -- the claim holds of the end, where what comes next is one
 abbrev pub OnEnd : Asked → (Slice → Type 0) → Type 0

@@ -7,7 +7,7 @@ use Rattle.asm_base.specs.declared.refusal.Refusal.{Refusal}
 use Rattle.asm_base.specs.declared.refusal.Refusal.TheVariants as cause
 use Rattle.group_engine.specs.Members.{HasFailed, IsLetDown, LetsGo}
 use Rattle.group_engine.specs.Mounts.{IsMounted, MountedGroup}
-use Rattle.group_pieces.specs.Faults.{RoseOn}
+use Rattle.group_pieces.specs.Faults.{RoseOnDisk}
 use Rattle.resync.specs.declared.copying.CopyError.{CopyError}
 use Rattle.resync.specs.declared.copying.CopyError.TheVariants as copies
 
@@ -26,10 +26,10 @@ SliceCause old new s t cause.NoMemory = ⊤
 SliceCause old new s t _ = ⊥
 
 -- the disk from which bytes were read, or to which they go, failed
-abbrev pub HasFault : MountedGroup → BayState → BayState → CopyError → Type 0
-HasFault m s t (copies.Unread d) = RoseOn m d s t
-HasFault m s t (copies.Unwritten d) = RoseOn m d s t
-HasFault m s t copies.Nowhere = ⊤
+abbrev pub HasCopyFault : MountedGroup → BayState → BayState → CopyError → Type 0
+HasCopyFault m s t (copies.Unread d) = RoseOnDisk m d s t
+HasCopyFault m s t (copies.Unwritten d) = RoseOnDisk m d s t
+HasCopyFault m s t copies.Nowhere = ⊤
 
 -- A step of a slice, or several of them.
 pub record Goes (old : MountedGroup) (answer : Result (Unit {0}) Refusal) (new : MountedGroup) (s t : BayState) : Type 0 where

@@ -4,8 +4,8 @@ ghost use Rattle.std.specs.Prelude.{◌≡◌, ◌<◌, OnOk};
 ghost use Rattle.disk_images.specs.Headers.{HasHeaderSlot};
 ghost use Rattle.group_engine.specs.Mounts.{IsMounted, Takes};
 ghost use Rattle.group_engine.specs.Pending.{GoesOn};
-ghost use Rattle.relocation.specs.Endings.{ClosesOn, Ends, has_slot};
-ghost use Rattle.relocation.specs.Shortfalls.{EndsActive, IsShort};
+ghost use Rattle.relocation.specs.Endings.{ClosesOn, FinishesRebalance, has_slot};
+ghost use Rattle.relocation.specs.Shortfalls.{EndsActive, IsSliceShort};
 
 use crate::asking::Slice;
 use asm_base::{Mode, Refusal};
@@ -65,7 +65,7 @@ fn take_out<B: Bay>(m: &mut Mounted, alloc: Global, bay: &mut B, disk: u8) -> Re
     requires mounted { IsMounted m.old }
     requires takes { Takes m.old (B.state bay.old) }
     requires small { disk < 64 }
-    ensures { Ends m.old result m.new (B.state bay.old) (B.state bay.new) }
+    ensures { FinishesRebalance m.old result m.new (B.state bay.old) (B.state bay.new) }
 {
     let slot = m.slot(disk);
     match m.leave(alloc, bay, disk) {
@@ -86,7 +86,7 @@ fn take_out_if<B: Bay>(m: &mut Mounted, alloc: Global, bay: &mut B, disk: u8) ->
     requires mounted { IsMounted m.old }
     requires takes { Takes m.old (B.state bay.old) }
     requires small { disk < 64 }
-    ensures { Ends m.old result m.new (B.state bay.old) (B.state bay.new) }
+    ensures { FinishesRebalance m.old result m.new (B.state bay.old) (B.state bay.new) }
 {
     if !is_to_leave(m.status(), disk) {
         return Ok(());
@@ -98,7 +98,7 @@ fn take_out_if<B: Bay>(m: &mut Mounted, alloc: Global, bay: &mut B, disk: u8) ->
 fn take_all_out<B: Bay>(m: &mut Mounted, alloc: Global, bay: &mut B) -> Result<(), Refusal>
     requires mounted { IsMounted m.old }
     requires takes { Takes m.old (B.state bay.old) }
-    ensures { Ends m.old result m.new (B.state bay.old) (B.state bay.new) }
+    ensures { FinishesRebalance m.old result m.new (B.state bay.old) (B.state bay.new) }
 {
     for disk in 0..64u8 {
         match take_out_if(m, alloc, bay, disk) {
@@ -126,8 +126,8 @@ fn end_active<B: Bay>(m: &mut Mounted, alloc: Global, bay: &mut B) -> Result<(),
 fn empty_out<B: Bay>(m: &mut Mounted, alloc: Global, bay: &mut B, end: Slice) -> Result<(), Refusal>
     requires mounted { IsMounted m.old }
     requires takes { Takes m.old (B.state bay.old) }
-    ensures ends { Ends m.old result m.new (B.state bay.old) (B.state bay.new) }
-    ensures same { IsShort end → m.new ≡ m.old }
+    ensures ends { FinishesRebalance m.old result m.new (B.state bay.old) (B.state bay.new) }
+    ensures same { IsSliceShort end → m.new ≡ m.old }
 {
     match end {
         Slice::Done => take_all_out(m, alloc, bay),
@@ -144,8 +144,8 @@ pub(crate) fn end_with<B: Bay>(
 ) -> Result<(), Refusal>
     requires mounted { IsMounted m.old }
     requires takes { Takes m.old (B.state bay.old) }
-    ensures ends { Ends m.old result m.new (B.state bay.old) (B.state bay.new) }
-    ensures kept { IsShort end → OnOk result (EndsActive m.old m.new) }
+    ensures ends { FinishesRebalance m.old result m.new (B.state bay.old) (B.state bay.new) }
+    ensures kept { IsSliceShort end → OnOk result (EndsActive m.old m.new) }
 {
     match empty_out(m, alloc, bay, end) {
         Ok(()) => end_active(m, alloc, bay),

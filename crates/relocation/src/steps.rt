@@ -4,7 +4,7 @@ ghost use Rattle.group_engine.specs.Mounts.{IsMounted, Takes};
 ghost use Rattle.group_engine.specs.Own.{KeepsGroup};
 ghost use Rattle.group_engine.specs.Pending.{GoesOn};
 ghost use Rattle.group_engine.specs.Searches.{IsPlanIn};
-ghost use Rattle.relocation.specs.Slices.{Goes, HasFault};
+ghost use Rattle.relocation.specs.Slices.{Goes, HasCopyFault};
 ghost use Rattle.resync.specs.Copying.{refusal_of};
 
 use crate::fitting::is_in_place;
@@ -42,7 +42,7 @@ fn copy_next<B: Bay>(m: &Mounted, bay: &mut B, buffer: &mut [u8]) -> Result<u64,
     requires mounted { IsMounted m.now }
     requires takes { Takes m.now (B.state bay.old) }
     ensures keeps { KeepsGroup m.now m.now (B.state bay.old) (B.state bay.new) }
-    ensures cause { IfErr result (HasFault m.now (B.state bay.old) (B.state bay.new)) }
+    ensures cause { IfErr result (HasCopyFault m.now (B.state bay.old) (B.state bay.new)) }
 {
     match m.in_flight() {
         Some(flight) => copy_from(m, bay, flight.x, flight.to, flight.copied, buffer),
@@ -62,7 +62,7 @@ fn copy_from<B: Bay>(
     requires mounted { IsMounted m.now }
     requires takes { Takes m.now (B.state bay.old) }
     ensures keeps { KeepsGroup m.now m.now (B.state bay.old) (B.state bay.new) }
-    ensures cause { IfErr result (HasFault m.now (B.state bay.old) (B.state bay.new)) }
+    ensures cause { IfErr result (HasCopyFault m.now (B.state bay.old) (B.state bay.new)) }
 {
     // A move that goes on has bytes left, and the buffer takes a whole piece.
     let shape = m.catalog().shape();

@@ -25,7 +25,7 @@ use Rattle.session.specs.Meaning.{meaning}
 use Rattle.session.specs.Sessions.{AreReady, Knows, Roster, SessionView, roster_of}
 use Rattle.session.proofs.AnsweredLines.{reply_of}
 use Rattle.session.proofs.Outcomes.{unread}
-use Rattle.report_commands.specs.Told.{IsFoundIn, found_told}
+use Rattle.report_commands.specs.Told.{AreFoundLines, found_told}
 use Rattle.report_commands.proofs.Searches.{IsSearch, search_served, told_nowhere}
 use Rattle.report_commands.proofs.ShownGroups.{IsThere}
 
@@ -75,6 +75,6 @@ module _ (paths : List Bytes) (text path pattern : Bytes) (says : meaning text �
     as_world : (m : MountedGroup) → KeepsRules m.catalog.shape m.catalog.tables → (there : IsThere w below name m) → found_told m inside pattern ≡ world.found_in there.group inside pattern
     as_world m rules there = found_are_worlds m.name m.catalog.shape m.catalog.tables there.told.cells inside pattern rules ∙ ap (λ (g : Group). world.found_in g inside pattern) (sym there.told.is)
 
-    pub found_served : (result : Result (List Bytes) Refusal) → IfOk result (λ lines. IsInGroup session name (λ m. IsFoundIn m inside pattern lines)) → IfErr result (IsPathCause session name inside) → IsServed paths unread text (reply_of result) was was s s below w w
+    pub found_served : (result : Result (List Bytes) Refusal) → IfOk result (λ lines. IsInGroup session name (λ m. AreFoundLines m inside pattern lines)) → IfErr result (IsPathCause session name inside) → IsServed paths unread text (reply_of result) was was s s below w w
     found_served result found out =
         search_served paths text command says session s ready w below knows leads lines_of search name inside (at_place (Some (name, inside)) target) (λ m. found_told m inside pattern) as_world result found out

@@ -16,7 +16,7 @@ use Rattle.session.specs.declared.entry.Entry.{Entry}
 use Rattle.session.specs.declared.group_name.GroupName.{GroupName}
 use Rattle.session.specs.Entries.{entry_view, group_view}
 use Rattle.session.specs.Sessions.{SessionView}
-use Rattle.report_commands.specs.GroupRows.{AreLinesOf, AreRows, AreRowsOf, AreStatesOf, IsRowOf, groups_asked, is_asked, line_of}
+use Rattle.report_commands.specs.GroupRows.{AreLinesOf, AreRows, AreAskedRows, AreStatesOf, IsRowOf, groups_asked, is_asked, line_of}
 
 abbrev pub Pairs : Type 0
 Pairs = List (GroupName × Entry)
@@ -95,7 +95,7 @@ states_of : (es : Pairs) → AreStatesOf (map entry_view es) (map group_view es)
 states_of [] = tt
 states_of (p ∷ es) = (refl, states_of es)
 
-pub lines_are : (session : SessionView) (group : Option Bytes) (es : Pairs) (rows : List GroupRow) (lines : List Bytes) → map entry_view es ≡ session.entries → map group_view es ≡ session.groups → AreRowsOf session group rows
+pub lines_are : (session : SessionView) (group : Option Bytes) (es : Pairs) (rows : List GroupRow) (lines : List Bytes) → map entry_view es ≡ session.entries → map group_view es ≡ session.groups → AreAskedRows session group rows
     → lines ≡ texts.group_lines rows → AreLinesOf session group lines
 lines_are session group es rows lines entries groups are is = record {
   states = subst (λ (l : List SessionEntry). AreStatesOf l session.groups) entries (subst (λ (l : List MountedGroup). AreStatesOf (map entry_view es) l) groups (states_of es));

@@ -21,7 +21,7 @@ use Rattle.asmcmd.specs.declared.rows.LsRow.{LsRow}
 use Rattle.catalog_tables.specs.Rules.{KeepsRules}
 use Rattle.group_engine.specs.Making.{dismounted_by}
 use Rattle.group_engine.specs.Mounts.{MountedGroup}
-use Rattle.group_reports.specs.Listing.{AreRowsAt, IsRefusedAs, list_refusal}
+use Rattle.group_reports.specs.Listing.{AreRowsAt, IsDueRefusal, list_refusal}
 use Rattle.report_laws.specs.Lists.{LacksName, matching_name, names_before}
 use Rattle.report_laws.proofs.InOrder.{names_are_inserted}
 use Rattle.session.specs.declared.entry.Entry.{Entry}
@@ -228,7 +228,7 @@ none_text entries text none = rw (none-by (entry_among entries text) none) (inl 
 
 -- ---- the rows in it
 
-due_or : (due : Option Refusal) (refusal : Refusal) → IsRefusedAs due refusal → (refusal ≡ cause.NoMemory) ⊎ (due ≡ Some refusal)
+due_or : (due : Option Refusal) (refusal : Refusal) → IsDueRefusal due refusal → (refusal ≡ cause.NoMemory) ⊎ (due ≡ Some refusal)
 due_or due cause.NoMemory is = inl refl
 due_or due refusal is = inr is
 
@@ -236,7 +236,7 @@ pub rows_in_text : (session : SessionView) (name text : Bytes) (m : MountedGroup
     → AreRowsOfGroup session text parts rows
 rows_in_text session name text m parts rows found is rules are = record { group = m; is_group = in_text session name text m found is; rules = rules; are = are }
 
-pub cause_in_text : (session : SessionView) (name text : Bytes) (m : MountedGroup) (parts : Path) (refusal : Refusal) → Some name ≡ name_among session.entries text → IsGroupOf session name m → IsRefusedAs (list_refusal m.catalog.tables parts) refusal
+pub cause_in_text : (session : SessionView) (name text : Bytes) (m : MountedGroup) (parts : Path) (refusal : Refusal) → Some name ≡ name_among session.entries text → IsGroupOf session name m → IsDueRefusal (list_refusal m.catalog.tables parts) refusal
     → (refusal ≡ cause.NoMemory) ⊎ IsRefusedIn session text parts refusal
 cause_in_text session name text m parts refusal found is why = ⊎_elim
     (λ want. inl want)

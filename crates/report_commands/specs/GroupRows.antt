@@ -39,8 +39,8 @@ AreRows (g ∷ groups) (row ∷ rows) = IsRowOf g.0 g.1 row × AreRows groups ro
 AreRows groups rows = ⊥
 
 -- the rows are those of the groups that are asked for, in the order of mounting
-abbrev pub AreRowsOf : SessionView → Option Bytes → List GroupRow → Type 0
-AreRowsOf session group rows = AreRows (groups_asked group session.entries session.groups) rows
+abbrev pub AreAskedRows : SessionView → Option Bytes → List GroupRow → Type 0
+AreAskedRows session group rows = AreRows (groups_asked group session.entries session.groups) rows
 
 -- ---- lines
 

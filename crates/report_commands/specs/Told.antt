@@ -37,11 +37,11 @@ told report.Templates m = templates_told m
 told report.Attributes m = attributes_told m
 
 -- The text asks for the report on the group of a name.
-abbrev pub AsksFor : Bytes → Bytes → Report → Type 0
-AsksFor text name report.Disks = command_of text ≡ Asked (ListDisks name)
-AsksFor text name report.Check = command_of text ≡ Said (Alter name Check)
-AsksFor text name report.Templates = command_of text ≡ Asked (ListTemplates name)
-AsksFor text name report.Attributes = command_of text ≡ Asked (ListAttributes name)
+abbrev pub AsksForReport : Bytes → Bytes → Report → Type 0
+AsksForReport text name report.Disks = command_of text ≡ Asked (ListDisks name)
+AsksForReport text name report.Check = command_of text ≡ Said (Alter name Check)
+AsksForReport text name report.Templates = command_of text ≡ Asked (ListTemplates name)
+AsksForReport text name report.Attributes = command_of text ≡ Asked (ListAttributes name)
 
 -- ---- reports on a directory
 
@@ -63,5 +63,5 @@ IsUsageIn m path lines = IsToldAt m path (usage_told m path) lines
 abbrev pub found_told : MountedGroup → Path → Bytes → List Bytes
 found_told m dir pattern = map texts.path_line (paths_found m.catalog.tables m.name dir pattern)
 
-abbrev pub IsFoundIn : MountedGroup → Path → Bytes → List Bytes → Type 0
-IsFoundIn m path pattern lines = IsToldAt m path (found_told m path pattern) lines
+abbrev pub AreFoundLines : MountedGroup → Path → Bytes → List Bytes → Type 0
+AreFoundLines m path pattern lines = IsToldAt m path (found_told m path pattern) lines

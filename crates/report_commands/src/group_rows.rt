@@ -1,6 +1,6 @@
 // The rows of lsdg, and its lines.
 ghost use Rattle.std.specs.Prelude.{◌≡◌, IfErr, IfOk};
-ghost use Rattle.report_commands.specs.GroupRows.{AreGroupsTold, AreLinesOf, AreRowsOf, IsNoGroup, IsRowOf, is_asked, is_there};
+ghost use Rattle.report_commands.specs.GroupRows.{AreGroupsTold, AreLinesOf, AreAskedRows, IsNoGroup, IsRowOf, is_asked, is_there};
 
 use asm_base::{List, Name, NoMemory, Refusal, Text};
 use asmcmd::{GroupRow, group_lines};
@@ -38,7 +38,7 @@ fn group_rows(
     alloc: Global,
     group: &Option<Name>,
 ) -> Result<Vec<GroupRow>, NoMemory>
-    ensures { IfOk result (λ rows. AreRowsOf session.now group.now rows.items) }
+    ensures { IfOk result (λ rows. AreAskedRows session.now group.now rows.items) }
 {
     let mut rows = Vec::new(alloc);
     for (key, entry) in session.groups().iter() {

@@ -5,7 +5,7 @@ ghost use Rattle.asm_world.specs.Language.{command_of};
 ghost use Rattle.asm_world.specs.Statement.{Alter, Check};
 ghost use Rattle.session.specs.Desks.{IsAnswered};
 ghost use Rattle.session.specs.Sessions.{AreReady};
-ghost use Rattle.report_commands.specs.Told.{AsksFor};
+ghost use Rattle.report_commands.specs.Told.{AsksForReport};
 
 use crate::group_rows::groups_told;
 use crate::listing::{listed, parts_led};
@@ -17,7 +17,7 @@ use verb_paths::target;
 
 /// A report on the mounted group of a name. Its refusals in order: NoGroup, Dismounted.
 fn tell<B: Bay, H: Host>(desk: &mut Desk<B, H>, text: &[u8], group: &Name, report: Report) -> Answer
-    requires asked { AsksFor text.now group.now report }
+    requires asked { AsksForReport text.now group.now report }
     requires ready { AreReady desk.old.session.groups (B.state desk.old.bay) }
     ensures answers { IsAnswered text.now result desk.old desk.new }
 {

@@ -6,7 +6,7 @@ ghost use Rattle.asm_world.specs.Paths.{parts_of, resolved_or_here};
 ghost use Rattle.group_reports.specs.Places.{directory_at};
 ghost use Rattle.session.specs.Listing.{IsInGroup, IsPathCause};
 ghost use Rattle.session.specs.Naming.{IsOutCause};
-ghost use Rattle.report_commands.specs.Told.{IsFoundIn, IsUsageIn, attributes_told, checked_told, disks_told, found_told, templates_told, told, usage_told};
+ghost use Rattle.report_commands.specs.Told.{AreFoundLines, IsUsageIn, attributes_told, checked_told, disks_told, found_told, templates_told, told, usage_told};
 
 use asm_base::{List, Name, NoMemory, Path, Refusal, Text};
 use asmcmd::{attribute_lines, check_lines, disk_lines, path_lines, template_lines, usage_lines};
@@ -161,7 +161,7 @@ fn found_of(
 
 /// The same of the directory at a path.
 fn found_at(alloc: Global, m: &Mounted, path: &Path, pattern: &[u8]) -> Result<List<Text>, Refusal>
-    ensures found { IfOk result (IsFoundIn m.now path.now.parts pattern.now) }
+    ensures found { IfOk result (AreFoundLines m.now path.now.parts pattern.now) }
     ensures cause { IfErr result (λ refusal. (directory_at m.now.catalog.tables path.now.parts ≡ Err refusal) ⊎ (refusal ≡ WantOfMemory)) }
 {
     // Its clause shows that the rules hold.
@@ -180,7 +180,7 @@ pub fn found(
     path: &Path,
     pattern: &[u8],
 ) -> Result<List<Text>, Refusal>
-    ensures found { IfOk result (λ lines. IsInGroup session.now path.now.group (λ m. IsFoundIn m path.now.parts pattern.now lines)) }
+    ensures found { IfOk result (λ lines. IsInGroup session.now path.now.group (λ m. AreFoundLines m path.now.parts pattern.now lines)) }
     ensures cause { IfErr result (IsPathCause session.now path.now.group path.now.parts) }
 {
     match session.mounted(alloc, &path.group) {

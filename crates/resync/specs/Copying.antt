@@ -6,7 +6,7 @@ use Rattle.asm_base.specs.declared.refusal.DiskRef.TheVariants as disk
 use Rattle.asm_base.specs.declared.refusal.Refusal.{Refusal}
 use Rattle.asm_base.specs.declared.refusal.Refusal.TheVariants as cause
 use Rattle.group_engine.specs.Mounts.{MountedGroup}
-use Rattle.group_pieces.specs.Faults.{RoseOn}
+use Rattle.group_pieces.specs.Faults.{RoseOnDisk}
 use Rattle.group_pieces.specs.declared.reading.ReadError.{ReadError}
 use Rattle.group_pieces.specs.declared.reading.ReadError.TheVariants as reads
 use Rattle.resync.specs.declared.copying.CopyError.{CopyError}
@@ -14,13 +14,13 @@ use Rattle.resync.specs.declared.copying.CopyError.TheVariants as copies
 
 -- the disk from which they were read, or to which they go, failed
 abbrev pub CopyCause : MountedGroup → ℕ → BayState → BayState → CopyError → Type 0
-CopyCause m to s t (copies.Unread d) = RoseOn m d s t
-CopyCause m to s t (copies.Unwritten d) = (d ≡ to) × RoseOn m d s t
+CopyCause m to s t (copies.Unread d) = RoseOnDisk m d s t
+CopyCause m to s t (copies.Unwritten d) = (d ≡ to) × RoseOnDisk m d s t
 CopyCause m to s t copies.Nowhere = ⊤
 
 -- the disk is that of this number, and failed
 abbrev pub FaultCause : MountedGroup → ℕ → BayState → BayState → DiskRef → Type 0
-FaultCause m to s t (disk.Number d) = (d ≡ to) × RoseOn m d s t
+FaultCause m to s t (disk.Number d) = (d ≡ to) × RoseOnDisk m d s t
 FaultCause m to s t (disk.Spelt text) = ⊥
 
 -- what is answered of it

@@ -2,7 +2,7 @@
 
 use asm_base::{
     Block, DiskSet, GroupKind, Key, Mode, Name, NodeKind, PendingKind, Records, Shape, Stripe,
-    Value, Writer, put_node_kind, put_pending_kind, put_text, put_u32, put_u64,
+    Value, Writer, put_node_kind, put_pending_kind, put_text, put_u32, put_u64, record_kind,
 };
 use catalog::Catalog;
 use catalog_tables::CatalogError;
@@ -179,7 +179,7 @@ fn put_templates(alloc: Global, records: &mut Records, kind: GroupKind) -> Resul
         return Err(Fail::from("memory"));
     };
     let key = Key {
-        kind: 5,
+        kind: record_kind::TEMPLATES,
         a: 0,
         b: 0,
     };
@@ -196,7 +196,7 @@ fn put_settings(alloc: Global, records: &mut Records) -> Result<(), Fail> {
         return Err(Fail::from("memory"));
     };
     let key = Key {
-        kind: 9,
+        kind: record_kind::SETTINGS,
         a: 0,
         b: 0,
     };
@@ -252,7 +252,7 @@ fn put_chunk(
         bytes.extend_from_slice(&[NO, 0, 0, 0, 0])?;
     }
     let key = Key {
-        kind: 1,
+        kind: record_kind::FILES,
         a: at.0,
         b: at.1.saturating_add(1),
     };
@@ -299,7 +299,7 @@ fn put_node(
         return Err(Fail::from("memory"));
     };
     let key = Key {
-        kind: 6,
+        kind: record_kind::NODES,
         a: number,
         b: 0,
     };
@@ -329,7 +329,7 @@ fn put_disk(
         return Err(Fail::from("memory"));
     };
     let key = Key {
-        kind: 2,
+        kind: record_kind::DISKS,
         a: number,
         b: 0,
     };
@@ -350,7 +350,7 @@ fn put_begun(alloc: Global, records: &mut Records, file: u32) -> Result<(), Fail
         return Err(Fail::from("memory"));
     };
     let key = Key {
-        kind: 4,
+        kind: record_kind::OPERATIONS,
         a: 1,
         b: 0,
     };

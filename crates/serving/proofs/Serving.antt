@@ -13,7 +13,7 @@ use Rattle.serving.specs.declared.stop.Stop.{Stop}
 use Rattle.serving.specs.declared.stop.Stop.TheVariants.{ReadFault, WriteFault, NoMemory, TooLong}
 use Rattle.serving.specs.Acts.{Scene, Acts}
 use Rattle.serving.specs.Stops.{IsOutputStop}
-use Rattle.serving.specs.Serves.{BeginsFrom, limit, IsPiece, IsFront, Serves, is_whole}
+use Rattle.serving.specs.Serves.{BeginsFrom, limit, IsReadPiece, IsFront, Serves, is_whole}
 use Rattle.serving.proofs.Chains.{acts-then, acts-cut}
 use Rattle.serving.proofs.Pieces.{begins-then, begins-more, begins-all, begins-none, consumes-none, consumes-then}
 
@@ -34,7 +34,7 @@ all-ended left left' taken count commands place pending t =
 module _ {C : Type 0} (gives : C → ℕ → C → Type 0) (paths : List Bytes) where
   pub stops-reading : (stop : Stop) (left left' left'' : Option (List ℕ)) (taken : List ℕ) (count : ℕ) (commands : List Bytes) (place : Place)
       (pending pending' piece : List ℕ) (old new : Scene C) → Taken left left' taken count commands place pending → Acts gives paths true commands old new →
-      Consumes left' left'' piece → IsPiece (Err stop) (limit - count) piece pending pending' left'' → Serves gives paths (Err stop) left left'' old new
+      Consumes left' left'' piece → IsReadPiece (Err stop) (limit - count) piece pending pending' left'' → Serves gives paths (Err stop) left left'' old new
   stops-reading ReadFault left left' left'' taken count commands place pending pending' piece old new t acts consumed is =
       let P : List ℕ → Type 0 = λ xs. Consumes left left'' xs in
       let counted : length taken ≡ count = t.counted in
@@ -76,7 +76,7 @@ module _ {C : Type 0} (gives : C → ℕ → C → Type 0) (paths : List Bytes) 
 
 -- what was taken with one piece more
 taken-more : (left left' left'' : Option (List ℕ)) (taken : List ℕ) (count more : ℕ) (commands : List Bytes) (place : Place) (pending pending' piece : List ℕ) →
-    Taken left left' taken count commands place pending → Consumes left' left'' piece → IsPiece (Ok more) (limit - count) piece pending pending' left'' →
+    Taken left left' taken count commands place pending → Consumes left' left'' piece → IsReadPiece (Ok more) (limit - count) piece pending pending' left'' →
     Consumes left left'' (taken ++ piece) × (length (taken ++ piece) ≡ count + more) × (count + more ≤ limit) × BeginsFrom between (taken ++ piece) commands place pending'
 taken-more left left' left'' taken count more commands place pending pending' piece t consumed is =
     let counted : length taken ≡ count = t.counted in
@@ -89,7 +89,7 @@ taken-more left left' left'' taken count more commands place pending pending' pi
     )
 
 pub goes-on : (left left' left'' : Option (List ℕ)) (taken : List ℕ) (count more : ℕ) (commands some : List Bytes) (place to place' : Place) (pending pending' piece rest rest' : List ℕ) →
-    Taken left left' taken count commands place pending → Consumes left' left'' piece → IsPiece (Ok more) (limit - count) piece pending pending' left'' →
+    Taken left left' taken count commands place pending → Consumes left' left'' piece → IsReadPiece (Ok more) (limit - count) piece pending pending' left'' →
     BeginsFrom place pending' some to rest → to ≡ place' → rest ≡ rest' → cut false place' rest' ≡ [] → Taken left left'' (taken ++ piece) (count + more) (commands ++ some) place' rest'
 goes-on left left' left'' taken count more commands some place to place' pending pending' piece rest rest' t consumed is begins there same none =
     let m = taken-more left left' left'' taken count more commands place pending pending' piece t consumed is in
@@ -116,7 +116,7 @@ module _ {C : Type 0} (gives : C → ℕ → C → Type 0) (paths : List Bytes) 
   -- a piece was taken, and some of the commands that have ended were answered before the program stopped
   pub stops-answering : (stop : Stop) (before after : ℕ) (left left' left'' : Option (List ℕ)) (taken : List ℕ) (count more : ℕ) (commands some : List Bytes) (place to : Place)
       (pending pending' piece rest : List ℕ) (old mid new : Scene C) → Taken left left' taken count commands place pending → Acts gives paths true commands old mid →
-      Consumes left' left'' piece → IsPiece (Ok more) (limit - count) piece pending pending' left'' → BeginsFrom place pending' some to rest → Acts gives paths false some mid new →
+      Consumes left' left'' piece → IsReadPiece (Ok more) (limit - count) piece pending pending' left'' → BeginsFrom place pending' some to rest → Acts gives paths false some mid new →
       IsOutputStop stop before after → Serves gives paths (Err stop) left left'' old new
   stops-answering stop before after left left' left'' taken count more commands some place to pending pending' piece rest old mid new t acts consumed is begins then output =
       let m = taken-more left left' left'' taken count more commands place pending pending' piece t consumed is in
@@ -128,7 +128,7 @@ module _ {C : Type 0} (gives : C → ℕ → C → Type 0) (paths : List Bytes) 
   -- the source has ended, and the commands of what is pending are answered, or some of them
   pub ends : (result : Result (Unit {0}) Stop) (before after : ℕ) (left left' left'' : Option (List ℕ)) (taken : List ℕ) (count : ℕ) (commands some rest : List Bytes) (place : Place)
       (pending pending' piece : List ℕ) (old mid new : Scene C) → Taken left left' taken count commands place pending → Acts gives paths true commands old mid →
-      Consumes left' left'' piece → IsPiece (Ok 0) (limit - count) piece pending pending' left'' → cut true place pending' ≡ some ++ rest → OnOk result (rest ≡ []) →
+      Consumes left' left'' piece → IsReadPiece (Ok 0) (limit - count) piece pending pending' left'' → cut true place pending' ≡ some ++ rest → OnOk result (rest ≡ []) →
       Acts gives paths (is_ok result) some mid new → IfErr result (λ stop. IsOutputStop stop before after) → Serves gives paths result left left'' old new
   ends (Ok u) before after left left' left'' taken count commands some rest place pending pending' piece old mid new t acts consumed is last all then output =
       let m = taken-more left left' left'' taken count 0 commands place pending pending' piece t consumed is in
@@ -169,8 +169,8 @@ taken-none left from pending is e =
     subst P (sym e) (subst Q (sym is) record { consumed = consumes-none left; counted = refl; short = omega arith; begins = begins-none between []; none_ended = refl })
 
 pub piece-at : (count count' room : ℕ) (taken old new new' : List ℕ) (left : Option (List ℕ)) → count ≡ count' → new' ≡ new →
-    IsPiece (Ok count) room taken old new left → IsPiece (Ok count') room taken old new' left
+    IsReadPiece (Ok count) room taken old new left → IsReadPiece (Ok count') room taken old new' left
 piece-at count count' room taken old new new' left e f is =
-    let P : ℕ → Type 0 = λ n. IsPiece (Ok n) room taken old new' left in
-    let Q : List ℕ → Type 0 = λ xs. IsPiece (Ok count) room taken old xs left in
+    let P : ℕ → Type 0 = λ n. IsReadPiece (Ok n) room taken old new' left in
+    let Q : List ℕ → Type 0 = λ xs. IsReadPiece (Ok count) room taken old xs left in
     subst P e (subst Q (sym f) is)

@@ -19,10 +19,10 @@ use Rattle.serving.specs.Acts.{Acts, Scene, scene}
 use Rattle.session.specs.Desks.{paths_on}
 use Rattle.serving.specs.Manners.{line_in, style_of}
 use Rattle.session.specs.Naming.{CarriesOn}
-use Rattle.serving.specs.Programs.{Tells, scene_of}
+use Rattle.serving.specs.Programs.{TellsTurns, scene_of}
 use Rattle.session.specs.Sessions.{AreReady, Knows, Roster, groups_below, roster_of}
 use Rattle.serving.specs.Stops.{IsOutputStop, StopsByOutput}
-use Rattle.group_turns.specs.Turns.{AfterReply, BeforeText, HasLine, IsTurnMove, When, move_at, phase_at}
+use Rattle.group_turns.specs.Turns.{AfterReply, BeforeText, HasLine, IsTurnMove, TurnMoment, move_at, phase_at}
 use Rattle.serving.specs.declared.manner.Manner.{Manner}
 use Rattle.serving.specs.declared.manner.Manner.TheVariants.{InFull, InShort}
 use Rattle.serving.specs.declared.program.Program.{Program}
@@ -33,38 +33,38 @@ use Rattle.serving.proofs.Chains.{IsSilent, acts-none, acts-silent, acts-then, n
 
 -- ---- the moves
 
-event_silent : (when : When) (event : Event) → IsSilent (move_at when event)
+event_silent : (when : TurnMoment) (event : Event) → IsSilent (move_at when event)
 event_silent BeforeText event = record { unproved = refl; unproved_on_disks = refl; commands = refl; times = refl; marks = λ whole calls. refl; refuses_none = refl; stays = λ manner. refl }
 event_silent AfterReply event = record { unproved = refl; unproved_on_disks = refl; commands = refl; times = refl; marks = λ whole calls. refl; refuses_none = refl; stays = λ manner. refl }
 
 stop_silent : IsSilent Stops
 stop_silent = record { unproved = refl; unproved_on_disks = refl; commands = refl; times = refl; marks = λ whole calls. refl; refuses_none = refl; stays = λ manner. refl }
 
-event_move : (when : When) (event : Event) → IsTurnMove when (move_at when event)
+event_move : (when : TurnMoment) (event : Event) → IsTurnMove when (move_at when event)
 event_move BeforeText event = tt
 event_move AfterReply event = tt
 
-stop_move : (when : When) → IsTurnMove when Stops
+stop_move : (when : TurnMoment) → IsTurnMove when Stops
 stop_move BeforeText = tt
 stop_move AfterReply = tt
 
-event_says : (manner : Manner) (when : When) (event : Event) (line : Bytes) → line ≡ event_text event → line_in manner line ≡ text_of (style_of manner (move_at when event)) (move_at when event)
+event_says : (manner : Manner) (when : TurnMoment) (event : Event) (line : Bytes) → line ≡ event_text event → line_in manner line ≡ text_of (style_of manner (move_at when event)) (move_at when event)
 event_says InFull BeforeText event line is = is
 event_says InFull AfterReply event line is = is
 event_says (InShort left) BeforeText event line is = refl
 event_says (InShort left) AfterReply event line is = refl
 
 -- what was done in turns, by these moves alone
-abbrev Story : {C : Type 0} → (C → ℕ → C → Type 0) → List Bytes → Bool → When → Scene C → Scene C → Type 0
+abbrev Story : {C : Type 0} → (C → ℕ → C → Type 0) → List Bytes → Bool → TurnMoment → Scene C → Scene C → Type 0
 Story gives paths whole when a b = (acts : Acts gives paths whole [] a b) × AllMoves (IsTurnMove when) acts.history
 
-story_then : {C : Type 0} (gives : C → ℕ → C → Type 0) (paths : List Bytes) (whole : Bool) (when : When) (a b c : Scene C) → Story gives paths true when a b → Story gives paths whole when b c → Story gives paths whole when a c
+story_then : {C : Type 0} (gives : C → ℕ → C → Type 0) (paths : List Bytes) (whole : Bool) (when : TurnMoment) (a b c : Scene C) → Story gives paths true when a b → Story gives paths whole when b c → Story gives paths whole when a c
 story_then gives paths whole when a b c p q = (acts-then gives paths whole [] [] a b c p.0 q.0, then-moves (IsTurnMove when) gives paths whole [] [] a b c p.0 q.0 p.1 q.1)
 
-story_paths : {C : Type 0} (gives : C → ℕ → C → Type 0) (paths paths' : List Bytes) (whole : Bool) (when : When) (a b : Scene C) → paths ≡ paths' → Story gives paths whole when a b → Story gives paths' whole when a b
+story_paths : {C : Type 0} (gives : C → ℕ → C → Type 0) (paths paths' : List Bytes) (whole : Bool) (when : TurnMoment) (a b : Scene C) → paths ≡ paths' → Story gives paths whole when a b → Story gives paths' whole when a b
 story_paths gives paths paths' whole when a b e story = let P : List Bytes → Type 0 = λ ps. Story gives ps whole when a b in subst P e story
 
-story_phase : {C : Type 0} (gives : C → ℕ → C → Type 0) (paths : List Bytes) (whole : Bool) (when : When) (old : Scene C) (world : World) (below : ℕ → GroupBelow) (phase phase' : Phase) (time : ℕ) (roster : Roster) (bay : BayState)
+story_phase : {C : Type 0} (gives : C → ℕ → C → Type 0) (paths : List Bytes) (whole : Bool) (when : TurnMoment) (old : Scene C) (world : World) (below : ℕ → GroupBelow) (phase phase' : Phase) (time : ℕ) (roster : Roster) (bay : BayState)
     (taken : Option (List ℕ)) (clock : C) (marks : List ℕ) (refused : Bool) (manner : Manner) → phase ≡ phase' → Story gives paths whole when old (scene world below phase time roster bay taken clock marks refused manner)
     → Story gives paths whole when old (scene world below phase' time roster bay taken clock marks refused manner)
 story_phase gives paths whole when old world below phase phase' time roster bay taken clock marks refused manner e story =
@@ -88,10 +88,10 @@ causes_joined : {T : Type 0} (result : Result T Stop) (a b c : ℕ) → a ≤ b 
 causes_joined (Ok given) a b c rises q = record { later = omega (arith, rises, q.later); failed = tt }
 causes_joined (Err stop) a b c rises q = record { later = omega (arith, rises, q.later); failed = stop_later stop a b c rises q.failed }
 
-module _ {B H K C : Type 0} {bay : Bay.Ghosts B} {host : Host.Ghosts H} {sink : Sink.Ghosts K} {clock : Clock.Ghosts C} (when : When) where
+module _ {B H K C : Type 0} {bay : Bay.Ghosts B} {host : Host.Ghosts H} {sink : Sink.Ghosts K} {clock : Clock.Ghosts C} (when : TurnMoment) where
   -- ---- nothing was due
 
-  pub tells_none : {T : Type 0} (given : T) (p : Program B H K C bay host sink clock) → AreReady p.desk.session.groups (bay.state p.desk.bay) → Tells (Ok given) when p p
+  pub tells_none : {T : Type 0} (given : T) (p : Program B H K C bay host sink clock) → AreReady p.desk.session.groups (bay.state p.desk.bay) → TellsTurns (Ok given) when p p
   tells_none given p ready = record {
     ready = ready;
     paths = refl;
@@ -111,7 +111,7 @@ module _ {B H K C : Type 0} {bay : Bay.Ghosts B} {host : Host.Ghosts H} {sink : 
 
   -- the same where the program is made of the same parts
   pub tells_idle : {T : Type 0} (given : T) (old new : Program B H K C bay host sink clock) → (new.desk.session ≡ old.desk.session) × (new.desk.bay ≡ old.desk.bay) → paths_on new.desk ≡ paths_on old.desk → new.desk.host ≡ old.desk.host
-      → new.sink ≡ old.sink → new.clock ≡ old.clock → new.marks ≡ old.marks → new.refused ≡ old.refused → new.manner ≡ old.manner → AreReady old.desk.session.groups (bay.state old.desk.bay) → Tells (Ok given) when old new
+      → new.sink ≡ old.sink → new.clock ≡ old.clock → new.marks ≡ old.marks → new.refused ≡ old.refused → new.manner ≡ old.manner → AreReady old.desk.session.groups (bay.state old.desk.bay) → TellsTurns (Ok given) when old new
   tells_idle given old new same paths host_is sinks clocks marks refused manner ready = record {
     ready = rw (same.0, same.1) ready;
     paths = paths;
@@ -142,7 +142,7 @@ module _ {B H K C : Type 0} {bay : Bay.Ghosts B} {host : Host.Ghosts H} {sink : 
 
     -- by a move of which nothing is proved, and this text
     tells_move : {T : Type 0} (result : Result T Stop) (move : Move) (sent : Bytes) → IsSilent move → IsTurnMove when move → MatchBool (is_ok result) (sent ≡ text_of (style_of old.manner move) move) ((rest : List ℕ) × (text_of (style_of old.manner move) move ≡ sent ++ rest))
-        → Appends (sink.taken old.sink) (sink.taken new.sink) sent → StopsByOutput result (sink.faults old.sink) (sink.faults new.sink) → Tells result when old new
+        → Appends (sink.taken old.sink) (sink.taken new.sink) sent → StopsByOutput result (sink.faults old.sink) (sink.faults new.sink) → TellsTurns result when old new
     tells_move result move sent silent turns texts written cause = record {
       ready = carries.ready;
       paths = paths;
@@ -165,7 +165,7 @@ module _ {B H K C : Type 0} {bay : Bay.Ghosts B} {host : Host.Ghosts H} {sink : 
 
     -- an event came, and its line was printed, or a front of it
     pub tells_line : {T : Type 0} (result : Result T Stop) (line sent : Bytes) → HasLine old.desk.session.groups when line → MatchBool (is_ok result) (sent ≡ line_in old.manner line) ((rest : List ℕ) × (line_in old.manner line ≡ sent ++ rest))
-        → Appends (sink.taken old.sink) (sink.taken new.sink) sent → StopsByOutput result (sink.faults old.sink) (sink.faults new.sink) → Tells result when old new
+        → Appends (sink.taken old.sink) (sink.taken new.sink) sent → StopsByOutput result (sink.faults old.sink) (sink.faults new.sink) → TellsTurns result when old new
     tells_line result line sent has sends written cause =
         let event = has.is_line.event in
         let move = move_at when event in
@@ -173,13 +173,13 @@ module _ {B H K C : Type 0} {bay : Bay.Ghosts B} {host : Host.Ghosts H} {sink : 
         (sent_of (is_ok result) (text_of (style_of old.manner move) move) (line_in old.manner line) sent (event_says old.manner when event line has.is_line.text) sends) written cause
 
     -- memory was short
-    pub tells_stop : {T : Type 0} → sink.taken new.sink ≡ sink.taken old.sink → sink.faults new.sink ≡ sink.faults old.sink → Tells {T = T} (Err NoMemory) when old new
+    pub tells_stop : {T : Type 0} → sink.taken new.sink ≡ sink.taken old.sink → sink.faults new.sink ≡ sink.faults old.sink → TellsTurns {T = T} (Err NoMemory) when old new
     tells_stop taken faults = tells_move (Err NoMemory) Stops [] stop_silent (stop_move when) ([], refl) (rw taken (Appends-none (sink.taken old.sink)))
         (record { later = omega (arith, faults); failed = tt })
 
   -- ---- one after another
 
-  pub tells_then : {T U : Type 0} (given : U) (result : Result T Stop) (a b c : Program B H K C bay host sink clock) → Tells {T = U} (Ok given) when a b → Tells result when b c → Tells result when a c
+  pub tells_then : {T U : Type 0} (given : U) (result : Result T Stop) (a b c : Program B H K C bay host sink clock) → TellsTurns {T = U} (Ok given) when a b → TellsTurns result when b c → TellsTurns result when a c
   tells_then given result a b c p q = record {
     ready = q.ready;
     paths = q.paths ∙ p.paths;
@@ -197,7 +197,7 @@ module _ {B H K C : Type 0} {bay : Bay.Ghosts B} {host : Host.Ghosts H} {sink : 
 
   -- ---- answers of another type
 
-  pub tells_ok : {T U : Type 0} (given : T) (other : U) (a b : Program B H K C bay host sink clock) → Tells {T = T} (Ok given) when a b → Tells {T = U} (Ok other) when a b
+  pub tells_ok : {T U : Type 0} (given : T) (other : U) (a b : Program B H K C bay host sink clock) → TellsTurns {T = T} (Ok given) when a b → TellsTurns {T = U} (Ok other) when a b
   tells_ok given other a b p = record {
     ready = p.ready;
     paths = p.paths;
@@ -207,7 +207,7 @@ module _ {B H K C : Type 0} {bay : Bay.Ghosts B} {host : Host.Ghosts H} {sink : 
     cause = record { later = p.cause.later; failed = tt };
   }
 
-  pub tells_err : {T U : Type 0} (stop : Stop) (a b : Program B H K C bay host sink clock) → Tells {T = T} (Err stop) when a b → Tells {T = U} (Err stop) when a b
+  pub tells_err : {T U : Type 0} (stop : Stop) (a b : Program B H K C bay host sink clock) → TellsTurns {T = T} (Err stop) when a b → TellsTurns {T = U} (Err stop) when a b
   tells_err stop a b p = record {
     ready = p.ready;
     paths = p.paths;

@@ -15,7 +15,7 @@ use Rattle.session.specs.Desks.{paths_on}
 use Rattle.serving.specs.Serves.{BeginsFrom, Serves, is_whole}
 use Rattle.session.specs.Sessions.{AreReady, Knows, roster_of}
 use Rattle.serving.specs.Stops.{IsPart, StopsByOutput}
-use Rattle.group_turns.specs.Turns.{When, IsTurnMove, phase_at}
+use Rattle.group_turns.specs.Turns.{TurnMoment, IsTurnMove, phase_at}
 use Rattle.asm_world.specs.Below.{GroupBelow}
 
 -- the program with the world that it works on
@@ -28,7 +28,7 @@ EachWorld p claim = (w : World) (below : ℕ → GroupBelow) (time : ℕ) → Kn
 
 -- Groups took turns, before a command's text or after its reply, and the lines of what happened were printed. The moves are events,
 -- or the end for want of memory.
-pub record TellsEvents {B H K C : Type 0} {bay : Bay.Ghosts B} {host : Host.Ghosts H} {sink : Sink.Ghosts K} {clock : Clock.Ghosts C} {T : Type 0} (result : Result T Stop) (when : When) (old new : Program B H K C bay host sink clock) (w : World) (below : ℕ → GroupBelow) (time : ℕ) : Type 0 where
+pub record TellsEvents {B H K C : Type 0} {bay : Bay.Ghosts B} {host : Host.Ghosts H} {sink : Sink.Ghosts K} {clock : Clock.Ghosts C} {T : Type 0} (result : Result T Stop) (when : TurnMoment) (old new : Program B H K C bay host sink clock) (w : World) (below : ℕ → GroupBelow) (time : ℕ) : Type 0 where
   pub w' : World
   pub below' : ℕ → GroupBelow
   pub phase : Phase
@@ -38,7 +38,7 @@ pub record TellsEvents {B H K C : Type 0} {bay : Bay.Ghosts B} {host : Host.Ghos
   pub events : AllMoves (IsTurnMove when) acts.history
 
 -- All that is said of turns: besides, the groups take the next call, and the paths, the host and the marks are as they were.
-pub record Tells {B H K C : Type 0} {bay : Bay.Ghosts B} {host : Host.Ghosts H} {sink : Sink.Ghosts K} {clock : Clock.Ghosts C} {T : Type 0} (result : Result T Stop) (when : When) (old new : Program B H K C bay host sink clock) : Type 0 where
+pub record TellsTurns {B H K C : Type 0} {bay : Bay.Ghosts B} {host : Host.Ghosts H} {sink : Sink.Ghosts K} {clock : Clock.Ghosts C} {T : Type 0} (result : Result T Stop) (when : TurnMoment) (old new : Program B H K C bay host sink clock) : Type 0 where
   pub ready : AreReady new.desk.session.groups (bay.state new.desk.bay)
   pub paths : paths_on new.desk ≡ paths_on old.desk
   pub host_stays : new.desk.host ≡ old.desk.host

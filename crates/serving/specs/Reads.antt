@@ -15,7 +15,7 @@ request_view (Said statement) = c.Said (statement_said statement)
 request_view (Asked verb) = c.Asked (said verb)
 
 -- A command is read exactly where the text asks for it, and else where the text is refused is told, unless memory ran out.
-abbrev pub IsRead : Result Request ReadError → Bytes → Type 0
-IsRead (Ok request) text = command_of text ≡ request_view request
-IsRead (Err (Syntax at)) text = command_of text ≡ c.Unreadable at
-IsRead (Err NoMemory) text = Unit {0}
+abbrev pub IsRequestRead : Result Request ReadError → Bytes → Type 0
+IsRequestRead (Ok request) text = command_of text ≡ request_view request
+IsRequestRead (Err (Syntax at)) text = command_of text ≡ c.Unreadable at
+IsRequestRead (Err NoMemory) text = Unit {0}

@@ -13,12 +13,12 @@ abbrev pub limit : ℕ
 limit = 67108864
 
 -- what one read took, by its answer: so many bytes that are now pending, or the first byte past the limit
-abbrev pub IsPiece : Result ℕ Stop → ℕ → List ℕ → List ℕ → List ℕ → Option (List ℕ) → Type 0
-IsPiece (Ok count) room taken old new left = (new ≡ old ++ taken) × (length taken ≡ count) × (count ≤ room) × (count ≡ 0 → IsAtEnd left)
-IsPiece (Err ReadFault) room taken old new left = taken ≡ []
-IsPiece (Err NoMemory) room taken old new left = length taken ≤ room
-IsPiece (Err TooLong) room taken old new left = (room ≡ 0) × (length taken ≡ 1)
-IsPiece (Err WriteFault) room taken old new left = ⊥
+abbrev pub IsReadPiece : Result ℕ Stop → ℕ → List ℕ → List ℕ → List ℕ → Option (List ℕ) → Type 0
+IsReadPiece (Ok count) room taken old new left = (new ≡ old ++ taken) × (length taken ≡ count) × (count ≤ room) × (count ≡ 0 → IsAtEnd left)
+IsReadPiece (Err ReadFault) room taken old new left = taken ≡ []
+IsReadPiece (Err NoMemory) room taken old new left = length taken ≤ room
+IsReadPiece (Err TooLong) room taken old new left = (room ≡ 0) × (length taken ≡ 1)
+IsReadPiece (Err WriteFault) room taken old new left = ⊥
 
 abbrev pub IsInputStop : Stop → ℕ → ℕ → Type 0
 IsInputStop ReadFault before after = Rose before after
@@ -49,17 +49,17 @@ IsFront taken commands left = ((rest : List Bytes) × (ended_commands taken ≡ 
     ⊎ (IsAtEnd left × ((rest : List Bytes) × (commands_of taken ≡ commands ++ rest)))
 
 -- which commands were answered
-abbrev pub IsAnswered : Result (Unit {0}) Stop → List ℕ → List Bytes → Option (List ℕ) → Type 0
-IsAnswered (Ok done) taken commands left = (length taken ≤ limit) × IsAtEnd left × (commands ≡ commands_of taken)
-IsAnswered (Err ReadFault) taken commands left = (length taken ≤ limit) × (commands ≡ ended_commands taken)
-IsAnswered (Err TooLong) taken commands left = (length taken ≡ limit + 1) × (commands ≡ ended_commands (take limit taken))
-IsAnswered (Err WriteFault) taken commands left = (length taken ≤ limit) × IsFront taken commands left
-IsAnswered (Err NoMemory) taken commands left = (length taken ≤ limit) × IsFront taken commands left
+abbrev pub AreCommandsAnswered : Result (Unit {0}) Stop → List ℕ → List Bytes → Option (List ℕ) → Type 0
+AreCommandsAnswered (Ok done) taken commands left = (length taken ≤ limit) × IsAtEnd left × (commands ≡ commands_of taken)
+AreCommandsAnswered (Err ReadFault) taken commands left = (length taken ≤ limit) × (commands ≡ ended_commands taken)
+AreCommandsAnswered (Err TooLong) taken commands left = (length taken ≡ limit + 1) × (commands ≡ ended_commands (take limit taken))
+AreCommandsAnswered (Err WriteFault) taken commands left = (length taken ≤ limit) × IsFront taken commands left
+AreCommandsAnswered (Err NoMemory) taken commands left = (length taken ≤ limit) × IsFront taken commands left
 
 -- bytes were taken from the source, and commands of them were answered
 pub record Serves {C : Type 0} (gives : C → ℕ → C → Type 0) (paths : List Bytes) (result : Result (Unit {0}) Stop) (left left' : Option (List ℕ)) (old new : Scene C) : Type 0 where
   pub taken : List ℕ
   pub commands : List Bytes
   pub consumed : Consumes left left' taken
-  pub are_answered : IsAnswered result taken commands left'
+  pub are_answered : AreCommandsAnswered result taken commands left'
   pub acts : Acts gives paths (is_whole result) commands old new

@@ -1,6 +1,6 @@
 // Turns of groups, with a line of each event: expired disks are dropped before a command's text, slices run after its reply.
 ghost use Rattle.std.specs.Prelude.{◌≡◌};
-ghost use Rattle.serving.specs.Programs.{Tells};
+ghost use Rattle.serving.specs.Programs.{TellsTurns};
 ghost use Rattle.session.specs.Sessions.{AreReady};
 ghost use Rattle.group_turns.specs.Turns.{AfterReply, BeforeText, when_of};
 
@@ -19,7 +19,7 @@ impl<B: Bay, H: Host, K: Sink, C: Clock> Program<B, H, K, C> {
     /// something was due. It takes no memory of its own.
     fn take_turn(&mut self, place: usize, turn: Turn) -> Result<bool, Stop>
         requires ready { AreReady self.old.desk.session.groups (B.state self.old.desk.bay) }
-        ensures { Tells result (when_of turn) self.old self.new }
+        ensures { TellsTurns result (when_of turn) self.old self.new }
     {
         let mut line = LineBuffer::new();
         match self.desk.session.turn(self.desk.alloc, &mut self.desk.bay, place, turn, &mut line) {
@@ -35,7 +35,7 @@ impl<B: Bay, H: Host, K: Sink, C: Clock> Program<B, H, K, C> {
     /// Drops the disks of a group whose time is up and that may go, the least first.
     fn expire_group(&mut self, place: usize) -> Result<(), Stop>
         requires ready { AreReady self.old.desk.session.groups (B.state self.old.desk.bay) }
-        ensures { Tells result BeforeText self.old self.new }
+        ensures { TellsTurns result BeforeText self.old self.new }
     {
         let now = self.desk.session.time();
         for _ in 0..MAX_DISKS {
@@ -49,7 +49,7 @@ impl<B: Bay, H: Host, K: Sink, C: Clock> Program<B, H, K, C> {
     /// Drops the expired disks of each mounted group, in the order of mounting.
     pub fn expire_groups(&mut self) -> Result<(), Stop>
         requires ready { AreReady self.old.desk.session.groups (B.state self.old.desk.bay) }
-        ensures { Tells result BeforeText self.old self.new }
+        ensures { TellsTurns result BeforeText self.old self.new }
     {
         for place in 0..self.desk.session.count() {
             self.expire_group(place)?;
@@ -61,7 +61,7 @@ impl<B: Bay, H: Host, K: Sink, C: Clock> Program<B, H, K, C> {
     /// by the second.
     fn slice_group(&mut self, place: usize) -> Result<(), Stop>
         requires ready { AreReady self.old.desk.session.groups (B.state self.old.desk.bay) }
-        ensures { Tells result AfterReply self.old self.new }
+        ensures { TellsTurns result AfterReply self.old self.new }
     {
         self.take_turn(place, Turn::Resync)?;
         self.take_turn(place, Turn::Rebalance)?;
@@ -71,7 +71,7 @@ impl<B: Bay, H: Host, K: Sink, C: Clock> Program<B, H, K, C> {
     /// Runs the slices that are due in each mounted group, in the order of mounting.
     pub fn slice_groups(&mut self) -> Result<(), Stop>
         requires ready { AreReady self.old.desk.session.groups (B.state self.old.desk.bay) }
-        ensures { Tells result AfterReply self.old self.new }
+        ensures { TellsTurns result AfterReply self.old self.new }
     {
         for place in 0..self.desk.session.count() {
             self.slice_group(place)?;

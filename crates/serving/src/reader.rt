@@ -1,7 +1,7 @@
 // What the text of a command asks for, by the two languages.
 ghost use Rattle.std.specs.Prelude.{◌≡◌};
 ghost use Rattle.group_sql.specs.Answers.{asked};
-ghost use Rattle.serving.specs.Reads.{IsRead};
+ghost use Rattle.serving.specs.Reads.{IsRequestRead};
 
 use asmcmd::{ReadError, Verb, read_line};
 use group_sql::{ReadError as NoStatement, Statement, read_statement};
@@ -19,7 +19,7 @@ pub enum Request {
 #[tactic(auto, using(crate::proofs::Reading::asked_nothing))]
 fn other_request(alloc: Global, text: &[u8], at: u64) -> Result<Request, ReadError>
     requires { asked text.now ≡ Err at }
-    ensures reads { IsRead result text.now }
+    ensures reads { IsRequestRead result text.now }
 {
     if opens_statement(text) {
         return Err(ReadError::Syntax { at });
@@ -33,7 +33,7 @@ fn other_request(alloc: Global, text: &[u8], at: u64) -> Result<Request, ReadErr
 
 /// The command that a text asks for. Any other text is refused where its longest front that begins some command ends.
 pub fn read_request(alloc: Global, text: &[u8]) -> Result<Request, ReadError>
-    ensures reads { IsRead result text.now }
+    ensures reads { IsRequestRead result text.now }
 {
     match read_statement(alloc, text) {
         Ok(statement) => Ok(Request::Said(statement)),

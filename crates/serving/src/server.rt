@@ -9,7 +9,7 @@ ghost use Rattle.session.specs.Desks.{paths_on};
 ghost use Rattle.session.specs.Sessions.{AreReady};
 ghost use Rattle.serving.specs.Programs.{EachWorld, AnswersEnded, AnswersLast, ServesAll};
 ghost use Rattle.serving.specs.Stops.{StopsByOutput};
-ghost use Rattle.serving.specs.Serves.{IsPiece, StopsByInput};
+ghost use Rattle.serving.specs.Serves.{IsReadPiece, StopsByInput};
 
 use crate::program::Program;
 use crate::stop::Stop;
@@ -24,7 +24,7 @@ const PIECE: usize = 65_536;
 /// Reads a piece of the script, of which so many bytes more are allowed. 0 says that it is at its end.
 fn read_more<S: Source>(source: &mut S, pending: &mut Vec<u8>, room: usize) -> Result<usize, Stop>
     ensures taken { (taken : List ℕ) × Consumes (S.left source.old) (S.left source.new) taken
-        × IsPiece result room taken pending.old.items pending.new.items (S.left source.new) }
+        × IsReadPiece result room taken pending.old.items pending.new.items (S.left source.new) }
     ensures cause { StopsByInput result (S.faults source.old) (S.faults source.new) }
 {
     let mut piece = [0; PIECE];

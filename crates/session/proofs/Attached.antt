@@ -20,7 +20,7 @@ use Rattle.group_engine.specs.declared.attached.Attached.{Attached}
 use Rattle.session.specs.declared.entry.Entry.{Entry}
 use Rattle.session.specs.Entries.{entry_view, group_view}
 use Rattle.session.specs.Joining.{JoinsIn, others_of, without_own}
-use Rattle.session.specs.Naming.{CarriesOn, IsFound, IsOutCause, group_among, with_group}
+use Rattle.session.specs.Naming.{CarriesOn, IsMountedName, IsOutCause, group_among, with_group}
 use Rattle.session.specs.Sessions.{AreReady, AreTwoApart, slots_in}
 use Rattle.session.proofs.Carrying.{carries_none, if_err, mounted_or, on_ok, seen}
 use Rattle.session.proofs.Entries.{sought}
@@ -131,11 +131,11 @@ module _ {B : Type 0} (state : B → BayState) (b b' : B) (name : Bytes) (v w : 
     (id : w.id ≡ v.id) (all : List ℕ) (covers : Covers (map group_view es) all) (keeps : IsMounted v.group → TakesIn (others_of v.group.disks all) v.group w.group (state b) (state b'))
     (idle : (IsMounted v.group → ⊥) → (w.group ≡ v.group) × (b' ≡ b)) (ready : AreReady (map group_view es) (state b))
     {T : Type 0} (result : Result T Refusal) (ok : OnOk result (IsMounted v.group)) (err : IfErr result (λ refusal. IsMounted v.group ⊎ IsOutCause (map entry_view es) name refusal)) where
-  there : IsMounted v.group → IsFound (seen es place given time) name
+  there : IsMounted v.group → IsMountedName (seen es place given time) name
   there on = (v.group, record { named = group_found name es v found; mounted = on; on = entry_on name es v found on; paired = paired es })
 
-  causes : IfErr result (λ refusal. IsFound (seen es place given time) name ⊎ IsOutCause (map entry_view es) name refusal)
-  causes = if_err (λ refusal. IsMounted v.group ⊎ IsOutCause (map entry_view es) name refusal) (λ refusal. IsFound (seen es place given time) name ⊎ IsOutCause (map entry_view es) name refusal) result
+  causes : IfErr result (λ refusal. IsMountedName (seen es place given time) name ⊎ IsOutCause (map entry_view es) name refusal)
+  causes = if_err (λ refusal. IsMounted v.group ⊎ IsOutCause (map entry_view es) name refusal) (λ refusal. IsMountedName (seen es place given time) name ⊎ IsOutCause (map entry_view es) name refusal) result
       (λ refusal why. ⊎_elim (λ on. inl (there on)) (λ out. inr out) why) err
 
   groups_are : map group_view fs ≡ with_group (map entry_view es) (map group_view es) name w.group

@@ -31,7 +31,7 @@ use Rattle.group_engine.specs.Mounts.{MountedGroup}
 use Rattle.session_claims.specs.Claims.{KeepsWorlds, StandsFor}
 use Rattle.session_claims.specs.Laws.{AreSome, ReplacesGroups}
 use Rattle.session_claims.proofs.Looks.{looks_keep}
-use Rattle.session.specs.Claims.{IsApart}
+use Rattle.session.specs.Claims.{IsIdApart}
 use Rattle.session.specs.Counts.{ReplyCause}
 use Rattle.session.specs.Effects.{HasEffect, IsServed, below_with}
 use Rattle.session.specs.Families.{IsMade}
@@ -207,13 +207,13 @@ module _ (paths : List Bytes) (text name path : Bytes) (says : meaning text ≡ 
     after_is : (session : List SessionEntry) → ReplacesGroups w id (made_group name ∷ []) (after session)
     after_is session = groups_after w id (made_group name)
 
-    unentered : (known : ℕ → Bool) → StandsFor (length paths) known given old w groups → IsApart known found → KeepsWorlds (length paths) known (meaning text) given' old new w (after w.session) groups
+    unentered : (known : ℕ → Bool) → StandsFor (length paths) known given old w groups → IsIdApart known found → KeepsWorlds (length paths) known (meaning text) given' old new w (after w.session) groups
     unentered known stands apart =
         let short : id < last_count = apart.made_below id refl in
         unentered_keeps (length paths) known given given' id (made_group name) ids w (after w.session) groups (after_is w.session) apart fresh above entries (was_absent short) (meaning text) old new ok sound attached (omega (arith, next)) creation stands refl
 
     entered : (session : List SessionEntry) (m : MountedGroup) → session ≡ w.session ++ mounted_entry name id ∷ [] → m.register.id ≡ id → MountsNew (length paths) (made_group name) m old new
-        → (known : ℕ → Bool) → StandsFor (length paths) known given old w groups → IsApart known found → KeepsWorlds (length paths) known (meaning text) given' old new w (after session) (groups ++ m ∷ [])
+        → (known : ℕ → Bool) → StandsFor (length paths) known given old w groups → IsIdApart known found → KeepsWorlds (length paths) known (meaning text) given' old new w (after session) (groups ++ m ∷ [])
     entered session m is same mounts known stands apart =
         let short : id < last_count = apart.made_below id refl in
         entered_keeps (length paths) known given given' id (made_group name) ids w (after session) groups (after_is session) apart fresh above entries (was_absent short) (meaning text) old new ok sound attached (omega (arith, next)) creation stands name m is same mounts

@@ -16,18 +16,18 @@ use Rattle.group_engine.specs.declared.access.Access.TheVariants as access
 use Rattle.session.specs.declared.entry.Entry.{Entry}
 use Rattle.session.specs.Entries.{by_disk, disk_name, entry_view}
 use Rattle.session.specs.Naming.{IsOutCause, in_state, of_entry}
-use Rattle.session.specs.Works.{Spells}
+use Rattle.session.specs.Works.{SpellsRefusal}
 use Rattle.session.proofs.Entries.{sought}
 use Rattle.session.proofs.Grouped.{Pairs, entry_found, none_found}
 
-shut_by : (m : MountedGroup) (a : Access) (raw refusal : Refusal) → IsShut a raw → Spells m raw refusal → in_state (by_disk m (dismounted_by a)) (said (λ _. []) refusal) ⊎ (said (λ _. []) refusal ≡ r.NoMemory)
+shut_by : (m : MountedGroup) (a : Access) (raw refusal : Refusal) → IsShut a raw → SpellsRefusal m raw refusal → in_state (by_disk m (dismounted_by a)) (said (λ _. []) refusal) ⊎ (said (λ _. []) refusal ≡ r.NoMemory)
 unfolding said
 shut_by m access.Mounted raw refusal shut spells = absurd shut
 shut_by m (access.Dismounted d) raw refusal shut spells = ⊎_elim (λ same. inl (same ∙ ap (said (disk_name m)) shut)) (λ none. inr none) spells
 shut_by m access.Closed raw refusal shut spells = inr (⊎_elim (λ same. same ∙ ap (said (disk_name m)) shut) (λ none. none) spells)
 
 -- its group takes no calls
-pub shut_out : (name : Bytes) (es : Pairs) (v : Entry) (raw refusal : Refusal) → lookup (sought name) es ≡ Some v → IsShut v.group.access raw → Spells v.group raw refusal → IsOutCause (map entry_view es) name refusal
+pub shut_out : (name : Bytes) (es : Pairs) (v : Entry) (raw refusal : Refusal) → lookup (sought name) es ≡ Some v → IsShut v.group.access raw → SpellsRefusal v.group raw refusal → IsOutCause (map entry_view es) name refusal
 shut_out name es v raw refusal found shut spells =
     let at = entry_found name es v found in
     rw (at.named, at.state) (shut_by v.group v.group.access raw refusal shut spells)
@@ -37,9 +37,9 @@ off_by a raw shut on = subst (λ (b : Access). IsShut b raw) on shut
 
 -- the same where the group is seen once nothing was done to it
 pub shut_after : (name : Bytes) (es : Pairs) (v : Entry) (after : MountedGroup) (raw refusal : Refusal) → lookup (sought name) es ≡ Some v → ((v.group.access ≡ access.Mounted → ⊥) → after ≡ v.group) → IsShut v.group.access raw
-    → Spells after raw refusal → IsOutCause (map entry_view es) name refusal
+    → SpellsRefusal after raw refusal → IsOutCause (map entry_view es) name refusal
 shut_after name es v after raw refusal found same shut spells =
-    shut_out name es v raw refusal found shut (subst (λ (m : MountedGroup). Spells m raw refusal) (same (off_by v.group.access raw shut)) spells)
+    shut_out name es v raw refusal found shut (subst (λ (m : MountedGroup). SpellsRefusal m raw refusal) (same (off_by v.group.access raw shut)) spells)
 
 -- it isn't in the session
 pub absent_out : (name : Bytes) (es : Pairs) (refusal : Refusal) → lookup (sought name) es ≡ None → said (λ _. []) refusal ≡ r.NoGroup → IsOutCause (map entry_view es) name refusal

@@ -18,7 +18,7 @@ use Rattle.group_engine.specs.Members.{LetsGo}
 use Rattle.group_engine.specs.declared.attached.Attached.{Attached}
 use Rattle.group_engine.proofs.Elsewhere.{ready_with_own}
 use Rattle.session.specs.Naming.{IsGroupOf, group_among, with_group}
-use Rattle.session.specs.Sessions.{AreApart, AreReady, AreTwoApart, SessionView, held_by, held_of, slots_in, without_groups}
+use Rattle.session.specs.Sessions.{AreGroupsApart, AreReady, AreTwoApart, SessionView, held_by, held_of, slots_in, without_groups}
 
 -- ---- groups among others
 
@@ -29,7 +29,7 @@ among_either (x ∷ xs) ys m is = ⊎_elim (λ here. inl (inl here)) (λ later. 
 pub turned : (a b : MountedGroup) → AreTwoApart a b → AreTwoApart b a
 turned a b apart mounted_b mounted_a slot own_b own_a = apart mounted_a mounted_b slot own_a own_b
 
-apart_joined : (groups : List MountedGroup) (m : MountedGroup) → AreApart groups → ((other : MountedGroup) → IsAmong groups other → AreTwoApart other m) → AreApart (groups ++ m ∷ [])
+apart_joined : (groups : List MountedGroup) (m : MountedGroup) → AreGroupsApart groups → ((other : MountedGroup) → IsAmong groups other → AreTwoApart other m) → AreGroupsApart (groups ++ m ∷ [])
 apart_joined [] m all new = (λ other none. absurd none, tt)
 apart_joined (g ∷ groups) m all new = (
   λ other is. ⊎_elim
@@ -131,12 +131,12 @@ among_without [] groups name m is = absurd is
 among_without (e ∷ es) [] name m is = absurd is
 among_without (e ∷ es) (g ∷ groups) name m is = among_by (is_same_name e.name name) g m (without_groups es groups name) groups (among_without es groups name m) is
 
-apart_by : (t : Bool) (g : MountedGroup) (others groups : List MountedGroup) → ((m : MountedGroup) → IsAmong others m → IsAmong groups m) → AreApart (g ∷ groups) → AreApart others
-    → AreApart (if t then others else g ∷ others)
+apart_by : (t : Bool) (g : MountedGroup) (others groups : List MountedGroup) → ((m : MountedGroup) → IsAmong others m → IsAmong groups m) → AreGroupsApart (g ∷ groups) → AreGroupsApart others
+    → AreGroupsApart (if t then others else g ∷ others)
 apart_by true g others groups rest all left = left
 apart_by false g others groups rest all left = (λ m is. all.0 m (rest m is), left)
 
-apart_without : (es : List SessionEntry) (groups : List MountedGroup) (name : Bytes) → AreApart groups → AreApart (without_groups es groups name)
+apart_without : (es : List SessionEntry) (groups : List MountedGroup) (name : Bytes) → AreGroupsApart groups → AreGroupsApart (without_groups es groups name)
 apart_without [] groups name all = tt
 apart_without (e ∷ es) [] name all = tt
 apart_without (e ∷ es) (g ∷ groups) name all = apart_by (is_same_name e.name name) g (without_groups es groups name) groups (among_without es groups name) all (apart_without es groups name all.1)
@@ -159,7 +159,7 @@ found_among (e ∷ es) [] name a is = absurd cc
 found_among (e ∷ es) (g ∷ groups) name a is = found_by (is_same_name e.name name) g a groups (group_among es groups name) (found_among es groups name a) is
 
 module _ (name : Bytes) (a b : MountedGroup) where
-  among_with_by : (t : Bool) (g m : MountedGroup) (es : List SessionEntry) (groups : List MountedGroup) → AreApart (g ∷ groups)
+  among_with_by : (t : Bool) (g m : MountedGroup) (es : List SessionEntry) (groups : List MountedGroup) → AreGroupsApart (g ∷ groups)
       → (group_among es groups name ≡ Some a → IsAmong (with_group es groups name b) m → (m ≡ b) ⊎ (IsAmong groups m × AreTwoApart a m))
       → (if t then Some g else group_among es groups name) ≡ Some a → IsAmong (if t then b ∷ groups else g ∷ with_group es groups name b) m
       → (m ≡ b) ⊎ (IsAmong (g ∷ groups) m × AreTwoApart a m)
@@ -172,7 +172,7 @@ module _ (name : Bytes) (a b : MountedGroup) where
       among
 
   -- a group among those after the call is the new one, or one of the others, which is apart from the old one
-  pub among_with : (es : List SessionEntry) (groups : List MountedGroup) → AreApart groups → (m : MountedGroup) → group_among es groups name ≡ Some a → IsAmong (with_group es groups name b) m
+  pub among_with : (es : List SessionEntry) (groups : List MountedGroup) → AreGroupsApart groups → (m : MountedGroup) → group_among es groups name ≡ Some a → IsAmong (with_group es groups name b) m
       → (m ≡ b) ⊎ (IsAmong groups m × AreTwoApart a m)
   among_with [] groups all m is among = absurd cc
   among_with (e ∷ es) [] all m is among = absurd cc
@@ -182,9 +182,9 @@ module _ (name : Bytes) (a b : MountedGroup) where
   abbrev pub Renews : List MountedGroup → Type 0
   Renews groups = (g : MountedGroup) → IsAmong groups g → AreTwoApart g a → AreTwoApart g b
 
-  apart_with_by : (t : Bool) (g : MountedGroup) (es : List SessionEntry) (groups : List MountedGroup) → Renews (g ∷ groups) → AreApart (g ∷ groups)
-      → (group_among es groups name ≡ Some a → AreApart (with_group es groups name b)) → (if t then Some g else group_among es groups name) ≡ Some a
-      → AreApart (if t then b ∷ groups else g ∷ with_group es groups name b)
+  apart_with_by : (t : Bool) (g : MountedGroup) (es : List SessionEntry) (groups : List MountedGroup) → Renews (g ∷ groups) → AreGroupsApart (g ∷ groups)
+      → (group_among es groups name ≡ Some a → AreGroupsApart (with_group es groups name b)) → (if t then Some g else group_among es groups name) ≡ Some a
+      → AreGroupsApart (if t then b ∷ groups else g ∷ with_group es groups name b)
   apart_with_by true g es groups renews all rest is =
       let same : g ≡ a = cc in
       (λ m among. turned m b (renews m (inr among) (turned a m (subst (λ (x : MountedGroup). AreTwoApart x m) same (all.0 m among)))), all.1)
@@ -196,7 +196,7 @@ module _ (name : Bytes) (a b : MountedGroup) where
     rest is,
   )
 
-  pub apart_with : (es : List SessionEntry) (groups : List MountedGroup) → Renews groups → AreApart groups → group_among es groups name ≡ Some a → AreApart (with_group es groups name b)
+  pub apart_with : (es : List SessionEntry) (groups : List MountedGroup) → Renews groups → AreGroupsApart groups → group_among es groups name ≡ Some a → AreGroupsApart (with_group es groups name b)
   apart_with [] groups renews all is = absurd cc
   apart_with (e ∷ es) [] renews all is = absurd cc
   apart_with (e ∷ es) (g ∷ groups) renews all is =

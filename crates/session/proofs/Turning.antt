@@ -12,9 +12,9 @@ use Rattle.group_engine.specs.Mounts.{IsMounted, IsOwn, MountedGroup, Takes}
 use Rattle.group_engine.specs.Members.{LetsGo}
 use Rattle.session.specs.Entries.{entry_view, group_view}
 use Rattle.session.specs.Naming.{CarriesOn, key_of}
-use Rattle.session.specs.Sessions.{AreApart, AreReady, AreTwoApart, SessionView}
+use Rattle.session.specs.Sessions.{AreGroupsApart, AreReady, AreTwoApart, SessionView}
 use Rattle.group_turns.specs.Slices.{failure_of}
-use Rattle.group_turns.specs.Turns.{HasLine, IsLineOf, OnEvent, OnIdle, OnWork, When}
+use Rattle.group_turns.specs.Turns.{HasLine, IsLineOf, OnEvent, OnIdle, OnWork, TurnMoment}
 use Rattle.session.specs.declared.entry.Entry.{Entry}
 use Rattle.group_turns.specs.declared.failure.Failure.TheVariants as failure
 use Rattle.group_turns.specs.declared.taking.Turned.{Turned}
@@ -35,7 +35,7 @@ work_so P Q turned.Idle f p = tt
 work_so P Q turned.Happened f p = f p
 work_so P Q turned.NoMemory f p = f p
 
-pub line_among : (result : Turned) (when : When) (groups : List MountedGroup) (m : MountedGroup) (line : Bytes) → IsAmong groups m → OnEvent result (IsLineOf m.name when line) → OnEvent result (HasLine groups when line)
+pub line_among : (result : Turned) (when : TurnMoment) (groups : List MountedGroup) (m : MountedGroup) (line : Bytes) → IsAmong groups m → OnEvent result (IsLineOf m.name when line) → OnEvent result (HasLine groups when line)
 line_among turned.Idle when groups m line among is = tt
 line_among turned.Happened when groups m line among is = record { group = m; among = among; is_line = is }
 line_among turned.NoMemory when groups m line among is = tt
@@ -79,7 +79,7 @@ among_at (g ∷ groups) zero a at = let same : a ≡ g = cc in inl same
 among_at (g ∷ groups) (suc place) a at = inr (among_at groups place a at)
 
 -- a group among those after the call is the new one, or one of the others, which is apart from the old one
-among_put : (groups : List MountedGroup) (place : ℕ) (a b m : MountedGroup) → AreApart groups → slice_get groups place ≡ Some a → IsAmong (put_at groups place b) m
+among_put : (groups : List MountedGroup) (place : ℕ) (a b m : MountedGroup) → AreGroupsApart groups → slice_get groups place ≡ Some a → IsAmong (put_at groups place b) m
     → (m ≡ b) ⊎ (IsAmong groups m × AreTwoApart a m)
 among_put [] place a b m all at among = absurd cc
 among_put (g ∷ groups) zero a b m all at among =
@@ -95,7 +95,7 @@ module _ (a b : MountedGroup) (mounted : IsMounted a) (own : (slot : ℕ) → Is
   renewed : (g : MountedGroup) → AreTwoApart g a → AreTwoApart g b
   renewed g apart mounted_g mounted_b slot own_g own_b = apart mounted_g mounted slot own_g (own slot own_b)
 
-  apart_put : (groups : List MountedGroup) (place : ℕ) → AreApart groups → slice_get groups place ≡ Some a → AreApart (put_at groups place b)
+  apart_put : (groups : List MountedGroup) (place : ℕ) → AreGroupsApart groups → slice_get groups place ≡ Some a → AreGroupsApart (put_at groups place b)
   apart_put [] place all at = absurd cc
   apart_put (g ∷ groups) zero all at =
       let same : g ≡ a = cc in

@@ -9,7 +9,7 @@ use Rattle.group_engine.specs.Mounts.{IsMounted, MountedGroup}
 use Rattle.group_engine.specs.Members.{LetsGo}
 use Rattle.session.specs.declared.entry.Entry.{Entry}
 use Rattle.session.specs.Entries.{entry_view, group_view}
-use Rattle.session.specs.Naming.{AreNamesApart, ChangesGroup, IsFound, IsGroupOf, IsOutCause, group_among, with_group}
+use Rattle.session.specs.Naming.{AreNamesApart, ChangesGroup, IsMountedName, IsGroupOf, IsOutCause, group_among, with_group}
 use Rattle.session.specs.Sessions.{AreReady}
 use Rattle.session.specs.Works.{DoesOn, DoesWork, Doing, IsSpelt, WorksOn}
 use Rattle.session.proofs.Carrying.{carried, carries_none, if_err, mounted_or, on_ok, seen}
@@ -24,7 +24,7 @@ some_same : {A : Type 0} (x y : A) → Some x ≡ Some y → x ≡ y
 some_same x y is = cc
 
 -- a name that the map hasn't has no mounted group
-pub never_found : (name : Bytes) (es : Pairs) (place : List Bytes) (given time : ℕ) → lookup (sought name) es ≡ None → IsFound (seen es place given time) name → ⊥
+pub never_found : (name : Bytes) (es : Pairs) (place : List Bytes) (given time : ℕ) → lookup (sought name) es ≡ None → IsMountedName (seen es place given time) name → ⊥
 never_found name es place given time none found = none_some found.0 (sym (none_grouped name es none) ∙ found.1.named)
 
 -- ok doesn't come
@@ -45,16 +45,16 @@ module _ {B : Type 0} (state : B → BayState) (b b' : B) (name : Bytes) (v w : 
   of_name : IsMounted v.group → IsGroupOf (seen es place given time) name v.group
   of_name on = record { named = group_found name es v found; mounted = on; on = entry_on name es v found on; paired = paired es }
 
-  there : IsMounted v.group → IsFound (seen es place given time) name
+  there : IsMounted v.group → IsMountedName (seen es place given time) name
   there on = (v.group, of_name on)
 
-  mounted : IsFound (seen es place given time) name → IsMounted v.group
+  mounted : IsMountedName (seen es place given time) name → IsMounted v.group
   mounted it =
       let here : group_among (map entry_view es) (map group_view es) name ≡ Some v.group = group_found name es v found in
       subst (λ (m : MountedGroup). IsMounted m) (some_same it.0 v.group (sym it.1.named ∙ here)) it.1.mounted
 
-  causes : IfErr result (λ refusal. IsFound (seen es place given time) name ⊎ IsOutCause (map entry_view es) name refusal)
-  causes = if_err (λ refusal. IsMounted v.group ⊎ IsOutCause (map entry_view es) name refusal) (λ refusal. IsFound (seen es place given time) name ⊎ IsOutCause (map entry_view es) name refusal) result
+  causes : IfErr result (λ refusal. IsMountedName (seen es place given time) name ⊎ IsOutCause (map entry_view es) name refusal)
+  causes = if_err (λ refusal. IsMounted v.group ⊎ IsOutCause (map entry_view es) name refusal) (λ refusal. IsMountedName (seen es place given time) name ⊎ IsOutCause (map entry_view es) name refusal) result
       (λ refusal why. ⊎_elim (λ on. inl (there on)) (λ out. inr out) why) err
 
   same_entry : w.group ≡ v.group → w ≡ v

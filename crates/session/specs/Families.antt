@@ -18,110 +18,110 @@ use Rattle.session.specs.Settings as settings
 
 pub data Family : Type 0 where
   -- how groups come and go
-  Groups : Family
+  GroupFamily : Family
   -- their disks: which there are, how large, whether online
-  Disks : Family
+  DiskFamily : Family
   -- files and their bytes
-  Files : Family
+  FileFamily : Family
   -- directories and aliases
-  Names : Family
+  NameFamily : Family
   -- templates and attributes
-  Settings : Family
+  SettingFamily : Family
   -- where the session stands
-  Places : Family
-  Reports : Family
+  PlaceFamily : Family
+  ReportFamily : Family
   -- what is no command is refused
-  NoCommand : Family
+  NoFamily : Family
 
 abbrev pub of_clause : s.Clause → Family
-of_clause (s.AddDisks added rebalance) = Disks
-of_clause (s.AddTemplate name words) = Settings
-of_clause (s.AddDirectory path) = Names
-of_clause (s.AddAlias alias path) = Names
-of_clause (s.DropDisks dropped rebalance) = Disks
-of_clause (s.DropFailgroup kind name force rebalance) = Disks
-of_clause (s.DropTemplate name) = Settings
-of_clause (s.DropDirectory path) = Names
-of_clause (s.DropAlias path) = Names
-of_clause (s.DropFile path) = Files
-of_clause s.UndropDisks = Disks
-of_clause (s.ResizeAll size rebalance) = Disks
-of_clause (s.ResizeDisk name size rebalance) = Disks
-of_clause (s.Rebalancing rebalance) = Disks
-of_clause s.Check = Groups
-of_clause (s.Mount force) = Groups
-of_clause (s.Dismount force) = Groups
-of_clause (s.Online named wait) = Disks
-of_clause (s.Offline named minutes) = Disks
-of_clause (s.ModifyTemplate name words) = Settings
-of_clause (s.RenameDirectory old new) = Names
-of_clause (s.RenameAlias old new) = Names
-of_clause (s.SetAttribute attribute) = Settings
+of_clause (s.AddDisks added rebalance) = DiskFamily
+of_clause (s.AddTemplate name words) = SettingFamily
+of_clause (s.AddDirectory path) = NameFamily
+of_clause (s.AddAlias alias path) = NameFamily
+of_clause (s.DropDisks dropped rebalance) = DiskFamily
+of_clause (s.DropFailgroup kind name force rebalance) = DiskFamily
+of_clause (s.DropTemplate name) = SettingFamily
+of_clause (s.DropDirectory path) = NameFamily
+of_clause (s.DropAlias path) = NameFamily
+of_clause (s.DropFile path) = FileFamily
+of_clause s.UndropDisks = DiskFamily
+of_clause (s.ResizeAll size rebalance) = DiskFamily
+of_clause (s.ResizeDisk name size rebalance) = DiskFamily
+of_clause (s.Rebalancing rebalance) = DiskFamily
+of_clause s.Check = GroupFamily
+of_clause (s.Mount force) = GroupFamily
+of_clause (s.Dismount force) = GroupFamily
+of_clause (s.Online named wait) = DiskFamily
+of_clause (s.Offline named minutes) = DiskFamily
+of_clause (s.ModifyTemplate name words) = SettingFamily
+of_clause (s.RenameDirectory old new) = NameFamily
+of_clause (s.RenameAlias old new) = NameFamily
+of_clause (s.SetAttribute attribute) = SettingFamily
 
 abbrev pub of_statement : s.Statement → Family
-of_statement (s.CreateDisk path size) = Disks
-of_statement (s.CreateGroup name kind failgroups attributes) = Groups
-of_statement (s.DropGroup name contents) = Groups
+of_statement (s.CreateDisk path size) = DiskFamily
+of_statement (s.CreateGroup name kind failgroups attributes) = GroupFamily
+of_statement (s.DropGroup name contents) = GroupFamily
 of_statement (s.Alter name clause) = of_clause clause
 
 abbrev pub of_verb : c.Verb → Family
-of_verb (c.DbCreate path size template) = Files
-of_verb (c.DbWrite path at bytes) = Files
-of_verb (c.DbFill path at size byte) = Files
-of_verb (c.DbRead path at size) = Files
-of_verb (c.DbResize path size) = Files
-of_verb (c.Ls long path) = Reports
-of_verb (c.Cd path) = Places
-of_verb c.Pwd = Places
-of_verb (c.MakeDir path) = Names
-of_verb (c.Remove path) = Names
-of_verb (c.Copy source target) = Files
-of_verb (c.Usage path) = Reports
-of_verb (c.Find path pattern) = Reports
-of_verb (c.MakeAlias path alias) = Names
-of_verb (c.RemoveAlias path) = Names
-of_verb (c.ListGroups group) = Reports
-of_verb (c.ListDisks group) = Reports
-of_verb (c.ListTemplates group) = Reports
-of_verb (c.ListAttributes group) = Reports
-of_verb (c.OfflineDisk group disk) = Disks
-of_verb (c.OnlineDisk group disk) = Disks
-of_verb (c.SetPower group power) = Disks
+of_verb (c.DbCreate path size template) = FileFamily
+of_verb (c.DbWrite path at bytes) = FileFamily
+of_verb (c.DbFill path at size byte) = FileFamily
+of_verb (c.DbRead path at size) = FileFamily
+of_verb (c.DbResize path size) = FileFamily
+of_verb (c.Ls long path) = ReportFamily
+of_verb (c.Cd path) = PlaceFamily
+of_verb c.Pwd = PlaceFamily
+of_verb (c.MakeDir path) = NameFamily
+of_verb (c.Remove path) = NameFamily
+of_verb (c.Copy source target) = FileFamily
+of_verb (c.Usage path) = ReportFamily
+of_verb (c.Find path pattern) = ReportFamily
+of_verb (c.MakeAlias path alias) = NameFamily
+of_verb (c.RemoveAlias path) = NameFamily
+of_verb (c.ListGroups group) = ReportFamily
+of_verb (c.ListDisks group) = ReportFamily
+of_verb (c.ListTemplates group) = ReportFamily
+of_verb (c.ListAttributes group) = ReportFamily
+of_verb (c.OfflineDisk group disk) = DiskFamily
+of_verb (c.OnlineDisk group disk) = DiskFamily
+of_verb (c.SetPower group power) = DiskFamily
 
 abbrev pub family_of : Command → Family
 family_of (Said statement) = of_statement statement
 family_of (Asked verb) = of_verb verb
-family_of (Unreadable at) = NoCommand
+family_of (Unreadable at) = NoFamily
 
 abbrev proved_in : Family → Command → Bool
-proved_in Groups c = groups.is_proved c
-proved_in Disks c = disks.is_proved c
-proved_in Files c = files.is_proved c
-proved_in Names c = names.is_proved c
-proved_in Settings c = settings.is_proved c
-proved_in Places c = places.is_proved c
-proved_in Reports c = reports.is_proved c
-proved_in NoCommand c = true
+proved_in GroupFamily c = groups.is_proved c
+proved_in DiskFamily c = disks.is_proved c
+proved_in FileFamily c = files.is_proved c
+proved_in NameFamily c = names.is_proved c
+proved_in SettingFamily c = settings.is_proved c
+proved_in PlaceFamily c = places.is_proved c
+proved_in ReportFamily c = reports.is_proved c
+proved_in NoFamily c = true
 
 abbrev made_in : Family → Command → ℕ → World → Type 0
-made_in Groups c id w = groups.IsMade c id w
-made_in Disks c id w = disks.IsMade c id w
-made_in Files c id w = files.IsMade c id w
-made_in Names c id w = names.IsMade c id w
-made_in Settings c id w = settings.IsMade c id w
-made_in Places c id w = places.IsMade c id w
-made_in Reports c id w = reports.IsMade c id w
-made_in NoCommand c id w = ⊥
+made_in GroupFamily c id w = groups.IsMade c id w
+made_in DiskFamily c id w = disks.IsMade c id w
+made_in FileFamily c id w = files.IsMade c id w
+made_in NameFamily c id w = names.IsMade c id w
+made_in SettingFamily c id w = settings.IsMade c id w
+made_in PlaceFamily c id w = places.IsMade c id w
+made_in ReportFamily c id w = reports.IsMade c id w
+made_in NoFamily c id w = ⊥
 
 abbrev refused_in : Family → List Bytes → Command → r.Refusal → Counts → Counts → Type 0
-refused_in Groups paths c cause s t = groups.IsRefused paths c cause s t
-refused_in Disks paths c cause s t = disks.IsRefused paths c cause s t
-refused_in Files paths c cause s t = files.IsRefused paths c cause s t
-refused_in Names paths c cause s t = names.IsRefused paths c cause s t
-refused_in Settings paths c cause s t = settings.IsRefused paths c cause s t
-refused_in Places paths c cause s t = places.IsRefused paths c cause s t
-refused_in Reports paths c cause s t = reports.IsRefused paths c cause s t
-refused_in NoCommand paths c cause s t = ⊤
+refused_in GroupFamily paths c cause s t = groups.IsRefused paths c cause s t
+refused_in DiskFamily paths c cause s t = disks.IsRefused paths c cause s t
+refused_in FileFamily paths c cause s t = files.IsRefused paths c cause s t
+refused_in NameFamily paths c cause s t = names.IsRefused paths c cause s t
+refused_in SettingFamily paths c cause s t = settings.IsRefused paths c cause s t
+refused_in PlaceFamily paths c cause s t = places.IsRefused paths c cause s t
+refused_in ReportFamily paths c cause s t = reports.IsRefused paths c cause s t
+refused_in NoFamily paths c cause s t = ⊤
 
 -- whether it is proved on each bay what it does to the world and to the disks
 abbrev pub is_proved : Command → Bool
@@ -138,8 +138,8 @@ abbrev pub is_proved_on_disks : Command → Bool
 is_proved_on_disks c = asks_disks c || is_proved c
 
 abbrev pub edits_in : Family → Bool
-edits_in Names = true
-edits_in Settings = true
+edits_in NameFamily = true
+edits_in SettingFamily = true
 edits_in other = false
 
 -- whether it is an edit of the names or the settings of a mounted group
@@ -155,9 +155,9 @@ abbrev pub may_stop_torn : Command → Bool
 may_stop_torn c = changes_group c || groups.mounts c
 
 abbrev shown_in : Family → Command → Bool
-shown_in Groups c = groups.shows_group c
-shown_in Places c = places.shows_group c
-shown_in Reports c = reports.shows_group c
+shown_in GroupFamily c = groups.shows_group c
+shown_in PlaceFamily c = places.shows_group c
+shown_in ReportFamily c = reports.shows_group c
 shown_in other c = false
 
 -- whether it tells of groups as they are mounted, goes into one or mounts one

@@ -5,7 +5,7 @@ use Rattle.asm_base.specs.declared.refusal.Refusal.{Refusal}
 use Rattle.asm_group.specs.Names.{Bytes}
 use Rattle.bay.specs.State.{BayState}
 use Rattle.group_engine.specs.declared.attached.Attached.{Attached}
-use Rattle.session.specs.Naming.{CarriesOn, IsFound, IsOutCause}
+use Rattle.session.specs.Naming.{CarriesOn, IsMountedName, IsOutCause}
 use Rattle.session.specs.Sessions.{SessionView, slots_in}
 
 -- of slots those that are none of a group's own
@@ -20,6 +20,6 @@ others_of disks slots = without_own (slots_in disks) slots
 -- At most the mounted group of a name is worked on.
 pub record JoinsIn {T : Type 0} (name : Bytes) (result : Result T Refusal) (old new : SessionView) (s t : BayState) : Type 0 where
   -- ok comes of a mounted group alone, and of any other name the refusal that it has
-  pub found : OnOk result (IsFound old name)
-  pub out : IfErr result (λ refusal. IsFound old name ⊎ IsOutCause old.entries name refusal)
+  pub found : OnOk result (IsMountedName old name)
+  pub out : IfErr result (λ refusal. IsMountedName old name ⊎ IsOutCause old.entries name refusal)
   pub carries : CarriesOn old new s t

@@ -66,8 +66,8 @@ pub record ChangesGroup (name : Bytes) (old new : SessionView) (s t : BayState) 
   pub groups : new.groups ≡ with_group old.entries old.groups name after
 
 -- a mounted group has the name
-abbrev pub IsFound : SessionView → Bytes → Type 0
-IsFound session name = (m : MountedGroup) × IsGroupOf session name m
+abbrev pub IsMountedName : SessionView → Bytes → Type 0
+IsMountedName session name = (m : MountedGroup) × IsGroupOf session name m
 
 -- All groups stay at their places, under their names and ids, and take the next call.
 pub record CarriesOn (old new : SessionView) (s t : BayState) : Type 0 where

@@ -12,7 +12,7 @@ use Rattle.asm_world.specs.Command.{Command, Said}
 use Rattle.asm_world.specs.Reply.{Reply, Done, Refused}
 use Rattle.asm_world.specs.Statement.{CreateDisk, DropGroup}
 use Rattle.asm_world.specs.World.{SessionEntry, World, entry_in}
-use Rattle.group_disks.specs.Found.{Counts, IsSlotOf, counts_of}
+use Rattle.group_disks.specs.Found.{Counts, IsSlotOfPath, counts_of}
 
 pub data DiskWork : Type 0 where
   NoWork : DiskWork
@@ -39,7 +39,7 @@ pub record IsZeros (slot n : ℕ) (image : Image) : Type 0 where
 -- The path's slot is attached with the size, and where the bay tells it, its disk is zeros.
 pub record IsMadeAnew (paths : List Bytes) (path : Bytes) (size : ℕ) (t : Counts) : Type 0 where
   pub slot : ℕ
-  pub is_slot : IsSlotOf paths path slot
+  pub is_slot : IsSlotOfPath paths path slot
   pub attached : t.attached slot ≡ Some size
   pub zeros : ForSome t.holds (λ image. IsZeros slot size image)
 
@@ -61,10 +61,10 @@ ReplyWork paths work (Refused lines cause) s t = ⊤
 
 -- A `make` of the path's slot that was done does the work of CREATE DISK.
 abbrev pub MakingDoes : BayState → BayState → Type 0
-MakingDoes old new = (paths : List Bytes) (path : Bytes) (slot size : ℕ) → IsSlotOf paths path slot → new.attached slot ≡ Some size → Ends (Makes slot size) old new
+MakingDoes old new = (paths : List Bytes) (path : Bytes) (slot size : ℕ) → IsSlotOfPath paths path slot → new.attached slot ≡ Some size → Ends (Makes slot size) old new
     → IsWorkDone paths (MakeDisk path size) (counts_of old) (counts_of new)
 
 -- Where no slot of the path is attached, it isn't done.
 abbrev pub IdlingLeaves : BayState → BayState → Type 0
-IdlingLeaves old new = (paths : List Bytes) (path : Bytes) (size : ℕ) → ((slot : ℕ) → IsSlotOf paths path slot → new.attached slot ≡ None)
+IdlingLeaves old new = (paths : List Bytes) (path : Bytes) (size : ℕ) → ((slot : ℕ) → IsSlotOfPath paths path slot → new.attached slot ≡ None)
     → IsWorkDone paths (MakeDisk path size) (counts_of old) (counts_of new) → ⊥

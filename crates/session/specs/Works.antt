@@ -8,17 +8,17 @@ use Rattle.asm_group.specs.Refusal as r
 use Rattle.asm_world.specs.World.{SessionEntry, SessionState, entry_among}
 use Rattle.group_engine.specs.Mounts.{MountedGroup}
 use Rattle.session.specs.Entries.{disk_name, state_view}
-use Rattle.session.specs.Naming.{AreNamesApart, CarriesOn, ChangesGroup, IsFound, IsGroupOf, IsOutCause, with_group}
+use Rattle.session.specs.Naming.{AreNamesApart, CarriesOn, ChangesGroup, IsMountedName, IsGroupOf, IsOutCause, with_group}
 use Rattle.session.specs.Sessions.{SessionView}
 
 -- the refusal as a command has it, with the disk spelt, or want of memory
-abbrev pub Spells : MountedGroup → Refusal → Refusal → Type 0
-Spells m raw refusal = (said (λ _. []) refusal ≡ said (disk_name m) raw) ⊎ (said (λ _. []) refusal ≡ r.NoMemory)
+abbrev pub SpellsRefusal : MountedGroup → Refusal → Refusal → Type 0
+SpellsRefusal m raw refusal = (said (λ _. []) refusal ≡ said (disk_name m) raw) ⊎ (said (λ _. []) refusal ≡ r.NoMemory)
 
 -- the answer of a call on a group, so spelt
 abbrev pub IsSpelt : {T : Type 0} → MountedGroup → Result T Refusal → Result T Refusal → Type 0
 IsSpelt m (Ok done) result = result ≡ Ok done
-IsSpelt m (Err raw) result = (refusal : Refusal) × (result ≡ Err refusal) × Spells m raw refusal
+IsSpelt m (Err raw) result = (refusal : Refusal) × (result ≡ Err refusal) × SpellsRefusal m raw refusal
 
 -- the entries, with another state of those of a name
 abbrev pub with_state : List SessionEntry → Bytes → SessionState → List SessionEntry
@@ -50,11 +50,11 @@ DoesOn name Does old new s t given = (changes : ChangesGroup name old new s t) �
 -- At most the mounted group of a name is worked on.
 pub record WorksOn {T : Type 0} (name : Bytes) (Does : Doing T) (result : Result T Refusal) (old new : SessionView) (s t : BayState) : Type 0 where
   -- ok comes of a mounted group alone, and of any other name the refusal that it has
-  pub found : OnOk result (IsFound old name)
-  pub out : IfErr result (λ refusal. IsFound old name ⊎ IsOutCause old.entries name refusal)
+  pub found : OnOk result (IsMountedName old name)
+  pub out : IfErr result (λ refusal. IsMountedName old name ⊎ IsOutCause old.entries name refusal)
   pub groups : (new.groups ≡ old.groups) ⊎ ChangesGroup name old new s t
   -- where no mounted group has the name nothing is done, and else what the work did, also where it was refused
-  pub idle : (IsFound old name → ⊥) → (new ≡ old) × (t.calls ≡ s.calls)
-  pub works : IsFound old name → DoesWork name Does result old new s t
+  pub idle : (IsMountedName old name → ⊥) → (new ≡ old) × (t.calls ≡ s.calls)
+  pub works : IsMountedName old name → DoesWork name Does result old new s t
   pub done : IfOk result (DoesOn name Does old new s t)
   pub carries : CarriesOn old new s t

@@ -2,7 +2,7 @@
 ghost use Rattle.std.specs.Prelude.{◌≡◌, length};
 ghost use Rattle.session.specs.Editing.{EditDoes, EditsGroup};
 ghost use Rattle.session.specs.Entries.{AreAlike};
-ghost use Rattle.session.specs.Naming.{AreNamesApart, CarriesOn, IsFound};
+ghost use Rattle.session.specs.Naming.{AreNamesApart, CarriesOn, IsMountedName};
 ghost use Rattle.session.specs.Sessions.{AreReady};
 
 use crate::naming::GroupWork;
@@ -50,7 +50,7 @@ impl Session {
         edit: &GroupEdit,
     ) -> Result<(), Refusal>
         requires ready { AreReady self.old.groups (B.state bay.old) }
-        ensures edits { IsFound self.old name.now → EditsGroup name.now edit.now result self.old self.new (B.state bay.old) (B.state bay.new) }
+        ensures edits { IsMountedName self.old name.now → EditsGroup name.now edit.now result self.old self.new (B.state bay.old) (B.state bay.new) }
         ensures carries { CarriesOn self.old self.new (B.state bay.old) (B.state bay.new) }
         ensures apart { AreNamesApart self.old.entries }
         ensures paired { length self.old.groups ≡ length self.old.entries }

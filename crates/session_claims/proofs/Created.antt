@@ -10,7 +10,7 @@ use Rattle.asm_images.specs.Kept.{IsMemberIn}
 use Rattle.asm_world.specs.Between.{groups_between}
 use Rattle.asm_world.specs.Command.{Command}
 use Rattle.asm_world.specs.World.{SessionEntry, World, groups_of, has_mounted, is_mounted}
-use Rattle.group_disks.specs.Creating.{HasCreated, HasMember, IsFree, MayCreate}
+use Rattle.group_disks.specs.Creating.{HasCreated, HasMember, HasNoOpenHeader, MayCreate}
 use Rattle.group_mount.specs.Mounting.{Allows}
 use Rattle.group_disks.specs.FirstParts.{MountsNew}
 use Rattle.group_disks.proofs.Outsiders.{others_allow}
@@ -76,7 +76,7 @@ module _ (old new : BayState) (sound : IsSound old) (n : ℕ) (known : ℕ → B
     has_own x left = subst (λ (i : ℕ). HasMember i x) k.same (held_has n m.register.id (k.group ∷ []) k.kept x (k.mounts.now.now x left))
 
     -- the disks hold a member of it, and none on the new group's disk
-    no_member : (x : Image) → old.leaves old.calls x → IsFree old.holds creation.slot → IsMemberIn e.id x creation.slot → ⊥
+    no_member : (x : Image) → old.leaves old.calls x → HasNoOpenHeader old.holds creation.slot → IsMemberIn e.id x creation.slot → ⊥
     no_member x left free has =
         let now = sound.told x left in
         let there = stands.members now.0 x now.1 left e.id creation.slot (has_own now.0 (sound.held now.0 now.1)) has in

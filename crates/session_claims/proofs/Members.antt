@@ -16,7 +16,7 @@ use Rattle.group_engine.specs.Commits.{StandsIn}
 use Rattle.group_engine.specs.Frames.{SameDisk, SparesGroup}
 use Rattle.group_engine.specs.Mounts.{IsOwn, MountedGroup, Mounts}
 use Rattle.group_engine.specs.Own.{KeepsGroup, OnOwnDisks}
-use Rattle.group_mount.specs.Recovered.{ChangesMembers, KeepsDisk}
+use Rattle.group_mount.specs.Recovered.{ChangesMembers, KeepsSlot}
 use Rattle.status_register.specs.Elsewhere.{IsNoMember}
 use Rattle.session_claims.specs.Claims.{HoldsMembers}
 use Rattle.session_claims.proofs.Images.{has_slot, slot_has}
@@ -35,7 +35,7 @@ disk_keeps id slot x y same =
 pub same_keeps : (id : ℕ) (x y : Image) → Same x y → KeepsMembers id x y
 same_keeps id x y same slot = disk_keeps id slot x y (record { size = same.size slot; byte = λ k. same.byte slot k })
 
-stays : (slot : ℕ) (x y : Image) → KeepsDisk slot x y → SameDisk slot x y
+stays : (slot : ℕ) (x y : Image) → KeepsSlot slot x y → SameDisk slot x y
 stays slot x y kept = record { size = kept.size; byte = kept.byte }
 
 -- a member of one id is none of another

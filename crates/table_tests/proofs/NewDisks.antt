@@ -6,7 +6,7 @@ use Rattle.std.specs.FinMap.{nat_cmp-IsAntisymmetric}
 use Rattle.std.proofs.lemmas.List.Elements.{All-from_recursion}
 use Rattle.asm_formats.specs.Items.{DiskInfo, disk_item, is_item}
 use Rattle.extent_map.proofs.Lookups.{put_other}
-use Rattle.catalog_tables.specs.Disks.{Disk, info_at, with_info}
+use Rattle.disk_directory.specs.Disks.{Disk, info_at, with_info}
 use Rattle.catalog.specs.Plans.{MayAdd}
 use Rattle.catalog_tables.specs.Tables.{Tables}
 use Rattle.catalog_tables.proofs.EntryLaws.{either}

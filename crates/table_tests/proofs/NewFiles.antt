@@ -9,12 +9,12 @@ use Rattle.asm_formats.specs.Items.{Key, Pending}
 use Rattle.asm_base.specs.Records.{Entry}
 use Rattle.asm_placement.specs.Layout.{first_of_set, start}
 use Rattle.file_directory.specs.Files.{head_at}
-use Rattle.catalog.specs.NamePlans.{IsCreated, IsNamePlan, is_within_file, made_file, named, new_head}
+use Rattle.catalog.specs.NamePlans.{IsFileBeingMade, IsNamePlan, is_within_file, made_file, named, new_head}
 use Rattle.catalog_tables.specs.Rules.{first_wrong}
 use Rattle.catalog_tables.specs.Tables.{Catalogued}
 use Rattle.table_tests.specs.Planned.{IsPlanned}
 
-pub created : (c : Catalogued) (op : Pending) → Some op ≡ c.tables.operations.pending → op.kind ≡ Create → head_at c.tables.files op.file ≡ None → first_wrong (is_within_file op.file 2) c.tables.extents ≡ None → IsCreated c 0 2 Fine
+pub created : (c : Catalogued) (op : Pending) → Some op ≡ c.tables.operations.pending → op.kind ≡ Create → head_at c.tables.files op.file ≡ None → first_wrong (is_within_file op.file 2) c.tables.extents ≡ None → IsFileBeingMade c 0 2 Fine
 created c op pending kind new within = record {
   file = op.file;
   kept = op.kept;

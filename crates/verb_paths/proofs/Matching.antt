@@ -6,7 +6,7 @@ use Rattle.std.proofs.lemmas.Bool.{cases_Bool, or_cases, and_parts, both_ways, l
 use Rattle.std.proofs.lemmas.List.{length-map, take_all}
 use Rattle.asm_group.specs.Names.{Bytes, folded, folded_byte}
 use Rattle.asm_world.specs.Listings.{matches}
-use Rattle.verb_paths.specs.Patterns.{Meeting, Differs, Same, Star, meet, matches_from}
+use Rattle.verb_paths.specs.Patterns.{Meeting, Differs, SameName, Star, meet, matches_from}
 
 or_right : (a b : Bool) → b ≡ true → (a || b) ≡ true
 or_right true b e = refl
@@ -46,7 +46,7 @@ byte_taken q p b (c ∷ n) other e = elim (or_cases (matches (q ∷ p) (b ∷ c 
 
 abbrev verdict : Meeting → Bool
 verdict Differs = false
-verdict Same = true
+verdict SameName = true
 verdict (Star p n) = matches_from p n
 
 -- a pattern matches by how it meets the front
@@ -84,7 +84,7 @@ first_place p n p' n' e = elim (cases_Bool (matches_from p' n')) [
   ]
 ]
 
-pub same_here : (p n : Bytes) → meet p n ≡ Same → matches_from p n ≡ true
+pub same_here : (p n : Bytes) → meet p n ≡ SameName → matches_from p n ≡ true
 same_here p n e = here p n (matches_is p n ∙ ap verdict e)
 
 -- ---- folded bytes
@@ -100,7 +100,7 @@ star_folds b = elim (cases_Bool (is_in_range 65 90 b)) [
 
 abbrev size : Meeting → ℕ
 size Differs = 0
-size Same = 0
+size SameName = 0
 size (Star p n) = length p + length n + 1
 
 -- what is left at a star is shorter

@@ -9,7 +9,7 @@ use Rattle.verb_paths.specs.declared.pattern.Meeting.TheVariants as code
 -- they differ, are the same, or are the same up to a `*`: what stands behind it, and the name from there on
 pub data Meeting : Type 0 where
   Differs : Meeting
-  Same : Meeting
+  SameName : Meeting
   Star : (pattern name : Bytes) → Meeting
 
 abbrev pub behind_byte : ℕ → Bytes → (Bytes → Meeting) → Meeting
@@ -17,7 +17,7 @@ behind_byte p [] more = Differs
 behind_byte p (b ∷ name) more = if p == b then more name else Differs
 
 abbrev pub at_end : Bytes → Meeting
-at_end [] = Same
+at_end [] = SameName
 at_end (b ∷ name) = Differs
 
 -- how they meet up to the first `*`
@@ -27,7 +27,7 @@ meet (p ∷ pattern) name = if p == 42 then Star pattern name else behind_byte p
 
 abbrev pub meeting_seen : CodeMeeting → Meeting
 meeting_seen code.Differs = Differs
-meeting_seen code.Same = Same
+meeting_seen code.Same = SameName
 meeting_seen (code.Star pattern name) = Star (folded pattern.now) (folded name.now)
 
 -- the pattern matches the name from some byte on, or its end

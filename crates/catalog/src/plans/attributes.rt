@@ -10,9 +10,8 @@ ghost use Rattle.catalog.specs.Plans.{IsPlan};
 
 use crate::catalog::Catalog;
 use crate::plans::making::{no_memory, one_put};
-use asm_base::{Change, Key, Name, NoMemory, Refusal, Text, Value};
+use asm_base::{Change, Key, Name, NoMemory, Refusal, SETTINGS_KEY, Text, Value};
 use attribute_values::with_attribute;
-use catalog_tables::SETTINGS;
 use std::alloc::Global;
 use template_directory::{Settings, settings_value};
 
@@ -72,7 +71,7 @@ pub(crate) fn settings_record(alloc: Global, settings: &Settings) -> Result<(Key
     ensures { IfOk result (λ made. made ≡ item_record (settings_item settings.now)) }
 {
     let value = settings_value(alloc, settings)?;
-    Ok((SETTINGS, value))
+    Ok((SETTINGS_KEY, value))
 }
 
 /// The refusal that names the attribute, or want of memory.

@@ -9,16 +9,10 @@ ghost use Rattle.catalog.specs.Plans.{IsPlan};
 
 use crate::catalog::Catalog;
 use crate::plans::making::{no_memory, two_gone, two_put};
-use asm_base::{Change, Key, NoMemory, Refusal, Value};
+use asm_base::{Change, Key, NoMemory, Refusal, Value, record_kind};
 use extent_map::chunk_record;
 use staleness_directory::StaleTable;
 use std::alloc::Global;
-
-/// The kind of the records of files and of their chunks.
-const CHUNK: u16 = 1;
-
-/// The kind of the records of stale marks.
-const MARKS: u16 = 12;
 
 impl Catalog {
     /// The change by which the extents of a chunk from place `kept` on go, and their marks with them. With `kept` 0 the
@@ -46,12 +40,12 @@ impl Catalog {
         self.keeps_rules();
         if kept == 0 {
             let homes = Key {
-                kind: CHUNK,
+                kind: record_kind::FILES,
                 a: file,
                 b: chunk + 1,
             };
             let marks = Key {
-                kind: MARKS,
+                kind: record_kind::MARKS,
                 a: file,
                 b: chunk,
             };

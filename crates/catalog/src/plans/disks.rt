@@ -1,20 +1,17 @@
 //! Plans of disks' records.
 
-ghost use Rattle.std.specs.Prelude.{◌≡◌, ◌<◌, ◌∷◌, ◌+◌, [], IfErr, IfOk, IsTrue, None, Some, true};
+ghost use Rattle.std.specs.Prelude.{◌≡◌, ◌<◌, ◌+◌, IfErr, IfOk, None, Some, true};
 ghost use Rattle.std.specs.Bool.{OnFalse, OnTrue};
 ghost use Rattle.std.specs.Option.{option_copied};
-ghost use Rattle.asm_group.specs.Names.{is_name};
 ghost use Rattle.asm_formats.specs.Items.{DiskInfo as FormatInfo, disk_item, is_item};
-ghost use Rattle.asm_formats.specs.Values.{value};
-ghost use Rattle.asm_base.specs.Tables.{item_record};
-ghost use Rattle.catalog_tables.specs.Disks.{info_at, with_info, without_disk};
+ghost use Rattle.disk_directory.specs.Disks.{info_at, with_info, without_disk};
 ghost use Rattle.catalog.specs.Plans.{IsDiskRefusal, IsPlan, LacksBlock, may_be_record, with_record};
 ghost use Rattle.catalog_tables.specs.Rules.{blocks_used};
 
 use crate::catalog::Catalog;
 use crate::plans::making::{no_memory, one_gone, one_put};
-use asm_base::{Block, Change, Key, Name, NoMemory, Refusal, Value, Writer, put_name, put_u64};
-use catalog_tables::{DiskInfo, disk_key};
+use asm_base::{Change, NoMemory, Refusal};
+use disk_directory::{DiskInfo, disk_key, disk_record};
 use std::alloc::Global;
 
 impl Catalog {
@@ -77,40 +74,4 @@ impl Catalog {
         let change = one_gone(alloc, disk_key(number))?;
         Ok(change)
     }
-}
-
-/// The record of a disk.
-pub(crate) fn disk_record(
-    alloc: Global,
-    number: u8,
-    info: &DiskInfo,
-) -> Result<(Key, Value), NoMemory>
-    requires { is_item (disk_item number info.now) ≡ true }
-    ensures { IfOk result (λ made. made ≡ item_record (disk_item number info.now)) }
-{
-    let value = disk_value(alloc, number, info.birth, &info.name, &info.failgroup)?;
-    Ok((disk_key(number), value))
-}
-
-#[tactic(auto, unfolding(asm_formats::specs::Values::value))]
-fn disk_value(
-    alloc: Global,
-    number: u8,
-    birth: u64,
-    name: &Name,
-    failgroup: &Name,
-) -> Result<Value, NoMemory>
-    requires name { IsTrue (is_name name.now) }
-    requires failgroup { IsTrue (is_name failgroup.now) }
-    ensures { IfOk result (λ v. v ≡ value (disk_item number (record { birth = birth; name = name.now; failgroup = failgroup.now }))) }
-{
-    let mut block = Block::zeros();
-    let mut to = Writer {
-        block: &mut block,
-        at: 0,
-    };
-    put_u64(&mut to, birth);
-    put_name(&mut to, name, 30);
-    put_name(&mut to, failgroup, 30);
-    Value::from_writer(alloc, &to)
 }

@@ -10,8 +10,8 @@ ghost use Rattle.catalog.specs.FilePlans.{HasSoMany, IsRemovalPlan, IsSizePlan, 
 
 use crate::catalog::Catalog;
 use crate::plans::making::{no_memory, one_put, two_put};
-use crate::plans::operations::{PENDING, fits};
-use asm_base::{Change, Key, List, NoMemory, Refusal, Shape, Value};
+use crate::plans::operations::fits;
+use asm_base::{Change, Key, List, NoMemory, PENDING_KEY, Refusal, Shape, Value};
 use catalog_tables::{file_key, node_key};
 use file_directory::{FileHead, record_of};
 use operations_directory::{Pending, PendingKind, pending_record};
@@ -51,7 +51,7 @@ impl Catalog {
         let sized = resized(head, size)?;
         let entry = record_of(alloc, file, &sized)?;
         if head.size < size {
-            return put_and_gone(alloc, entry, PENDING);
+            return put_and_gone(alloc, entry, PENDING_KEY);
         }
         if size < head.size {
             let op = shrinking(&self.shape(), file, &sized);

@@ -11,19 +11,18 @@ ghost use Rattle.alias_edits.specs.Filing.{IsFiling, filed, nodes_missing, with_
 ghost use Rattle.alias_tree.specs.Nodes.{IsTable, Numbered, node_at, record_of as node_entry};
 ghost use Rattle.alias_tree.specs.Trees.{tree_of};
 ghost use Rattle.file_directory.specs.Files.{record_of as file_entry};
-ghost use Rattle.catalog.specs.NamePlans.{AreNewNodes, HasParts, IsCreated, IsNamePlan, IsNameRefusal, made_file, name_at, name_meant, new_head, settings_next, system_path};
+ghost use Rattle.catalog.specs.NamePlans.{AreNewNodes, HasParts, IsFileBeingMade, IsNamePlan, IsNameRefusal, made_file, name_at, name_meant, new_head, settings_next, system_path};
 ghost use Rattle.catalog_tables.specs.Rules.{blocks_used};
 
 use crate::catalog::Catalog;
 use crate::new_file::NewFile;
 use crate::plans::attributes::settings_record;
 use crate::plans::making::no_memory;
-use crate::plans::operations::PENDING;
 use crate::plans::system_path::{NameParts, new_name, system_path};
 use crate::plans::tree::refusal_of;
 use alias_edits::{TreeError, plan_file};
 use alias_tree::{Node, node_record};
-use asm_base::{Change, Key, List, Name, NoMemory, Path, Refusal, Stripe, Value};
+use asm_base::{Change, Key, List, Name, NoMemory, PENDING_KEY, Path, Refusal, Stripe, Value};
 use file_directory::{FileHead, record_of};
 use std::alloc::Global;
 use template_directory::Settings;
@@ -43,7 +42,7 @@ impl Catalog {
         copies: u8,
         stripe: Stripe,
     ) -> Result<Change, Refusal>
-        requires created { IsCreated self.now new.now.size copies stripe }
+        requires created { IsFileBeingMade self.now new.now.size copies stripe }
         ensures planned { IfOk result (λ change. IsNamePlan self.now new.now.path.parts new.now.size copies stripe change.put change.gone) }
         ensures refused { IfErr result (IsNameRefusal self.now new.now.path.parts) }
     {
@@ -121,7 +120,7 @@ impl Catalog {
         stripe: Stripe,
         made: &[(u32, Node)],
     ) -> Result<Change, NoMemory>
-        requires created { IsCreated self.now new.now.size copies stripe }
+        requires created { IsFileBeingMade self.now new.now.size copies stripe }
         requires name { name_at new.now.path.parts ≡ Some (name_meant name) }
         requires nodes { AreNewNodes self.now.tables.nodes made.now (system_path self.now.tables (name_meant name)) (made_file self.now.tables) }
         requires room { length made.now + 1 + (blocks_used self.now.tables + 2) ≤ self.now.shape.dir_blocks }
@@ -131,7 +130,7 @@ impl Catalog {
         let head = self.new_head(name, new.size, copies, stripe, system_node(made))?;
         let put = self.name_records(alloc, self.made_file(), &head, made)?;
         let mut gone = List::new(alloc);
-        gone.push(PENDING)?;
+        gone.push(PENDING_KEY)?;
         Ok(Change { put, gone })
     }
 

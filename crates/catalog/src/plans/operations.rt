@@ -7,23 +7,9 @@ ghost use Rattle.catalog.specs.Plans.{AreOwned, IsPlan};
 
 use crate::catalog::Catalog;
 use crate::plans::making::{no_memory, one_gone, one_put};
-use asm_base::{Change, Key, NoMemory, Refusal};
+use asm_base::{Change, Key, NoMemory, PENDING_KEY, REBALANCE_KEY, Refusal};
 use operations_directory::{Pending, pending_record, rebalance_record};
 use std::alloc::Global;
-
-/// The key of the record of the active rebalance.
-const REBALANCE: Key = Key {
-    kind: 4,
-    a: 0,
-    b: 0,
-};
-
-/// The key of the record of the pending operation.
-pub(crate) const PENDING: Key = Key {
-    kind: 4,
-    a: 1,
-    b: 0,
-};
 
 impl Catalog {
     /// The change by which the rebalance of a power is the active one, or none is.
@@ -53,7 +39,7 @@ impl Catalog {
         ensures { IfOk result (λ change. IsPlan self.now change.put change.gone (record self.now.tables { operations = record self.now.tables.operations { rebalance = None } })) }
     {
         self.keeps_rules();
-        let change = one_gone(alloc, REBALANCE)?;
+        let change = one_gone(alloc, REBALANCE_KEY)?;
         Ok(change)
     }
 
@@ -90,7 +76,7 @@ impl Catalog {
         ensures { IfOk result (λ change. AreOwned (record self.now.tables { operations = record self.now.tables.operations { pending = None } }) → IsPlan self.now change.put change.gone (record self.now.tables { operations = record self.now.tables.operations { pending = None } })) }
     {
         self.keeps_rules();
-        let change = one_gone(alloc, PENDING)?;
+        let change = one_gone(alloc, PENDING_KEY)?;
         Ok(change)
     }
 }

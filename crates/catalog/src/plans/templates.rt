@@ -10,8 +10,7 @@ ghost use Rattle.catalog.specs.Plans.{IsPlan, IsTemplatePlan};
 
 use crate::catalog::Catalog;
 use crate::plans::making::{no_memory, one_put};
-use asm_base::{Change, Key, NoMemory, Refusal, Value};
-use catalog_tables::TEMPLATES;
+use asm_base::{Change, Key, NoMemory, Refusal, TEMPLATES_KEY, Value};
 use std::alloc::Global;
 use template_directory::{Template, TemplateEdit, templates_value};
 
@@ -54,5 +53,5 @@ fn templates_record(alloc: Global, templates: &[Template]) -> Result<(Key, Value
     ensures { IfOk result (λ made. made ≡ item_record (templates_item templates.now)) }
 {
     let value = templates_value(alloc, templates)?;
-    Ok((TEMPLATES, value))
+    Ok((TEMPLATES_KEY, value))
 }

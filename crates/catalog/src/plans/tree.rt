@@ -11,7 +11,7 @@ ghost use Rattle.alias_tree.specs.Trees.{tree_of};
 ghost use Rattle.file_directory.specs.Files.{head_at};
 ghost use Rattle.catalog.specs.Plans.{IsPlan};
 ghost use Rattle.catalog_tables.specs.Rules.{blocks_used};
-ghost use Rattle.catalog.specs.TreePlans.{IsFull, IsNewAlias, IsTreePlan, IsTreeRefusal, KeepsName, MayChange, MayGo, MayPut, aliased_head, heads_after, heads_with, heads_without, keeps_files, with_alias};
+ghost use Rattle.catalog.specs.TreePlans.{IsTreeFull, IsNewAlias, IsTreePlan, IsTreeRefusal, KeepsName, MayChange, MayGo, MayPutNode, aliased_head, heads_after, heads_with, heads_without, keeps_files, with_alias};
 
 use crate::catalog::Catalog;
 use crate::plans::making::{no_memory, one_gone, one_put, two_put};
@@ -61,7 +61,7 @@ impl Catalog {
         requires table { IsTable (nodes_after self.now.tables.nodes change) }
         requires may { MayChange self.now.tables change }
         ensures planned { IfOk result (λ plan. IsPlan self.now plan.put plan.gone (record self.now.tables { nodes = nodes_after self.now.tables.nodes change; files = heads_after self.now.tables change })) }
-        ensures refused { IfErr result (λ e. (e ≡ WithoutMemory) ⊎ ((e ≡ DirectoryFull 1 0) × IsFull self.now change)) }
+        ensures refused { IfErr result (λ e. (e ≡ WithoutMemory) ⊎ ((e ≡ DirectoryFull 1 0) × IsTreeFull self.now change)) }
     {
         match change {
             TreeChange::Put { number, node } => self.put_node(alloc, number, &node),
@@ -72,7 +72,7 @@ impl Catalog {
 
     fn put_node(&self, alloc: Global, number: u32, node: &Node) -> Result<Change, Refusal>
         requires table { IsTable (with_node self.now.tables.nodes number node.now) }
-        requires may { MayPut self.now.tables node.now (node_at self.now.tables.nodes number) }
+        requires may { MayPutNode self.now.tables node.now (node_at self.now.tables.nodes number) }
         ensures planned { IfOk result (λ plan. IsPlan self.now plan.put plan.gone (record self.now.tables { nodes = with_node self.now.tables.nodes number node.now; files = heads_with self.now.tables.files number node.now (node_at self.now.tables.nodes number) })) }
         ensures refused { IfErr result (λ e. (e ≡ WithoutMemory) ⊎ ((e ≡ DirectoryFull 1 0) × (node_at self.now.tables.nodes number ≡ None) × (blocks_used self.now.tables + 2 ≡ self.now.shape.dir_blocks))) }
     {

@@ -4,7 +4,7 @@ ghost use Rattle.std.specs.Prelude.{◌≡◌, ◌+◌, ◌++◌, ◌∷◌, [],
 ghost use Rattle.std.specs.Bool.{OnTrue};
 ghost use Rattle.file_directory.specs.Files.{head_at};
 ghost use Rattle.group_engine.specs.Mounts.{Takes};
-ghost use Rattle.group_tests.specs.Commits.{MayCommit, PutsNone};
+ghost use Rattle.group_tests.specs.Commits.{MayCommitChange, PutsNone};
 
 use crate::answers::{Answer, answer_of, refused};
 use crate::spelt::read_path;
@@ -21,7 +21,7 @@ use std::alloc::Global;
 #[tactic(auto, using(crate::proofs::Taking::kept_takes))]
 fn commit<B: Bay>(m: &mut Mounted, alloc: Global, bay: &mut B, change: Change) -> Answer
     requires takes { Takes m.old (B.state bay.old) }
-    requires may { MayCommit m.old.catalog change.put change.gone }
+    requires may { MayCommitChange m.old.catalog change.put change.gone }
     ensures takes { Takes m.new (B.state bay.new) }
 {
     let answer = answer_of(m.commit(alloc, bay, &change));
@@ -32,7 +32,7 @@ fn commit<B: Bay>(m: &mut Mounted, alloc: Global, bay: &mut B, change: Change) -
 /// The change that makes a directory, or why there is none.
 #[tactic(auto, using(crate::proofs::Commits::tree_planned))]
 fn dir_change(alloc: Global, catalog: &Catalog, at: &[u8]) -> Result<Change, Answer>
-    ensures { IfOk result (λ change. MayCommit catalog.now change.put change.gone) }
+    ensures { IfOk result (λ change. MayCommitChange catalog.now change.put change.gone) }
 {
     let Some(path) = read_path(alloc, at) else {
         return Err(Answer::Another);
@@ -139,7 +139,7 @@ fn put_head(
 /// The change that puts heads of so many files from 1,000 on, which the group hasn't, and takes them away again.
 #[tactic(auto, using(crate::proofs::Commits::nothing_put, crate::proofs::Commits::none_commits))]
 fn heads_change(alloc: Global, catalog: &Catalog, count: u8) -> Option<Change>
-    ensures { IfSome result (λ change. MayCommit catalog.now change.put change.gone) }
+    ensures { IfSome result (λ change. MayCommitChange catalog.now change.put change.gone) }
 {
     let head = head(alloc)?;
     // The tables keep their rules: the proof takes this from here.
@@ -177,7 +177,7 @@ fn has_no_chunk(catalog: &Catalog) -> bool
 /// The change by which the operation that makes file 256 is pending.
 #[tactic(auto, using(crate::proofs::Commits::owned_planned))]
 fn begin_change(alloc: Global, catalog: &Catalog) -> Result<Change, Answer>
-    ensures { IfOk result (λ change. MayCommit catalog.now change.put change.gone) }
+    ensures { IfOk result (λ change. MayCommitChange catalog.now change.put change.gone) }
 {
     if !has_no_chunk(catalog) {
         return Err(Answer::Another);

@@ -4,7 +4,7 @@ ghost use Rattle.std.specs.Prelude.{◌≡◌, ◌<◌, Some};
 ghost use Rattle.std.specs.Bool.{OnTrue};
 ghost use Rattle.bay.specs.State.{AttachesOnly};
 ghost use Rattle.bay_mem.specs.MemState.{state_of};
-ghost use Rattle.group_tests.specs.Places.{AreThree, IsOn};
+ghost use Rattle.group_tests.specs.Places.{AreThree, IsPlaceOn};
 
 use crate::answers::Answer;
 use crate::disks::{all_of, set_fails};
@@ -49,7 +49,7 @@ const STEPS: [Step; 17] = [
 /// The place on the disk in a slot, where that is in the set.
 fn place(set: u8, slot: u32) -> Option<Place>
     requires { slot < 3 }
-    ensures { IsOn slot result }
+    ensures { IsPlaceOn slot result }
 {
     if set >> slot & 1 == 1 {
         Some(Place {

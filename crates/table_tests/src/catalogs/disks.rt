@@ -2,7 +2,7 @@
 
 ghost use Rattle.std.specs.Prelude.{◌≡◌, IfOk, None};
 ghost use Rattle.std.specs.Bool.{OnTrue};
-ghost use Rattle.catalog_tables.specs.Disks.{info_at};
+ghost use Rattle.disk_directory.specs.Disks.{info_at};
 ghost use Rattle.table_tests.specs.Planned.{IsPlanned};
 
 use crate::catalogs::operations::name;

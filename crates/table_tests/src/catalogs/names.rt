@@ -3,7 +3,7 @@
 ghost use Rattle.std.specs.Prelude.{◌≡◌, IfOk, None};
 ghost use Rattle.std.specs.Bool.{OnTrue};
 ghost use Rattle.asm_group.specs.declared.Stripe.TheVariants.{Fine};
-ghost use Rattle.catalog.specs.NamePlans.{IsCreated, is_within_file};
+ghost use Rattle.catalog.specs.NamePlans.{IsFileBeingMade, is_within_file};
 ghost use Rattle.catalog_tables.specs.Rules.{first_wrong};
 ghost use Rattle.table_tests.specs.Planned.{IsPlanned};
 
@@ -28,7 +28,7 @@ fn has_no_chunk(group: &Catalog, file: u32) -> bool
 /// Whether a file is being made that has neither a head nor a chunk.
 #[tactic(auto, using(crate::proofs::NewFiles::created))]
 fn is_begun(group: &Catalog) -> bool
-    ensures { OnTrue result (IsCreated group.now 0 2 Fine) }
+    ensures { OnTrue result (IsFileBeingMade group.now 0 2 Fine) }
 {
     let Some(op) = group.pending() else {
         return false;

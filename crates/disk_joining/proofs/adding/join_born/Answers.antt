@@ -1,5 +1,5 @@
 use Rattle.std.proofs.Common.{Err, List, sym, subst}
-use Rattle.catalog_tables.specs.Disks.{Disk}
+use Rattle.disk_directory.specs.Disks.{Disk}
 use Rattle.catalog.specs.Plans.{MayAdd}
 use Rattle.disk_joining.proofs.Adds.{goes_joiners, joins_goes, joins_on}
 use Rattle.disk_joining.proofs.Takings.{goes_takes, keeps_taken, nothing_taken}

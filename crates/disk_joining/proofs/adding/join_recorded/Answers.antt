@@ -1,6 +1,6 @@
 use Rattle.std.proofs.Common.{List, sym, subst}
 use Rattle.group_mount.specs.declared.finding.Headed.{Headed}
-use Rattle.new_groups.specs.Drafts.{AreApart}
+use Rattle.new_groups.specs.Drafts.{AreDisksApart}
 use Rattle.disk_joining.specs.Joiners.{AreJoiners, ShowHeaders}
 use Rattle.disk_joining.proofs.Adds.{joins_on}
 use Rattle.disk_joining.proofs.Takings.{takes_then}
@@ -27,7 +27,7 @@ head_or_return-requires-clause-joiners g c =
     subst (λ (l : List Headed). AreJoiners c.args.held.now c.args.m.now l (g.B.Bay.state c.args.bay.now)) (sym c.deref.ensures.value) c.requires.joiners
 
 pub head_or_return-requires-clause-apart_disks : goal.head_or_return-requires-clause-apart_disks
-head_or_return-requires-clause-apart_disks g c = subst AreApart (sym c.deref.ensures.value) c.requires.apart_disks
+head_or_return-requires-clause-apart_disks g c = subst AreDisksApart (sym c.deref.ensures.value) c.requires.apart_disks
 
 pub join_headed-requires-clause-show : goal.join_headed-requires-clause-show
 join_headed-requires-clause-show g c = subst (λ (l : List Headed). ShowHeaders l (g.B.Bay.state c.head_or_return.new.bay)) c.deref.ensures.value c.in-Ok.ensures.show

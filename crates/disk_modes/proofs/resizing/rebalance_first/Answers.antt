@@ -1,5 +1,5 @@
 use Rattle.group_engine.proofs.Endings.{goes_on}
-use Rattle.disk_modes.specs.Sizes.{PutsUnits, Resizes}
+use Rattle.disk_modes.specs.Sizes.{PutsUnits, ResizesDisks}
 use Rattle.disk_modes.proofs.Effects.{on_ok}
 use Rattle.disk_modes.proofs.Held.{fewer_turns, held_on, turns_behind}
 use Rattle.disk_modes.proofs.Resized.{rebalance_then_units}
@@ -19,7 +19,7 @@ returns-in-Ok-clause-done g c =
     let a = c.args.m.now in
     let b = c.put_rebalance.new.m in
     let d = c.units_or_shut.new.m in
-    on_ok (PutsUnits asked b d) (Resizes asked.disks asked.size c.args.power a d) c.units_or_shut.result
+    on_ok (PutsUnits asked b d) (ResizesDisks asked.disks asked.size c.args.power a d) c.units_or_shut.result
     (rebalance_then_units c.args.power asked a b d c.in-Ok.ensures.goes.keeps.same c.in-Ok.ensures.done) c.units_or_shut.ensures.done
 
 pub returns-in-Ok-clause-held : goal.returns-in-Ok-clause-held

@@ -5,7 +5,7 @@ use Rattle.asm_base.specs.declared.refusal.Refusal.{Refusal}
 use Rattle.group_engine.specs.Commits.{StatusCause}
 use Rattle.disk_modes.specs.declared.sizes.Asked.{Asked}
 use Rattle.disk_modes.specs.Causes.{AreLargeEnough, ResizeRefused}
-use Rattle.disk_modes.specs.Sizes.{Resizes}
+use Rattle.disk_modes.specs.Sizes.{ResizesDisks}
 use Rattle.disk_modes.proofs.Checked.{on_both}
 use Rattle.disk_modes.proofs.Held.{held_here}
 use Rattle.disk_modes.proofs.Sized.{large_fit}
@@ -44,4 +44,4 @@ returns-in-Ok-clause-held g c = c.resize.ensures.held (large_fit (record { disks
 pub returns-in-Ok-clause-large : goal.returns-in-Ok-clause-large
 returns-in-Ok-clause-large g c =
     let asked : Asked = record { disks = c.args.disks; size = c.args.size } in
-    on_both (AreLargeEnough c.args.m.now asked) (Resizes c.args.disks c.args.size c.args.power c.args.m.now c.resize.new.m) (AreLargeEnough c.args.m.now asked) c.resize.result (λ large done. large) c.in-Ok.ensures.large c.resize.ensures.done
+    on_both (AreLargeEnough c.args.m.now asked) (ResizesDisks c.args.disks c.args.size c.args.power c.args.m.now c.resize.new.m) (AreLargeEnough c.args.m.now asked) c.resize.result (λ large done. large) c.in-Ok.ensures.large c.resize.ensures.done

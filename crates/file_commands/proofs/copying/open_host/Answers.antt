@@ -1,7 +1,7 @@
 use Rattle.std.proofs.Common.{Err, ap, subst}
 use Rattle.std.proofs.lemmas.Result.{err_from_is_err_and}
 use Rattle.asm_group.specs.Names.{Bytes}
-use Rattle.file_commands.specs.HostCauses.{FaultCause, IsAt}
+use Rattle.file_commands.specs.HostCauses.{HostFaultCause, IsAt}
 use Rattle.file_commands.proofs.HostCauses.{none_falls, of_counts}
 use Rattle.file_commands.proofs.Sources.{told_stays}
 use Rattle.file_commands.proofs.copying.open_host.Goals as goal
@@ -27,5 +27,5 @@ returns-in-Err g c = record {
   size = tt;
   counts = of_counts c.in_ok-path.path.now (g.H.Host.faults c.args.host.now) (g.H.Host.faults c.size.new.self) c.size.ensures.counts;
   source = tt;
-  cause = subst (λ (p : Bytes). FaultCause (IsAt p) (g.H.Host.faults c.args.host.now) (g.H.Host.faults c.size.new.self) c.host_refusal.result) c.in_ok-path.ensures.text (c.host_refusal.ensures.cause (g.H.Host.faults c.args.host.now) (g.H.Host.faults c.size.new.self) (λ is. c.in-Err.ensures.cause (ap Err is)));
+  cause = subst (λ (p : Bytes). HostFaultCause (IsAt p) (g.H.Host.faults c.args.host.now) (g.H.Host.faults c.size.new.self) c.host_refusal.result) c.in_ok-path.ensures.text (c.host_refusal.ensures.cause (g.H.Host.faults c.args.host.now) (g.H.Host.faults c.size.new.self) (λ is. c.in-Err.ensures.cause (ap Err is)));
 }

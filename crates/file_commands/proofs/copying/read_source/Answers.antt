@@ -1,7 +1,7 @@
 use Rattle.std.proofs.Common.{◌+◌, Err, ap, length, refl, subst, sym}
 use Rattle.std.proofs.lemmas.Result.{IfErr-weaker}
 use Rattle.file_commands.specs.Copying.{HasBytes}
-use Rattle.file_commands.specs.HostCauses.{FaultCause, IsOfSource}
+use Rattle.file_commands.specs.HostCauses.{HostFaultCause, IsOfSource}
 use Rattle.file_commands.specs.declared.copying.Source.{Source}
 use Rattle.file_commands.proofs.HostCauses.{err_none, none_falls, of_counts, read_none}
 use Rattle.file_commands.proofs.copying.read_source.Goals as goal
@@ -17,7 +17,7 @@ returns-in-Err-clause-counts g c = of_counts c.in-Host.path.now (g.H.Host.faults
 
 pub returns-in-Err-clause-cause : goal.returns-in-Err-clause-cause
 returns-in-Err-clause-cause g c =
-    subst (λ (from : Source). FaultCause (IsOfSource from) (g.H.Host.faults c.args.host.now) (g.H.Host.faults c.read.new.self) c.host_refusal.result) (sym c.in-Host.is)
+    subst (λ (from : Source). HostFaultCause (IsOfSource from) (g.H.Host.faults c.args.host.now) (g.H.Host.faults c.read.new.self) c.host_refusal.result) (sym c.in-Host.is)
     (c.host_refusal.ensures.cause (g.H.Host.faults c.args.host.now) (g.H.Host.faults c.read.new.self) (λ is. c.in-Err.ensures.cause (ap Err is)))
 
 pub returns-in-File-clause-files : goal.returns-in-File-clause-files

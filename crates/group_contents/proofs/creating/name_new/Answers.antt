@@ -1,5 +1,5 @@
 use Rattle.std.proofs.Common.{◌≡◌, ◌∙◌, refl, subst, sym}
-use Rattle.catalog.specs.NamePlans.{IsCreated, IsNamePlan, made_file}
+use Rattle.catalog.specs.NamePlans.{IsFileBeingMade, IsNamePlan, made_file}
 use Rattle.catalog_tables.specs.Tables.{Catalogued}
 use Rattle.group_engine.proofs.Endings.{on_true}
 use Rattle.file_extents.proofs.Chains.{goes_short, kept}
@@ -11,7 +11,7 @@ returns-then-not-is_created-clause-goes g c = goes_short (kept c.args.m.now (g.B
 
 pub plan_name-requires : goal.plan_name-requires
 plan_name-requires g c = record {
-  created = subst (λ (k : Catalogued). IsCreated k c.args.new.now.size c.args.filling.now.extents.copies c.args.filling.now.stripe) (c.catalog.ensures ∙ sym c.catalog-2.ensures)
+  created = subst (λ (k : Catalogued). IsFileBeingMade k c.args.new.now.size c.args.filling.now.extents.copies c.args.filling.now.stripe) (c.catalog.ensures ∙ sym c.catalog-2.ensures)
       (on_true c.is_created.result c.is_created.ensures.created c.if-not-is_created.false);
 }
 

@@ -1,7 +1,7 @@
 use Rattle.std.proofs.Common.{◌≡◌, ◌+◌, ◌-◌, ◌≤◌, length}
 use Rattle.group_engine.specs.Own.{KeepsGroup}
 use Rattle.group_pieces.specs.Reads.{ReadsGroup}
-use Rattle.group_contents.specs.Reading.{StaysMounted, WhereMounted}
+use Rattle.group_contents.specs.Reading.{KeepsMounted, WhereMounted}
 use Rattle.group_contents.proofs.Shown.{ShowsFirst}
 use Rattle.group_contents.proofs.reading.read_pieces.Given as goal
 
@@ -11,7 +11,7 @@ invariant-loop-done g l = record {
   place : l.from ≡ l.at + l.done;
   keeps : KeepsGroup l.m l.m (g.B.Bay.state l.fn.bay) (g.B.Bay.state l.bay);
   reads : ReadsGroup l.m (g.B.Bay.state l.fn.bay) (g.B.Bay.state l.bay);
-  mounted : StaysMounted l.m (g.B.Bay.state l.fn.bay) (g.B.Bay.state l.bay);
+  mounted : KeepsMounted l.m (g.B.Bay.state l.fn.bay) (g.B.Bay.state l.bay);
   shown : WhereMounted l.m (g.B.Bay.state l.fn.bay) (g.B.Bay.state l.bay) (ShowsFirst l.file l.at l.done l.buf);
 }
 

@@ -8,7 +8,7 @@ use Rattle.bay.specs.Counts.{last_count}
 use Rattle.bay.specs.State.{BayState}
 use Rattle.bay.proofs.Calls.{started}
 use Rattle.bay.proofs.Images.{same-refl}
-use Rattle.group_disks.specs.Found.{AreIdsRead, counts_of, IsSlotOf}
+use Rattle.group_disks.specs.Found.{AreIdsRead, counts_of, IsSlotOfPath}
 use Rattle.group_disks.specs.Looks.{LooksAtAll}
 use Rattle.group_disks.specs.Ready.{HasRoom}
 use Rattle.asm_images.specs.Kept.{header_in}
@@ -77,7 +77,7 @@ returns-in-Ok-usable_units g c =
             floor = subst (λ (i : ℕ). c.args.floor ≤ i) (sym is.id_is) c.next_id.ensures.floor;
             above = subst (λ (i : ℕ). i < last_count → All (λ (other : ℕ). other < i) ids) (sym is.id_is) (first_of (search rules, grind (arith, common_steps)));
             slot = omega (arith, is.slot, c.in-Some.ensures.below, length-map c.args.paths.now string_bytes);
-            at = subst (λ (k : ℕ). IsSlotOf (map string_bytes c.args.paths.now) c.args.path.now k) (sym is.slot) c.in-Some.ensures;
+            at = subst (λ (k : ℕ). IsSlotOfPath (map string_bytes c.args.paths.now) c.args.path.now k) (sym is.slot) c.in-Some.ensures;
             size = ap (λ (k : ℕ). t.attached k) is.slot ∙ (sized ∙ sym (ap (λ (n : ℕ). Some n) (is.size ∙ c.shown_size.ensures)));
             room = subst (λ (k : ℕ). HasRoom k ready.group.units t) (sym is.slot) (subst (λ (n : ℕ). HasRoom slot n t) (sym is.units_are) room);
             free = λ now holds image was. ap (λ (k : ℕ). header_in image k) is.slot ∙ free now holds image was;

@@ -82,7 +82,7 @@ pub returns-in-Ok-make-clause-made : goal.returns-in-Ok-make-clause-made
 returns-in-Ok-make-clause-made g c =
     is_made (map string_bytes c.args.paths.now) c.args.path.now c.args.held.now c.in-Some.slot c.in-Some.ensures c.args.size (free_of c.args.held.now c.in-Some.slot c.is_held.result c.is_held.ensures c.if-is_held.false)
     (was_free (map string_bytes c.args.paths.now) c.args.path.now c.args.held.now c.in-Some.slot c.in-Some.ensures (g.B.Bay.state c.args.bay.now) (g.B.Bay.state c.look_at.new.bay) (g.B.Bay.state c.make.new.self) c.in-Ok.looked (g.met.B.Bay.sound c.look_at.new.bay) c.look_at.ensures.looks c.in-Ok.ensures.looked c.in_ok-check_free.ensures.free c.make.ensures.runs)
-    c.look_at.ensures.looks c.in-Ok-make.ensures.attached c.in-Ok-make.ensures.done
+    c.look_at.ensures.looks c.in-Ok-make.ensures.done.attached c.in-Ok-make.ensures.done.zeros
 
 pub returns-in-Ok-make-clause-attached : goal.returns-in-Ok-make-clause-attached
 returns-in-Ok-make-clause-attached g c =

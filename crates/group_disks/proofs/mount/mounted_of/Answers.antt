@@ -2,11 +2,11 @@ use Rattle.std.proofs.Common.{List, Option, sym, ap, subst, ◌∙◌}
 use Rattle.group_engine.specs.Making.{made}
 use Rattle.group_engine.specs.Mounts.{IsWhole}
 use Rattle.group_engine.specs.declared.attached.Attached.{Attached}
-use Rattle.group_disks.specs.Mounting.{AreSmall, by_number}
+use Rattle.group_disks.specs.Mounting.{HaveDiskNumbers, by_number}
 use Rattle.group_disks.proofs.mount.mounted_of.Goals as goal
 
 pub by_number-disks-requires : goal.by_number-disks-requires
-by_number-disks-requires c = subst AreSmall (sym c.deref.ensures.value) c.requires.small
+by_number-disks-requires c = subst HaveDiskNumbers (sym c.deref.ensures.value) c.requires.small
 
 pub new-requires : goal.new-requires
 new-requires c =

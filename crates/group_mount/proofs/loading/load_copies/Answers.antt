@@ -1,7 +1,7 @@
 use Rattle.std.proofs.Common.{◌∙◌, [], List, inl, sym, subst}
 use Rattle.bay.proofs.Calls.{on_more}
 use Rattle.change_directory.specs.declared.copy.DirCopy.{DirCopy}
-use Rattle.directory_store.specs.Copies.{AreApart, AreNamed, IsSlotOf}
+use Rattle.directory_store.specs.Copies.{AreCopiesApart, AreNamedCopies, IsSlotOfCopy}
 use Rattle.directory_store.specs.Loading.{AreDurable as AreSettled, LoadCause}
 use Rattle.directory_store.specs.Reading.{ArePartOf}
 use Rattle.directory_store.specs.Stores.{HaveOneSize}
@@ -13,13 +13,13 @@ pub load-requires-clause-named : goal.load-requires-clause-named
 load-requires-clause-named g c =
     let s = c.args.survey.now in
     let same = c.deref.ensures.value ∙ c.in_ok-copies.ensures ∙ (λ i. named_copies c.args.id (c.seen.ensures i) (c.value.ensures i) c.args.headed.now) in
-    subst (λ (l : List DirCopy). AreNamed l [] (g.B.Bay.state c.args.bay.now)) (sym same) (copies_named c.args.id s.read s.value c.args.slots c.args.headed.now (g.B.Bay.state c.args.bay.now) c.requires.there)
+    subst (λ (l : List DirCopy). AreNamedCopies l [] (g.B.Bay.state c.args.bay.now)) (sym same) (copies_named c.args.id s.read s.value c.args.slots c.args.headed.now (g.B.Bay.state c.args.bay.now) c.requires.there)
 
 pub load-requires-clause-apart : goal.load-requires-clause-apart
 load-requires-clause-apart g c =
     let s = c.args.survey.now in
     let same = c.deref.ensures.value ∙ c.in_ok-copies.ensures ∙ (λ i. named_copies c.args.id (c.seen.ensures i) (c.value.ensures i) c.args.headed.now) in
-    subst (λ (l : List DirCopy). AreApart l) (sym same) (copies_apart c.args.id s.read s.value c.args.headed.now c.requires.there.apart c.requires.alike)
+    subst (λ (l : List DirCopy). AreCopiesApart l) (sym same) (copies_apart c.args.id s.read s.value c.args.headed.now c.requires.there.apart c.requires.alike)
 
 pub load-requires-clause-size : goal.load-requires-clause-size
 load-requires-clause-size g c =
@@ -41,7 +41,7 @@ pub returns-in-Ok-clause-runs : goal.returns-in-Ok-clause-runs
 returns-in-Ok-clause-runs g c =
     let s = c.args.survey.now in
     let same = c.deref.ensures.value ∙ c.in_ok-copies.ensures ∙ (λ i. named_copies c.args.id (c.seen.ensures i) (c.value.ensures i) c.args.headed.now) in
-    on_more (λ slot of. copies_in c.args.id s.read s.value c.args.headed.now slot (subst (λ (l : List DirCopy). IsSlotOf l slot) same of)) c.load.ensures.runs
+    on_more (λ slot of. copies_in c.args.id s.read s.value c.args.headed.now slot (subst (λ (l : List DirCopy). IsSlotOfCopy l slot) same of)) c.load.ensures.runs
 
 pub returns-clause-cause : goal.returns-clause-cause
 returns-clause-cause g c =
@@ -54,4 +54,4 @@ pub returns-clause-runs : goal.returns-clause-runs
 returns-clause-runs g c =
     let s = c.args.survey.now in
     let same = c.deref.ensures.value ∙ c.in_ok-copies.ensures ∙ (λ i. named_copies c.args.id (c.seen.ensures i) (c.value.ensures i) c.args.headed.now) in
-    on_more (λ slot of. copies_in c.args.id s.read s.value c.args.headed.now slot (subst (λ (l : List DirCopy). IsSlotOf l slot) same of)) c.load.ensures.runs
+    on_more (λ slot of. copies_in c.args.id s.read s.value c.args.headed.now slot (subst (λ (l : List DirCopy). IsSlotOfCopy l slot) same of)) c.load.ensures.runs

@@ -1,10 +1,10 @@
 use Rattle.std.proofs.Common.{List, subst}
 use Rattle.asm_base.specs.Records.{Entry}
-use Rattle.catalog_tables.specs.Faults.{IsAtFault, Names}
+use Rattle.catalog_tables.specs.Faults.{IsAtFault, NamesFault}
 use Rattle.group_mount.proofs.Quorums.{catalog_refused}
 use Rattle.group_mount.proofs.quorum.catalog_of.Goals as goal
 
 pub returns-in-Err-clause-cause : goal.returns-in-Err-clause-cause
 returns-in-Err-clause-cause c =
     catalog_refused c.args.store.now c.args.status.now c.args.shape c.in-Err.error c.refusal_of_catalog.result
-    (subst (λ (l : List Entry). Names (IsAtFault l c.args.shape c.args.status.now.entries) c.in-Err.error) c.content.ensures c.in-Err.ensures.fault) c.refusal_of_catalog.ensures
+    (subst (λ (l : List Entry). NamesFault (IsAtFault l c.args.shape c.args.status.now.entries) c.in-Err.error) c.content.ensures c.in-Err.ensures.fault) c.refusal_of_catalog.ensures

@@ -5,7 +5,7 @@ use Rattle.status_register.specs.Registered.{registered}
 use Rattle.status_register.specs.Surveys.{missing}
 use Rattle.status_register.specs.Writes.{first_register}
 use Rattle.status_register.specs.declared.member.Member.{Member}
-use Rattle.group_mount.specs.Recovering.{MayRenew, RefusesAnew}
+use Rattle.group_mount.specs.Recovering.{MayRenewRecord, RefusesAnew}
 use Rattle.group_mount.specs.declared.finding.Headed.{Headed}
 use Rattle.group_mount.proofs.NextRecords.{next_renews}
 use Rattle.group_mount.proofs.LeftGroups.{leaves_one, left_moments, members_run}
@@ -18,7 +18,7 @@ write_register-requires g c =
     let q = c.args.quorate in
     let next = c.args.anew.next in
     let a = c.requires.anew in
-    subst (λ (l : List Member). MayRenew q.survey next l s) (sym (c.deref.ensures.value ∙ a.1.members))
+    subst (λ (l : List Member). MayRenewRecord q.survey next l s) (sym (c.deref.ensures.value ∙ a.1.members))
     (may_renew q s c.requires.quorum next a.1.status (next_renews q s c.requires.quorum a.0 next a.1.next) (ap (λ (x : Status). x.id) a.1.next.next_is)
     (subst (λ (l : List Member). missing l (Some next) ≡ None) a.1.members a.1.enough))
 

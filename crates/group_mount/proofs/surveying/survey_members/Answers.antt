@@ -8,7 +8,7 @@ use Rattle.status_register.proofs.Filling.{still_slots}
 use Rattle.status_register.proofs.Taking.{kept_among, kept_few}
 use Rattle.status_register.proofs.Tallying.{RoseAt}
 use Rattle.group_mount.specs.Surveying.{AreSurveyed, MembersCause}
-use Rattle.group_mount.specs.Syncing.{AreDurable}
+use Rattle.group_mount.specs.Syncing.{AreMembersDurable}
 use Rattle.group_mount.specs.declared.error.MountError.{MountError}
 use Rattle.group_mount.proofs.Surveyed.{answer_surveyed, answer_cause}
 use Rattle.group_mount.proofs.surveying.survey_members.Goals as goal
@@ -34,7 +34,7 @@ returns-clause-surveyed g c =
     (answer_surveyed s m t c.sync_all.ensures.runs c.survey_synced-answer.ensures.runs c.args.id c.args.members.now synced c.in_ok-synced.ensures.synced answer
     (subst (λ (l : List Member). IsSurveyed c.args.id l answer m t) c.deref.ensures.value c.survey_synced-answer.ensures.answer)
     (subst (λ (l : List Member). IfOk answer (λ survey. (survey.id ≡ c.args.id) × (survey.members ≡ l))) c.deref.ensures.value c.survey_synced-answer.ensures.surveyed)
-    c.survey_synced-answer.ensures.now (subst (λ (l : List Member). AreDurable l t) c.deref.ensures.value c.survey_synced-answer.ensures.durable) c.survey_synced-answer.ensures.record_is)
+    c.survey_synced-answer.ensures.now (subst (λ (l : List Member). AreMembersDurable l t) c.deref.ensures.value c.survey_synced-answer.ensures.durable) c.survey_synced-answer.ensures.record_is)
 
 pub returns-clause-cause : goal.returns-clause-cause
 returns-clause-cause g c =

@@ -3,7 +3,7 @@ use Rattle.std.specs.Option.{ForSome}
 use Rattle.bay.specs.Image.{Same}
 use Rattle.bay.specs.Moments.{Runs}
 use Rattle.group_pieces.specs.declared.copies.Place.{Place}
-use Rattle.group_pieces.specs.Copies.{AllFailed, AreUsable, IsSlotOf, SomeHas}
+use Rattle.group_pieces.specs.Copies.{AllFailed, AreUsable, IsSlotOfPlace, SomeHas}
 use Rattle.group_pieces.specs.Usable.{AreNone, first_disk}
 use Rattle.group_pieces.proofs.Agreeing.{read_agrees}
 use Rattle.group_pieces.proofs.Keeping.{no_reads, reads_group, reads_keep, still_mounted}
@@ -32,7 +32,7 @@ returns-in-Ok-clause-reads g c =
     let s = g.B.Bay.state c.args.bay.now in
     let t = g.B.Bay.state c.read_copies.new.bay in
     let m = c.args.m.now in
-    let run = subst (λ (l : List (Option Place)). Runs (IsSlotOf l) Same s t) c.usable_copies-places.ensures.value c.read_copies.ensures.runs in
+    let run = subst (λ (l : List (Option Place)). Runs (IsSlotOfPlace l) Same s t) c.usable_copies-places.ensures.value c.read_copies.ensures.runs in
     reads_group m s t _ (c.requires.takes c.requires.mounted).0 (c.requires.takes c.requires.mounted).1
     (place_own m s c.args.x c.args.inner (length c.args.buf.now) (c.requires.takes c.requires.mounted).0 (c.requires.takes c.requires.mounted).1 c.requires.piece) c.read_copies.ensures.attached run
 
@@ -41,7 +41,7 @@ returns-in-Err-clause-reads g c =
     let s = g.B.Bay.state c.args.bay.now in
     let t = g.B.Bay.state c.read_copies.new.bay in
     let m = c.args.m.now in
-    let run = subst (λ (l : List (Option Place)). Runs (IsSlotOf l) Same s t) c.usable_copies-places.ensures.value c.read_copies.ensures.runs in
+    let run = subst (λ (l : List (Option Place)). Runs (IsSlotOfPlace l) Same s t) c.usable_copies-places.ensures.value c.read_copies.ensures.runs in
     reads_group m s t _ (c.requires.takes c.requires.mounted).0 (c.requires.takes c.requires.mounted).1
     (place_own m s c.args.x c.args.inner (length c.args.buf.now) (c.requires.takes c.requires.mounted).0 (c.requires.takes c.requires.mounted).1 c.requires.piece) c.read_copies.ensures.attached run
 
@@ -57,7 +57,7 @@ returns-in-Ok-clause-keeps g c =
     let t = g.B.Bay.state c.read_copies.new.bay in
     let m = c.args.m.now in
     let takes = c.requires.takes c.requires.mounted in
-    let run = subst (λ (l : List (Option Place)). Runs (IsSlotOf l) Same s t) c.usable_copies-places.ensures.value c.read_copies.ensures.runs in
+    let run = subst (λ (l : List (Option Place)). Runs (IsSlotOfPlace l) Same s t) c.usable_copies-places.ensures.value c.read_copies.ensures.runs in
     reads_keep m s t takes.0 (reads_group m s t _ takes.0 takes.1 (place_own m s c.args.x c.args.inner (length c.args.buf.now) takes.0 takes.1 c.requires.piece) c.read_copies.ensures.attached run)
 
 pub returns-in-Err-clause-keeps : goal.returns-in-Err-clause-keeps
@@ -66,7 +66,7 @@ returns-in-Err-clause-keeps g c =
     let t = g.B.Bay.state c.read_copies.new.bay in
     let m = c.args.m.now in
     let takes = c.requires.takes c.requires.mounted in
-    let run = subst (λ (l : List (Option Place)). Runs (IsSlotOf l) Same s t) c.usable_copies-places.ensures.value c.read_copies.ensures.runs in
+    let run = subst (λ (l : List (Option Place)). Runs (IsSlotOfPlace l) Same s t) c.usable_copies-places.ensures.value c.read_copies.ensures.runs in
     reads_keep m s t takes.0 (reads_group m s t _ takes.0 takes.1 (place_own m s c.args.x c.args.inner (length c.args.buf.now) takes.0 takes.1 c.requires.piece) c.read_copies.ensures.attached run)
 
 pub returns-in_default-clause-cause : goal.returns-in_default-clause-cause

@@ -2,9 +2,9 @@ use Rattle.std.proofs.Common.{length, List, Option, ap, sym, subst, ◌∙◌}
 use Rattle.bay.specs.Image.{ChangesOnly}
 use Rattle.bay.specs.Moments.{Runs, NowOnly}
 use Rattle.group_pieces.specs.declared.copies.Place.{Place}
-use Rattle.group_pieces.specs.Copies.{AreApart, AreUsable, FailedAlone, HaveBut, IsSlotOf, PlacesOf}
+use Rattle.group_pieces.specs.Copies.{AreCopyPlacesApart, AreUsable, HasOnlyFailedPlaces, HaveBut, IsSlotOfPlace, PlacesOf}
 use Rattle.group_pieces.specs.Usable.{AreNone, first_disk, places_at}
-use Rattle.group_pieces.specs.Writes.{AreNumbered, have_failed}
+use Rattle.group_pieces.specs.Writes.{ArePlacesNumbered, have_failed}
 use Rattle.group_pieces.proofs.Behind.{piece_unwritten, piece_writes}
 use Rattle.group_pieces.proofs.FailedModes.{failed_serve}
 use Rattle.group_pieces.proofs.Holding.{held_failing, held_taken}
@@ -27,7 +27,7 @@ write_copies-failed-requires g c =
     let takes = c.requires.takes c.requires.mounted in
     record {
       usable = subst (λ (l : List (Option Place)). AreUsable l n s) (sym c.usable_copies-places.ensures.value) (places_usable m s c.args.x c.args.inner n takes.0 takes.1 c.requires.piece);
-      apart = subst AreApart (sym c.usable_copies-places.ensures.value) (places_apart m s c.args.x c.args.inner n takes.0 takes.1 c.requires.piece c.usable_copies-places.ensures.apart);
+      apart = subst AreCopyPlacesApart (sym c.usable_copies-places.ensures.value) (places_apart m s c.args.x c.args.inner n takes.0 takes.1 c.requires.piece c.usable_copies-places.ensures.apart);
     }
 
 pub have_failed-requires : goal.have_failed-requires
@@ -36,7 +36,7 @@ have_failed-requires g c =
     let s = g.B.Bay.state c.args.bay.now in
     let n = length c.args.bytes.now in
     let takes = c.requires.takes c.requires.mounted in
-    subst AreNumbered (sym c.usable_copies-places.ensures.value) (λ p among. (places_usable m s c.args.x c.args.inner n takes.0 takes.1 c.requires.piece p among).number)
+    subst ArePlacesNumbered (sym c.usable_copies-places.ensures.value) (λ p among. (places_usable m s c.args.x c.args.inner n takes.0 takes.1 c.requires.piece p among).number)
 
 pub returns-in_default-clause-keeps : goal.returns-in_default-clause-keeps
 returns-in_default-clause-keeps g c =
@@ -60,7 +60,7 @@ returns-then-have_failed-clause-writes g c =
     let n = length c.args.bytes.now in
     let takes = c.requires.takes c.requires.mounted in
     piece_writes m s c.args.x c.args.inner n takes.0 takes.1 c.requires.piece t c.write_copies-failed.ensures.attached
-    (subst (λ (l : List (Option Place)). Runs (IsSlotOf l) (ChangesOnly (PlacesOf l n)) s t) c.usable_copies-places.ensures.value c.write_copies-failed.ensures.runs)
+    (subst (λ (l : List (Option Place)). Runs (IsSlotOfPlace l) (ChangesOnly (PlacesOf l n)) s t) c.usable_copies-places.ensures.value c.write_copies-failed.ensures.runs)
 
 pub returns-then-have_failed-clause-keeps : goal.returns-then-have_failed-clause-keeps
 returns-then-have_failed-clause-keeps g c =
@@ -71,7 +71,7 @@ returns-then-have_failed-clause-keeps g c =
     let takes = c.requires.takes c.requires.mounted in
     writes_keep m s t _ takes.0
     (piece_writes m s c.args.x c.args.inner n takes.0 takes.1 c.requires.piece t c.write_copies-failed.ensures.attached
-    (subst (λ (l : List (Option Place)). Runs (IsSlotOf l) (ChangesOnly (PlacesOf l n)) s t) c.usable_copies-places.ensures.value c.write_copies-failed.ensures.runs))
+    (subst (λ (l : List (Option Place)). Runs (IsSlotOfPlace l) (ChangesOnly (PlacesOf l n)) s t) c.usable_copies-places.ensures.value c.write_copies-failed.ensures.runs))
 
 pub returns-then-have_failed-clause-cause : goal.returns-then-have_failed-clause-cause
 returns-then-have_failed-clause-cause g c =
@@ -84,7 +84,7 @@ returns-then-have_failed-clause-cause g c =
     let failed = c.write_copies-failed.result in
     is_fault m c.args.x c.args.inner s t c.in-Some.disk
     (all_failed m c.args.x c.args.inner failed s t (λ p among. (places_usable m s c.args.x c.args.inner n takes.0 takes.1 c.requires.piece p among).number)
-    (subst (λ (l : List (Option Place)). FailedAlone l failed s t) value c.write_copies-failed.ensures.failed)
+    (subst (λ (l : List (Option Place)). HasOnlyFailedPlaces l failed s t) value c.write_copies-failed.ensures.failed)
     (ap (have_failed failed) (sym value) ∙ sym c.have_failed.ensures ∙ c.if-have_failed.true))
     (ap first_disk (sym value) ∙ sym c.in-Some.ensures)
 
@@ -96,7 +96,7 @@ returns-else-have_failed-clause-writes g c =
     let n = length c.args.bytes.now in
     let takes = c.requires.takes c.requires.mounted in
     piece_writes m s c.args.x c.args.inner n takes.0 takes.1 c.requires.piece t c.write_copies-failed.ensures.attached
-    (subst (λ (l : List (Option Place)). Runs (IsSlotOf l) (ChangesOnly (PlacesOf l n)) s t) c.usable_copies-places.ensures.value c.write_copies-failed.ensures.runs)
+    (subst (λ (l : List (Option Place)). Runs (IsSlotOfPlace l) (ChangesOnly (PlacesOf l n)) s t) c.usable_copies-places.ensures.value c.write_copies-failed.ensures.runs)
 
 pub returns-else-have_failed-clause-keeps : goal.returns-else-have_failed-clause-keeps
 returns-else-have_failed-clause-keeps g c =
@@ -107,7 +107,7 @@ returns-else-have_failed-clause-keeps g c =
     let takes = c.requires.takes c.requires.mounted in
     writes_keep m s t _ takes.0
     (piece_writes m s c.args.x c.args.inner n takes.0 takes.1 c.requires.piece t c.write_copies-failed.ensures.attached
-    (subst (λ (l : List (Option Place)). Runs (IsSlotOf l) (ChangesOnly (PlacesOf l n)) s t) c.usable_copies-places.ensures.value c.write_copies-failed.ensures.runs))
+    (subst (λ (l : List (Option Place)). Runs (IsSlotOfPlace l) (ChangesOnly (PlacesOf l n)) s t) c.usable_copies-places.ensures.value c.write_copies-failed.ensures.runs))
 
 pub returns-else-have_failed-clause-done : goal.returns-else-have_failed-clause-done
 returns-else-have_failed-clause-done g c =
@@ -119,7 +119,7 @@ returns-else-have_failed-clause-failed g c =
     let s = g.B.Bay.state c.args.bay.now in
     let t = g.B.Bay.state c.write_copies-failed.new.bay in
     let failed = c.write_copies-failed.result in
-    are_risen c.args.m.now c.args.x c.args.inner failed s t (subst (λ (l : List (Option Place)). FailedAlone l failed s t) c.usable_copies-places.ensures.value c.write_copies-failed.ensures.failed)
+    are_risen c.args.m.now c.args.x c.args.inner failed s t (subst (λ (l : List (Option Place)). HasOnlyFailedPlaces l failed s t) c.usable_copies-places.ensures.value c.write_copies-failed.ensures.failed)
 
 pub returns-else-have_failed-clause-some : goal.returns-else-have_failed-clause-some
 returns-else-have_failed-clause-some g c =
@@ -143,7 +143,7 @@ returns-then-have_failed-clause-holds g c =
     let takes = c.requires.takes c.requires.mounted in
     held_failing m s t (g.met.B.Bay.sound c.args.bay.now) (g.met.B.Bay.sound c.write_copies-failed.new.bay) c.args.x c.args.inner c.args.bytes.now c.requires.piece
     (piece_writes m s c.args.x c.args.inner n takes.0 takes.1 c.requires.piece t c.write_copies-failed.ensures.attached
-    (subst (λ (l : List (Option Place)). Runs (IsSlotOf l) (ChangesOnly (PlacesOf l n)) s t) c.usable_copies-places.ensures.value c.write_copies-failed.ensures.runs)) _
+    (subst (λ (l : List (Option Place)). Runs (IsSlotOfPlace l) (ChangesOnly (PlacesOf l n)) s t) c.usable_copies-places.ensures.value c.write_copies-failed.ensures.runs)) _
 
 pub returns-else-have_failed-clause-holds : goal.returns-else-have_failed-clause-holds
 returns-else-have_failed-clause-holds g c =
@@ -155,7 +155,7 @@ returns-else-have_failed-clause-holds g c =
     let value = c.usable_copies-places.ensures.value in
     held_taken m s t (g.met.B.Bay.sound c.args.bay.now) (g.met.B.Bay.sound c.write_copies-failed.new.bay) c.args.x c.args.inner c.args.bytes.now c.requires.piece
     (piece_writes m s c.args.x c.args.inner n takes.0 takes.1 c.requires.piece t c.write_copies-failed.ensures.attached
-    (subst (λ (l : List (Option Place)). Runs (IsSlotOf l) (ChangesOnly (PlacesOf l n)) s t) value c.write_copies-failed.ensures.runs))
+    (subst (λ (l : List (Option Place)). Runs (IsSlotOfPlace l) (ChangesOnly (PlacesOf l n)) s t) value c.write_copies-failed.ensures.runs))
     c.write_copies-failed.result
     (subst (λ (l : List (Option Place)). NowOnly t (HaveBut l c.write_copies-failed.result c.args.bytes.now)) value c.write_copies-failed.ensures.done)
 
@@ -173,4 +173,4 @@ returns-else-have_failed-clause-serving g c =
     let t = g.B.Bay.state c.write_copies-failed.new.bay in
     let failed = c.write_copies-failed.result in
     failed_serve c.args.m.now c.args.x c.args.inner failed s t
-    (subst (λ (l : List (Option Place)). FailedAlone l failed s t) c.usable_copies-places.ensures.value c.write_copies-failed.ensures.failed)
+    (subst (λ (l : List (Option Place)). HasOnlyFailedPlaces l failed s t) c.usable_copies-places.ensures.value c.write_copies-failed.ensures.failed)

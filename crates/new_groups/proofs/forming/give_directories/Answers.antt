@@ -11,10 +11,10 @@ returns-then-is_empty-clause-works g c = works_none c.args.draft.now.disks.items
 
 pub create-requires-clause-named : goal.create-requires-clause-named
 create-requires-clause-named g c =
-    subst (λ (l : List DirCopy). copies.AreNamed l [] (g.B.Bay.state c.args.bay.now)) (sym (c.deref.ensures.value ∙ c.requires.lists.copies)) (copies_named c.args.draft.now c.requires.agrees (g.B.Bay.state c.args.bay.now) c.requires.disks)
+    subst (λ (l : List DirCopy). copies.AreNamedCopies l [] (g.B.Bay.state c.args.bay.now)) (sym (c.deref.ensures.value ∙ c.requires.lists.copies)) (copies_named c.args.draft.now c.requires.agrees (g.B.Bay.state c.args.bay.now) c.requires.disks)
 
 pub create-requires-clause-apart : goal.create-requires-clause-apart
-create-requires-clause-apart g c = subst copies.AreApart (sym (c.deref.ensures.value ∙ c.requires.lists.copies)) (copies_are_apart c.args.draft.now c.requires.agrees)
+create-requires-clause-apart g c = subst copies.AreCopiesApart (sym (c.deref.ensures.value ∙ c.requires.lists.copies)) (copies_are_apart c.args.draft.now c.requires.agrees)
 
 pub create-requires-clause-size : goal.create-requires-clause-size
 create-requires-clause-size g c = subst HaveOneSize (sym (c.deref.ensures.value ∙ c.requires.lists.copies)) (one_size c.args.draft.now c.requires.agrees)

@@ -1,8 +1,0 @@
-use Rattle.asm_formats.proofs.Fields.{name_len}
-use Rattle.new_groups.proofs.first_records.disk_value.Goals as goal
-
-pub put_name-requires-clause-fits : goal.put_name-requires-clause-fits
-put_name-requires-clause-fits c = name_len c.args.name.now c.requires.name
-
-pub put_name-requires-2-clause-fits : goal.put_name-requires-2-clause-fits
-put_name-requires-2-clause-fits c = name_len c.args.failgroup.now c.requires.failgroup
