@@ -1,14 +1,9 @@
 -- The table of disk records, as the list of them in the order of their numbers.
-use Rattle.std.specs.Prelude.{ℕ, Bool, ◌==◌, ◌&&◌, nat_lt, List, Option, Some, None, if◌then◌else◌}
-use Rattle.std.specs.Int.{w64}
+use Rattle.std.specs.Prelude.{ℕ, Bool, ◌==◌, ◌&&◌, nat_lt, List, Option, Some, None}
 use Rattle.std.specs.Ordering.{nat_cmp}
-use Rattle.std.specs.Option.{option_and_then}
-use Rattle.asm_group.specs.Names.{is_name}
 use Rattle.asm_formats.specs.Items.{DiskInfo, Item, Key, disk_item, disks_kind}
-use Rattle.asm_base.specs.Readings.{Reading, both, as_a, number_reading, name_reading}
 use Rattle.asm_base.specs.Records.{Entry}
 use Rattle.item_table.specs.Tables.{IsTable as IsKeyTable, add as key_add, at_key, bytes_at, is_before as key_before, record_of as key_record, with_key, without_key}
-use Rattle.asm_base.specs.Parts.{to_disk}
 
 -- a disk's number and what its record says
 abbrev pub Disk : Type 0
@@ -50,15 +45,3 @@ IsTable disks = IsKeyTable nat_cmp item_of disks
 
 abbrev pub add : List Disk → Entry → Option (List Disk)
 add disks e = key_add nat_cmp entry_of disks e
-
--- ---- the reading of a record's value
-
-unfoldable pub disk_reading : Reading DiskInfo
-disk_reading = as_a to_disk (both (number_reading w64) (both (name_reading 30) (name_reading 30)))
-
--- what is tested besides
-abbrev pub is_right : DiskInfo → Bool
-is_right d = is_name d.name && is_name d.failgroup
-
-abbrev pub right_disk : Option DiskInfo → Option DiskInfo
-right_disk read = option_and_then (λ d. if is_right d then Some d else None) read

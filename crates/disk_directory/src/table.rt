@@ -1,18 +1,20 @@
 //! The records of disks, as a table.
 
-ghost use Rattle.std.specs.Prelude.{◌≡◌, ◌≤◌, ◌&&◌, length, IfOk, IsTrue};
+ghost use Rattle.std.specs.Prelude.{◌≡◌, ◌≤◌, length, IfOk, IsTrue};
 ghost use Rattle.std.specs.Option.{option_map};
 ghost use Rattle.std.specs.FinMap.{nat_cmp-IsAntisymmetric};
 ghost use Rattle.asm_base.specs.Cursors.{Reads};
 ghost use Rattle.asm_base.specs.Records.{all_of};
 ghost use Rattle.asm_base.specs.Tables.{entry_of_record};
+ghost use Rattle.record_values.specs.Values.{disk_reading};
 ghost use Rattle.disk_directory.specs.Disks as disks;
-ghost use Rattle.disk_directory.specs.Disks.{disk_reading, entry_of, is_mine, is_right, right_disk};
+ghost use Rattle.disk_directory.specs.Disks.{entry_of, is_mine};
 ghost use Rattle.disk_directory.specs.DiskEntries.{is_entry};
 
 use crate::disk_info::DiskInfo;
-use asm_base::{Key, NoMemory, Reader, Value, is_at_end, record_kind, take_name, take_u64};
+use asm_base::{Key, NoMemory, Reader, Value, is_at_end, record_kind, take_u64};
 use item_table::{KeyTable, Listed};
+use record_values::take_named;
 use std::alloc::Global;
 
 /// The numbers of disks are below this one.
@@ -62,22 +64,8 @@ fn info_in(alloc: Global, key: Key, value: &Value) -> Result<Option<DiskInfo>, N
     requires { IsTrue (is_mine key) }
     ensures { IfOk result (λ read. entry_of_record entry_of (key, value.now) ≡ option_map (λ d. (key.a, d)) read) }
 {
-    let read = read_right(alloc, value.as_bytes())?;
+    let read = read_bytes(alloc, value.as_bytes())?;
     Ok(read)
-}
-
-fn read_right(alloc: Global, bytes: &[u8]) -> Result<Option<DiskInfo>, NoMemory>
-    requires { length bytes.now ≤ 4064 }
-    ensures { IfOk result (λ read. read ≡ right_disk (all_of disk_reading bytes.now)) }
-{
-    let Some(info) = read_bytes(alloc, bytes)? else {
-        return Ok(None);
-    };
-    if is_right(&info) {
-        Ok(Some(info))
-    } else {
-        Ok(None)
-    }
 }
 
 #[tactic(auto, using(asm_base::proofs::Tables::bytes_are), unfolding(asm_base::specs::Records::all_of))]
@@ -96,23 +84,17 @@ fn read_bytes(alloc: Global, bytes: &[u8]) -> Result<Option<DiskInfo>, NoMemory>
     }
 }
 
-fn is_right(info: &DiskInfo) -> bool
-    ensures { result ≡ is_right info.now }
-{
-    info.name.is_name() && info.failgroup.is_name()
-}
-
-#[tactic(auto, unfolding(crate::specs::Disks::disk_reading))]
+#[tactic(auto, unfolding(record_values::specs::Values::disk_reading))]
 fn take_info(alloc: Global, from: &mut Reader) -> Result<Option<DiskInfo>, NoMemory>
     ensures { IfOk result (λ read. Reads from.new read (disk_reading from.old)) }
 {
     let Some(birth) = take_u64(from) else {
         return Ok(None);
     };
-    let Some(name) = take_name(alloc, from, 30)? else {
+    let Some(name) = take_named(alloc, from)? else {
         return Ok(None);
     };
-    let Some(failgroup) = take_name(alloc, from, 30)? else {
+    let Some(failgroup) = take_named(alloc, from)? else {
         return Ok(None);
     };
     Ok(Some(DiskInfo {

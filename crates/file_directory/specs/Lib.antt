@@ -1,4 +1,3 @@
 pub mod Files
-pub mod Readings
 pub mod Changing
 pub mod Entries

@@ -1,6 +1,9 @@
 //! The head of a file.
 
-use crate::reading::is_short;
+ghost use Rattle.std.specs.Prelude.{◌≡◌, ◌&&◌, length, nat_le, nat_lt, true};
+ghost use Rattle.asm_group.specs.Names.{is_part};
+ghost use Rattle.asm_formats.specs.Items.{is_redundancy};
+
 use asm_base::{Name, NoMemory, Stripe};
 use std::marker::Model;
 
@@ -60,6 +63,15 @@ impl FileHead {
         let _system = self.system;
         let _alias = self.alias;
         let _file = file;
-        is_short(self)
+        is_right(self)
     }
+}
+
+/// Whether a head passes the tests that are left where its numbers are those of their types.
+fn is_right(head: &FileHead) -> bool
+    ensures test { result ≡ (is_redundancy head.now.copies && (nat_le (length head.now.type_name) 30 && nat_lt 0 head.now.system)) }
+    ensures part { is_part 255 head.now.type_name ≡ true }
+{
+    let len = head.kind.as_bytes().len();
+    1 <= head.copies && head.copies <= 3 && len <= 30 && 0 < head.system
 }
