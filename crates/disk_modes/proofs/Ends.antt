@@ -73,9 +73,6 @@ one_end ends units h lt = record { places = length-set ends h.disk greatest; no_
         (λ differ. inl (get_or-set_other ends h.disk d greatest 0 differ))
         (cases_eq d h.disk)
 
-pub past_ends : (ends : List ℕ) (units : ℕ) (h : Home) → length ends ≤ h.disk → HasEnds (IsHomeEnd units (Some h)) ends ends
-past_ends ends units h le = record { places = refl; no_less = λ d. omega arith; covers = λ d end lt is. absurd (omega (arith, lt, le, is.0)); one = λ d. inl refl }
-
 -- ---- the copies of an extent
 
 pub three_ends : {a b c d : List ℕ} (units : ℕ) (x y z : Option Home) (homes : Homes) → x ∷ y ∷ z ∷ [] ≡ homes → HasEnds (IsHomeEnd units x) a b → HasEnds (IsHomeEnd units y) b c → HasEnds (IsHomeEnd units z) c d

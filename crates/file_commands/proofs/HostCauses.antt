@@ -44,17 +44,11 @@ use Rattle.file_commands.specs.Reading.{FailsRead, IsFileReadCause}
 
 -- ---- counts
 
-rose_later : (s t u : ℕ) → Rose s t → t ≤ u → Rose s u
-rose_later s t u rose later = omega (arith, rose, later)
-
 rose_sooner : (s t u : ℕ) → s ≤ t → Rose t u → Rose s u
 rose_sooner s t u sooner rose = omega (arith, rose, sooner)
 
 fails_sooner : (s t u : Faults) (path : Bytes) → NoneFalls s t → FailsAt t u path → FailsAt s u path
 fails_sooner s t u path sooner fails = ⊎_elim (λ none. inl none) (λ rose. inr (rose_sooner (s path) (t path) (u path) (sooner path) rose)) fails
-
-fails_later : (s t u : Faults) (path : Bytes) → FailsAt s t path → NoneFalls t u → FailsAt s u path
-fails_later s t u path fails later = ⊎_elim (λ none. inl none) (λ rose. inr (rose_later (s path) (t path) (u path) rose (later path))) fails
 
 pub none_falls : (s : Faults) → NoneFalls s s
 none_falls s path = omega arith

@@ -76,11 +76,6 @@ free_among held hs h among free = subst (λ (l : List Headed). IsAmong l h) (sym
     (filter_in (λ (k : Headed). not (is_held held k.slot)) hs h among
     (⊎_elim (λ (yes : is_held held h.slot ≡ true). absurd (free yes)) (λ (no : is_held held h.slot ≡ false). ap not no) (cases_Bool (is_held held h.slot))))
 
-pub among_free : (held : List ℕ) (hs : List Headed) (h : Headed) → IsAmong (not_held held hs) h → IsAmong hs h
-among_free held hs h among =
-    let k = picked_from (λ (h : Headed). not (is_held held h.slot)) (λ (k : Headed). k) hs h (subst (λ (l : List Headed). IsAmong l h) (free_picked held hs) among) in
-    subst (λ (x : Headed). IsAmong hs x) (sym k.3) k.1
-
 -- ---- the image before
 
 pub some_of : (o : Option Image) → IsSome o → (x : Image) × (o ≡ Some x)
