@@ -43,7 +43,7 @@ IsNoShortfall another = ⊤
 abbrev pub HasShortCause : MountedGroup → Refusal → Type 0
 HasShortCause m refusal = ShortCause m (said (disk_name m) refusal)
 
--- so has that with which what was waited for ended
+-- the refusal with which what was waited for ended, if there is one, has its cause in the group: its disks are spelt already
 abbrev pub HasWaited : MountedGroup → Waited → Type 0
 HasWaited m waited = IfSome waited.refusal (λ refusal. ShortCause m (said (λ _. []) refusal))
 

@@ -68,7 +68,7 @@ ImageCause looked held m disks (refusal.NoDisk (disk.Number d)) = IsLeastFailing
 ImageCause looked held m disks refusal.NoName = HasUnknown m.register.value.entries disks
 ImageCause looked held m disks other = ⊥
 
--- Looks at this many slots show what their images have then, and stand against the disks.
+-- The refusal has its cause in looks at this many slots, which show what their images have then: a disk isn't there by them, or has no entry.
 pub record IsMissed (slots : ℕ) (held : List ℕ) (m : MountedGroup) (disks : ℕ) (s t : BayState) (given : Refusal) : Type 0 where
   pub looked : List Looked
   pub are_looked : AreLooked looked s t

@@ -37,7 +37,7 @@ abbrev pub shows_in_free : List ℕ → MountedGroup → Entry → List Looked �
 shows_in_free held m e [] slot = false
 shows_in_free held m e (looked ∷ more) slot = (shows_disk m.register.value.id e looked && is_free held m slot) || shows_in_free held m e more (slot + 1)
 
--- The disk of an entry is there, by looks at all slots: it is attached, and its slot shows it, or a free slot does.
+-- The disk of an entry is there, by looks at all slots: where a disk of its number is attached, that one's slot shows it, and else a free slot does.
 abbrev pub is_present : List Looked → List ℕ → MountedGroup → Entry → Bool
 is_present looked held m e = elim (slot_at m.disks e.number) [
   | None ↦ shows_in_free held m e looked 0

@@ -301,11 +301,12 @@ fn bring_back<B: Bay>(
     write_next(m, alloc, bay, &next)
 }
 
-/// Brings disks back that are Offline: they are Syncing from then on. `paths` are the program's images, which are looked at
-/// for disks that aren't attached, and `held` the slots of the disks of other groups. The move that is on its way is given
-/// up. An empty set changes nothing. Refusals in their order: Dismounted; DiskState, by the least disk that isn't Offline;
-/// NoDisk, by the least disk of which there is no image; Dismounted, where too few disks took the record; NoMemory. NoName
-/// comes of a number alone that has no entry.
+/// Brings disks back that are Offline: they are Syncing from then on. `paths` are the program's images, of which each is
+/// looked at, and `held` the slots of the disks of other groups. The move that is on its way is given up once all of the
+/// disks are there. An empty set changes nothing. Refusals in their order: Dismounted; DiskState, by the least disk that
+/// isn't Offline; NoDisk, by the least disk that isn't there: it is attached, and its image doesn't show it, or it isn't,
+/// and no image shows it that neither this group nor another has; Dismounted, where too few disks took the record;
+/// NoMemory. NoName comes of a number alone that has no entry.
 pub fn online_disks<B: Bay>(
     m: &mut Mounted,
     alloc: Global,

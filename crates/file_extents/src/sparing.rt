@@ -27,7 +27,8 @@ fn reserved_units(shape: &Shape) -> Option<u64>
     Some((blocks * BLOCK + (au - 1)) / au)
 }
 
-/// Whether so many bytes from an inner byte of a copy at a home on lie on units of an attached disk.
+/// Whether so many bytes from an inner byte on are whole sectors of a copy of so many units, and these units, from the
+/// home's on, lie on an attached disk behind its reserved ones.
 pub fn is_run(m: &Mounted, home: Home, units: u32, inner: u64, len: usize) -> bool
     requires { units ≤ 16 }
     ensures { OnTrue result (IsRunOf m.now home units inner len) }

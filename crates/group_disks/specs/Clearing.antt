@@ -65,7 +65,7 @@ pub record CleansUp (old : MountedGroup) (answer : Result (Unit {0}) Refusal) (n
 abbrev pub IsFoundSlot : Quorate → ℕ → Type 0
 IsFoundSlot q slot = (h : Headed) × IsAmong q.headed.items h × (h.header.id ≡ q.id) × (h.slot ≡ slot)
 
--- the disk that is named failed, which is one of the group's, and by which it is dismounted
+-- Dead comes where its slot failed, and a disk of the group's id was found in it. Want of memory is free, and nothing else comes.
 abbrev pub IsLostCause : Quorate → BayState → BayState → MountError → Type 0
 IsLostCause q s t (error.Dead slot name) = Rose (s.faults slot) (t.faults slot) × IsFoundSlot q slot
 IsLostCause q s t error.NoMemory = ⊤

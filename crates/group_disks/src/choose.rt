@@ -111,7 +111,7 @@ pub fn no_disk(alloc: Global, path: &[u8]) -> Refusal
     }
 }
 
-/// The header of the image at the path names a group.
+/// The image at the path has an open header, or a group has its slot.
 pub fn disk_taken(alloc: Global, path: &[u8]) -> Refusal
     ensures { SaysRefusal (DiskTaken path.now) result }
 {

@@ -122,13 +122,13 @@ pub record HasMounted (mount : MountReading) (source : Member) (old new : Image)
   pub copying : IsCopying mount source old new
   pub contents : (m : Member) → IsAmong mount.members m → NamesCopy mount.next m → HasTaken mount m new
 
--- the disk has a copy that is taken, and the record names it
+-- the disk is attached, the new record names its copy, and that has the content that is taken
 pub record IsSource (mount : MountReading) (m : Member) (image : Image) : Type 0 where
   pub among : IsAmong mount.members m
   pub named : NamesCopy mount.next m
   pub taken : HasTaken mount m image
 
--- the disks of these entries: a member whose number has another birth there left the group while it wasn't read
+-- the disks of these entries, by number and birth: a member without such an entry is none of the group
 abbrev pub own : List Entry → List Member → List Member
 own entries ms = filter (is_of entries) ms
 

@@ -74,7 +74,7 @@ IsNoEnd next = OnEnd next (λ end. ⊥)
 abbrev pub without_rebalance : Tables → Tables
 without_rebalance t = record t { operations = record t.operations { rebalance = None } }
 
--- The active rebalance has ended. Else the tables are as they were, and so are the entries of the record.
+-- No rebalance is active. All else of the tables is as it was, and so are the shape and the entries of the record.
 pub record EndsActive (old new : MountedGroup) : Type 0 where
   pub shape : new.catalog.shape ≡ old.catalog.shape
   pub tables : new.catalog.tables ≡ without_rebalance old.catalog.tables
