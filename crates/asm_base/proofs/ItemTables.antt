@@ -69,6 +69,21 @@ pub record IsEntry {X : Type 0} (item_of : X → Item) (entry_of : Item → Opti
   pub there : (i : Item) (x : X) → entry_of i ≡ Some x → item_of x ≡ i
   pub back : (x : X) → entry_of (item_of x) ≡ Some x
 
+-- each item of the kinds is that of an entry
+abbrev pub AreEntries : {X : Type 0} → (Key → Bool) → (X → Item) → Type 0
+AreEntries {X} is_mine item_of = (i : Item) → is_mine (key i) ≡ true → (x : X) × (i ≡ item_of x)
+
+-- then a record of the kinds that says no entry says no item
+pub nothing_decoded : {X : Type 0} {item_of : X → Item} {entry_of : Item → Option X} → IsEntry item_of entry_of → (is_mine : Key → Bool) → AreEntries is_mine item_of
+    → (e : Entry) → is_mine e.0 ≡ true → entry_of_record entry_of e ≡ None → decoded_item e.0 e.1 ≡ None
+unfolding entry_of_record
+nothing_decoded {X} {item_of} {entry_of} law is_mine all e mine none = by (decoded_item e.0 e.1) refl where
+  by : (o : Option Item) → decoded_item e.0 e.1 ≡ o → o ≡ None
+  by None is = refl
+  by (Some i) is =
+      let x = all i (ap is_mine (item_codec.decoded e.0 e.1 i is).1 ∙ mine) in
+      absurd (none-some x.0 (sym none ∙ ap (option_and_then entry_of) is ∙ ap entry_of x.1 ∙ law.back x.0))
+
 -- the entry of a record whose value was read
 pub entry_is_read : {X A : Type 0} {item_of : X → Item} {entry_of : Item → Option X} → IsEntry item_of entry_of → (make : A → Item) (entry : A → X) → ((x : A) → make x ≡ item_of (entry x))
     → (e : Entry) (read : Option A) → option_map make read ≡ decoded_item e.0 e.1 → entry_of_record entry_of e ≡ option_map entry read

@@ -13,3 +13,4 @@ pub mod RefusalTexts
 pub mod PathLaws
 pub mod WordLaws
 pub mod Copying
+pub mod Chunks

@@ -11,12 +11,14 @@ use Rattle.std.specs.Option.{option_and_then, option_map, option_or, unwrap_or}
 use Rattle.std.proofs.lemmas.Bool.{and_parts, and_from, eqb-true, eq-eqb, ne_eqb}
 use Rattle.std.proofs.lemmas.Option.{none-some}
 use Rattle.asm_formats.specs.Among.{IsAmong}
-use Rattle.asm_formats.specs.Items.{Item, chunk_len, key, file_item, chunk_item, disk_item, rebalance_item, pending_item, templates_item, node_item, settings_item, marks_item}
+use Rattle.asm_formats.specs.Items.{Item, chunk_len, key, file_item, chunk_item, marks_item}
 use Rattle.asm_formats.specs.Sets.{has_bit}
 use Rattle.asm_placement.specs.Tables.{first_said, head_of, homes_in, if_is, is_stale, marks_in}
 use Rattle.asm_base.specs.Records.{Ascend}
 use Rattle.asm_base.proofs.Exact.{bind_some, some_is, test_some}
 use Rattle.asm_base.proofs.ItemTables.{IsEntry}
+use Rattle.file_directory.specs.Entries.{is_entry as head_entry}
+use Rattle.staleness_directory.specs.MarkEntries.{is_entry as marks_entry}
 use Rattle.asm_base.specs.Chunks as chunk_order
 use Rattle.file_directory.specs.Files as files
 use Rattle.extent_map.specs.Extents as extents
@@ -97,32 +99,6 @@ same_chunk = record {
       λ i. (first i, second i);
   itself = λ x. and_from (eqb x.0 x.0) (eqb x.1 x.1) (eq-eqb x.0 x.0 refl) (eq-eqb x.1 x.1 refl);
 }
-
-head_entry : IsEntry files.item_of files.entry_of
-head_entry = record { there = there; back = λ x. refl } where
-  there : (i : Item) (x : files.File) → files.entry_of i ≡ Some x → files.item_of x ≡ i
-  there (file_item f h) x e = ap files.item_of (sym (some_is (f, h) x e))
-  there (chunk_item f c homes) x e = absurd cc
-  there (disk_item d i) x e = absurd cc
-  there (rebalance_item p) x e = absurd cc
-  there (pending_item p) x e = absurd cc
-  there (templates_item ts) x e = absurd cc
-  there (node_item n m) x e = absurd cc
-  there (settings_item s) x e = absurd cc
-  there (marks_item f c m) x e = absurd cc
-
-marks_entry : IsEntry stale.item_of stale.marked
-marks_entry = record { there = there; back = λ x. refl } where
-  there : (i : Item) (x : stale.Marked) → stale.marked i ≡ Some x → stale.item_of x ≡ i
-  there (marks_item f c m) x e = ap stale.item_of (sym (some_is ((f, c), m) x e))
-  there (file_item f h) x e = absurd cc
-  there (chunk_item f c homes) x e = absurd cc
-  there (disk_item d i) x e = absurd cc
-  there (rebalance_item p) x e = absurd cc
-  there (pending_item p) x e = absurd cc
-  there (templates_item ts) x e = absurd cc
-  there (node_item n m) x e = absurd cc
-  there (settings_item s) x e = absurd cc
 
 head_said : (items : List Item) (f : ℕ) → head_of items f ≡ first_said (tells_of files.entry_of (λ (f g : ℕ). eqb g f) f) items
 unfolding head_of

@@ -7,7 +7,7 @@ use Rattle.std.specs.Cmp.{Equal-is}
 use Rattle.std.specs.Ordering.{nat_cmp, is_lt, ordering_then}
 use Rattle.std.specs.List.{AllByRecursion}
 use Rattle.std.specs.List.Sorted.{IsStrictlySortedBy}
-use Rattle.std.proofs.lemmas.Bool.{ne_eqb, true≢false}
+use Rattle.std.proofs.lemmas.Bool.{true≢false}
 use Rattle.std.proofs.lemmas.Option.{none-some}
 use Rattle.asm_group.specs.Group.{Template}
 use Rattle.asm_formats.specs.Items.{Item, Key, Settings, file_item, chunk_item, disk_item, rebalance_item, pending_item, templates_item, node_item, settings_item, marks_item, key, is_item}
@@ -17,17 +17,21 @@ use Rattle.asm_base.specs.Records.{Ascend, Entry, is_key, key_cmp, keys_of, of_k
 use Rattle.asm_base.specs.Tables.{IsItemTable, item_record}
 use Rattle.asm_base.specs.Chunks as chunk_order
 use Rattle.file_directory.specs.Files as files
+use Rattle.file_directory.specs.Entries.{are_entries as files_are_entries}
 use Rattle.extent_map.specs.Extents as extents
 use Rattle.extent_map.specs.Faults.{IsWithoutGap}
+use Rattle.extent_map.proofs.Laws.{chunk_entries}
 use Rattle.alias_tree.specs.Nodes as nodes
 use Rattle.alias_tree.specs.Faults.{IsWithoutFault}
 use Rattle.template_directory.specs.Tables as templates
 use Rattle.staleness_directory.specs.Marks as stale
+use Rattle.staleness_directory.specs.MarkEntries.{are_entries as marks_are_entries}
 use Rattle.operations_directory.specs.Operations as operations
 use Rattle.operations_directory.specs.Readings.{item_of}
 use Rattle.operations_directory.specs.declared.reading.Operation.{Operation}
 use Rattle.operations_directory.specs.declared.reading.Operation.TheVariants.{Rebalance, Pending as PendingOne}
 use Rattle.disk_directory.specs.Disks as disks
+use Rattle.disk_directory.specs.DiskEntries.{are_entries as disks_are_entries}
 use Rattle.catalog_tables.specs.Tables.{first_unreadable}
 use Rattle.catalog_tables.specs.Faults.{settings_key, templates_key}
 use Rattle.catalog_tables.specs.Readable.{AreReadable, HasNeeded}
@@ -141,17 +145,7 @@ module _ {K T : Type 0} {p : Key → Bool} {is_below : K → K → Bool} {item_o
 -- ---- the kinds
 
 file_kind : IsKind files.is_mine files.is_before files.item_of
-file_kind = record { entry = entry; below = λ x y e. then_equal (nat_cmp x.0 y.0) e } where
-  entry : (i : Item) → files.is_mine (key i) ≡ true → (x : files.File) × (i ≡ files.item_of x)
-  entry (file_item f h) e = ((f, h), refl)
-  entry (chunk_item f c homes) e = absurd (true≢false (sym e ∙ ne_eqb (c + 1) 0 (λ same. omega (arith, same))))
-  entry (disk_item d info) e = absurd cc
-  entry (rebalance_item power) e = absurd cc
-  entry (pending_item op) e = absurd cc
-  entry (templates_item ts) e = absurd cc
-  entry (node_item n node) e = absurd cc
-  entry (settings_item s) e = absurd cc
-  entry (marks_item f c marks) e = absurd cc
+file_kind = record { entry = files_are_entries; below = λ x y e. then_equal (nat_cmp x.0 y.0) e }
 
 -- chunk c has the number c + 1 in its key
 next_cmp : (c d : ℕ) → nat_cmp (c + 1) (d + 1) ≡ nat_cmp c d
@@ -162,18 +156,7 @@ next_cmp c d = by (nat_cmp c d) refl where
   by Greater e = grind (arith, e)
 
 chunk_kind : IsKind extents.is_chunk chunk_order.is_before extents.item_of
-chunk_kind = record { entry = entry; below = below } where
-  entry : (i : Item) → extents.is_chunk (key i) ≡ true → (x : extents.Chunked) × (i ≡ extents.item_of x)
-  entry (chunk_item f c homes) e = (((f, c), homes), refl)
-  entry (file_item f h) e = absurd cc
-  entry (disk_item d info) e = absurd cc
-  entry (rebalance_item power) e = absurd cc
-  entry (pending_item op) e = absurd cc
-  entry (templates_item ts) e = absurd cc
-  entry (node_item n node) e = absurd cc
-  entry (settings_item s) e = absurd cc
-  entry (marks_item f c marks) e = absurd cc
-
+chunk_kind = record { entry = chunk_entries; below = below } where
   below : (x y : extents.Chunked) → key_cmp (key (extents.item_of x)) (key (extents.item_of y)) ≡ Less → chunk_order.is_before x.0 y.0 ≡ true
   below x y e = ap is_lt (ap (ordering_then (nat_cmp x.0.0 y.0.0)) (sym (next_cmp x.0.1 y.0.1)) ∙ e)
 
@@ -191,30 +174,10 @@ node_kind = record { entry = entry; below = λ x y e. then_equal (nat_cmp x.0 y.
   entry (marks_item f c marks) e = absurd cc
 
 marks_kind : IsKind stale.is_marks chunk_order.is_before stale.item_of
-marks_kind = record { entry = entry; below = λ x y e. ap is_lt e } where
-  entry : (i : Item) → stale.is_marks (key i) ≡ true → (x : stale.Marked) × (i ≡ stale.item_of x)
-  entry (marks_item f c marks) e = (((f, c), marks), refl)
-  entry (file_item f h) e = absurd cc
-  entry (chunk_item f c homes) e = absurd cc
-  entry (disk_item d info) e = absurd cc
-  entry (rebalance_item power) e = absurd cc
-  entry (pending_item op) e = absurd cc
-  entry (templates_item ts) e = absurd cc
-  entry (node_item n node) e = absurd cc
-  entry (settings_item s) e = absurd cc
+marks_kind = record { entry = marks_are_entries; below = λ x y e. ap is_lt e }
 
 disk_kind : IsKind disks.is_mine disks.is_before disks.item_of
-disk_kind = record { entry = entry; below = λ x y e. then_equal (nat_cmp x.0 y.0) e } where
-  entry : (i : Item) → disks.is_mine (key i) ≡ true → (x : disks.Disk) × (i ≡ disks.item_of x)
-  entry (disk_item d info) e = ((d, info), refl)
-  entry (file_item f h) e = absurd cc
-  entry (chunk_item f c homes) e = absurd cc
-  entry (rebalance_item power) e = absurd cc
-  entry (pending_item op) e = absurd cc
-  entry (templates_item ts) e = absurd cc
-  entry (node_item n node) e = absurd cc
-  entry (settings_item s) e = absurd cc
-  entry (marks_item f c marks) e = absurd cc
+disk_kind = record { entry = disks_are_entries; below = λ x y e. then_equal (nat_cmp x.0 y.0) e }
 
 -- ---- templates and settings
 

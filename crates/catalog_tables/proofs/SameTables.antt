@@ -19,9 +19,8 @@ use Rattle.asm_formats.proofs.Bodies.{item_codec}
 use Rattle.asm_base.specs.Records.{Ascend}
 use Rattle.asm_base.proofs.Exact.{some_is}
 use Rattle.asm_base.specs.Chunks as chunk_order
-use Rattle.staleness_directory.proofs.Laws as marks_laws
+use Rattle.asm_base.proofs.Chunks.{chunk_total, same_chunk}
 use Rattle.extent_map.specs.Changing as extents_changing
-use Rattle.extent_map.proofs.Laws as extents_laws
 use Rattle.operations_directory.specs.Operations.{IsTable as AreOperations, Operations}
 use Rattle.catalog_tables.specs.Changing.{AreItemTables}
 use Rattle.catalog_tables.specs.Tables.{Tables, item_at, records_of}
@@ -125,7 +124,7 @@ chunk_record t c =
 
 same_extents : (t u : Tables) → AreItemTables t → AreItemTables u → Alike t u → t.extents ≡ u.extents
 same_extents t u a b same =
-    same_values chunk_order.chunk_cmp extents_laws.chunk_total extents_laws.same_chunk (λ (c : chunk_order.Chunk) (h : List Homes). chunk_item c.0 c.1 h) (λ k v w. refl) (λ k v w e. cc) t.extents u.extents a.extents.0 a.extents.1 b.extents.0 b.extents.1
+    same_values chunk_order.chunk_cmp chunk_total same_chunk (λ (c : chunk_order.Chunk) (h : List Homes). chunk_item c.0 c.1 h) (λ k v w. refl) (λ k v w e. cc) t.extents u.extents a.extents.0 a.extents.1 b.extents.0 b.extents.1
     (λ c. sym (chunk_record t c) ∙ (same (record { kind = 1; a = c.0; b = c.1 + 1 }) ∙ chunk_record u c))
 
 same_disks : (t u : Tables) → AreItemTables t → AreItemTables u → Alike t u → t.disks ≡ u.disks
@@ -143,7 +142,7 @@ same_nodes t u a b same =
 same_marks : (t u : Tables) → AreItemTables t → AreItemTables u → Alike t u → t.stale ≡ u.stale
 unfolding item_at
 same_marks t u a b same =
-    same_values chunk_order.chunk_cmp marks_laws.chunk_total marks_laws.same_chunk (λ (c : chunk_order.Chunk) (m : List ℕ). marks_item c.0 c.1 m) (λ k v w. refl) (λ k v w e. cc) t.stale u.stale a.stale.0 a.stale.1 b.stale.0 b.stale.1
+    same_values chunk_order.chunk_cmp chunk_total same_chunk (λ (c : chunk_order.Chunk) (m : List ℕ). marks_item c.0 c.1 m) (λ k v w. refl) (λ k v w e. cc) t.stale u.stale a.stale.0 a.stale.1 b.stale.0 b.stale.1
     (λ c. same (record { kind = 12; a = c.0; b = c.1 }))
 
 same_templates : (t u : Tables) → AreItemTables t → AreItemTables u → Alike t u → t.templates ≡ u.templates

@@ -13,17 +13,18 @@ use Rattle.asm_formats.specs.Items.{Key, Node, is_same_key, node_item}
 use Rattle.asm_formats.specs.Values.{value}
 use Rattle.asm_base.specs.Records.{is_key}
 use Rattle.page_map.proofs.Keys.{key_itself, same_key}
-use Rattle.file_directory.specs.Files.{File, head_at}
+use Rattle.item_table.proofs.Laws.{record_gone}
+use Rattle.file_directory.specs.Files.{File, head_at, item_of as item_of_file}
 use Rattle.file_directory.specs.Changing as files
 use Rattle.extent_map.specs.Extents.{Chunked, chunk_key}
 use Rattle.asm_base.specs.Chunks.{Chunk, chunk_cmp}
+use Rattle.asm_base.proofs.Chunks.{chunk_total, same_chunk}
 use Rattle.extent_map.specs.Changing as extents
-use Rattle.extent_map.proofs.Laws.{chunk_total, same_chunk}
 use Rattle.alias_tree.specs.Nodes.{Numbered, node_at}
 use Rattle.alias_tree.specs.Opening as nodes
 use Rattle.template_directory.specs.Tables.{Table}
 use Rattle.template_directory.specs.Changing as templates
-use Rattle.staleness_directory.specs.Marks.{Marked, marks_at}
+use Rattle.staleness_directory.specs.Marks.{Marked}
 use Rattle.staleness_directory.specs.Changing as stale
 use Rattle.operations_directory.specs.Operations.{Operations}
 use Rattle.operations_directory.specs.Changing as operations
@@ -311,20 +312,7 @@ disk_key k e =
 -- ---- records that go
 
 pub file_gone : (t : Tables) (new : List File) (key : Key) → key.kind ≡ 1 → key.b ≡ 0 → ((f : ℕ) → head_at new f ≡ cond (is_at (nat_cmp key.a) f) None (head_at t.files f)) → Sets t (record t { files = new }) key None
-file_gone t new key kind b gone = files_set t new key None kind b each where
-  each : (f : ℕ) → files.value_at new f ≡ cond (is_at (nat_cmp key.a) f) None (files.value_at t.files f)
-  each f = elim (either (is_at (nat_cmp key.a) f)) [
-    | inl hit ↦ rw (gone f, hit) refl
-    | inr miss ↦ rw (gone f, miss) refl
-  ]
-
-pub marks_gone : (t : Tables) (new : List Marked) (key : Key) → key.kind ≡ 12 → ((c : Chunk) → marks_at new c ≡ cond (is_at (chunk_cmp (key.a, key.b)) c) None (marks_at t.stale c)) → Sets t (record t { stale = new }) key None
-marks_gone t new key kind gone = stale_set t new key None kind each where
-  each : (c : Chunk) → stale.value_at new c ≡ cond (is_at (chunk_cmp (key.a, key.b)) c) None (stale.value_at t.stale c)
-  each c = elim (either (is_at (chunk_cmp (key.a, key.b)) c)) [
-    | inl hit ↦ rw (gone c, hit) refl
-    | inr miss ↦ rw (gone c, miss) refl
-  ]
+file_gone t new key kind b gone = files_set t new key None kind b (record_gone nat_cmp item_of_file t.files new key.a gone)
 
 pub place_of_disk : (k : Key) → k.kind ≡ 2 → is_place k ≡ true → k.b ≡ 0
 place_of_disk k kind place = eqb-true k.b 0 (rw kind at place)

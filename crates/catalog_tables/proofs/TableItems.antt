@@ -22,9 +22,9 @@ use Rattle.asm_base.specs.Records.{Ascend, Entry, key_cmp, of_kinds}
 use Rattle.asm_base.specs.Tables.{item_record}
 use Rattle.asm_base.proofs.Exact.{some_is}
 use Rattle.asm_base.specs.Chunks as chunk_order
+use Rattle.asm_base.proofs.Chunks.{chunk_total, same_chunk}
 use Rattle.file_directory.specs.Files as files
 use Rattle.extent_map.specs.Extents as extents
-use Rattle.extent_map.proofs.Laws.{chunk_total}
 use Rattle.alias_tree.specs.Nodes as nodes
 use Rattle.template_directory.specs.Tables as templates
 use Rattle.staleness_directory.specs.Marks as stale
@@ -58,11 +58,7 @@ both_equal Equal p e = (refl, e)
 both_equal Greater p e = absurd cc
 
 pub chunks_exact : AreExact chunk_order.chunk_cmp
-chunks_exact x y e =
-    let p = both_equal (nat_cmp x.0 y.0) (nat_cmp x.1 y.1) e in
-    let first = numbers_exact x.0 y.0 p.0 in
-    let second = numbers_exact x.1 y.1 p.1 in
-    λ i. (first i, second i)
+chunks_exact = same_chunk
 
 pub keys_exact : AreExact key_cmp
 keys_exact x y e =

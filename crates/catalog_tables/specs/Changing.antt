@@ -40,7 +40,6 @@ tables_of p = record { files = p.files; extents = p.extents; nodes = p.tree; tem
 -- what isn't an invariant of the tables' types
 pub record ArePartsOpen (p : OpenParts) : Type 0 where
   pub extents : extents.AreChunks p.extents
-  pub stale : stale.IsTable p.stale
   pub operations : operations.IsTable p.operations
 
 -- tables may say something at the key

@@ -72,6 +72,7 @@ impl OpenParts {
     {
         let _ = self.files.get(0);
         let _ = self.disks.get(0);
+        let _ = self.stale.get((0, 0));
         let _ = self.templates.list();
         let _ = self.templates.settings();
         self.tree.are_nodes();
@@ -158,7 +159,7 @@ impl OpenParts {
             5 => self.put_templates(alloc, key, value),
             6 => self.put_node(alloc, key, value),
             9 => self.put_templates(alloc, key, value),
-            12 => self.put_marks(key, value),
+            12 => self.put_marks(alloc, key, value),
             _ => Err(NoMemory),
         }
     }
@@ -205,7 +206,7 @@ impl OpenParts {
         ensures gone { Sets (tables_of self.old) (tables_of self.new) key None }
         ensures open { ArePartsOpen self.new }
     {
-        let _ = self.files.remove(key.a);
+        self.files.remove_record(key.a);
     }
 
     fn remove_chunk(&mut self, file: u32, chunk: u32)
@@ -251,7 +252,7 @@ impl OpenParts {
         ensures gone { Sets (tables_of self.old) (tables_of self.new) key None }
         ensures open { ArePartsOpen self.new }
     {
-        let _ = self.stale.remove((key.a, key.b));
+        self.stale.remove_record((key.a, key.b));
     }
 
     fn put_file(&mut self, alloc: Global, key: Key, value: &Value) -> Result<(), NoMemory>
@@ -334,13 +335,13 @@ impl OpenParts {
         taken(self.tree.put_record(alloc, key, value)?)
     }
 
-    fn put_marks(&mut self, key: Key, value: &Value) -> Result<(), NoMemory>
+    fn put_marks(&mut self, alloc: Global, key: Key, value: &Value) -> Result<(), NoMemory>
         requires kind { key.kind ≡ marks_kind }
         requires open { ArePartsOpen self.old }
         ensures put { OnOk result (Sets (tables_of self.old) (tables_of self.new) key (Some value.now)) }
         ensures open { OnOk result (ArePartsOpen self.new) }
     {
-        taken(self.stale.put_record(key, value)?)
+        taken(self.stale.put_record(alloc, key, value)?)
     }
 }
 

@@ -1,20 +1,23 @@
--- The item of a disk is what its record says.
-use Rattle.std.proofs.Common.{◌≡◌, Some, refl, sym, ap}
-use Rattle.std.proofs.lemmas.Option.{none-some}
+-- The item of a disk is what its record says, and each item of such a key is that of a disk.
+use Rattle.std.proofs.Common.{refl, inl, inr}
 use Rattle.asm_formats.specs.Items.{Item, file_item, chunk_item, disk_item, rebalance_item, pending_item, templates_item, node_item, settings_item, marks_item}
-use Rattle.asm_base.proofs.Exact.{some_is}
-use Rattle.asm_base.proofs.ItemTables.{IsEntry}
-use Rattle.disk_directory.specs.Disks.{Disk, entry_of, item_of}
+use Rattle.asm_base.proofs.ItemTables.{AreEntries, IsEntry}
+use Rattle.item_table.proofs.Entries.{IsKnown, entries_by, entry_by}
+use Rattle.disk_directory.specs.Disks.{entry_of, is_mine, item_of}
+
+each_item : (i : Item) → IsKnown is_mine item_of entry_of i
+each_item (file_item f h) = inr (refl, refl)
+each_item (chunk_item f c homes) = inr (refl, refl)
+each_item (disk_item d info) = inl ((d, info), refl)
+each_item (rebalance_item power) = inr (refl, refl)
+each_item (pending_item op) = inr (refl, refl)
+each_item (templates_item ts) = inr (refl, refl)
+each_item (node_item n node) = inr (refl, refl)
+each_item (settings_item s) = inr (refl, refl)
+each_item (marks_item f c marks) = inr (refl, refl)
 
 pub is_entry : IsEntry item_of entry_of
-is_entry = record { there = there; back = λ x. refl } where
-  there : (i : Item) (x : Disk) → entry_of i ≡ Some x → item_of x ≡ i
-  there (file_item f h) x e = absurd (none-some x e)
-  there (chunk_item f c homes) x e = absurd (none-some x e)
-  there (disk_item d info) x e = ap item_of (some_is x (d, info) (sym e))
-  there (rebalance_item power) x e = absurd (none-some x e)
-  there (pending_item op) x e = absurd (none-some x e)
-  there (templates_item ts) x e = absurd (none-some x e)
-  there (node_item n node) x e = absurd (none-some x e)
-  there (settings_item s) x e = absurd (none-some x e)
-  there (marks_item f c marks) x e = absurd (none-some x e)
+is_entry = entry_by is_mine item_of entry_of each_item (λ x. refl)
+
+pub are_entries : AreEntries is_mine item_of
+are_entries = entries_by is_mine item_of entry_of each_item

@@ -9,7 +9,7 @@ ghost use Rattle.asm_base.specs.Tables.{entry_of_record};
 ghost use Rattle.record_values.specs.Values.{disk_reading};
 ghost use Rattle.disk_directory.specs.Disks as disks;
 ghost use Rattle.disk_directory.specs.Disks.{entry_of, is_mine};
-ghost use Rattle.disk_directory.specs.DiskEntries.{is_entry};
+ghost use Rattle.disk_directory.specs.DiskEntries.{are_entries, is_entry};
 
 use crate::disk_info::DiskInfo;
 use asm_base::{Key, NoMemory, Reader, Value, is_at_end, record_kind, take_u64};
@@ -49,6 +49,8 @@ impl Listed<u32> for DiskInfo {
     }
 
     ghost is_entry = { is_entry };
+
+    ghost are_entries = { are_entries };
 
     ghost exact = { nat_cmp-IsAntisymmetric };
 }

@@ -1,56 +1,40 @@
 -- The table of extents is read exactly from its records.
-use Rattle.std.proofs.Common.{◌≡◌, ℕ, ◌+◌, ◌-◌, ◌<◌, Bool, true, false, cond, List, [], ◌∷◌, map, Ordering, Option, Some, None, refl, sym, ap, subst, ◌∙◌, arith}
+use Rattle.std.proofs.Common.{◌≡◌, ℕ, ◌+◌, ◌-◌, ◌<◌, Bool, true, false, cond, List, [], ◌∷◌, map, Option, Some, None, refl, sym, ap, subst, ◌∙◌, inl, inr, arith}
 use Rattle.std.specs.Prelude.{Result, Ok, Err, OnOk, OnErr, IfSome, ◌/◌, ◌%◌, replicate, slice_set}
-use Rattle.std.specs.Ordering.{nat_cmp, ordering_then}
-use Rattle.std.specs.declared.cmp.Ordering.TheVariants.{Less, Equal, Greater}
 use Rattle.std.specs.Map.{lookup, set_value}
 use Rattle.std.specs.List.{AllByRecursion}
 use Rattle.std.specs.Option.{is_some, option_map}
 use Rattle.std.proofs.lemmas.Bool.{eq-eqb, ne_eqb}
-use Rattle.std.proofs.lemmas.Cmp.{nat_cmp_total, then_total, on_total}
-use Rattle.std.specs.Cmp.{IsTotalOrder}
 use Rattle.asm_formats.specs.Items.{Homes, Item, file_item, chunk_item, disk_item, rebalance_item, pending_item, templates_item, node_item, settings_item, marks_item, Key, is_item}
 use Rattle.asm_formats.specs.Values.{decoded_item}
 use Rattle.asm_base.specs.Records.{Entry, of_kinds, read_from, Ascend, ends_below}
 use Rattle.asm_base.specs.Tables.{entry_of_record}
-use Rattle.asm_base.proofs.Exact.{bind_some, some_is, test_some}
-use Rattle.asm_base.proofs.ItemTables.{IsEntry, entry_is_read, entry_taken, items_found, items_again}
+use Rattle.asm_base.proofs.Exact.{bind_some, test_some}
+use Rattle.asm_base.proofs.ItemTables.{AreEntries, IsEntry, entry_is_read, entry_taken, items_found, items_again}
+use Rattle.item_table.proofs.Entries.{IsKnown, entries_by, entry_by}
 use Rattle.extent_map.specs.Extents.{absent, Chunked, IsNumbered, IsTable, add, chunk_key, chunked, has_no_gap, chunk_at, is_chunk, item_of, record_of, with_chunk, with_extent, without_gap}
-use Rattle.asm_base.specs.Chunks.{Chunk, chunk_cmp, is_before}
+use Rattle.asm_base.specs.Chunks.{chunk_cmp, is_before}
+pub use Rattle.asm_base.proofs.Chunks.{chunk_total, same_chunk}
 use Rattle.extent_map.proofs.Values.{chunk_numbered}
-
--- ---- the order of chunks
-
-pub chunk_total : IsTotalOrder chunk_cmp
-chunk_total = then_total (on_total (λ (p : Chunk). p.0) nat_cmp_total) (on_total (λ (p : Chunk). p.1) nat_cmp_total)
-
-both_equal : (o p : Ordering) → ordering_then o p ≡ Equal → (o ≡ Equal) × (p ≡ Equal)
-both_equal Less p e = absurd cc
-both_equal Equal p e = (refl, e)
-both_equal Greater p e = absurd cc
-
-same_number : (n m : ℕ) → nat_cmp n m ≡ Equal → n ≡ m
-same_number n m e = grind (arith, e)
-
-pub same_chunk : (x y : Chunk) → chunk_cmp x y ≡ Equal → x ≡ y
-same_chunk x y e =
-    let b = both_equal (nat_cmp x.0 y.0) (nat_cmp x.1 y.1) e in
-    ap (λ (f : ℕ). (f, x.1)) (same_number x.0 y.0 b.0) ∙ ap (λ (c : ℕ). (y.0, c)) (same_number x.1 y.1 b.1)
 
 -- ---- chunks and their records
 
+each_item : (i : Item) → IsKnown is_chunk item_of chunked i
+each_item (file_item f h) = inr (refl, refl)
+each_item (chunk_item f c homes) = inl (((f, c), homes), refl)
+each_item (disk_item d info) = inr (refl, refl)
+each_item (rebalance_item power) = inr (refl, refl)
+each_item (pending_item op) = inr (refl, refl)
+each_item (templates_item ts) = inr (refl, refl)
+each_item (node_item n node) = inr (refl, refl)
+each_item (settings_item s) = inr (refl, refl)
+each_item (marks_item f c marks) = inr (refl, refl)
+
 pub chunk_entry : IsEntry item_of chunked
-chunk_entry = record { there = there; back = λ x. refl } where
-  there : (i : Item) (x : Chunked) → chunked i ≡ Some x → item_of x ≡ i
-  there (chunk_item f c homes) x e = ap item_of (sym (some_is ((f, c), homes) x e))
-  there (file_item f h) x e = absurd cc
-  there (disk_item d i) x e = absurd cc
-  there (rebalance_item p) x e = absurd cc
-  there (pending_item p) x e = absurd cc
-  there (templates_item ts) x e = absurd cc
-  there (node_item n m) x e = absurd cc
-  there (settings_item s) x e = absurd cc
-  there (marks_item f c m) x e = absurd cc
+chunk_entry = entry_by is_chunk item_of chunked each_item (λ x. refl)
+
+pub chunk_entries : AreEntries is_chunk item_of
+chunk_entries = entries_by is_chunk item_of chunked each_item
 
 -- ---- one record more
 
@@ -59,13 +43,13 @@ key_is n f b k kind some view =
     let next : b - 1 + 1 ≡ b = omega (arith, some) in
     ap (λ (m : ℕ). record { kind = 1; a = f; b = m }) next ∙ ap (λ (m : ℕ). record { kind = m; a = f; b = b }) (sym kind) ∙ view
 
-mine : (f c : ℕ) (k : Key) → chunk_key f c ≡ k → is_chunk k ≡ true
+pub mine : (f c : ℕ) (k : Key) → chunk_key f c ≡ k → is_chunk k ≡ true
 mine f c k at =
     let kind : k.kind ≡ 1 = sym (ap (λ (j : Key). j.kind) at) in
     let next : c + 1 ≡ k.b = ap (λ (j : Key). j.b) at in
     rw (eq-eqb k.kind 1 kind, ne_eqb k.b 0 (λ e. omega (arith, next, e))) refl
 
-entry_read : (k : Key) (f c : ℕ) → chunk_key f c ≡ k → (v bytes : List ℕ) (read : Option (List Homes)) → bytes ≡ v → option_map (chunk_item f c) read ≡ decoded_item (chunk_key f c) bytes
+pub entry_read : (k : Key) (f c : ℕ) → chunk_key f c ≡ k → (v bytes : List ℕ) (read : Option (List Homes)) → bytes ≡ v → option_map (chunk_item f c) read ≡ decoded_item (chunk_key f c) bytes
     → entry_of_record chunked (k, v) ≡ option_map (λ homes. ((f, c), homes)) read
 entry_read k f c at v bytes read is e =
     entry_is_read chunk_entry (chunk_item f c) (λ homes. ((f, c), homes)) (λ homes. refl) (k, v) read (e ∙ ap (decoded_item (chunk_key f c)) is ∙ ap (λ (j : Key). decoded_item j v) at)

@@ -1,16 +1,13 @@
 -- What a change of records does to the table of extents.
 use Rattle.std.specs.Prelude.{ℕ, List, Option}
-use Rattle.std.specs.Option.{option_map}
-use Rattle.asm_formats.specs.Items.{chunk_item}
-use Rattle.asm_formats.specs.Values.{value}
-use Rattle.asm_base.specs.Tables.{IsItemTable}
-use Rattle.extent_map.specs.Extents.{Chunked, chunk_at, item_of}
-use Rattle.asm_base.specs.Chunks.{Chunk, is_before}
+use Rattle.asm_base.specs.Chunks.{Chunk, chunk_cmp}
+use Rattle.item_table.specs.Tables.{IsTable as IsKeyTable, bytes_at}
+use Rattle.extent_map.specs.Extents.{Chunked, item_of}
 
 -- the value of the record of a chunk
 abbrev pub value_at : List Chunked → Chunk → Option (List ℕ)
-value_at table c = option_map value (option_map (chunk_item c.0 c.1) (chunk_at table c))
+value_at table c = bytes_at chunk_cmp item_of table c
 
 -- chunks in order, each of the formats, with or without a gap
 abbrev pub AreChunks : List Chunked → Type 0
-AreChunks table = IsItemTable is_before item_of table
+AreChunks table = IsKeyTable chunk_cmp item_of table

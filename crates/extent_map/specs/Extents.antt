@@ -1,32 +1,30 @@
 -- The table of extents, as the list of the chunks in the order of file and number.
 use Rattle.std.specs.Prelude.{ℕ, ◌+◌, ◌-◌, ◌*◌, ◌/◌, ◌%◌, ◌<◌, ◌^◌, ◌↔◌, Bool, true, false, ◌==◌, ◌&&◌, ◌||◌, not, List, [], ◌∷◌, ◌++◌, length, take, drop, get_or, nat_lt, replicate, slice_set, Option, Some, None, if◌then◌else◌, IsTrue}
-use Rattle.std.specs.BTreeMap.{is_at, insert_entry}
-use Rattle.std.specs.BTreeMap.Range.{entries_between}
-use Rattle.std.specs.declared.ops.Bound.TheVariants.{Included, Unbounded}
-use Rattle.std.specs.Map.{lookup, remove_entry, set_value}
+use Rattle.std.specs.BTreeMap.{is_at}
+use Rattle.std.specs.Map.{set_value}
 use Rattle.std.specs.List.{list_all, prefix_len}
 use Rattle.std.specs.Option.{is_some, option_and_then, unwrap_or}
 use Rattle.asm_formats.specs.Items.{Homes, Item, chunk_item, chunk_len, is_homes, Key, files_kind}
-use Rattle.asm_base.specs.Records.{Entry, add_item}
-use Rattle.asm_base.specs.Tables.{IsItemTable, entry_of_record, item_record}
-use Rattle.asm_base.specs.Chunks.{Chunk, chunk_cmp, is_before}
+use Rattle.asm_base.specs.Records.{Entry}
+use Rattle.asm_base.specs.Chunks.{Chunk, chunk_cmp}
+use Rattle.item_table.specs.Tables.{IsTable as IsKeyTable, add as key_add, at_key, from_key, record_of as key_record, with_key, without_key}
 
 -- a chunk's extents, each with the homes of three copies
 abbrev pub Chunked : Type 0
 Chunked = Chunk × List Homes
 
 abbrev pub chunk_at : List Chunked → Chunk → Option (List Homes)
-chunk_at table chunk = lookup (is_at (chunk_cmp chunk)) table
+chunk_at table chunk = at_key chunk_cmp table chunk
 
 abbrev pub with_chunk : List Chunked → Chunk → List Homes → List Chunked
-with_chunk table chunk homes = insert_entry chunk_cmp table chunk homes
+with_chunk table chunk homes = with_key chunk_cmp table chunk homes
 
 abbrev pub without_chunk : List Chunked → Chunk → List Chunked
-without_chunk table chunk = remove_entry (is_at (chunk_cmp chunk)) table
+without_chunk table chunk = without_key chunk_cmp table chunk
 
 -- the chunks from this one on, in order
 abbrev pub chunks_from : List Chunked → Chunk → List Chunked
-chunks_from table chunk = entries_between chunk_cmp (Included chunk) Unbounded table
+chunks_from table chunk = from_key chunk_cmp table chunk
 
 -- ---- extents
 
@@ -105,7 +103,7 @@ abbrev pub item_of : Chunked → Item
 item_of x = chunk_item x.0.0 x.0.1 x.1
 
 abbrev pub record_of : Chunked → Entry
-record_of x = item_record (item_of x)
+record_of x = key_record item_of x
 
 -- the head of a file has the second number 0
 abbrev pub is_chunk : Key → Bool
@@ -151,10 +149,10 @@ has_no_gap past (x ∷ table) = if stands_at past x then has_no_gap (opened x) t
 
 -- a table: chunks in order, each of the formats, without a gap
 abbrev pub IsTable : List Chunked → Type 0
-IsTable table = IsItemTable is_before item_of table × IsTrue (has_no_gap None table)
+IsTable table = IsKeyTable chunk_cmp item_of table × IsTrue (has_no_gap None table)
 
 abbrev pub add : List Chunked → Entry → Option (List Chunked)
-add table e = add_item is_before (entry_of_record chunked) table e
+add table e = key_add chunk_cmp chunked table e
 
 -- only a table without a gap
 abbrev pub without_gap : Option (List Chunked) → Option (List Chunked)

@@ -2,7 +2,7 @@
 
 ghost use Rattle.std.specs.FinMap.{nat_cmp-IsAntisymmetric};
 ghost use Rattle.file_directory.specs.Files as files;
-ghost use Rattle.file_directory.specs.Entries.{is_entry};
+ghost use Rattle.file_directory.specs.Entries.{are_entries, is_entry};
 
 use crate::head::FileHead;
 use crate::reading::head_in;
@@ -40,6 +40,8 @@ impl Listed<u32> for FileHead {
     }
 
     ghost is_entry = { is_entry };
+
+    ghost are_entries = { are_entries };
 
     ghost exact = { nat_cmp-IsAntisymmetric };
 }

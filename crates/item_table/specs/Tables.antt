@@ -2,7 +2,9 @@
 use Rattle.std.specs.Prelude.{ℕ, Bool, List, Option, is_some}
 use Rattle.std.specs.Ordering.{is_lt}
 use Rattle.std.specs.declared.cmp.Ordering.{Ordering}
+use Rattle.std.specs.declared.ops.Bound.TheVariants.{Included, Unbounded}
 use Rattle.std.specs.BTreeMap.{is_at, insert_entry}
+use Rattle.std.specs.BTreeMap.Range.{entries_between}
 use Rattle.std.specs.Map.{lookup, remove_entry}
 use Rattle.std.specs.Option.{option_map}
 use Rattle.asm_formats.specs.Items.{Item}
@@ -23,6 +25,10 @@ with_key cmp table key kept = insert_entry cmp table key kept
 
 abbrev pub without_key : {K T : Type 0} → (K → K → Ordering) → List (K × T) → K → List (K × T)
 without_key cmp table key = remove_entry (is_at (cmp key)) table
+
+-- what is kept at the keys from this one on, in order
+abbrev pub from_key : {K T : Type 0} → (K → K → Ordering) → List (K × T) → K → List (K × T)
+from_key cmp table key = entries_between cmp (Included key) Unbounded table
 
 abbrev pub is_before : {K : Type 0} → (K → K → Ordering) → K → K → Bool
 is_before cmp j k = is_lt (cmp j k)

@@ -5,7 +5,7 @@ ghost use Rattle.std.specs.Option.{option_map};
 ghost use Rattle.std.specs.declared.cmp.Ordering.TheVariants.{Equal};
 ghost use Rattle.asm_formats.specs.Items.{Item, Key as RecordKey};
 ghost use Rattle.asm_base.specs.Tables.{entry_of_record};
-ghost use Rattle.asm_base.proofs.ItemTables.{IsEntry};
+ghost use Rattle.asm_base.proofs.ItemTables.{AreEntries, IsEntry};
 
 use asm_base::{Key, NoMemory, Value};
 use std::alloc::Global;
@@ -43,6 +43,9 @@ pub trait Listed<K: Ord + Copy>: Sized + Drop {
 
     /// An item is the entry whose item it is.
     ghost is_entry: { IsEntry item_of entry_of };
+
+    /// Each item of such a key is that of an entry.
+    ghost are_entries: { AreEntries is_mine item_of };
 
     /// Keys that compare alike are one.
     ghost exact: { (x y : K) → K.cmp x y ≡ Equal → x ≡ y };

@@ -5,14 +5,14 @@ ghost use Rattle.std.specs.Bool.{OnFalse, OnTrue};
 ghost use Rattle.std.specs.BTreeMap.{is_at};
 ghost use Rattle.std.specs.Option.{option_copied};
 ghost use Rattle.asm_formats.specs.Items.{is_item};
+ghost use Rattle.asm_formats.specs.Values.{decoded_item};
 ghost use Rattle.asm_base.specs.Records.{ends_below, of_kinds, read_from};
-ghost use Rattle.asm_base.specs.Tables.{entry_of_record};
 
 use crate::listed::Listed;
 use asm_base::{Key, NoMemory, Records, Value};
 use std::alloc::Global;
 use std::collections::BTreeMap;
-use std::collections::btree_map::Iter;
+use std::collections::btree_map::{Iter, Range};
 use std::marker::Model;
 
 /// What is kept by key. Contracts see the list of it in the order of the keys.
@@ -33,7 +33,7 @@ impl<K: Ord + Copy + Drop, T: Listed<K>> Model for KeyTable<K, T> {
 }
 
 impl<K: Ord + Copy + Drop, T: Listed<K>> KeyTable<K, T> {
-    ghost use Rattle.item_table.specs.Tables.{IsTable, add, at_key, bytes_at, has_key, is_before, record_of, with_key, without_key};
+    ghost use Rattle.item_table.specs.Tables.{IsTable, add, at_key, bytes_at, from_key, has_key, is_before, record_of, with_key, without_key};
 
     pub fn new(alloc: Global) -> KeyTable<K, T>
         ensures { result ≡ [] }
@@ -56,6 +56,14 @@ impl<K: Ord + Copy + Drop, T: Listed<K>> KeyTable<K, T> {
         ensures { result ≡ self.now }
     {
         self.map.iter()
+    }
+
+    /// What is kept at the keys from this one on, whether it is there or not, in the order of the keys. Those before it are
+    /// passed over by their keys.
+    pub fn iter_from(&self, key: K) -> Range<'_, K, T>
+        ensures { result ≡ from_key K.cmp self.now key }
+    {
+        self.map.range(key..)
     }
 
     /// How many keys there are.
@@ -94,7 +102,7 @@ impl<K: Ord + Copy + Drop, T: Listed<K>> KeyTable<K, T> {
         requires { IsTrue (T.is_mine key) }
         ensures put { IfOk result (λ put. OnTrue put ((k : K) → bytes_at K.cmp T.item_of self.new k
             ≡ (if is_at (K.cmp (T.place_of key)) k then Some value.now else bytes_at K.cmp T.item_of self.old k))) }
-        ensures refused { IfOk result (λ put. OnFalse put (entry_of_record T.entry_of (key, value.now) ≡ None)) }
+        ensures refused { IfOk result (λ put. OnFalse put (decoded_item key value.now ≡ None)) }
         ensures stays { IfOk result (λ put. OnFalse put (self.new ≡ self.old)) }
         ensures err { OnErr result (self.new ≡ self.old) }
     {

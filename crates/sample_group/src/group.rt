@@ -7,7 +7,7 @@ use asm_base::{
 use catalog::Catalog;
 use catalog_tables::CatalogError;
 use file_directory::{FileHead, record_of};
-use staleness_directory::{Marks, StaleTable};
+use staleness_directory::{Marks, marks_record};
 use status_table::{PstEntry, PstRecord, is_status};
 use std::alloc::Global;
 use std::test::Fail;
@@ -270,7 +270,7 @@ fn put_marks(
         bits[place] = first.get(place).copied().unwrap_or(0);
     }
     let marks = Marks { bits };
-    let Ok((key, value)) = StaleTable::to_record(alloc, at, &marks) else {
+    let Ok((key, value)) = marks_record(alloc, at, &marks) else {
         return Err(Fail::from("memory"));
     };
     insert(records, key, value)

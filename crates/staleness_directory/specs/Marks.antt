@@ -1,16 +1,10 @@
 -- The table of stale marks, as the list of the chunks' marks in the order of file and chunk.
 use Rattle.std.specs.Prelude.{ℕ, ◌+◌, ◌^◌, Bool, ◌==◌, ◌&&◌, List, length, take, drop, ◌++◌, replicate, nat_lt, Option, Some, None, if◌then◌else◌}
-use Rattle.std.specs.Ordering.{nat_cmp, ordering_then, is_lt}
-use Rattle.std.specs.declared.cmp.Ordering.{Ordering}
-use Rattle.std.specs.BTreeMap.{is_at, insert_entry}
-use Rattle.std.specs.BTreeMap.Range.{entries_between}
-use Rattle.std.specs.declared.ops.Bound.TheVariants.{Included, Unbounded}
-use Rattle.std.specs.Map.{lookup, remove_entry}
 use Rattle.std.specs.List.{list_all}
 use Rattle.asm_formats.specs.Items.{Item, marks_item, Key, marks_kind}
-use Rattle.asm_base.specs.Records.{Entry, add_item}
-use Rattle.asm_base.specs.Tables.{IsItemTable, entry_of_record, item_record}
-use Rattle.asm_base.specs.Chunks.{Chunk, chunk_cmp, is_before}
+use Rattle.asm_base.specs.Records.{Entry}
+use Rattle.asm_base.specs.Chunks.{Chunk, chunk_cmp}
+use Rattle.item_table.specs.Tables.{IsTable as IsKeyTable, add as key_add, at_key, from_key, record_of as key_record, with_key, without_key}
 
 -- a chunk's marks: of each extent a byte, bit k for copy k
 abbrev pub Marked : Type 0
@@ -18,17 +12,17 @@ Marked = Chunk × List ℕ
 
 -- the marks of a chunk, and the table with other marks of it or without it
 abbrev pub marks_at : List Marked → Chunk → Option (List ℕ)
-marks_at table chunk = lookup (is_at (chunk_cmp chunk)) table
+marks_at table chunk = at_key chunk_cmp table chunk
 
 abbrev pub with_marks : List Marked → Chunk → List ℕ → List Marked
-with_marks table chunk marks = insert_entry chunk_cmp table chunk marks
+with_marks table chunk marks = with_key chunk_cmp table chunk marks
 
 abbrev pub without_marks : List Marked → Chunk → List Marked
-without_marks table chunk = remove_entry (is_at (chunk_cmp chunk)) table
+without_marks table chunk = without_key chunk_cmp table chunk
 
 -- the marks of the chunks from this one on, in order
 abbrev pub marks_from : List Marked → Chunk → List Marked
-marks_from table chunk = entries_between chunk_cmp (Included chunk) Unbounded table
+marks_from table chunk = from_key chunk_cmp table chunk
 
 -- the marks of a chunk's extents below a place, and none from there on
 abbrev pub marks_to : ℕ → List ℕ → List ℕ
@@ -42,7 +36,7 @@ abbrev pub item_of : Marked → Item
 item_of x = marks_item x.0.0 x.0.1 x.1
 
 abbrev pub record_of : Marked → Entry
-record_of x = item_record (item_of x)
+record_of x = key_record item_of x
 
 abbrev pub is_marks : Key → Bool
 is_marks key = key.kind == marks_kind
@@ -54,10 +48,10 @@ marked _ = None
 
 -- a table: chunks in order, each of the formats
 abbrev pub IsTable : List Marked → Type 0
-IsTable table = IsItemTable is_before item_of table
+IsTable table = IsKeyTable chunk_cmp item_of table
 
 abbrev pub add : List Marked → Entry → Option (List Marked)
-add table e = add_item is_before (entry_of_record marked) table e
+add table e = key_add chunk_cmp marked table e
 
 -- ---- the reading of a record's value
 

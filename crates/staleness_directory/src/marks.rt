@@ -1,10 +1,7 @@
 //! The marks of a chunk.
 
 ghost use Rattle.std.specs.Prelude.{◌≡◌, ◌≤◌};
-ghost use Rattle.asm_formats.specs.Items.{marks_item};
-ghost use Rattle.asm_formats.specs.Values.{decoded_item};
-ghost use Rattle.std.specs.Option.{option_map};
-ghost use Rattle.staleness_directory.specs.Marks.{are_marks, chunk_key, marks_to, read_marks};
+ghost use Rattle.staleness_directory.specs.Marks.{are_marks, marks_to};
 
 use std::marker::Model;
 
@@ -51,27 +48,8 @@ impl Marks {
     }
 }
 
-/// The marks of a file's chunk that a value has, or None where their record isn't of the formats.
-pub fn marks_of(file: u32, chunk: u32, bytes: &[u8]) -> Option<Marks>
-    ensures { option_map (marks_item file chunk) result ≡ decoded_item (chunk_key file chunk) bytes.now }
-{
-    read_marks(chunk, bytes)
-}
-
-#[tactic(auto, unfolding(crate::specs::Marks::read_marks))]
-fn read_marks(chunk: u32, bytes: &[u8]) -> Option<Marks>
-    ensures { result ≡ read_marks chunk bytes.now }
-{
-    if chunk == u32::MAX || bytes.len() != 256 || !are_marks(bytes) {
-        return None;
-    }
-    let mut bits = [0; 256];
-    bits.copy_from_slice(bytes);
-    Some(Marks { bits })
-}
-
 /// An extent has three copies at most.
-fn are_marks(bytes: &[u8]) -> bool
+pub(crate) fn are_marks(bytes: &[u8]) -> bool
     ensures { result ≡ are_marks bytes.now }
 {
     bytes.iter().all(|marks| *marks < 8)

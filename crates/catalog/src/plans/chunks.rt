@@ -13,7 +13,7 @@ use crate::plans::making::{no_memory, two_put};
 use crate::plans::moves::unit_fits;
 use asm_base::{Change, Home, Homes, NoMemory, Refusal};
 use extent_map::chunk_record;
-use staleness_directory::{Marks, StaleTable};
+use staleness_directory::{Marks, marks_record};
 use std::alloc::Global;
 
 impl Catalog {
@@ -94,7 +94,7 @@ impl Catalog {
         put_behind(&mut bits, extents.count(), marks);
         extents.append(homes);
         let entry = chunk_record(alloc, at, &extents)?;
-        let marks = StaleTable::to_record(alloc, at, &bits)?;
+        let marks = marks_record(alloc, at, &bits)?;
         two_put(alloc, entry, marks)
     }
 }

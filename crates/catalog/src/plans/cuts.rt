@@ -11,7 +11,7 @@ use crate::catalog::Catalog;
 use crate::plans::making::{no_memory, two_gone, two_put};
 use asm_base::{Change, Key, NoMemory, Refusal, Value, record_kind};
 use extent_map::chunk_record;
-use staleness_directory::StaleTable;
+use staleness_directory::marks_record;
 use std::alloc::Global;
 
 impl Catalog {
@@ -90,6 +90,6 @@ impl Catalog {
         let at = (file, chunk);
         let mut marks = self.chunk_marks(at);
         marks.cut(kept as usize);
-        StaleTable::to_record(alloc, at, &marks)
+        marks_record(alloc, at, &marks)
     }
 }

@@ -9,7 +9,7 @@ ghost use Rattle.catalog.specs.Plans.{IsPlan};
 use crate::catalog::Catalog;
 use crate::plans::making::{no_memory, one_put};
 use asm_base::{Change, ExtentId, Key, NoMemory, Refusal, Value};
-use staleness_directory::{Marks, StaleTable};
+use staleness_directory::{Marks, marks_record};
 use std::alloc::Global;
 
 impl Catalog {
@@ -60,7 +60,7 @@ impl Catalog {
         let at = (x.file, x.index / 256);
         let mut changed = self.chunk_marks(at);
         changed.bits[(x.index % 256) as usize] = marks;
-        StaleTable::to_record(alloc, at, &changed)
+        marks_record(alloc, at, &changed)
     }
 
     /// The marks of a chunk, none of which are set where it isn't there.

@@ -4,7 +4,7 @@ ghost use Rattle.directory_store.specs.Contents.{ArePutItems, IsPutItem};
 
 use crate::stores::trials::no_change;
 use asm_base::{Change, Key, NoMemory, Value};
-use staleness_directory::{Marks, StaleTable};
+use staleness_directory::{Marks, marks_record};
 use std::alloc::Global;
 
 /// The key of the marks of a chunk of file 1.
@@ -24,7 +24,7 @@ fn stale_record(alloc: Global, chunk: u32, mark: u8) -> Result<Option<(Key, Valu
     if !marks.is_allowed(1, chunk) {
         return Ok(None);
     }
-    let made = StaleTable::to_record(alloc, (1, chunk), &marks)?;
+    let made = marks_record(alloc, (1, chunk), &marks)?;
     Ok(Some(made))
 }
 

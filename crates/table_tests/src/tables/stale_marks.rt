@@ -5,7 +5,7 @@ ghost use Rattle.staleness_directory.specs.Marks.{IsTable};
 use crate::helpers::{Wrong, all_right};
 use crate::tables::given::{no_change, put, value};
 use asm_base::{Key, Records};
-use staleness_directory::{Marks, StaleTable};
+use staleness_directory::{Marks, StaleTable, marks_record};
 use std::alloc::Global;
 
 /// What is asked of the table of file 256, and what it must answer.
@@ -96,7 +96,7 @@ fn is_put(alloc: Global, table: &mut StaleTable, chunk: u32, len: usize) -> Opti
     let zeros = [0; 256];
     match value(alloc, zeros.get(..len)?) {
         Some(value) => {
-            let is_put = table.put_record(key(chunk), &value).ok();
+            let is_put = table.put_record(alloc, key(chunk), &value).ok();
             drop(value);
             is_put
         }
@@ -108,7 +108,7 @@ fn has_record(alloc: Global, table: &StaleTable, chunk: u32, marks: u8) -> bool 
     let Some(found) = table.get((256, chunk)) else {
         return false;
     };
-    match StaleTable::to_record(alloc, (256, chunk), found) {
+    match marks_record(alloc, (256, chunk), found) {
         Ok((at, value)) => {
             let is_same = at == key(chunk) && value.as_bytes() == bits(marks).as_slice();
             drop(value);
