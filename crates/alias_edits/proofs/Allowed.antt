@@ -13,7 +13,7 @@ use Rattle.asm_group.specs.Refusal as r
 use Rattle.asm_group.specs.Causes.{Causes, first_cause}
 use Rattle.asm_group.specs.TreeEdits.{up, last_part, is_root, is_there, is_dir, is_dir_node, is_dir_entry, entry_at, lacks_parent, new_name_causes}
 use Rattle.asm_formats.specs.Items.{Node}
-use Rattle.asm_base.proofs.Exact.{some_is}
+use Rattle.alias_tree.proofs.asm_base.Exact.{some_is}
 use Rattle.alias_tree.specs.Nodes.{Numbered, node_at, number_of, is_directory, kind_is_directory, IsTable, child}
 use Rattle.asm_formats.specs.Nodes.{node_kind, entry_of_node}
 use Rattle.alias_tree.specs.Trees.{tree_of, number_by}

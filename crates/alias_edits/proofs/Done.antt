@@ -13,7 +13,7 @@ use Rattle.asm_group.specs.Refusal as r
 use Rattle.asm_group.specs.Causes.{first_cause}
 use Rattle.asm_group.specs.TreeEdits.{up, last_part, is_root, is_there, is_dir, is_file, is_under, is_system_entry, file_of_node, file_of_entry, entry_at, has_entries, lacks_parent, edit_causes, DropDir, DropAlias, RenameAlias, new_name_causes}
 use Rattle.asm_formats.specs.Items.{Node, node_item, is_item}
-use Rattle.asm_base.proofs.Exact.{some_is}
+use Rattle.alias_tree.proofs.asm_base.Exact.{some_is}
 use Rattle.alias_edits.specs.Edits.{HangsAt, IsMoved, are_parts}
 use Rattle.alias_tree.specs.Numbers.{IsLeastFree}
 use Rattle.alias_tree.specs.Nodes.{Numbered, node_at, number_of, number_from, with_node, without_node, is_directory, kind_is_directory, IsTable, child}

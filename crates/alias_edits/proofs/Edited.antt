@@ -15,7 +15,7 @@ use Rattle.asm_group.specs.Causes.{first_cause}
 use Rattle.asm_group.specs.TreeEdits as e
 use Rattle.asm_group.specs.TreeEdits.{Tree, last_part, up, is_there, is_dir, is_file, is_system_entry, file_at, entry_at, lacks_parent, has_alias}
 use Rattle.asm_formats.specs.Items.{Node}
-use Rattle.asm_base.proofs.Exact.{some_is}
+use Rattle.alias_tree.proofs.asm_base.Exact.{some_is}
 use Rattle.alias_edits.specs.Edits.{HangsAt, PutsNode, PutsAlias, RemovesNode, MovesNode, RemovesNames}
 use Rattle.alias_tree.specs.Numbers.{is_name_of}
 use Rattle.alias_tree.specs.Nodes.{Numbered, node_at, number_of, with_node, without_node, is_directory, kind_is_directory, IsTable}

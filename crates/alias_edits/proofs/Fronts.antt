@@ -12,7 +12,7 @@ use Rattle.asm_group.specs.Causes.{first_cause}
 use Rattle.asm_group.specs.TreeEdits.{Tree, up, last_part, is_root, is_there, is_dir, is_dir_entry}
 use Rattle.asm_formats.specs.Items.{Node}
 use Rattle.asm_formats.specs.Nodes.{entry_of_node}
-use Rattle.asm_base.proofs.Exact.{some_is}
+use Rattle.alias_tree.proofs.asm_base.Exact.{some_is}
 use Rattle.alias_edits.specs.Filing.{missing_dirs, with_dir, with_dirs, is_no_dir, has_no_dir, is_below_file, file_causes, may_hang, Reaches, IsFront, IsFree}
 use Rattle.alias_tree.specs.Nodes.{Numbered, node_at, child, is_directory, IsTable}
 use Rattle.alias_tree.specs.Trees.{tree_of, number_by}

@@ -13,8 +13,8 @@ use Rattle.asm_group.specs.Names.{Bytes, Path}
 use Rattle.asm_group.specs.Group.{TreeEntry}
 use Rattle.asm_group.specs.TreeEdits.{Tree, names_file, is_entry, without_file}
 use Rattle.asm_formats.specs.Items.{Node}
-use Rattle.asm_base.specs.Tables.{IsItemTable}
-use Rattle.asm_base.proofs.Exact.{some_is}
+use Rattle.alias_tree.specs.asm_base.Tables.{IsItemTable}
+use Rattle.alias_tree.proofs.asm_base.Exact.{some_is}
 use Rattle.alias_tree.specs.Numbers.{is_name_of}
 use Rattle.alias_tree.specs.Nodes.{Numbered, item_of, is_before, node_at, IsTable, child}
 use Rattle.asm_formats.specs.Nodes.{node_kind, entry_of_node}

@@ -1,3 +1,4 @@
+pub use Rattle.alias_tree.proofs as alias_tree
 pub mod Allowed
 pub mod Growing
 pub mod Done

@@ -21,7 +21,7 @@ use Rattle.asm_group.specs.Causes.{first_cause}
 use Rattle.asm_group.specs.TreeEdits as e
 use Rattle.asm_group.specs.TreeEdits.{Tree, last_part, up, is_under, moved_key, moved_entry, edit_causes, changed, RenameDir}
 use Rattle.asm_formats.specs.Items.{Node}
-use Rattle.asm_base.proofs.Exact.{some_is}
+use Rattle.alias_tree.proofs.asm_base.Exact.{some_is}
 use Rattle.alias_edits.specs.Edits.{IsMoved, MovesNode}
 use Rattle.alias_tree.specs.Nodes.{Numbered, node_at, with_node, IsTable, child}
 use Rattle.asm_formats.specs.Nodes.{node_kind, entry_of_node}

@@ -11,8 +11,8 @@ use Rattle.asm_group.specs.Refusal as r
 use Rattle.asm_group.specs.Causes.{first_cause}
 use Rattle.asm_group.specs.TreeEdits.{last_part, up, is_root, is_there, is_dir, is_dir_entry, is_under, entry_at, lacks_parent, edit_causes, RenameDir}
 use Rattle.asm_formats.specs.Items.{Node, node_item, is_item}
-use Rattle.asm_base.specs.Tables.{IsItemTable}
-use Rattle.asm_base.proofs.Exact.{some_is}
+use Rattle.alias_tree.specs.asm_base.Tables.{IsItemTable}
+use Rattle.alias_tree.proofs.asm_base.Exact.{some_is}
 use Rattle.alias_edits.specs.Edits.{IsMoved, are_parts}
 use Rattle.alias_tree.specs.Nodes.{Numbered, item_of, is_before, node_at, with_node, is_directory, kind_is_directory, reaches_root, IsTable}
 use Rattle.alias_tree.specs.Trees.{tree_of, number_by}

@@ -14,8 +14,8 @@ ghost use Rattle.alias_tree.specs.Trees.{tree_of};
 
 use crate::causes::{above, is_directory};
 use crate::editing::TreeError;
+use alias_tree::asm_base_crate::{Name, NoMemory, NodeKind, Path};
 use alias_tree::{AliasTree, Node};
-use asm_base::{Name, NoMemory, NodeKind, Path};
 use std::alloc::Global;
 
 /// The directories of a path that are there.

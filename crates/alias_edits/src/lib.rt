@@ -1,6 +1,8 @@
 //! Edits of the tree of names: making, renaming and dropping directories and aliases, and the names of files.
 #![tactic(auto)]
 
+pub use alias_tree as alias_tree_crate;
+
 mod causes;
 mod changing;
 mod editing;

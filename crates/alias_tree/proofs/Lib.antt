@@ -1,3 +1,4 @@
+pub use Rattle.asm_base.proofs as asm_base
 pub mod Readings
 pub mod PlaceLaws
 pub mod IndexLaws

@@ -1,3 +1,4 @@
+pub use Rattle.asm_base.specs as asm_base
 pub mod Nodes
 pub mod Readings
 pub mod Places

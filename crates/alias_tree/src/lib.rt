@@ -2,6 +2,8 @@
 //! nodes. A name leads to the same node in any case of its letters.
 #![tactic(auto)]
 
+pub use asm_base as asm_base_crate;
+
 mod faults;
 mod files;
 mod index;

@@ -1,3 +1,4 @@
+pub use Rattle.asm_formats.proofs as asm_formats
 pub mod Exact
 pub mod Numbers
 pub mod Sets

@@ -1,3 +1,5 @@
+pub use Rattle.asm_formats.specs as asm_formats
+pub use Rattle.asm_group.specs as asm_group
 pub mod Readings
 pub mod Cursors
 pub mod Records

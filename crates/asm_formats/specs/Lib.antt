@@ -1,3 +1,4 @@
+pub use Rattle.asm_group.specs as asm_group
 pub mod Bytes
 pub mod Regions
 pub mod Codes

@@ -1,3 +1,4 @@
+pub use Rattle.asm_placement.proofs as asm_placement
 pub mod Membership
 pub mod Codecs
 pub mod Members

@@ -4,7 +4,7 @@ use Rattle.std.specs.List.{list_all}
 use Rattle.std.specs.Prelude.{if◌then◌else◌}
 use Rattle.std.proofs.lemmas.Bool.{cond_both, and_parts, not-true, eq-eqb, ne_eqb, eqb-true, leb-true, or_left, or_right}
 use Rattle.std.proofs.lemmas.Option.{same_Some, none-some}
-use Rattle.asm_group.specs.Shape.{Shape}
+use Rattle.asm_formats.specs.asm_group.Shape.{Shape}
 use Rattle.asm_formats.specs.Status.{Entry, entry_of, ascends_from}
 use Rattle.asm_formats.specs.Items.{Item, Home, Homes}
 use Rattle.asm_formats.specs.Among.{IsAmong}

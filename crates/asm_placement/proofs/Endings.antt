@@ -4,7 +4,7 @@ use Rattle.std.specs.List.{list_all, list_any}
 use Rattle.std.specs.Option.{is_some, is_none, option_or, option_map, option_and_then, unwrap_or}
 use Rattle.std.proofs.lemmas.Bool.{and_parts, not-true, and_from, eq-eqb, ne_eqb, eqb-true, both_ways, or_cases, or_left, or_right}
 use Rattle.std.proofs.lemmas.Option.{same_Some, none-some}
-use Rattle.asm_group.specs.Shape.{Shape}
+use Rattle.asm_formats.specs.asm_group.Shape.{Shape}
 use Rattle.asm_formats.specs.Status.{Status, Entry}
 use Rattle.asm_formats.specs.Items.{Item, Home}
 use Rattle.asm_formats.specs.Among.{IsAmong}

@@ -3,7 +3,7 @@ use Rattle.std.proofs.Common.{◌≡◌, inl, inr, ℕ, ◌+◌, ◌*◌, ◌/�
 use Rattle.std.specs.Prelude.{if◌then◌else◌}
 use Rattle.std.proofs.lemmas.Bool.{cond_both, and_parts, eq-eqb, ne_eqb, cases_eq, leb-true}
 use Rattle.std.proofs.lemmas.Option.{same_Some}
-use Rattle.asm_group.specs.Shape.{Shape}
+use Rattle.asm_formats.specs.asm_group.Shape.{Shape}
 use Rattle.asm_formats.specs.Status.{Entry, entry_of, ascends_from}
 use Rattle.asm_formats.specs.Items.{Item}
 use Rattle.asm_formats.specs.Among.{IsAmong}

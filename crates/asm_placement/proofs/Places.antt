@@ -3,8 +3,8 @@ use Rattle.std.proofs.Common.{◌≡◌, ℕ, ◌+◌, ◌-◌, ◌*◌, ◌/◌
 use Rattle.std.specs.Prelude.{◌↔◌, IsTrue}
 use Rattle.std.proofs.lemmas.Bool.{cases_lt, ltb-true, lt-ltb}
 use Rattle.std.proofs.lemmas.Nat.{div-add-mod'}
-use Rattle.asm_group.specs.declared.Stripe.{Stripe}
-use Rattle.asm_group.specs.declared.Stripe.TheVariants.{Coarse, Fine}
+use Rattle.asm_formats.specs.asm_group.declared.Stripe.{Stripe}
+use Rattle.asm_formats.specs.asm_group.declared.Stripe.TheVariants.{Coarse, Fine}
 use Rattle.asm_placement.specs.Layout.{extent_len, start, chunk_of, first_of_set, has_extent, extents_at_once, LiesAt, IsLayout}
 use Rattle.asm_placement.proofs.Starts.{IsInOrder, one_place, in_first, in_second_left, in_third_left, start_far, start_le, start_past}
 use Rattle.asm_placement.proofs.Sets.{IsFine, one_fine_place, fine_from_order, in_its_set, set_start}

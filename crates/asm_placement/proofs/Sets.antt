@@ -3,7 +3,7 @@ use Rattle.std.proofs.Common.{◌≡◌, ℕ, zero, suc, ◌+◌, ◌*◌, ◌/�
 use Rattle.std.proofs.lemmas.Bool.{cases_lt}
 use Rattle.std.proofs.lemmas.Nat.{div_below, div-add-mod', mod_below, div-mul-add, mod-mul-add, same_from_place, mul-add-lt}
 use Rattle.std.proofs.Math.Nat.{mul_assoc, mul_comm, mul-le-mul_right}
-use Rattle.asm_group.specs.declared.Stripe.TheVariants.{Fine}
+use Rattle.asm_formats.specs.asm_group.declared.Stripe.TheVariants.{Fine}
 use Rattle.asm_placement.specs.Layout.{units_of, extent_len, start, chunk_of, file_byte}
 use Rattle.asm_placement.proofs.Starts.{IsInOrder, units_first, units_second, units_third, start_next, start_le}
 use Rattle.asm_placement.proofs.Units.{IsUnit}

@@ -4,8 +4,8 @@ use Rattle.std.specs.Prelude.{if◌then◌else◌, find, nat_lt}
 use Rattle.std.specs.List.{list_any, flat_map, range_with_len}
 use Rattle.std.proofs.lemmas.Bool.{cond_both, and_parts, not-true, and_from, eq-eqb, ne_eqb, eqb-true, both_ways, cases_eq, or_cases, or_left, or_right, ltb-true, le-ltb}
 use Rattle.std.proofs.lemmas.Option.{same_Some, none-some}
-use Rattle.asm_group.specs.declared.GroupKind.{GroupKind}
-use Rattle.asm_group.specs.Shape.{Shape}
+use Rattle.asm_formats.specs.asm_group.declared.GroupKind.{GroupKind}
+use Rattle.asm_formats.specs.asm_group.Shape.{Shape}
 use Rattle.asm_formats.specs.Sets.{has_bit, elements}
 use Rattle.asm_formats.specs.Status.{Status, Entry, entry_of, ascends_from}
 use Rattle.asm_formats.specs.Among.{IsAmong}

@@ -5,7 +5,7 @@ use Rattle.std.specs.List.{list_any, list_all}
 use Rattle.std.proofs.lemmas.Bool.{cases_eq, eqb-true, ne_eqb, ltb-true, leb-true}
 use Rattle.std.proofs.lemmas.Nat.{mul-le}
 use Rattle.std.specs.Int.{is_in_range}
-use Rattle.asm_group.specs.Shape.{unit_sizes, is_unit_size, is_step}
+use Rattle.asm_formats.specs.asm_group.Shape.{unit_sizes, is_unit_size, is_step}
 use Rattle.asm_placement.specs.Layout.{chunk_of, IsLayout}
 
 and_both : (a b : Bool) → (a && b) ≡ true → (a ≡ true) × (b ≡ true)

@@ -5,7 +5,7 @@ use Rattle.std.specs.List.{list_all}
 use Rattle.std.proofs.lemmas.Bool.{cond_both, and_parts, not-true, eq-eqb, eqb-true, both_ways}
 use Rattle.std.proofs.lemmas.Option.{same_Some, none-some}
 use Rattle.std.proofs.lemmas.Nat.{div-add-mod'}
-use Rattle.asm_group.specs.Shape.{Shape}
+use Rattle.asm_formats.specs.asm_group.Shape.{Shape}
 use Rattle.asm_formats.specs.Items.{Item, chunk_item, marks_item, Home, Homes, chunk_len, key, is_same_key}
 use Rattle.asm_formats.specs.Among.{IsAmong}
 use Rattle.asm_placement.specs.Layout.{units_of}

@@ -1,6 +1,6 @@
 -- What the end of a rebalance says, and what full extents bear.
 use Rattle.std.specs.Prelude.{◌≡◌, ℕ, ◌<◌, true, false, ◌&&◌, ◌||◌, List, length, None, Some}
-use Rattle.asm_group.specs.Shape.{Shape}
+use Rattle.asm_formats.specs.asm_group.Shape.{Shape}
 use Rattle.asm_formats.specs.Status.{Status, Entry}
 use Rattle.asm_formats.specs.Items.{Item}
 use Rattle.asm_formats.specs.Among.{IsAmong}

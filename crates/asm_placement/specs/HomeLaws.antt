@@ -1,7 +1,7 @@
 -- What holds of the homes that are chosen for a new extent.
 use Rattle.std.specs.Prelude.{◌≡◌, ℕ, ◌<◌, Bool, true, ◌&&◌, not, List, [], ◌∷◌, map, length, Some, IsTrue}
 use Rattle.std.specs.List.{list_all}
-use Rattle.asm_group.specs.Shape.{Shape}
+use Rattle.asm_formats.specs.asm_group.Shape.{Shape}
 use Rattle.asm_formats.specs.Status.{Entry, ascends_from}
 use Rattle.asm_formats.specs.Items.{Item, Homes}
 use Rattle.asm_formats.specs.Among.{IsAmong}

@@ -1,8 +1,8 @@
 -- Where a file's bytes lie on its extents.
 use Rattle.std.specs.Prelude.{◌≡◌, ℕ, zero, suc, ◌+◌, ◌*◌, ◌/◌, ◌%◌, ◌<◌, Bool, if◌then◌else◌, nat_lt, min, IsTrue}
-use Rattle.asm_group.specs.declared.Stripe.{Stripe}
-use Rattle.asm_group.specs.declared.Stripe.TheVariants.{Coarse, Fine}
-use Rattle.asm_group.specs.Shape.{is_unit_size, is_step}
+use Rattle.asm_formats.specs.asm_group.declared.Stripe.{Stripe}
+use Rattle.asm_formats.specs.asm_group.declared.Stripe.TheVariants.{Coarse, Fine}
+use Rattle.asm_formats.specs.asm_group.Shape.{is_unit_size, is_step}
 
 -- units of extent i: 1 below the step, 4 below twice the step, and 16 from there
 unfoldable pub units_of : ℕ → ℕ → ℕ

@@ -1,6 +1,6 @@
 -- What holds of every layout.
 use Rattle.std.specs.Prelude.{◌≡◌, ℕ, ◌%◌, ◌<◌, ◌≤◌, ◌↔◌, IsTrue}
-use Rattle.asm_group.specs.declared.Stripe.{Stripe}
+use Rattle.asm_formats.specs.asm_group.declared.Stripe.{Stripe}
 use Rattle.asm_placement.specs.Layout.{start, extents_at_once, LiesAt, has_extent, IsLayout}
 
 -- a byte lies at one place only

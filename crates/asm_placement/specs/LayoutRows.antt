@@ -1,6 +1,6 @@
 -- Worked values of layouts.
 use Rattle.std.specs.Prelude.{◌≡◌, ◌*◌, true, false}
-use Rattle.asm_group.specs.declared.Stripe.TheVariants.{Coarse, Fine}
+use Rattle.asm_formats.specs.asm_group.declared.Stripe.TheVariants.{Coarse, Fine}
 use Rattle.asm_placement.specs.Layout.{units_of, start, LiesAt, has_extent}
 
 -- extents of 1, 4 and 16 units, with a step of 20,000

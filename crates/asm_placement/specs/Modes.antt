@@ -1,7 +1,7 @@
 -- What a disk's mode and kind allow.
 use Rattle.std.specs.Prelude.{Bool, true, false, ◌&&◌, ◌||◌, not, Option, Some, None}
-use Rattle.asm_group.specs.declared.Mode.{Mode}
-use Rattle.asm_group.specs.declared.Mode.TheVariants.{Online, Offline, Syncing, Dropping, Forced}
+use Rattle.asm_formats.specs.asm_group.declared.Mode.{Mode}
+use Rattle.asm_formats.specs.asm_group.declared.Mode.TheVariants.{Online, Offline, Syncing, Dropping, Forced}
 use Rattle.asm_formats.specs.Status.{Entry}
 
 abbrev pub is_online : Mode → Bool

@@ -2,11 +2,11 @@
 use Rattle.std.specs.Prelude.{◌≡◌, ℕ, zero, suc, ◌+◌, ◌/◌, Bool, true, false, ◌&&◌, not, List, [], ◌∷◌, ◌++◌, ◌==◌, map, take, replicate, unwrap_or, Option, Some, None, IsTrue, if◌then◌else◌}
 use Rattle.std.specs.List.{list_all, range_with_len}
 use Rattle.std.specs.Bool.{beq}
-use Rattle.asm_group.specs.declared.GroupKind.TheVariants.{External, Normal, High}
-use Rattle.asm_group.specs.declared.Stripe.TheVariants.{Coarse}
-use Rattle.asm_group.specs.declared.Mode.{Mode}
-use Rattle.asm_group.specs.declared.Mode.TheVariants.{Online, Dropping, Forced}
-use Rattle.asm_group.specs.Shape.{Shape}
+use Rattle.asm_formats.specs.asm_group.declared.GroupKind.TheVariants.{External, Normal, High}
+use Rattle.asm_formats.specs.asm_group.declared.Stripe.TheVariants.{Coarse}
+use Rattle.asm_formats.specs.asm_group.declared.Mode.{Mode}
+use Rattle.asm_formats.specs.asm_group.declared.Mode.TheVariants.{Online, Dropping, Forced}
+use Rattle.asm_formats.specs.asm_group.Shape.{Shape}
 use Rattle.asm_formats.specs.Status.{Status, Entry}
 use Rattle.asm_formats.specs.Items.{Item, file_item, chunk_item, Home, Homes}
 use Rattle.asm_placement.specs.Partners.{partners, are_partners, with_partners}

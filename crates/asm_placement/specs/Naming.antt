@@ -1,7 +1,7 @@
 -- What single records of a directory content say of one another: nodes and files, files and the pending operation, entries and disk records.
 use Rattle.std.specs.Prelude.{ℕ, Bool, true, false, ◌&&◌, ◌==◌, Option, Some, None}
-use Rattle.asm_group.specs.declared.NodeKind.{NodeKind}
-use Rattle.asm_group.specs.declared.NodeKind.TheVariants.{Directory, System, Alias}
+use Rattle.asm_formats.specs.asm_group.declared.NodeKind.{NodeKind}
+use Rattle.asm_formats.specs.asm_group.declared.NodeKind.TheVariants.{Directory, System, Alias}
 use Rattle.asm_formats.specs.Items.{DiskInfo, FileHead, Node, Pending, is_directory_kind}
 
 abbrev pub is_directory : NodeKind → Bool

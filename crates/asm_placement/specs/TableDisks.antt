@@ -2,8 +2,8 @@
 use Rattle.std.specs.Prelude.{ℕ, zero, suc, Bool, ◌&&◌, ◌||◌, not, List, [], ◌++◌, length, take, drop, find, filter, map, flat_map, if◌then◌else◌, nat_lt, nat_le, ◌==◌, Option, Some, None, min}
 use Rattle.std.specs.List.{list_any}
 use Rattle.std.specs.Option.{option_map}
-use Rattle.asm_group.specs.declared.GroupKind.{GroupKind}
-use Rattle.asm_group.specs.declared.GroupKind.TheVariants.{External, Normal, High}
+use Rattle.asm_formats.specs.asm_group.declared.GroupKind.{GroupKind}
+use Rattle.asm_formats.specs.asm_group.declared.GroupKind.TheVariants.{External, Normal, High}
 use Rattle.asm_formats.specs.Sets.{has_bit, elements}
 use Rattle.asm_formats.specs.Status.{Status, Entry, entry_of}
 use Rattle.asm_placement.specs.Modes.{is_online, leaves, stays, is_target, mode_is}

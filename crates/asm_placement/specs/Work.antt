@@ -2,7 +2,7 @@
 use Rattle.std.specs.Prelude.{◌≡◌, ◌⊎◌, ℕ, suc, ◌+◌, ◌-◌, ◌<◌, Bool, true, ◌&&◌, not, List, [], ◌∷◌, length, if◌then◌else◌, ◌==◌, Option, None, Some, IsTrue}
 use Rattle.std.specs.List.{list_all}
 use Rattle.std.specs.Option.{is_none}
-use Rattle.asm_group.specs.Shape.{Shape}
+use Rattle.asm_formats.specs.asm_group.Shape.{Shape}
 use Rattle.asm_formats.specs.Status.{Status, Entry, is_status}
 use Rattle.asm_formats.specs.Items.{Item, is_item, key, is_same_key}
 use Rattle.asm_placement.specs.Modes.{is_online, leaves}

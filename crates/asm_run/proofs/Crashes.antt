@@ -15,16 +15,16 @@ use Rattle.asm_world.specs.Reply.{Reply}
 use Rattle.asm_world.specs.Run.{State, Entry, Move, Answers, IsMove, IsRun, IsHeldNow, end_of}
 use Rattle.asm_world.specs.RunLaws.{Grows, IsQuiet}
 use Rattle.asm_world.specs.World.{World, SessionEntry, groups_of, has_mounted}
-use Rattle.group_mount.specs.Mounting.{Allows}
-use Rattle.group_disks.specs.Found.{Counts}
+use Rattle.serving.specs.group_mount.Mounting.{Allows}
+use Rattle.serving.specs.group_disks.Found.{Counts}
 use Rattle.serving.specs.Acts.{Holding}
-use Rattle.session.specs.Claims.{held_outside, IsProvedApartIn}
-use Rattle.session.specs.Meaning.{meaning}
-use Rattle.session.specs.Sessions.{Roster}
-use Rattle.session_claims.specs.Claims.{IsPaired, IsStanding, StandsFor}
-use Rattle.session_claims.proofs.Images.{same_sound, same_member, all_stand}
-use Rattle.session_claims.proofs.Members.{one_holds}
-use Rattle.session_claims.proofs.Pairs.{mounted_pair}
+use Rattle.serving.specs.session.Claims.{held_outside, IsProvedApartIn}
+use Rattle.serving.specs.session.Meaning.{meaning}
+use Rattle.serving.specs.session.Sessions.{Roster}
+use Rattle.serving.specs.session_claims.Claims.{IsPaired, IsStanding, StandsFor}
+use Rattle.serving.proofs.session_claims.Images.{same_sound, same_member, all_stand}
+use Rattle.serving.proofs.session_claims.Members.{one_holds}
+use Rattle.serving.proofs.session_claims.Pairs.{mounted_pair}
 use Rattle.world_steps.specs.Runs.{AllFrom, IsRunFrom}
 use Rattle.world_steps.specs.Told.{AreIdsApart}
 use Rattle.world_steps.proofs.Runs.{is_run, joins}

@@ -10,17 +10,17 @@ use Rattle.asm_world.specs.Run.{State, Phase, Resting, Entry, IsGenerated, IsPri
 use Rattle.asm_world.proofs.Histories.{marks_rise_by}
 use Rattle.asm_world.specs.RunLaws.{RisesFrom}
 use Rattle.asm_world.specs.World.{World}
-use Rattle.group_disks.specs.Found.{Counts, counts_of}
+use Rattle.serving.specs.group_disks.Found.{Counts, counts_of}
 use Rattle.script.specs.Script.{cut, commands_of, ended_commands}
 use Rattle.serving.specs.declared.stop.Stop.{Stop}
 use Rattle.serving.specs.declared.stop.Stop.TheVariants.{ReadFault, WriteFault, NoMemory, TooLong}
-use Rattle.group_engine.specs.Mounts.{MountedGroup}
+use Rattle.serving.specs.group_engine.Mounts.{MountedGroup}
 use Rattle.serving.specs.declared.manner.Manner.{Manner}
 use Rattle.serving.specs.declared.manner.Manner.TheVariants.{InShort}
 use Rattle.serving.specs.Acts.{scene}
 use Rattle.serving.specs.Manners.{AreTold}
-use Rattle.session.specs.Quiet.{quiet}
-use Rattle.session.specs.Sessions.{Roster, SessionView, roster, roster_of}
+use Rattle.serving.specs.session.Quiet.{quiet}
+use Rattle.serving.specs.session.Sessions.{Roster, SessionView, roster, roster_of}
 use Rattle.serving.specs.Serves.{limit, IsFront, AreCommandsAnswered, Serves, is_whole}
 use Rattle.asm_run.specs.Headline.{first_state, status_number, GeneratedRun, RunOutcome, Transcript}
 use Rattle.asm_run.proofs.Counting.{count-generated}

@@ -12,14 +12,14 @@ use Rattle.asm_world.specs.RunLaws.{RisesFrom}
 use Rattle.asm_world.specs.World.{World}
 use Rattle.command_line.specs.Command.{number_in}
 use Rattle.command_line.specs.Paths.{Text}
-use Rattle.group_disks.specs.Found.{Counts, counts_of}
+use Rattle.serving.specs.group_disks.Found.{Counts, counts_of}
 use Rattle.script.specs.Script.{commands_of, ended_commands}
 use Rattle.serving.specs.declared.stop.Stop.{Stop}
 use Rattle.serving.specs.declared.stop.Stop.TheVariants.{ReadFault, WriteFault, NoMemory, TooLong}
-use Rattle.session.specs.Claims.{outside, held_outside, IsProvedApartIn}
-use Rattle.session.specs.Effects.{Past}
-use Rattle.session.specs.Proved.{IsProvedIn}
-use Rattle.session.specs.Quiet.{quiet}
+use Rattle.serving.specs.session.Claims.{outside, held_outside, IsProvedApartIn}
+use Rattle.serving.specs.session.Effects.{Past}
+use Rattle.serving.specs.session.Proved.{IsProvedIn}
+use Rattle.serving.specs.session.Quiet.{quiet}
 use Rattle.serving.specs.Serves.{limit, IsFront}
 use Rattle.world_steps.specs.Runs.{AllFrom, IsRunFrom}
 use Rattle.asm_run.specs.Crash.{StartsAs, AreHeld, IsCrashSafe}

@@ -3,8 +3,7 @@ ghost use Rattle.std.specs.Prelude.{◌≡◌, [], length};
 ghost use Rattle.asm_run.specs.Headline.{status_number};
 
 use bay::{Bay, Clock, Host, Sink};
-use serving::{Program, Stop};
-use session::Desk;
+use serving::{Desk, Program, Stop};
 use std::alloc::Global;
 
 /// How a run ended: its status, how many replies were printed whole, the count of the disks' calls at the end of each of these,

@@ -6,7 +6,7 @@ use Rattle.asm_group.specs.Names.{Bytes, is_same_name}
 use Rattle.asm_group.specs.Shape.{Shape, is_dir_blocks, is_step, is_unit_size}
 use Rattle.asm_group.specs.Group.{Attributes}
 use Rattle.asm_group.specs.NewGroup.{usual_attributes}
-use Rattle.asm_formats.specs.Items.{Settings, is_item, settings_item}
+use Rattle.template_directory.specs.asm_formats.Items.{Settings, is_item, settings_item}
 use Rattle.asm_grammar.specs.Word.{number_of, size_of}
 use Rattle.asm_world.specs.Settings as world
 use Rattle.asm_world.specs.Settings.{when, with_attribute, with_creation_attribute, with_shape}

@@ -6,8 +6,8 @@ use Rattle.std.specs.Str.{bytes_eq}
 use Rattle.std.proofs.lemmas.Bool.{and_from, and_parts, lt-ltb, ltb-true}
 use Rattle.asm_group.specs.Names.{Bytes, folded_byte, is_same_name}
 use Rattle.asm_group.specs.Group.{Attributes}
-use Rattle.asm_formats.specs.Items.{Settings, is_item, is_text, settings_item}
-use Rattle.asm_base.specs.Records.{are_bytes}
+use Rattle.template_directory.specs.asm_formats.Items.{Settings, is_item, is_text, settings_item}
+use Rattle.template_directory.specs.asm_base.Records.{are_bytes}
 use Rattle.asm_world.specs.Settings.{is_version, is_version_rest, repair_seconds, when}
 use Rattle.attribute_values.specs.Edits.{settings_with}
 

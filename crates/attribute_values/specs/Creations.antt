@@ -1,7 +1,7 @@
 -- What a creation gives of a group's shape and settings.
 use Rattle.std.specs.Prelude.{◌≡◌, ℕ, Bool, true, Option, Some, None}
 use Rattle.asm_group.specs.Shape.{Shape}
-use Rattle.asm_formats.specs.Items.{Settings, is_item, settings_item}
+use Rattle.template_directory.specs.asm_formats.Items.{Settings, is_item, settings_item}
 use Rattle.asm_world.specs.Settings as world
 use Rattle.attribute_values.specs.declared.creation.Creation.{Creation}
 

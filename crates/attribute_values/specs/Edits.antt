@@ -2,7 +2,7 @@
 use Rattle.std.specs.Prelude.{Option}
 use Rattle.std.specs.Option.{option_map}
 use Rattle.asm_group.specs.Names.{Bytes}
-use Rattle.asm_formats.specs.Items.{Settings}
+use Rattle.template_directory.specs.asm_formats.Items.{Settings}
 use Rattle.asm_world.specs.Settings.{with_attribute}
 
 -- the settings with this value of an attribute; None where there is no such name or value

@@ -2,6 +2,8 @@
 //! creation makes of them.
 #![tactic(auto)]
 
+pub use template_directory as template_directory_crate;
+
 mod creation;
 mod digits;
 mod number;

@@ -3,15 +3,15 @@
 ghost use Rattle.std.specs.Prelude.{◌≡◌, IfOk, IfSome, true, if◌then◌else◌, Some, None};
 ghost use Rattle.std.specs.Option.{option_map};
 ghost use Rattle.asm_group.specs.Names.{is_same_name};
-ghost use Rattle.asm_formats.specs.Items.{is_item, settings_item};
+ghost use Rattle.template_directory.specs.asm_formats.Items.{is_item, settings_item};
 ghost use Rattle.asm_world.specs.Settings.{is_version, repair_seconds, when};
 ghost use Rattle.attribute_values.specs.Edits.{settings_with};
 
 use crate::repair::repair_seconds;
 use crate::version::is_version;
-use asm_base::{NoMemory, Text, folded_byte};
 use std::alloc::Global;
 use template_directory::Settings;
+use template_directory::asm_base_crate::{NoMemory, Text, folded_byte};
 
 /// The settings in which an attribute that may be set at any time has this value. None where no such attribute has the name,
 /// or it can't have the value.

@@ -6,15 +6,15 @@ use Rattle.asm_formats.specs.Values.{value}
 use Rattle.asm_base.specs.Records.{Entry}
 use Rattle.asm_base.specs.Tables.{item_record}
 use Rattle.attribute_values.specs.Edits.{settings_with}
-use Rattle.template_directory.specs.Tables as templates
-use Rattle.template_directory.proofs.ChangeLaws as template_laws
-use Rattle.catalog_tables.specs.Faults.{IsCatalog, settings_key}
+use Rattle.attribute_values.specs.template_directory.Tables as templates
+use Rattle.attribute_values.proofs.template_directory.ChangeLaws as template_laws
+use Rattle.catalog_units.specs.catalog_tables.Faults.{IsCatalog, settings_key}
 use Rattle.catalog.specs.FilePlans.{IsAttributePlan}
 use Rattle.catalog.specs.Plans.{IsPlan}
-use Rattle.catalog_tables.specs.Tables.{Catalogued}
-use Rattle.catalog_tables.proofs.NewRecords.{old_room, settings_there}
+use Rattle.catalog_units.specs.catalog_tables.Tables.{Catalogued}
+use Rattle.catalog_units.proofs.catalog_tables.NewRecords.{old_room, settings_there}
 use Rattle.catalog.proofs.PlanLaws.{after_put}
-use Rattle.catalog_tables.proofs.SetLaws.{templates_set}
+use Rattle.catalog_units.proofs.catalog_tables.SetLaws.{templates_set}
 use Rattle.catalog.proofs.TemplatePlans.{with_templates}
 use Rattle.catalog.proofs.PutItems.{plan_is}
 

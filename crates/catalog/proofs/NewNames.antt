@@ -11,13 +11,13 @@ use Rattle.std.proofs.lemmas.Fmt.{length-decimal-le}
 use Rattle.std.proofs.lemmas.List.Folds.{list_all-append}
 use Rattle.std.proofs.lemmas.Slice.Eq.{bytes_eq-Decides}
 use Rattle.asm_group.specs.Names.{Bytes, Path, folded, folded_byte, is_part, is_letter, is_part_byte, is_same_name}
-use Rattle.asm_grammar.specs.Bytes as grammar
-use Rattle.asm_grammar.proofs.Written.{decimal_digits}
-use Rattle.asm_world.specs.Files.{NewName, file_name, new_name, new_path}
+use Rattle.attribute_values.specs.asm_grammar.Bytes as grammar
+use Rattle.attribute_values.proofs.asm_grammar.Written.{decimal_digits}
+use Rattle.attribute_values.specs.asm_world.Files.{NewName, file_name, new_name, new_path}
 use Rattle.asm_base.proofs.NameLaws.{part_is, part_of}
 use Rattle.alias_edits.specs.Edits.{are_parts}
 use Rattle.catalog.specs.NamePlans.{HasParts, name_at}
-use Rattle.catalog_tables.proofs.NumberedLists.{either}
+use Rattle.catalog_units.proofs.catalog_tables.NumberedLists.{either}
 
 -- ---- parts
 

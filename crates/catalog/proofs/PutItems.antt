@@ -10,15 +10,15 @@ use Rattle.asm_formats.specs.Status as status
 use Rattle.asm_formats.specs.Values.{value}
 use Rattle.asm_formats.proofs.Among.{all_among}
 use Rattle.asm_base.specs.Records.{Entry, is_key}
-use Rattle.page_map.specs.Changes.{is_gone, is_put, last_put, value_after}
-use Rattle.allocator.specs.UnitMaps.{UnitMap}
-use Rattle.catalog_tables.specs.Changing.{IsAfter}
-use Rattle.catalog_tables.specs.Placing.{HasUnits}
+use Rattle.catalog_units.specs.page_map.Changes.{is_gone, is_put, last_put, value_after}
+use Rattle.catalog_units.specs.allocator.UnitMaps.{UnitMap}
+use Rattle.catalog_units.specs.catalog_tables.Changing.{IsAfter}
+use Rattle.catalog_units.specs.catalog_tables.Placing.{HasUnits}
 use Rattle.catalog.specs.Plans.{ArePlannedItems, IsPlan}
-use Rattle.catalog_tables.specs.Rules.{KeepsRules}
-use Rattle.catalog_tables.specs.Tables.{Catalogued, Tables, item_at, records_of}
-use Rattle.catalog_tables.proofs.NewRecords.{HasRoom}
-use Rattle.catalog_tables.proofs.TableItems.{allowed, from_map, key_total, said}
+use Rattle.catalog_units.specs.catalog_tables.Rules.{KeepsRules}
+use Rattle.catalog_units.specs.catalog_tables.Tables.{Catalogued, Tables, item_at, records_of}
+use Rattle.catalog_units.proofs.catalog_tables.NewRecords.{HasRoom}
+use Rattle.catalog_units.proofs.catalog_tables.TableItems.{allowed, from_map, key_total, said}
 
 -- no two records have one key
 abbrev pub keys_apart : List Entry → Bool

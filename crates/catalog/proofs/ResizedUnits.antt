@@ -16,11 +16,11 @@ use Rattle.asm_formats.specs.Sets.{most_disks}
 use Rattle.asm_formats.specs.Status.{Entry}
 use Rattle.asm_placement.specs.Placed.{Placed}
 use Rattle.asm_base.proofs.Exact.{bind_some, some_is}
-use Rattle.allocator.specs.UnitMaps.{IsUnusedFrom, UnitMap, is_free, resized, unused, with_run}
-use Rattle.catalog_tables.specs.Placing.{AreFit, HasUnits, IsFit, OtherMapsStay, after_homes, changed_map, changed_maps, disk_units, home_taken, homes_of, is_run_free, map_units, marked, put_maps, resized_from, resized_maps, unused_maps}
-use Rattle.catalog_tables.specs.Tables.{Tables}
-use Rattle.catalog_tables.proofs.HomeUnits.{IsWhole, Takes, chunks_are_homes, is_in, not_true, replaced, run_fits, set_here, taken_is, takes, three_true, unused_at}
-use Rattle.catalog_tables.proofs.PlacingLaws.{from_all, run_is}
+use Rattle.catalog_units.specs.allocator.UnitMaps.{IsUnusedFrom, UnitMap, is_free, resized, unused, with_run}
+use Rattle.catalog_units.specs.catalog_tables.Placing.{AreFit, HasUnits, IsFit, OtherMapsStay, after_homes, changed_map, changed_maps, disk_units, home_taken, homes_of, is_run_free, map_units, marked, put_maps, resized_from, resized_maps, unused_maps}
+use Rattle.catalog_units.specs.catalog_tables.Tables.{Tables}
+use Rattle.catalog_units.proofs.catalog_tables.HomeUnits.{IsWhole, Takes, chunks_are_homes, is_in, not_true, replaced, run_fits, set_here, taken_is, takes, three_true, unused_at}
+use Rattle.catalog_units.proofs.catalog_tables.PlacingLaws.{from_all, run_is}
 
 -- ---- one map
 

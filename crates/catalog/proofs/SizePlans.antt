@@ -16,27 +16,27 @@ use Rattle.asm_formats.specs.Values.{value}
 use Rattle.asm_base.specs.Records.{Entry, is_key}
 use Rattle.asm_base.specs.Tables.{item_record}
 use Rattle.asm_placement.specs.Layout.{first_of_set, start}
-use Rattle.page_map.specs.Changes.{value_after}
-use Rattle.file_directory.specs.Files.{File, IsTable, head_at, record_of, with_head}
-use Rattle.file_directory.proofs.Laws.{put_keeps_table}
-use Rattle.extent_map.specs.Extents.{Chunked}
-use Rattle.alias_tree.specs.Nodes.{Numbered}
-use Rattle.operations_directory.specs.Operations as operations
-use Rattle.operations_directory.proofs.ChangeLaws as operation_laws
-use Rattle.catalog_tables.specs.Changing.{Sets}
-use Rattle.catalog_tables.specs.Faults.{IsCatalog, file_key}
+use Rattle.catalog_units.specs.page_map.Changes.{value_after}
+use Rattle.catalog_units.specs.file_directory.Files.{File, IsTable, head_at, record_of, with_head}
+use Rattle.catalog_units.proofs.file_directory.Laws.{put_keeps_table}
+use Rattle.catalog_units.specs.extent_map.Extents.{Chunked}
+use Rattle.alias_edits.specs.alias_tree.Nodes.{Numbered}
+use Rattle.catalog_units.specs.operations_directory.Operations as operations
+use Rattle.catalog_units.proofs.operations_directory.ChangeLaws as operation_laws
+use Rattle.catalog_units.specs.catalog_tables.Changing.{Sets}
+use Rattle.catalog_units.specs.catalog_tables.Faults.{IsCatalog, file_key}
 use Rattle.catalog.specs.FilePlans.{HasSoMany, IsSizePlan, MayGrow, is_on_file, sized, with_size}
 use Rattle.catalog.specs.Plans.{AreOwned, IsPlan}
 use Rattle.asm_placement.specs.Naming.{is_directory, is_pending, names_back}
-use Rattle.catalog_tables.specs.Rules.{HasExtents, KeepsRules, are_within_head, blocks_used, first_wrong, has_names, is_due, is_named_back, is_owned, keeps_copies}
-use Rattle.catalog_tables.specs.Tables.{AreTables, Catalogued, Tables, records_of}
-use Rattle.catalog_tables.proofs.NumberedLists.{all_there, either, number_is, put_at, there_as_long}
+use Rattle.catalog_units.specs.catalog_tables.Rules.{HasExtents, KeepsRules, are_within_head, blocks_used, first_wrong, has_names, is_due, is_named_back, is_owned, keeps_copies}
+use Rattle.catalog_units.specs.catalog_tables.Tables.{AreTables, Catalogued, Tables, records_of}
+use Rattle.catalog_units.proofs.catalog_tables.NumberedLists.{all_there, either, number_is, put_at, there_as_long}
 use Rattle.catalog.proofs.NumberedEntries.{found_passes, passes_where, put_all, put_passes}
 use Rattle.catalog.proofs.Owners.{of_file}
 use Rattle.catalog.proofs.PlanLaws.{or_false, pending_key}
-use Rattle.catalog_tables.proofs.SetLaws.{operations_set}
+use Rattle.catalog_units.proofs.catalog_tables.SetLaws.{operations_set}
 use Rattle.catalog.proofs.TreePlans.{head_put}
-use Rattle.catalog_tables.proofs.NewRecords.{HasRoom, head_there, old_room, two_old_room}
+use Rattle.catalog_units.proofs.catalog_tables.NewRecords.{HasRoom, head_there, old_room, two_old_room}
 use Rattle.catalog.proofs.PutItems.{is_once, plan_is}
 
 -- ---- the head

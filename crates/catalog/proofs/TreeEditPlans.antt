@@ -21,17 +21,17 @@ use Rattle.alias_edits.specs.declared.editing.TreeError.{TreeError}
 use Rattle.alias_edits.specs.declared.planning.TreeChange.{TreeChange}
 use Rattle.alias_edits.specs.declared.planning.TreeChange.TheVariants as change
 use Rattle.alias_edits.specs.Edits.{ChangesNodes, IsChange, IsPut, IsRefusal, cause_said, nodes_after}
-use Rattle.alias_tree.specs.Nodes.{IsTable, Numbered, kind_is_directory, node_at, number_of, with_node}
-use Rattle.alias_tree.specs.Trees.{tree_of}
+use Rattle.alias_edits.specs.alias_tree.Nodes.{IsTable, Numbered, kind_is_directory, node_at, number_of, with_node}
+use Rattle.alias_edits.specs.alias_tree.Trees.{tree_of}
 use Rattle.alias_edits.proofs.Allowed.{both_false, dir_node, four_false, not_false, number_is, three_false, two_false}
 use Rattle.alias_edits.proofs.Done.{drops_dir, entry_number, named_file}
-use Rattle.alias_tree.proofs.IndexLaws.{at_member}
-use Rattle.alias_tree.proofs.Leading.{any_of, leads_is, member_among, shows}
-use Rattle.file_directory.specs.Files.{File, head_at, is_file as is_held}
+use Rattle.alias_edits.proofs.alias_tree.IndexLaws.{at_member}
+use Rattle.alias_edits.proofs.alias_tree.Leading.{any_of, leads_is, member_among, shows}
+use Rattle.catalog_units.specs.file_directory.Files.{File, head_at, is_file as is_held}
 use Rattle.catalog.specs.Plans.{IsPlan}
 use Rattle.asm_placement.specs.Naming.{is_directory, names_back}
-use Rattle.catalog_tables.specs.Rules.{KeepsRules}
-use Rattle.catalog_tables.specs.Tables.{Catalogued, Tables}
+use Rattle.catalog_units.specs.catalog_tables.Rules.{KeepsRules}
+use Rattle.catalog_units.specs.catalog_tables.Tables.{Catalogued, Tables}
 use Rattle.catalog.specs.TreePlans.{HasNoAlias, IsTreeFull, IsTreePlan, IsTreeRefusal, LacksNode, MayChange, aliased, aliased_head, files_after, heads_after, keeps_files, makes_node}
 use Rattle.asm_group.specs.Shape.{Shape}
 use Rattle.catalog.proofs.TreePlans.{named_of}

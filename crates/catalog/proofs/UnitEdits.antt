@@ -10,19 +10,19 @@ use Rattle.asm_placement.specs.Layout.{units_of}
 use Rattle.asm_placement.specs.Placed.{Placed, placed_copies, placed_extents}
 use Rattle.asm_base.specs.Records.{Ascend}
 use Rattle.asm_base.proofs.Exact.{bind_some, some_is}
-use Rattle.allocator.specs.UnitMaps.{UnitMap, with_run}
-use Rattle.extent_map.specs.Extents.{Chunked, chunk_at}
+use Rattle.catalog_units.specs.allocator.UnitMaps.{UnitMap, with_run}
+use Rattle.catalog_units.specs.extent_map.Extents.{Chunked, chunk_at}
 use Rattle.asm_base.specs.Chunks.{Chunk, chunk_cmp, is_before}
-use Rattle.extent_map.proofs.Laws.{chunk_total, same_chunk}
-use Rattle.extent_map.proofs.Lookups.{both_ways}
-use Rattle.extent_map.proofs.Numbering.{is_same, tail_up}
+use Rattle.catalog_units.proofs.extent_map.Laws.{chunk_total, same_chunk}
+use Rattle.catalog_units.proofs.extent_map.Lookups.{both_ways}
+use Rattle.catalog_units.proofs.extent_map.Numbering.{is_same, tail_up}
 use Rattle.catalog_units.specs.Giving.{but, chunks_kept}
-use Rattle.catalog_tables.specs.Placing.{after_chunks, after_homes, home_taken, homes_of}
+use Rattle.catalog_units.specs.catalog_tables.Placing.{after_chunks, after_homes, home_taken, homes_of}
 use Rattle.catalog_units.proofs.ChangeUnits.{kept_same}
 use Rattle.catalog_units.proofs.ChunkUnits.{and_false, and_true, kept_all, kept_no, kept_yes, none_out, one_out, tail_none}
-use Rattle.catalog_tables.proofs.EntryLaws.{either}
-use Rattle.catalog_tables.proofs.HomeUnits.{chunks_are_homes, takes}
-use Rattle.catalog_tables.proofs.PlacingLaws.{after_append}
+use Rattle.catalog_units.proofs.catalog_tables.EntryLaws.{either}
+use Rattle.catalog_units.proofs.catalog_tables.HomeUnits.{chunks_are_homes, takes}
+use Rattle.catalog_units.proofs.catalog_tables.PlacingLaws.{after_append}
 use Rattle.catalog_units.proofs.UnitOrder.{front_last}
 
 -- ---- rows of homes

@@ -9,15 +9,15 @@ use Rattle.asm_formats.specs.Items.{FileHead, Home, Homes, Item, chunk_len}
 use Rattle.asm_placement.specs.Layout.{units_of}
 use Rattle.asm_placement.specs.Moves.{with_current, with_home, without_bit}
 use Rattle.asm_placement.specs.Placed.{placed_extents}
-use Rattle.extent_map.specs.Extents.{HasExtent, chunk_at, chunk_or_blank, count_in, cut_to, follows, has_extent, has_home, with_chunk, with_extent, with_more, without_chunk}
-use Rattle.file_directory.specs.Files.{head_at, is_file}
-use Rattle.staleness_directory.specs.Marks.{Marked, marks_at, marks_to, with_marks, without_marks}
-use Rattle.catalog_tables.specs.Faults.{IsCatalog}
-use Rattle.catalog_tables.specs.Items.{AreItemsOf}
-use Rattle.catalog_tables.specs.Placing.{after_homes, home_taken}
+use Rattle.catalog_units.specs.extent_map.Extents.{HasExtent, chunk_at, chunk_or_blank, count_in, cut_to, follows, has_extent, has_home, with_chunk, with_extent, with_more, without_chunk}
+use Rattle.catalog_units.specs.file_directory.Files.{head_at, is_file}
+use Rattle.catalog_units.specs.staleness_directory.Marks.{Marked, marks_at, marks_to, with_marks, without_marks}
+use Rattle.catalog_units.specs.catalog_tables.Faults.{IsCatalog}
+use Rattle.catalog_units.specs.catalog_tables.Items.{AreItemsOf}
+use Rattle.catalog_units.specs.catalog_tables.Placing.{after_homes, home_taken}
 use Rattle.asm_placement.specs.Naming.{is_pending}
-use Rattle.catalog_tables.specs.Rules.{are_marks_of, are_on_disks, are_within_head, blocks_used, is_due, marks_of, homes_at}
-use Rattle.catalog_tables.specs.Tables.{Catalogued, Tables}
+use Rattle.catalog_units.specs.catalog_tables.Rules.{are_marks_of, are_on_disks, are_within_head, blocks_used, is_due, marks_of, homes_at}
+use Rattle.catalog_units.specs.catalog_tables.Tables.{Catalogued, Tables}
 
 -- ---- one extent
 

@@ -7,12 +7,12 @@ use Rattle.asm_formats.specs.Items.{FileHead, Key, Pending, Settings}
 use Rattle.asm_base.specs.Records.{Entry}
 use Rattle.asm_base.specs.declared.refusal.Refusal.{Refusal}
 use Rattle.asm_base.specs.declared.refusal.Refusal.TheVariants as cause
-use Rattle.file_directory.specs.Files.{File, head_at, is_file, with_head, without_file}
-use Rattle.alias_tree.specs.Nodes.{Numbered, without_node}
+use Rattle.catalog_units.specs.file_directory.Files.{File, head_at, is_file, with_head, without_file}
+use Rattle.alias_edits.specs.alias_tree.Nodes.{Numbered, without_node}
 use Rattle.attribute_values.specs.Edits.{settings_with}
 use Rattle.catalog.specs.Plans.{AreOwned, IsPlan}
-use Rattle.catalog_tables.specs.Rules.{HasExtents, is_due}
-use Rattle.catalog_tables.specs.Tables.{Catalogued, Tables}
+use Rattle.catalog_units.specs.catalog_tables.Rules.{HasExtents, is_due}
+use Rattle.catalog_units.specs.catalog_tables.Tables.{Catalogued, Tables}
 
 -- ---- attributes
 

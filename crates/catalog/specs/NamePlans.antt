@@ -13,19 +13,19 @@ use Rattle.asm_base.specs.Records.{Entry}
 use Rattle.asm_base.specs.Refusals.{said}
 use Rattle.asm_base.specs.declared.refusal.Refusal.{Refusal}
 use Rattle.asm_base.specs.declared.refusal.Refusal.TheVariants as cause
-use Rattle.asm_world.specs.Files as world
-use Rattle.asm_world.specs.Files.{NewName, new_file_causes, new_name, new_path, next_incarnation, next_number, is_sectors, template_for}
-use Rattle.file_directory.specs.Files.{head_at, with_head}
-use Rattle.extent_map.specs.Extents.{Chunked, extent_at}
+use Rattle.attribute_values.specs.asm_world.Files as world
+use Rattle.attribute_values.specs.asm_world.Files.{NewName, new_file_causes, new_name, new_path, next_incarnation, next_number, is_sectors, template_for}
+use Rattle.catalog_units.specs.file_directory.Files.{head_at, with_head}
+use Rattle.catalog_units.specs.extent_map.Extents.{Chunked, extent_at}
 use Rattle.alias_edits.specs.Edits.{are_parts}
 use Rattle.alias_edits.specs.Filing.{IsFiling, file_causes, filed, nodes_missing, with_nodes}
 use Rattle.alias_edits.specs.Filing as of_tree
-use Rattle.alias_tree.specs.Nodes.{IsTable, Numbered, node_at}
-use Rattle.alias_tree.specs.Trees.{tree_of}
+use Rattle.alias_edits.specs.alias_tree.Nodes.{IsTable, Numbered, node_at}
+use Rattle.alias_edits.specs.alias_tree.Trees.{tree_of}
 use Rattle.catalog.specs.Plans.{IsPlan}
-use Rattle.catalog_tables.specs.Rules.{are_within, blocks_used, has_copies}
-use Rattle.catalog_tables.specs.Rules as rules
-use Rattle.catalog_tables.specs.Tables.{Catalogued, Tables}
+use Rattle.catalog_units.specs.catalog_tables.Rules.{are_within, blocks_used, has_copies}
+use Rattle.catalog_units.specs.catalog_tables.Rules as rules
+use Rattle.catalog_units.specs.catalog_tables.Tables.{Catalogued, Tables}
 use Rattle.catalog.specs.declared.plans.system_path.NameParts.{NameParts}
 
 -- ---- the file that is made

@@ -12,12 +12,12 @@ use Rattle.asm_base.specs.declared.refusal.Refusal.TheVariants as cause
 use Rattle.alias_edits.specs.declared.planning.TreeChange.{TreeChange}
 use Rattle.alias_edits.specs.declared.planning.TreeChange.TheVariants as change
 use Rattle.alias_edits.specs.Edits.{ChangesNodes}
-use Rattle.alias_tree.specs.Nodes.{Numbered, node_at, number_of}
-use Rattle.alias_tree.specs.Trees.{tree_of}
-use Rattle.file_directory.specs.Files.{File, head_at, is_file, with_head}
+use Rattle.alias_edits.specs.alias_tree.Nodes.{Numbered, node_at, number_of}
+use Rattle.alias_edits.specs.alias_tree.Trees.{tree_of}
+use Rattle.catalog_units.specs.file_directory.Files.{File, head_at, is_file, with_head}
 use Rattle.catalog.specs.Plans.{IsPlan}
-use Rattle.catalog_tables.specs.Rules.{blocks_used}
-use Rattle.catalog_tables.specs.Tables.{Catalogued, Tables}
+use Rattle.catalog_units.specs.catalog_tables.Rules.{blocks_used}
+use Rattle.catalog_units.specs.catalog_tables.Tables.{Catalogued, Tables}
 
 -- the edit gives no file its system name, and takes no file's names
 abbrev pub keeps_files : TreeEdit → Bool

@@ -3,8 +3,8 @@
 ghost use Rattle.std.specs.Prelude.{◌≡◌, List as Items, None, OnOk, Some};
 ghost use Rattle.asm_formats.specs.Status.{Entry as StatusEntry};
 ghost use Rattle.catalog.specs.Applying.{IsChangeReady, Leaves};
-ghost use Rattle.catalog_tables.specs.Placing.{HasUnits};
-ghost use Rattle.catalog_tables.specs.Tables.{Tables};
+ghost use Rattle.catalog_units.specs.catalog_tables.Placing.{HasUnits};
+ghost use Rattle.catalog_units.specs.catalog_tables.Tables.{Tables};
 
 use crate::catalog::Catalog;
 use crate::spare::{Spare, brought_up, change_copied};

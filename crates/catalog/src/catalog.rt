@@ -4,13 +4,13 @@ ghost use Rattle.std.specs.Prelude.{◌≡◌, IfErr, IfOk, IsTrue};
 ghost use Rattle.std.specs.List.{list_all};
 ghost use Rattle.asm_group.specs.Shape.{is_shape};
 ghost use Rattle.asm_formats.specs.Status.{is_entry};
-ghost use Rattle.catalog_tables.specs.Faults.{IsAtFault, IsCatalogOf, NamesFault};
+ghost use Rattle.catalog_units.specs.catalog_tables.Faults.{IsAtFault, IsCatalogOf, NamesFault};
 
 use crate::spare::Spare;
-use allocator::Units;
 use asm_base::{Records, Shape};
-use catalog_tables::{CatalogError, Parts};
-use status_table::PstRecord;
+use catalog_units::allocator_crate::Units;
+use catalog_units::catalog_tables_crate::{CatalogError, Parts};
+use catalog_units::status_table_crate::PstRecord;
 use std::alloc::Global;
 use std::marker::Model;
 
@@ -30,7 +30,7 @@ pub struct Catalog {
 }
 
 impl Model for Catalog {
-    ghost use Rattle.catalog_tables.specs.Tables.{Catalogued};
+    ghost use Rattle.catalog_units.specs.catalog_tables.Tables.{Catalogued};
     ghost use Rattle.catalog.specs.Spares.{IsCatalogWithSpare, ready_tables, units_in};
 
     ghost Value = { Catalogued };

@@ -3,15 +3,15 @@
 ghost use Rattle.std.specs.Prelude.{◌≡◌, ◌↔◌, ◌≤◌, ◌++◌, ◌∷◌, [], IfOk, IsTrue, List as Items, None, Ok, OnOk, Some, slice_set, true};
 ghost use Rattle.std.specs.List.{list_all, slice_get};
 ghost use Rattle.asm_formats.specs.Status.{Entry, is_entry};
-ghost use Rattle.allocator.specs.UnitMaps.{UnitMap};
+ghost use Rattle.catalog_units.specs.allocator.UnitMaps.{UnitMap};
 ghost use Rattle.catalog.specs.Applying.{AreDisksReady, next_maps};
-ghost use Rattle.catalog_tables.specs.Placing.{HasUnits, HaveSameUnits, OtherMapsStay, changed_map, changed_maps, disk_units, put_maps};
+ghost use Rattle.catalog_units.specs.catalog_tables.Placing.{HasUnits, HaveSameUnits, OtherMapsStay, changed_map, changed_maps, disk_units, put_maps};
 
 use crate::catalog::Catalog;
-use allocator::Units;
 use asm_base::{MOST_DISKS, NoMemory};
-use catalog_tables::{are_fit, disk_units, have_units};
-use status_table::{PstEntry, PstRecord};
+use catalog_units::allocator_crate::Units;
+use catalog_units::catalog_tables_crate::{are_fit, disk_units, have_units};
+use catalog_units::status_table_crate::{PstEntry, PstRecord};
 use std::alloc::Global;
 
 impl Catalog {

@@ -2,14 +2,14 @@
 
 ghost use Rattle.std.specs.Prelude.{◌≡◌, ◌≤◌, ◌<◌, ◌^◌, IfNone, IfSome, length};
 ghost use Rattle.std.specs.Option.{option_copied};
-ghost use Rattle.extent_map.specs.Extents.{chunk_at};
-ghost use Rattle.staleness_directory.specs.Marks.{marks_at, marks_from};
-ghost use Rattle.catalog_tables.specs.MarkedExtents.{HasNoMarkedHome, HasNoneIn, HasNoneMarked, IsFirstIn, IsFirstMarked, IsFirstPlace, first_marked};
+ghost use Rattle.catalog_units.specs.extent_map.Extents.{chunk_at};
+ghost use Rattle.catalog_units.specs.staleness_directory.Marks.{marks_at, marks_from};
+ghost use Rattle.catalog_units.specs.catalog_tables.MarkedExtents.{HasNoMarkedHome, HasNoneIn, HasNoneMarked, IsFirstIn, IsFirstMarked, IsFirstPlace, first_marked};
 
 use crate::catalog::Catalog;
 use asm_base::{ExtentId, Homes};
-use catalog_tables::has_stale_on;
-use staleness_directory::Marks;
+use catalog_units::catalog_tables_crate::has_stale_on;
+use catalog_units::staleness_directory_crate::Marks;
 
 impl Catalog {
     /// The first extent from `least` on, by file and index, that has a stale mark of a copy on a disk. It looks at the

@@ -3,17 +3,17 @@
 ghost use Rattle.std.specs.Bool.{OnTrue};
 ghost use Rattle.std.specs.Prelude.{◌≡◌, ◌<◌, IsTrue, Some, is_some, slice_set};
 ghost use Rattle.asm_placement.specs.Layout.{units_of};
-ghost use Rattle.allocator.specs.UnitMaps.{IsFreeRun};
-ghost use Rattle.extent_map.specs.Extents.{HasExtent};
-ghost use Rattle.file_directory.specs.Files.{head_at};
+ghost use Rattle.catalog_units.specs.allocator.UnitMaps.{IsFreeRun};
+ghost use Rattle.catalog_units.specs.extent_map.Extents.{HasExtent};
+ghost use Rattle.catalog_units.specs.file_directory.Files.{head_at};
 ghost use Rattle.catalog.specs.ExtentPlans.{MayMove, homes_moved, is_copy_of};
-ghost use Rattle.catalog_tables.specs.Placing.{home_taken};
-ghost use Rattle.catalog_tables.specs.Rules.{are_on_disks};
+ghost use Rattle.catalog_units.specs.catalog_tables.Placing.{home_taken};
+ghost use Rattle.catalog_units.specs.catalog_tables.Rules.{are_on_disks};
 
 use crate::catalog::Catalog;
-use allocator::Units;
 use asm_base::{ExtentId, Home, Homes};
-use catalog_tables::are_on_disks;
+use catalog_units::allocator_crate::Units;
+use catalog_units::catalog_tables_crate::are_on_disks;
 
 impl Catalog {
     /// Whether a copy of an extent may move to a home: the extent is there and may have the copy, its other copies are on

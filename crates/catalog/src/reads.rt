@@ -3,21 +3,21 @@
 ghost use Rattle.std.specs.Prelude.{◌≡◌, ◌≤◌, ◌+◌, ◌/◌, ℕ, IfNone, IfSome, false};
 ghost use Rattle.std.specs.Option.{option_copied};
 ghost use Rattle.asm_placement.specs.Layout.{units_of};
-ghost use Rattle.alias_tree.specs.Nodes.{node_at, number_of};
-ghost use Rattle.extent_map.specs.Extents.{extent_at};
-ghost use Rattle.file_directory.specs.Files.{IsLeastFrom, head_at, is_file};
-ghost use Rattle.disk_directory.specs.Disks.{info_at};
-ghost use Rattle.catalog_tables.specs.Faults.{IsCatalog};
-ghost use Rattle.catalog_tables.specs.Rules.{blocks_used, marks_of};
+ghost use Rattle.alias_edits.specs.alias_tree.Nodes.{node_at, number_of};
+ghost use Rattle.catalog_units.specs.extent_map.Extents.{extent_at};
+ghost use Rattle.catalog_units.specs.file_directory.Files.{IsLeastFrom, head_at, is_file};
+ghost use Rattle.catalog_units.specs.disk_directory.Disks.{info_at};
+ghost use Rattle.catalog_units.specs.catalog_tables.Faults.{IsCatalog};
+ghost use Rattle.catalog_units.specs.catalog_tables.Rules.{blocks_used, marks_of};
 
 use crate::catalog::Catalog;
-use alias_tree::Node;
-use allocator::Units;
+use alias_edits::alias_tree_crate::Node;
 use asm_base::{ExtentId, Homes, Path, Shape};
-use catalog_tables::DiskInfo;
-use file_directory::FileHead;
-use operations_directory::Pending;
-use template_directory::{Settings, Template};
+use attribute_values::template_directory_crate::{Settings, Template};
+use catalog_units::allocator_crate::Units;
+use catalog_units::catalog_tables_crate::DiskInfo;
+use catalog_units::file_directory_crate::FileHead;
+use catalog_units::operations_directory_crate::Pending;
 
 impl Catalog {
     /// The group's shape. Its clause also shows that the rules hold.
@@ -79,7 +79,7 @@ impl Catalog {
     pub fn units_of(&self, index: u32) -> u32
         ensures { result ≡ units_of self.now.shape.step index }
     {
-        striping::units_of(self.shape.step, index as u64)
+        catalog_units::striping_crate::units_of(self.shape.step, index as u64)
     }
 
     /// The units of all disk numbers, those of disk k at place k. Its clause also shows that the rules hold.

@@ -3,10 +3,10 @@
 ghost use Rattle.std.specs.Prelude.{◌≡◌, IfNone, IfOk, IfSome, None};
 ghost use Rattle.catalog.specs.Spares.{IsSpareOf, ready_tables};
 ghost use Rattle.catalog.specs.declared.spare.Spare.TheVariants.{Ready};
-ghost use Rattle.catalog_tables.specs.Tables.{AreTables};
+ghost use Rattle.catalog_units.specs.catalog_tables.Tables.{AreTables};
 
 use asm_base::{Change, Key, List, NoMemory, Value};
-use catalog_tables::Parts;
+use catalog_units::catalog_tables_crate::Parts;
 use std::alloc::Global;
 
 /// Tables beside those of a catalog, with the change that lies between the two.

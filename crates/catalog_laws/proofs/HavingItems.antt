@@ -10,16 +10,16 @@ use Rattle.asm_formats.specs.Values.{value}
 use Rattle.asm_formats.proofs.Among.{among_map}
 use Rattle.asm_formats.proofs.RecordLists.{one_list}
 use Rattle.asm_formats.proofs.RecordReading.{item_frame}
-use Rattle.asm_base.proofs.Exact.{some_is}
-use Rattle.file_directory.specs.Files as files
-use Rattle.extent_map.specs.Extents as extents
-use Rattle.alias_tree.specs.Nodes as nodes
-use Rattle.staleness_directory.specs.Marks as stale
-use Rattle.operations_directory.specs.Operations as operations
-use Rattle.disk_directory.specs.Disks as disks
-use Rattle.catalog_tables.specs.Tables.{AreTables, Tables, item_at}
-use Rattle.catalog_tables.specs.Items.{AreItemsOf}
-use Rattle.catalog_tables.proofs.TableItems.{IsOf, a_file, a_chunk, a_disk, an_operation, the_templates, a_node, the_settings, marks, allowed, append_among, left_among, map_among, of_two, rank, ranks, right_among, said, says}
+use Rattle.catalog.proofs.asm_base.Exact.{some_is}
+use Rattle.catalog.specs.file_directory.Files as files
+use Rattle.catalog.specs.extent_map.Extents as extents
+use Rattle.catalog.specs.alias_tree.Nodes as nodes
+use Rattle.catalog.specs.staleness_directory.Marks as stale
+use Rattle.catalog.specs.operations_directory.Operations as operations
+use Rattle.catalog.specs.disk_directory.Disks as disks
+use Rattle.catalog.specs.catalog_tables.Tables.{AreTables, Tables, item_at}
+use Rattle.catalog.specs.catalog_tables.Items.{AreItemsOf}
+use Rattle.catalog.proofs.catalog_tables.TableItems.{IsOf, a_file, a_chunk, a_disk, an_operation, the_templates, a_node, the_settings, marks, allowed, append_among, left_among, map_among, of_two, rank, ranks, right_among, said, says}
 
 -- ---- items put in order
 

@@ -13,21 +13,21 @@ use Rattle.std.proofs.lemmas.Option.{none-some}
 use Rattle.asm_formats.specs.Among.{IsAmong}
 use Rattle.asm_formats.specs.Items.{Item, chunk_len, key, file_item, chunk_item, marks_item}
 use Rattle.asm_formats.specs.Sets.{has_bit}
-use Rattle.asm_placement.specs.Tables.{first_said, head_of, homes_in, if_is, is_stale, marks_in}
-use Rattle.asm_base.specs.Records.{Ascend}
-use Rattle.asm_base.proofs.Exact.{bind_some, some_is, test_some}
-use Rattle.asm_base.proofs.ItemTables.{IsEntry}
-use Rattle.file_directory.specs.Entries.{is_entry as head_entry}
-use Rattle.staleness_directory.specs.MarkEntries.{is_entry as marks_entry}
-use Rattle.asm_base.specs.Chunks as chunk_order
-use Rattle.file_directory.specs.Files as files
-use Rattle.extent_map.specs.Extents as extents
-use Rattle.extent_map.proofs.Laws.{chunk_entry, chunk_total}
-use Rattle.staleness_directory.specs.Marks as stale
-use Rattle.catalog_tables.specs.Tables.{AreTables, Tables, item_at}
-use Rattle.catalog_tables.specs.Rules.{marks_of}
-use Rattle.catalog_tables.specs.Items.{AreItemsOf}
-use Rattle.catalog_tables.proofs.TableItems.{AreExact, IsOf, a_file, a_chunk, marks, among_found, chunks_exact, found_is, from_map, numbers_exact, says}
+use Rattle.catalog.specs.asm_placement.Tables.{first_said, head_of, homes_in, if_is, is_stale, marks_in}
+use Rattle.catalog.specs.asm_base.Records.{Ascend}
+use Rattle.catalog.proofs.asm_base.Exact.{bind_some, some_is, test_some}
+use Rattle.catalog.proofs.asm_base.ItemTables.{IsEntry}
+use Rattle.catalog.specs.file_directory.Entries.{is_entry as head_entry}
+use Rattle.catalog.specs.staleness_directory.MarkEntries.{is_entry as marks_entry}
+use Rattle.catalog.specs.asm_base.Chunks as chunk_order
+use Rattle.catalog.specs.file_directory.Files as files
+use Rattle.catalog.specs.extent_map.Extents as extents
+use Rattle.catalog.proofs.extent_map.Laws.{chunk_entry, chunk_total}
+use Rattle.catalog.specs.staleness_directory.Marks as stale
+use Rattle.catalog.specs.catalog_tables.Tables.{AreTables, Tables, item_at}
+use Rattle.catalog.specs.catalog_tables.Rules.{marks_of}
+use Rattle.catalog.specs.catalog_tables.Items.{AreItemsOf}
+use Rattle.catalog.proofs.catalog_tables.TableItems.{AreExact, IsOf, a_file, a_chunk, marks, among_found, chunks_exact, found_is, from_map, numbers_exact, says}
 
 -- ---- the first item that says something
 

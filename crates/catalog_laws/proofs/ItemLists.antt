@@ -12,19 +12,19 @@ use Rattle.asm_formats.specs.Items.{FileHead, Item, Key, chunk_len, key, key_ran
 use Rattle.asm_formats.specs.Status.{ascends_from}
 use Rattle.asm_formats.proofs.Among.{among_map, among_filter, filter_among}
 use Rattle.asm_formats.proofs.RecordLists.{one_list}
-use Rattle.asm_placement.specs.Tables.{head_of}
-use Rattle.asm_placement.specs.Copies.{Copy, all_copies, file_copies, item_copies}
-use Rattle.asm_placement.specs.Placed.{Placed, placed}
-use Rattle.asm_placement.specs.Work.{keys_differ}
-use Rattle.asm_base.specs.Records.{Ascend}
-use Rattle.file_directory.specs.Files.{head_at}
-use Rattle.extent_map.specs.Extents.{Chunked, IsNumbered, chunked, item_of}
-use Rattle.asm_base.specs.Chunks.{Chunk, is_before}
-use Rattle.extent_map.proofs.Laws.{chunk_entry, table_numbered}
-use Rattle.catalog_tables.specs.Tables.{AreTables, Tables}
-use Rattle.catalog_tables.specs.Placing.{homes_of}
-use Rattle.catalog_tables.specs.Items.{AreItemsOf, SayTables, chunk_copies}
-use Rattle.catalog_tables.proofs.TableItems.{above_least, allowed, map_among, rank, ranks, said}
+use Rattle.catalog.specs.asm_placement.Tables.{head_of}
+use Rattle.catalog.specs.asm_placement.Copies.{Copy, all_copies, file_copies, item_copies}
+use Rattle.catalog.specs.asm_placement.Placed.{Placed, placed}
+use Rattle.catalog.specs.asm_placement.Work.{keys_differ}
+use Rattle.catalog.specs.asm_base.Records.{Ascend}
+use Rattle.catalog.specs.file_directory.Files.{head_at}
+use Rattle.catalog.specs.extent_map.Extents.{Chunked, IsNumbered, chunked, item_of}
+use Rattle.catalog.specs.asm_base.Chunks.{Chunk, is_before}
+use Rattle.catalog.proofs.extent_map.Laws.{chunk_entry, table_numbered}
+use Rattle.catalog.specs.catalog_tables.Tables.{AreTables, Tables}
+use Rattle.catalog.specs.catalog_tables.Placing.{homes_of}
+use Rattle.catalog.specs.catalog_tables.Items.{AreItemsOf, SayTables, chunk_copies}
+use Rattle.catalog.proofs.catalog_tables.TableItems.{above_least, allowed, map_among, rank, ranks, said}
 use Rattle.catalog_laws.proofs.ItemLaws.{chunk_entries, heads_are, homes_are, marks_are, stale_are}
 
 -- ---- each is of the formats, and keys differ

@@ -9,3 +9,8 @@ pub mod RegularHomes
 pub mod MoveItems
 pub mod RecopyItems
 pub mod ToldRecords
+pub mod alias_edits
+pub mod alias_tree
+pub mod catalog
+pub mod catalog_tables
+pub mod extent_map

@@ -7,23 +7,23 @@ use Rattle.std.proofs.lemmas.Bool.{and_parts, cond_both, eq-eqb, eqb-true, trueâ
 use Rattle.asm_formats.specs.Among.{IsAmong}
 use Rattle.asm_formats.specs.Items.{Home, Homes, Item, Key, chunk_item, disk_item, file_item, key, key_rank, marks_item, node_item, pending_item, rebalance_item, settings_item, templates_item}
 use Rattle.asm_formats.specs.Status.{ascends_from}
-use Rattle.asm_placement.specs.Moves.{moved_item, unmarked_item, with_current, with_home, without_bit}
-use Rattle.asm_base.proofs.Exact.{some_is}
-use Rattle.extent_map.specs.Extents.{chunk_at}
-use Rattle.asm_base.specs.Chunks.{Chunk, chunk_cmp}
-use Rattle.extent_map.proofs.Laws.{chunk_total, same_chunk}
-use Rattle.extent_map.proofs.Lookups.{key_is}
-use Rattle.extent_map.proofs.Numbering.{found_self}
-use Rattle.file_directory.specs.Files.{head_at}
-use Rattle.alias_tree.specs.Nodes.{node_at}
-use Rattle.staleness_directory.specs.Marks.{marks_at}
-use Rattle.disk_directory.specs.Disks.{info_at}
+use Rattle.catalog.specs.asm_placement.Moves.{moved_item, unmarked_item, with_current, with_home, without_bit}
+use Rattle.catalog.proofs.asm_base.Exact.{some_is}
+use Rattle.catalog.specs.extent_map.Extents.{chunk_at}
+use Rattle.catalog.specs.asm_base.Chunks.{Chunk, chunk_cmp}
+use Rattle.catalog.proofs.extent_map.Laws.{chunk_total, same_chunk}
+use Rattle.catalog.proofs.extent_map.Lookups.{key_is}
+use Rattle.catalog.proofs.extent_map.Numbering.{found_self}
+use Rattle.catalog.specs.file_directory.Files.{head_at}
+use Rattle.catalog.specs.alias_tree.Nodes.{node_at}
+use Rattle.catalog.specs.staleness_directory.Marks.{marks_at}
+use Rattle.catalog.specs.disk_directory.Disks.{info_at}
 use Rattle.catalog.specs.ExtentPlans.{MayMove, MovesItems, with_move}
-use Rattle.catalog_tables.specs.Faults.{IsCatalog}
-use Rattle.catalog_tables.specs.Items.{AreItemsOf}
-use Rattle.catalog_tables.specs.Tables.{Catalogued, Tables, item_at}
+use Rattle.catalog.specs.catalog_tables.Faults.{IsCatalog}
+use Rattle.catalog.specs.catalog_tables.Items.{AreItemsOf}
+use Rattle.catalog.specs.catalog_tables.Tables.{Catalogued, Tables, item_at}
 use Rattle.catalog.proofs.EditLaws.{changed}
-use Rattle.catalog_tables.proofs.EntryLaws.{either}
+use Rattle.catalog.proofs.catalog_tables.EntryLaws.{either}
 use Rattle.catalog.proofs.MarkPlans.{Stands}
 use Rattle.catalog.proofs.MovePlans as move
 

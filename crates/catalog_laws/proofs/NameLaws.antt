@@ -6,9 +6,9 @@ use Rattle.asm_group.specs.Names.{Path}
 use Rattle.asm_group.specs.Refusal as r
 use Rattle.asm_group.specs.TreeEdits as t
 use Rattle.asm_group.specs.TreeEdits.{Tree}
-use Rattle.asm_world.specs.Files as world
-use Rattle.asm_world.specs.Files.{NewName, new_path, next_number}
-use Rattle.alias_edits.specs.Filing as of_tree
+use Rattle.catalog.specs.asm_world.Files as world
+use Rattle.catalog.specs.asm_world.Files.{NewName, new_path, next_number}
+use Rattle.catalog.specs.alias_edits.Filing as of_tree
 use Rattle.catalog.specs.NamePlans.{FilesAsWorld, RefusesAsWorld}
 
 dir_tree : (g : Group) (path : Path) → (world.with_dir g path).tree ≡ of_tree.with_dir g.tree path

@@ -8,35 +8,35 @@ use Rattle.asm_group.specs.Shape.{Shape}
 use Rattle.asm_formats.specs.Among.{IsAmong}
 use Rattle.asm_formats.specs.Items.{Key}
 use Rattle.asm_formats.specs.Status as status
-use Rattle.asm_base.specs.Records.{Entry, add_item, of_kinds, read_from, record_at, is_key}
-use Rattle.asm_base.specs.Tables.{entry_of_record}
-use Rattle.asm_base.proofs.Exact.{some_is}
-use Rattle.asm_base.proofs.ItemTables.{items_again}
-use Rattle.asm_base.specs.Chunks as chunk_order
-use Rattle.allocator.specs.UnitMaps.{UnitMap}
-use Rattle.file_directory.specs.Files as files
-use Rattle.file_directory.proofs.Laws as file_laws
-use Rattle.extent_map.specs.Extents as extents
-use Rattle.extent_map.specs.Faults.{HasGap, gap_from}
-use Rattle.extent_map.proofs.Laws as extent_laws
-use Rattle.alias_tree.specs.Nodes as nodes
-use Rattle.alias_tree.specs.Faults.{HasFault}
-use Rattle.alias_tree.proofs.Rules as node_laws
-use Rattle.template_directory.specs.Tables as templates
-use Rattle.template_directory.proofs.ReadingLaws as template_laws
-use Rattle.staleness_directory.specs.Marks as stale
-use Rattle.staleness_directory.proofs.Laws as stale_laws
-use Rattle.operations_directory.specs.Operations as operations
-use Rattle.operations_directory.specs.Readings as operation_readings
-use Rattle.operations_directory.proofs.Laws as operation_laws
-use Rattle.disk_directory.specs.Disks as disks
-use Rattle.disk_directory.proofs.DiskLaws as disk_laws
-use Rattle.catalog_tables.specs.Tables.{AreTables, Catalogued, HasRecords, Tables}
-use Rattle.catalog_tables.specs.Rules.{AreOnRegular, HasExtents, KeepsRules, first_unknown}
-use Rattle.catalog_tables.specs.Placing.{HasUnits, unused_maps}
-use Rattle.catalog_tables.proofs.PlacingLaws.{misplaced_none}
-use Rattle.catalog_tables.specs.Faults.{BreaksRule, IsAtFault, IsCatalogOf, IsNeeded, settings_key, templates_key}
-use Rattle.catalog_tables.specs.Faults as fault
+use Rattle.catalog.specs.asm_base.Records.{Entry, add_item, of_kinds, read_from, record_at, is_key}
+use Rattle.catalog.specs.asm_base.Tables.{entry_of_record}
+use Rattle.catalog.proofs.asm_base.Exact.{some_is}
+use Rattle.catalog.proofs.asm_base.ItemTables.{items_again}
+use Rattle.catalog.specs.asm_base.Chunks as chunk_order
+use Rattle.catalog.specs.allocator.UnitMaps.{UnitMap}
+use Rattle.catalog.specs.file_directory.Files as files
+use Rattle.catalog.proofs.file_directory.Laws as file_laws
+use Rattle.catalog.specs.extent_map.Extents as extents
+use Rattle.catalog.specs.extent_map.Faults.{HasGap, gap_from}
+use Rattle.catalog.proofs.extent_map.Laws as extent_laws
+use Rattle.catalog.specs.alias_tree.Nodes as nodes
+use Rattle.catalog.specs.alias_tree.Faults.{HasFault}
+use Rattle.catalog.proofs.alias_tree.Rules as node_laws
+use Rattle.catalog.specs.template_directory.Tables as templates
+use Rattle.catalog.proofs.template_directory.ReadingLaws as template_laws
+use Rattle.catalog.specs.staleness_directory.Marks as stale
+use Rattle.catalog.proofs.staleness_directory.Laws as stale_laws
+use Rattle.catalog.specs.operations_directory.Operations as operations
+use Rattle.catalog.specs.operations_directory.Readings as operation_readings
+use Rattle.catalog.proofs.operations_directory.Laws as operation_laws
+use Rattle.catalog.specs.disk_directory.Disks as disks
+use Rattle.catalog.proofs.disk_directory.DiskLaws as disk_laws
+use Rattle.catalog.specs.catalog_tables.Tables.{AreTables, Catalogued, HasRecords, Tables}
+use Rattle.catalog.specs.catalog_tables.Rules.{AreOnRegular, HasExtents, KeepsRules, first_unknown}
+use Rattle.catalog.specs.catalog_tables.Placing.{HasUnits, unused_maps}
+use Rattle.catalog.proofs.catalog_tables.PlacingLaws.{misplaced_none}
+use Rattle.catalog.specs.catalog_tables.Faults.{BreaksRule, IsAtFault, IsCatalogOf, IsNeeded, settings_key, templates_key}
+use Rattle.catalog.specs.catalog_tables.Faults as fault
 
 same_of : {X : Type 0} (r : Option X) (t u : X) → r ≡ Some t → r ≡ Some u → t ≡ u
 same_of r t u e f = some_is t u (sym e ∙ f)

@@ -10,22 +10,22 @@ use Rattle.std.proofs.lemmas.List.{length-map}
 use Rattle.asm_formats.specs.Among.{IsAmong}
 use Rattle.asm_formats.specs.Items.{Item, Key, Pending, key}
 use Rattle.asm_formats.specs.Values.{value}
-use Rattle.asm_base.specs.Records.{Entry, key_cmp}
-use Rattle.page_map.specs.Changes.{is_put}
-use Rattle.page_map.specs.Listing.{key_of_place}
-use Rattle.page_map.specs.Tables.{PageTable, is_kept, new_in, one_if, pending_key, place_at, rebalance_key, room, used}
-use Rattle.page_map.proofs.Keys.{key_itself}
-use Rattle.file_directory.specs.Files as files
-use Rattle.extent_map.specs.Extents as extents
-use Rattle.alias_tree.specs.Nodes as nodes
-use Rattle.staleness_directory.specs.Marks as stale
-use Rattle.operations_directory.specs.Operations as operations
+use Rattle.catalog.specs.asm_base.Records.{Entry, key_cmp}
+use Rattle.catalog.specs.page_map.Changes.{is_put}
+use Rattle.catalog.specs.page_map.Listing.{key_of_place}
+use Rattle.catalog.specs.page_map.Tables.{PageTable, is_kept, new_in, one_if, pending_key, place_at, rebalance_key, room, used}
+use Rattle.catalog.proofs.page_map.Keys.{key_itself}
+use Rattle.catalog.specs.file_directory.Files as files
+use Rattle.catalog.specs.extent_map.Extents as extents
+use Rattle.catalog.specs.alias_tree.Nodes as nodes
+use Rattle.catalog.specs.staleness_directory.Marks as stale
+use Rattle.catalog.specs.operations_directory.Operations as operations
 use Rattle.catalog_laws.specs.Blocks.{ArePaged, BlocksAreCounted, PlansHaveRoom}
-use Rattle.disk_directory.specs.Disks as disks
-use Rattle.catalog_tables.specs.Rules.{blocks_used, new_records}
-use Rattle.catalog_tables.specs.Tables.{Tables, item_at, records_of}
+use Rattle.catalog.specs.disk_directory.Disks as disks
+use Rattle.catalog.specs.catalog_tables.Rules.{blocks_used, new_records}
+use Rattle.catalog.specs.catalog_tables.Tables.{Tables, item_at, records_of}
 use Rattle.catalog_laws.proofs.HavingItems.{in_parts, joined, parts, two_items}
-use Rattle.catalog_tables.proofs.TableItems.{each_of, key_total, keys_exact, map_among, said, some_found}
+use Rattle.catalog.proofs.catalog_tables.TableItems.{each_of, key_total, keys_exact, map_among, said, some_found}
 
 -- ---- a list without one of its elements
 

@@ -12,26 +12,26 @@ use Rattle.std.proofs.lemmas.Option.{none-some}
 use Rattle.asm_formats.specs.Among.{IsAmong}
 use Rattle.asm_formats.specs.Items.{FileHead, Home, Homes, Item, chunk_item, is_home, is_homes}
 use Rattle.asm_formats.specs.Sets.{has_bit}
-use Rattle.asm_placement.specs.Moves.{moved_item, with_current, with_home, without_bit}
-use Rattle.asm_base.proofs.Exact.{some_is}
-use Rattle.file_directory.specs.Files.{head_at}
-use Rattle.extent_map.specs.Extents.{Chunked, absent, chunk_at, has_home, with_extent}
-use Rattle.asm_base.specs.Chunks.{Chunk, chunk_cmp}
-use Rattle.extent_map.proofs.FileEnds.{item_at}
-use Rattle.extent_map.proofs.Laws.{chunk_total}
+use Rattle.catalog.specs.asm_placement.Moves.{moved_item, with_current, with_home, without_bit}
+use Rattle.catalog.proofs.asm_base.Exact.{some_is}
+use Rattle.catalog.specs.file_directory.Files.{head_at}
+use Rattle.catalog.specs.extent_map.Extents.{Chunked, absent, chunk_at, has_home, with_extent}
+use Rattle.catalog.specs.asm_base.Chunks.{Chunk, chunk_cmp}
+use Rattle.catalog.proofs.extent_map.FileEnds.{item_at}
+use Rattle.catalog.proofs.extent_map.Laws.{chunk_total}
 use Rattle.catalog.specs.ExtentPlans.{ClearsItems, MayMark, MayMove, StaysInPlace, home_at, homes_moved, is_copy_of, marks_changed, with_marks_at, with_marks_changed, with_move}
-use Rattle.catalog_tables.specs.Faults.{IsCatalog}
-use Rattle.catalog_tables.specs.Items.{AreItemsOf}
-use Rattle.catalog_tables.specs.Rules.{are_on_disks, are_within, are_within_head, is_within, marks_of, homes_at}
-use Rattle.catalog_tables.specs.Tables.{Catalogued, Tables}
+use Rattle.catalog.specs.catalog_tables.Faults.{IsCatalog}
+use Rattle.catalog.specs.catalog_tables.Items.{AreItemsOf}
+use Rattle.catalog.specs.catalog_tables.Rules.{are_on_disks, are_within, are_within_head, is_within, marks_of, homes_at}
+use Rattle.catalog.specs.catalog_tables.Tables.{Catalogued, Tables}
 use Rattle.catalog.proofs.EditLaws.{chunk_right}
-use Rattle.catalog_tables.proofs.EntryLaws.{either}
+use Rattle.catalog.proofs.catalog_tables.EntryLaws.{either}
 use Rattle.catalog_laws.proofs.ItemLaws.{chunk_entries}
 use Rattle.catalog.proofs.MarkPlans.{Stands, marks_small, some_of, stands}
 use Rattle.catalog_laws.proofs.MoveItems.{moves_items}
 use Rattle.catalog.proofs.MovePlans.{all_at, homes_allowed, moved_home}
-use Rattle.catalog_tables.proofs.PlacingLaws.{all_in}
-use Rattle.catalog_tables.proofs.TableItems.{among_found, chunks_exact}
+use Rattle.catalog.proofs.catalog_tables.PlacingLaws.{all_in}
+use Rattle.catalog.proofs.catalog_tables.TableItems.{among_found, chunks_exact}
 
 -- ---- marks without one
 

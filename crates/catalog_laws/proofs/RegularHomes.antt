@@ -10,19 +10,19 @@ use Rattle.std.proofs.lemmas.Bool.{and_parts}
 use Rattle.std.proofs.lemmas.Option.{none-some}
 use Rattle.asm_formats.specs.Items.{FileHead, Home, Homes, Item}
 use Rattle.asm_formats.specs.Status.{Entry, entry_of}
-use Rattle.asm_base.proofs.Exact.{some_is}
-use Rattle.asm_placement.specs.Copies.{Copy, all_copies, copies_at, copies_from, entry_at_home, file_copies, has_home, home}
-use Rattle.asm_placement.specs.Tables.{home_of}
-use Rattle.asm_placement.specs.Work.{is_regular}
-use Rattle.extent_map.specs.Extents.{Chunked, absent, chunk_at, chunk_or_blank, count_in, cut_to, with_chunk, with_extent, with_more}
-use Rattle.asm_base.specs.Chunks.{Chunk, chunk_cmp}
+use Rattle.catalog.proofs.asm_base.Exact.{some_is}
+use Rattle.catalog.specs.asm_placement.Copies.{Copy, all_copies, copies_at, copies_from, entry_at_home, file_copies, has_home, home}
+use Rattle.catalog.specs.asm_placement.Tables.{home_of}
+use Rattle.catalog.specs.asm_placement.Work.{is_regular}
+use Rattle.catalog.specs.extent_map.Extents.{Chunked, absent, chunk_at, chunk_or_blank, count_in, cut_to, with_chunk, with_extent, with_more}
+use Rattle.catalog.specs.asm_base.Chunks.{Chunk, chunk_cmp}
 use Rattle.catalog.specs.ExtentPlans.{homes_moved, with_appended, with_cut, with_fewer, with_move, with_released}
-use Rattle.catalog_tables.specs.Items.{AreItemsOf, chunk_copies}
+use Rattle.catalog.specs.catalog_tables.Items.{AreItemsOf, chunk_copies}
 use Rattle.catalog_laws.specs.RegularHomes.{AppendingKeepsRegular, CopiesAreRegular, CuttingKeepsRegular, HomesAreRegular, MovingKeepsRegular, RegularStays}
-use Rattle.catalog_tables.specs.Rules.{AreOnRegular, are_on_regular, first_wrong, is_on_regular, is_regular_chunk, homes_at}
-use Rattle.catalog_tables.specs.Tables.{AreTables, Tables}
+use Rattle.catalog.specs.catalog_tables.Rules.{AreOnRegular, are_on_regular, first_wrong, is_on_regular, is_regular_chunk, homes_at}
+use Rattle.catalog.specs.catalog_tables.Tables.{AreTables, Tables}
 use Rattle.catalog.proofs.AppendPlans.{all_first, all_joined, all_later, all_same}
-use Rattle.catalog_tables.proofs.EntryLaws.{both}
+use Rattle.catalog.proofs.catalog_tables.EntryLaws.{both}
 use Rattle.catalog_laws.proofs.ItemLists.{items_say}
 use Rattle.catalog.proofs.NumberedEntries.{first_passes, passes_more, rest_passes}
 

@@ -8,12 +8,12 @@ use Rattle.asm_formats.specs.Among.{IsAmong}
 use Rattle.asm_formats.specs.Items.{Item, Key, key}
 use Rattle.asm_formats.specs.Values.{decoded_item, value}
 use Rattle.asm_formats.proofs.ItemReading.{item_spelled}
-use Rattle.asm_base.specs.Records.{Entry, key_cmp, record_at}
-use Rattle.asm_base.specs.Tables.{item_record}
-use Rattle.catalog_tables.specs.Items.{RecordsAreTold}
-use Rattle.catalog_tables.specs.Tables.{AreTables, HasRecords, Tables, first_unreadable, is_record, item_at, records_of}
+use Rattle.catalog.specs.asm_base.Records.{Entry, key_cmp, record_at}
+use Rattle.catalog.specs.asm_base.Tables.{item_record}
+use Rattle.catalog.specs.catalog_tables.Items.{RecordsAreTold}
+use Rattle.catalog.specs.catalog_tables.Tables.{AreTables, HasRecords, Tables, first_unreadable, is_record, item_at, records_of}
 use Rattle.catalog.proofs.MarkPlans.{some_of}
-use Rattle.catalog_tables.proofs.TableItems.{found_is, is_of, key_total, keys_exact, recorded, said, says, some_found}
+use Rattle.catalog.proofs.catalog_tables.TableItems.{found_is, is_of, key_total, keys_exact, recorded, said, says, some_found}
 
 -- where none is unreadable, each can be read
 readable : (content : List Entry) (e : Entry) → first_unreadable content ≡ None → IsAmong content e → is_record e ≡ true

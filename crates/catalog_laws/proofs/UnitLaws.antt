@@ -9,16 +9,16 @@ use Rattle.asm_formats.specs.Items.{Item}
 use Rattle.asm_formats.specs.Regions.{reserved_units}
 use Rattle.asm_formats.specs.Status.{Entry, ascends_from, is_entry}
 use Rattle.asm_formats.proofs.Among.{all_among}
-use Rattle.asm_placement.specs.DiskSets.{numbers}
-use Rattle.asm_placement.specs.Placed.{placed}
-use Rattle.asm_placement.specs.Space.{is_free_run, units_on, used_units}
-use Rattle.allocator.specs.UnitMaps.{UnitMap, unused}
-use Rattle.partnership.specs.UnitsOf.{AreUnits, AreUnitsOf}
-use Rattle.catalog_tables.specs.Tables.{AreTables, Tables}
-use Rattle.catalog_tables.specs.Placing.{HasUnits, after_homes, disk_units, homes_of, unused_maps}
-use Rattle.catalog_tables.specs.Items.{AreItemsOf}
+use Rattle.catalog.specs.asm_placement.DiskSets.{numbers}
+use Rattle.catalog.specs.asm_placement.Placed.{placed}
+use Rattle.catalog.specs.asm_placement.Space.{is_free_run, units_on, used_units}
+use Rattle.catalog.specs.allocator.UnitMaps.{UnitMap, unused}
+use Rattle.catalog.specs.partnership.UnitsOf.{AreUnits, AreUnitsOf}
+use Rattle.catalog.specs.catalog_tables.Tables.{AreTables, Tables}
+use Rattle.catalog.specs.catalog_tables.Placing.{HasUnits, after_homes, disk_units, homes_of, unused_maps}
+use Rattle.catalog.specs.catalog_tables.Items.{AreItemsOf}
 use Rattle.catalog_laws.proofs.ItemLists.{items_say}
-use Rattle.catalog_tables.proofs.HomeUnits.{all_by, behind, chunks_are_homes, entry_number, units_of_entry, unused_at, unused_free, unused_none}
+use Rattle.catalog.proofs.catalog_tables.HomeUnits.{all_by, behind, chunks_are_homes, entry_number, units_of_entry, unused_at, unused_free, unused_none}
 
 none_plus : (s : Shape) (items : List Item) (d : ℕ) → 0 + units_on d (placed s.step items) ≡ used_units s items d
 unfolding used_units

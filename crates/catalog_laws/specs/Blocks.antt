@@ -2,12 +2,12 @@
 use Rattle.std.specs.Prelude.{◌≡◌, ◌≤◌, List, map}
 use Rattle.std.specs.List.Sorted.{IsStrictlySortedBy}
 use Rattle.asm_formats.specs.Items.{Key}
-use Rattle.asm_base.specs.Records.{Entry, key_cmp, record_at}
-use Rattle.page_map.specs.Listing.{key_of_place}
-use Rattle.page_map.specs.Tables.{IsTable, PageTable, new_in, room, used}
+use Rattle.catalog.specs.asm_base.Records.{Entry, key_cmp, record_at}
+use Rattle.catalog.specs.page_map.Listing.{key_of_place}
+use Rattle.catalog.specs.page_map.Tables.{IsTable, PageTable, new_in, room, used}
 use Rattle.catalog.specs.Plans.{IsPlan}
-use Rattle.catalog_tables.specs.Rules.{blocks_used, new_records}
-use Rattle.catalog_tables.specs.Tables.{AreTables, Catalogued, Tables, records_of}
+use Rattle.catalog.specs.catalog_tables.Rules.{blocks_used, new_records}
+use Rattle.catalog.specs.catalog_tables.Tables.{AreTables, Catalogued, Tables, records_of}
 
 -- the records on the pages are those of the tables, and no key has two pages
 pub record ArePaged (t : Tables) (pages : PageTable) : Type 0 where

@@ -1,2 +1,13 @@
 pub mod Blocks
 pub mod RegularHomes
+pub mod alias_edits
+pub mod alias_tree
+pub mod allocator
+pub mod catalog
+pub mod catalog_tables
+pub mod disk_directory
+pub mod extent_map
+pub mod file_directory
+pub mod operations_directory
+pub mod staleness_directory
+pub mod template_directory

@@ -3,13 +3,13 @@ use Rattle.std.specs.Prelude.{◌≡◌, ℕ, List, Some, IsTrue}
 use Rattle.std.specs.List.{list_all}
 use Rattle.asm_formats.specs.Items.{Home, Homes, Item}
 use Rattle.asm_formats.specs.Status.{Entry, entry_of}
-use Rattle.asm_placement.specs.Copies.{all_copies, entry_at_home, home}
-use Rattle.asm_placement.specs.Tables.{home_of}
-use Rattle.asm_placement.specs.Work.{is_regular}
+use Rattle.catalog.specs.asm_placement.Copies.{all_copies, entry_at_home, home}
+use Rattle.catalog.specs.asm_placement.Tables.{home_of}
+use Rattle.catalog.specs.asm_placement.Work.{is_regular}
 use Rattle.catalog.specs.ExtentPlans.{with_appended, with_cut, with_move}
-use Rattle.catalog_tables.specs.Items.{AreItemsOf}
-use Rattle.catalog_tables.specs.Rules.{AreOnRegular, are_on_regular, is_on_regular}
-use Rattle.catalog_tables.specs.Tables.{AreTables, Tables}
+use Rattle.catalog.specs.catalog_tables.Items.{AreItemsOf}
+use Rattle.catalog.specs.catalog_tables.Rules.{AreOnRegular, are_on_regular, is_on_regular}
+use Rattle.catalog.specs.catalog_tables.Tables.{AreTables, Tables}
 
 -- ---- what is so by the items
 

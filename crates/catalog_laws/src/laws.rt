@@ -3,15 +3,15 @@
 ghost use Rattle.std.specs.Prelude.{List as Items};
 ghost use Rattle.asm_formats.specs.Items.{Key};
 ghost use Rattle.asm_formats.specs.Status.{Entry as StatusEntry};
-ghost use Rattle.asm_base.specs.Records.{Entry};
+ghost use Rattle.catalog.specs.asm_base.Records.{Entry};
 ghost use Rattle.catalog_laws.specs.Blocks.{BlocksAreCounted, PlansHaveRoom};
-ghost use Rattle.catalog_tables.specs.Tables.{Catalogued};
-ghost use Rattle.catalog_tables.specs.Faults.{IsAtFault, IsCatalogOf};
+ghost use Rattle.catalog.specs.catalog_tables.Tables.{Catalogued};
+ghost use Rattle.catalog.specs.catalog_tables.Faults.{IsAtFault, IsCatalogOf};
 ghost use Rattle.catalog.specs.ExtentPlans.{ClearsItems, MovesItems, StaysInPlace};
-ghost use Rattle.catalog_tables.specs.Items.{ItemsAreOneList, ItemsOfRecords, ItemsSayTables, RecordsAreTold, TablesHaveItems, UnitsOfItems};
+ghost use Rattle.catalog.specs.catalog_tables.Items.{ItemsAreOneList, ItemsOfRecords, ItemsSayTables, RecordsAreTold, TablesHaveItems, UnitsOfItems};
 ghost use Rattle.catalog.specs.NameChecks.{ChecksAgree, ChecksHold};
 ghost use Rattle.catalog.specs.NamePlans.{FilesAsWorld, RefusesAsWorld};
-ghost use Rattle.catalog_tables.specs.Placing.{UnitsAreResized, UnitsResize, UnitsStay};
+ghost use Rattle.catalog.specs.catalog_tables.Placing.{UnitsAreResized, UnitsResize, UnitsStay};
 ghost use Rattle.catalog_laws.specs.RegularHomes.{AppendingKeepsRegular, CopiesAreRegular, CuttingKeepsRegular, HomesAreRegular, MovingKeepsRegular, RegularStays};
 
 /// Where a record is at fault, no value is a catalog of the records.

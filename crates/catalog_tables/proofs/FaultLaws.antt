@@ -6,7 +6,7 @@ use Rattle.asm_group.specs.Shape.{Shape}
 use Rattle.asm_formats.specs.Items.{Key}
 use Rattle.asm_formats.specs.Status as status
 use Rattle.asm_base.proofs.Exact.{some_is}
-use Rattle.allocator.specs.UnitMaps.{UnitMap}
+use Rattle.page_map.specs.allocator.UnitMaps.{UnitMap}
 use Rattle.extent_map.specs.Extents.{Chunked, IsNumbered, IsTable}
 use Rattle.asm_base.specs.Chunks.{Chunk}
 use Rattle.extent_map.proofs.Laws.{table_numbered}

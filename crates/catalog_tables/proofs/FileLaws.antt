@@ -6,7 +6,7 @@ use Rattle.std.proofs.lemmas.Bool.{and_parts}
 use Rattle.asm_group.specs.Shape.{Shape, is_shape, is_unit_size, is_step, is_sector, is_dir_blocks}
 use Rattle.asm_formats.specs.Items.{FileHead, Homes, chunk_len}
 use Rattle.std.proofs.Common.{cond}
-use Rattle.asm_placement.specs.Layout.{IsLayout}
+use Rattle.partnership.specs.asm_placement.Layout.{IsLayout}
 use Rattle.extent_map.specs.Extents.{Chunked, HasCount, chunk_at, extent_at, has_extent, has_home}
 use Rattle.catalog_tables.specs.Tables.{Tables}
 use Rattle.catalog_tables.specs.Rules.{HasExtents, LacksExtent, has_copies, is_due}

@@ -15,11 +15,11 @@ use Rattle.asm_formats.specs.Items.{Home}
 use Rattle.asm_formats.specs.Regions.{reserved_units}
 use Rattle.asm_formats.specs.Sets.{most_disks}
 use Rattle.asm_formats.specs.Status.{Entry, ascends_from, is_entry}
-use Rattle.asm_placement.specs.DiskSets.{numbers}
-use Rattle.asm_placement.specs.Placed.{Placed}
-use Rattle.asm_placement.specs.Space.{is_free_run, units_on}
-use Rattle.allocator.specs.UnitMaps.{UnitMap, is_free, unused, used_of, with_run}
-use Rattle.allocator.proofs.Maps.{count_replaced}
+use Rattle.partnership.specs.asm_placement.DiskSets.{numbers}
+use Rattle.partnership.specs.asm_placement.Placed.{Placed}
+use Rattle.partnership.specs.asm_placement.Space.{is_free_run, units_on}
+use Rattle.page_map.specs.allocator.UnitMaps.{UnitMap, is_free, unused, used_of, with_run}
+use Rattle.page_map.proofs.allocator.Maps.{count_replaced}
 use Rattle.asm_base.proofs.Exact.{bind_some, some_is}
 use Rattle.extent_map.specs.Extents.{Chunked}
 use Rattle.catalog_tables.specs.Placing.{after_chunks, after_homes, disk_units, home_taken, homes_of, is_run_free, marked, unused_maps}

@@ -9,9 +9,9 @@ use Rattle.std.specs.Option.{option_and_then}
 use Rattle.std.proofs.lemmas.Bool.{and_parts, true≢false}
 use Rattle.std.proofs.lemmas.Option.{none-some, slice_get_past, slice_get-get_or}
 use Rattle.asm_formats.specs.Items.{Home, Homes}
-use Rattle.asm_placement.specs.Layout.{units_of}
-use Rattle.asm_placement.specs.Placed.{Placed, placed_copies, placed_extents}
-use Rattle.allocator.specs.UnitMaps.{IsFreeRun, UnitMap, is_free, with_run}
+use Rattle.partnership.specs.asm_placement.Layout.{units_of}
+use Rattle.partnership.specs.asm_placement.Placed.{Placed, placed_copies, placed_extents}
+use Rattle.page_map.specs.allocator.UnitMaps.{IsFreeRun, UnitMap, is_free, with_run}
 use Rattle.extent_map.specs.Extents.{Chunked}
 use Rattle.asm_base.specs.Chunks.{Chunk}
 use Rattle.catalog_tables.specs.Placing.{after_chunks, after_homes, home_placed, home_taken, homes_of, is_run_free, misplaced}

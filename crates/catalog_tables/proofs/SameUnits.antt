@@ -9,7 +9,7 @@ use Rattle.asm_formats.specs.Regions.{reserved_units}
 use Rattle.asm_formats.specs.Sets.{most_disks}
 use Rattle.asm_formats.specs.Status.{Entry}
 use Rattle.asm_formats.proofs.Among.{map_range_same}
-use Rattle.allocator.specs.UnitMaps.{UnitMap, unused}
+use Rattle.page_map.specs.allocator.UnitMaps.{UnitMap, unused}
 use Rattle.catalog_tables.specs.Tables.{Tables}
 use Rattle.catalog_tables.specs.Placing.{HasUnits, HaveSameUnits, after_chunks, after_homes, disk_units, have_units, homes_of, map_units, unused_maps}
 use Rattle.catalog_tables.proofs.EntryLaws.{either}

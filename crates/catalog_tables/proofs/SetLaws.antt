@@ -13,7 +13,7 @@ use Rattle.asm_formats.specs.Items.{Key, Node, is_same_key, node_item}
 use Rattle.asm_formats.specs.Values.{value}
 use Rattle.asm_base.specs.Records.{is_key}
 use Rattle.page_map.proofs.Keys.{key_itself, same_key}
-use Rattle.item_table.proofs.Laws.{record_gone}
+use Rattle.staleness_directory.proofs.item_table.Laws.{record_gone}
 use Rattle.file_directory.specs.Files.{File, head_at, item_of as item_of_file}
 use Rattle.file_directory.specs.Changing as files
 use Rattle.extent_map.specs.Extents.{Chunked, chunk_key}

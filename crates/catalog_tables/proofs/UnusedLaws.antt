@@ -9,8 +9,8 @@ use Rattle.asm_group.specs.Shape.{Shape, is_shape, is_unit_size, is_step, is_sec
 use Rattle.asm_formats.specs.Regions.{reserved_units, most_units}
 use Rattle.asm_formats.specs.Sets.{most_disks}
 use Rattle.asm_formats.specs.Status.{Entry, is_entry}
-use Rattle.asm_placement.proofs.Units.{is_unit}
-use Rattle.allocator.specs.UnitMaps.{UnitMap, unused}
+use Rattle.partnership.proofs.asm_placement.Units.{is_unit}
+use Rattle.page_map.specs.allocator.UnitMaps.{UnitMap, unused}
 use Rattle.catalog_tables.specs.Placing.{disk_units}
 
 pub few_units : (e : Entry) → is_entry e ≡ true → e.units ≤ 16777216

@@ -9,13 +9,13 @@ use Rattle.asm_formats.specs.Sets.{has_bit}
 use Rattle.asm_formats.specs.Status as status
 use Rattle.asm_formats.specs.Status.{ascends_from, is_entry}
 use Rattle.asm_formats.specs.Values.{value}
-use Rattle.asm_placement.specs.Copies.{Copy, all_copies, file_copies}
-use Rattle.asm_placement.specs.DiskSets.{numbers}
-use Rattle.asm_placement.specs.Placed.{placed}
-use Rattle.asm_placement.specs.Tables.{head_of, homes_in, is_stale, marks_in}
-use Rattle.asm_placement.specs.Work.{keys_differ}
+use Rattle.partnership.specs.asm_placement.Copies.{Copy, all_copies, file_copies}
+use Rattle.partnership.specs.asm_placement.DiskSets.{numbers}
+use Rattle.partnership.specs.asm_placement.Placed.{placed}
+use Rattle.partnership.specs.asm_placement.Tables.{head_of, homes_in, is_stale, marks_in}
+use Rattle.partnership.specs.asm_placement.Work.{keys_differ}
 use Rattle.asm_base.specs.Records.{Entry, record_at}
-use Rattle.allocator.specs.UnitMaps.{UnitMap}
+use Rattle.page_map.specs.allocator.UnitMaps.{UnitMap}
 use Rattle.partnership.specs.UnitsOf.{AreUnitsOf}
 use Rattle.extent_map.specs.Extents.{Chunked, chunk_at}
 use Rattle.file_directory.specs.Files.{head_at}

@@ -7,8 +7,8 @@ use Rattle.asm_formats.specs.Regions.{reserved_units}
 use Rattle.asm_formats.specs.Sets.{most_disks}
 use Rattle.asm_formats.specs.Status as status
 use Rattle.asm_formats.specs.Items.{Home, chunk_len}
-use Rattle.asm_placement.specs.Placed.{Placed, placed_extents}
-use Rattle.allocator.specs.UnitMaps.{IsUnusedFrom, UnitMap, is_free, resized, unused, with_run}
+use Rattle.partnership.specs.asm_placement.Placed.{Placed, placed_extents}
+use Rattle.page_map.specs.allocator.UnitMaps.{IsUnusedFrom, UnitMap, is_free, resized, unused, with_run}
 use Rattle.extent_map.specs.Extents.{Chunked}
 use Rattle.asm_base.specs.Chunks.{Chunk}
 use Rattle.catalog_tables.specs.Tables.{Tables}

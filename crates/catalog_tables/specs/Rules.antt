@@ -9,10 +9,10 @@ use Rattle.asm_formats.specs.Items.{Key, chunk_len, FileHead, Home, Homes}
 use Rattle.asm_formats.specs.Among.{IsAmong}
 use Rattle.asm_formats.specs.Sets.{has_bit}
 use Rattle.asm_formats.specs.Status as status
-use Rattle.asm_placement.specs.Copies.{entry_at_home}
-use Rattle.asm_placement.specs.Layout.{has_extent}
-use Rattle.asm_placement.specs.Naming.{is_birth, is_directory, is_named_as, is_pending, names_back}
-use Rattle.asm_placement.specs.Work.{is_regular}
+use Rattle.partnership.specs.asm_placement.Copies.{entry_at_home}
+use Rattle.partnership.specs.asm_placement.Layout.{has_extent}
+use Rattle.partnership.specs.asm_placement.Naming.{is_birth, is_directory, is_named_as, is_pending, names_back}
+use Rattle.partnership.specs.asm_placement.Work.{is_regular}
 use Rattle.asm_base.specs.Records.{Entry}
 use Rattle.page_map.specs.Changes.{is_put}
 use Rattle.page_map.specs.Tables.{is_kept, one_if}

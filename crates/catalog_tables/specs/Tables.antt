@@ -5,7 +5,7 @@ use Rattle.asm_group.specs.Shape.{Shape}
 use Rattle.asm_formats.specs.Items.{Item, Key, file_item, chunk_item, disk_item, rebalance_item, pending_item, templates_item, node_item, settings_item, marks_item, disks_kind, files_kind, marks_kind, nodes_kind, operations_kind, settings_kind, templates_kind}
 use Rattle.asm_formats.specs.Values.{value, decoded_item}
 use Rattle.asm_base.specs.Records.{Entry, of_kinds}
-use Rattle.allocator.specs.UnitMaps.{UnitMap}
+use Rattle.page_map.specs.allocator.UnitMaps.{UnitMap}
 use Rattle.file_directory.specs.Files as files
 use Rattle.extent_map.specs.Extents as extents
 use Rattle.alias_tree.specs.Nodes as nodes

@@ -14,10 +14,10 @@ use crate::error::CatalogError;
 use crate::parts::Parts;
 use crate::placing::{place_in, unused_units};
 use crate::reading::{chunk_key, node_key};
-use allocator::Units;
 use asm_base::{Key, SETTINGS_KEY, Shape, record_kind};
 use disk_directory::disk_key;
-use status_table::PstEntry;
+use page_map::allocator_crate::Units;
+use partnership::status_table_crate::PstEntry;
 use std::alloc::Global;
 
 impl Parts {

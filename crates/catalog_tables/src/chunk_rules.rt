@@ -4,8 +4,8 @@ ghost use Rattle.std.specs.Prelude.{◌≡◌, None};
 ghost use Rattle.std.specs.List.{list_all};
 ghost use Rattle.std.specs.Option.{option_copied};
 ghost use Rattle.asm_formats.specs.Items.{Home as FormatHome};
-ghost use Rattle.asm_placement.specs.Work.{is_regular};
-ghost use Rattle.asm_placement.specs.Naming.{is_pending};
+ghost use Rattle.partnership.specs.asm_placement.Work.{is_regular};
+ghost use Rattle.partnership.specs.asm_placement.Naming.{is_pending};
 ghost use Rattle.catalog_tables.specs.Rules.{are_on_disks, are_on_regular, are_on_two, are_within, are_within_head, first_wrong, has_chunk, has_marks, is_on_disks, is_on_regular, is_owned, is_regular_chunk, is_within, keeps_copies};
 
 use crate::parts::Parts;
@@ -13,7 +13,7 @@ use asm_base::{Home, Homes};
 use file_directory::FileHead;
 use operations_directory::Pending;
 use partnership::entry_of;
-use status_table::PstEntry;
+use partnership::status_table_crate::PstEntry;
 
 impl Parts {
     /// The first chunk that has no record of stale marks.

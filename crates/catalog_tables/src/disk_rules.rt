@@ -2,13 +2,13 @@
 
 ghost use Rattle.std.specs.Prelude.{◌≡◌, ◌≤◌, ◌+◌, ◌↔◌, IsTrue, min};
 ghost use Rattle.std.specs.Option.{option_copied};
-ghost use Rattle.asm_placement.specs.Naming.{is_birth};
+ghost use Rattle.partnership.specs.asm_placement.Naming.{is_birth};
 ghost use Rattle.catalog_tables.specs.Rules.{blocks_used, first_unknown, has_info};
 
 use crate::parts::Parts;
 use asm_base::Shape;
 use disk_directory::DiskInfo;
-use status_table::PstEntry;
+use partnership::status_table_crate::PstEntry;
 
 /// Blocks of a directory copy that are kept for the rebalance and the pending operation.
 const KEPT: u64 = 2;

@@ -1,6 +1,16 @@
 //! The tables of a group as one value, with the rules that hold across them.
 #![tactic(auto)]
 
+pub use asm_base as asm_base_crate;
+pub use disk_directory as disk_directory_crate;
+pub use extent_map as extent_map_crate;
+pub use file_directory as file_directory_crate;
+pub use operations_directory as operations_directory_crate;
+pub use page_map::allocator_crate;
+pub use partnership as partnership_crate;
+pub use partnership::{status_table_crate, striping_crate};
+pub use staleness_directory as staleness_directory_crate;
+
 mod changing;
 mod checking;
 mod chunk_rules;

@@ -2,7 +2,7 @@
 
 ghost use Rattle.std.specs.Prelude.{◌≡◌, None};
 ghost use Rattle.std.specs.Option.{option_copied};
-ghost use Rattle.asm_placement.specs.Naming.{is_named_as, kind_eq, names_back};
+ghost use Rattle.partnership.specs.asm_placement.Naming.{is_named_as, kind_eq, names_back};
 ghost use Rattle.catalog_tables.specs.Rules.{first_wrong, has_names, is_named_back, names_file};
 
 use crate::parts::Parts;

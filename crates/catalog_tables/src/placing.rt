@@ -7,15 +7,15 @@ ghost use Rattle.asm_formats.specs.Items.{Home as FormatHome};
 ghost use Rattle.asm_formats.specs.Regions.{reserved_units};
 ghost use Rattle.asm_formats.specs.Status.{is_entry};
 ghost use Rattle.asm_group.specs.Shape.{is_shape};
-ghost use Rattle.asm_placement.specs.Placed.{placed_copies, placed_extents};
+ghost use Rattle.partnership.specs.asm_placement.Placed.{placed_copies, placed_extents};
 ghost use Rattle.catalog_tables.specs.Placing.{AreFit, IsFit, after_chunks, after_homes, disk_units, have_units, home_placed, home_taken, map_units, misplaced, unused_maps};
 
-use allocator::Units;
 use asm_base::{Home, Homes, MOST_DISKS, NoMemory, Shape};
 use extent_map::ExtentMap;
-use status_table::PstEntry;
+use page_map::allocator_crate::Units;
+use partnership::status_table_crate::PstEntry;
+use partnership::striping_crate::units_of;
 use std::alloc::Global;
-use striping::units_of;
 
 /// Makes the units of the homes of all chunks used. The first chunk that has a home whose units aren't free.
 #[tactic(auto, using(crate::proofs::PlacingLaws::next_chunk, crate::proofs::PlacingLaws::no_chunks, crate::proofs::PlacingLaws::chunk_refused))]

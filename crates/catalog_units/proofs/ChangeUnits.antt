@@ -6,18 +6,18 @@ use Rattle.std.specs.Option.{option_and_then}
 use Rattle.std.specs.Ordering.{is_lt}
 use Rattle.std.specs.declared.cmp.Ordering.TheVariants.{Less, Equal, Greater}
 use Rattle.std.proofs.lemmas.Bool.{true≢false}
-use Rattle.asm_base.proofs.Exact.{bind_some, some_is}
-use Rattle.asm_base.specs.Records.{Ascend, Entry, is_key}
-use Rattle.asm_formats.specs.Items.{Homes, Key, chunk_item}
-use Rattle.page_map.specs.Changes.{is_gone, is_put, last_put, value_after}
-use Rattle.page_map.proofs.Changing.{last_put_none}
-use Rattle.page_map.proofs.Keys.{same_key}
-use Rattle.allocator.specs.UnitMaps.{UnitMap}
-use Rattle.extent_map.specs.Extents.{Chunked, chunk_at, chunk_key}
-use Rattle.asm_base.specs.Chunks.{Chunk, chunk_cmp, is_before}
-use Rattle.extent_map.proofs.Laws.{chunk_total, same_chunk}
-use Rattle.extent_map.proofs.Numbering.{is_same, tail_up}
-use Rattle.extent_map.specs.Changing.{value_at}
+use Rattle.catalog_tables.proofs.asm_base.Exact.{bind_some, some_is}
+use Rattle.catalog_tables.specs.asm_base.Records.{Ascend, Entry, is_key}
+use Rattle.catalog_tables.specs.asm_formats.Items.{Homes, Key, chunk_item}
+use Rattle.catalog_tables.specs.page_map.Changes.{is_gone, is_put, last_put, value_after}
+use Rattle.catalog_tables.proofs.page_map.Changing.{last_put_none}
+use Rattle.catalog_tables.proofs.page_map.Keys.{same_key}
+use Rattle.catalog_tables.specs.allocator.UnitMaps.{UnitMap}
+use Rattle.catalog_tables.specs.extent_map.Extents.{Chunked, chunk_at, chunk_key}
+use Rattle.catalog_tables.specs.asm_base.Chunks.{Chunk, chunk_cmp, is_before}
+use Rattle.catalog_tables.proofs.extent_map.Laws.{chunk_total, same_chunk}
+use Rattle.catalog_tables.proofs.extent_map.Numbering.{is_same, tail_up}
+use Rattle.catalog_tables.specs.extent_map.Changing.{value_at}
 use Rattle.catalog_tables.specs.Changing.{IsAfter}
 use Rattle.catalog_tables.specs.Tables.{AreTables, Tables, records_of}
 use Rattle.catalog_units.specs.Giving.{AreUnitsOfKept, IsNewKey, IsOld, but, chunks_kept, keys_of, stays}

@@ -7,14 +7,14 @@ use Rattle.std.specs.Ordering.{is_lt}
 use Rattle.std.specs.declared.cmp.Ordering.TheVariants.{Less, Equal}
 use Rattle.std.proofs.lemmas.Bool.{true≢false}
 use Rattle.std.proofs.lemmas.Option.{none-some}
-use Rattle.asm_base.specs.Records.{Ascend}
-use Rattle.asm_base.proofs.Exact.{bind_some, some_is}
-use Rattle.asm_formats.specs.Items.{Homes}
-use Rattle.allocator.specs.UnitMaps.{UnitMap}
-use Rattle.extent_map.specs.Extents.{Chunked, chunk_at}
-use Rattle.asm_base.specs.Chunks.{Chunk, chunk_cmp, is_before}
-use Rattle.extent_map.proofs.Laws.{same_chunk}
-use Rattle.extent_map.proofs.Numbering.{comes_after, is_same, tail_up}
+use Rattle.catalog_tables.specs.asm_base.Records.{Ascend}
+use Rattle.catalog_tables.proofs.asm_base.Exact.{bind_some, some_is}
+use Rattle.catalog_tables.specs.asm_formats.Items.{Homes}
+use Rattle.catalog_tables.specs.allocator.UnitMaps.{UnitMap}
+use Rattle.catalog_tables.specs.extent_map.Extents.{Chunked, chunk_at}
+use Rattle.catalog_tables.specs.asm_base.Chunks.{Chunk, chunk_cmp, is_before}
+use Rattle.catalog_tables.proofs.extent_map.Laws.{same_chunk}
+use Rattle.catalog_tables.proofs.extent_map.Numbering.{comes_after, is_same, tail_up}
 use Rattle.catalog_units.specs.Giving.{but, chunks_kept}
 use Rattle.catalog_tables.specs.Placing.{after_chunks, after_homes, homes_of}
 use Rattle.catalog_tables.proofs.HomeUnits.{chunks_are_homes}

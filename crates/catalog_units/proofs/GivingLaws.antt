@@ -1,10 +1,10 @@
 -- Homes of an extent and of a chunk that are given back.
 use Rattle.std.proofs.Common.{◌≡◌, ℕ, suc, ◌+◌, ◌<◌, ◌≤◌, List, [], ◌∷◌, ◌++◌, drop, length, get_or, add-one, Option, Some, sym, ap, subst, ◌∙◌}
-use Rattle.asm_base.proofs.Exact.{bind_some, some_is}
-use Rattle.asm_formats.specs.Items.{Home, Homes}
-use Rattle.asm_placement.specs.Layout.{units_of}
-use Rattle.asm_placement.specs.Placed.{placed_copies, placed_extents}
-use Rattle.allocator.specs.UnitMaps.{UnitMap}
+use Rattle.catalog_tables.proofs.asm_base.Exact.{bind_some, some_is}
+use Rattle.catalog_tables.specs.asm_formats.Items.{Home, Homes}
+use Rattle.catalog_tables.specs.asm_placement.Layout.{units_of}
+use Rattle.catalog_tables.specs.asm_placement.Placed.{placed_copies, placed_extents}
+use Rattle.catalog_tables.specs.allocator.UnitMaps.{UnitMap}
 use Rattle.catalog_tables.specs.Placing.{after_homes, home_placed}
 use Rattle.catalog_tables.proofs.PlacingLaws.{extents_end, left_from, no_home, one_home}
 use Rattle.catalog_units.proofs.UnitOrder.{front_last}

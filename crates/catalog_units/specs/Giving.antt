@@ -1,12 +1,12 @@
 -- The units of some chunks of a table.
 use Rattle.std.specs.Prelude.{◌≡◌, ℕ, Bool, ◌&&◌, not, List, ◌++◌, ◌<◌, map, filter, take, true, false, Some}
 use Rattle.std.specs.BTreeMap.{is_at}
-use Rattle.asm_formats.specs.Items.{Key, files_kind}
-use Rattle.asm_base.specs.Records.{Entry}
-use Rattle.page_map.specs.Changes.{is_gone}
-use Rattle.allocator.specs.UnitMaps.{UnitMap}
-use Rattle.extent_map.specs.Extents.{Chunked, chunk_key}
-use Rattle.asm_base.specs.Chunks.{Chunk, chunk_cmp}
+use Rattle.catalog_tables.specs.asm_formats.Items.{Key, files_kind}
+use Rattle.catalog_tables.specs.asm_base.Records.{Entry}
+use Rattle.catalog_tables.specs.page_map.Changes.{is_gone}
+use Rattle.catalog_tables.specs.allocator.UnitMaps.{UnitMap}
+use Rattle.catalog_tables.specs.extent_map.Extents.{Chunked, chunk_key}
+use Rattle.catalog_tables.specs.asm_base.Chunks.{Chunk, chunk_cmp}
 use Rattle.catalog_tables.specs.Placing.{after_chunks}
 
 -- the chunks that are meant

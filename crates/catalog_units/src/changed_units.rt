@@ -2,22 +2,22 @@
 
 ghost use Rattle.std.specs.Prelude.{◌≡◌, ◌<◌, ◌+◌, ◌-◌, ◌^◌, length, List as Items, Some, true, false, get_or, take, ◌≤◌};
 ghost use Rattle.std.specs.Bool.{OnFalse, OnTrue};
-ghost use Rattle.asm_base.specs.Records.{is_key};
-ghost use Rattle.page_map.specs.Changes.{is_gone};
-ghost use Rattle.allocator.specs.UnitMaps.{UnitMap};
-ghost use Rattle.extent_map.specs.Extents.{chunk_at};
-ghost use Rattle.asm_base.specs.Chunks.{Chunk};
-ghost use Rattle.extent_map.specs.Changing.{AreChunks};
+ghost use Rattle.catalog_tables.specs.asm_base.Records.{is_key};
+ghost use Rattle.catalog_tables.specs.page_map.Changes.{is_gone};
+ghost use Rattle.catalog_tables.specs.allocator.UnitMaps.{UnitMap};
+ghost use Rattle.catalog_tables.specs.extent_map.Extents.{chunk_at};
+ghost use Rattle.catalog_tables.specs.asm_base.Chunks.{Chunk};
+ghost use Rattle.catalog_tables.specs.extent_map.Changing.{AreChunks};
 ghost use Rattle.catalog_tables.specs.Changing.{IsAfter};
 ghost use Rattle.catalog_tables.specs.Tables.{AreTables};
 ghost use Rattle.catalog_units.specs.Giving.{AreUnitsOfKept, IsNewKey, IsOld, keys_of, stays};
 ghost use Rattle.catalog_tables.specs.Placing.{after_chunks};
 
 use crate::giving::{give_at, mark_at};
-use allocator::Units;
-use asm_base::{Change, Key, Shape, Value, record_kind};
 use catalog_tables::Parts;
-use extent_map::ExtentMap;
+use catalog_tables::allocator_crate::Units;
+use catalog_tables::asm_base_crate::{Change, Key, Shape, Value, record_kind};
+use catalog_tables::extent_map_crate::ExtentMap;
 
 /// The key at a place of a change, where the records that are put stand before the keys that go.
 fn key_at(put: &[(Key, Value)], gone: &[Key], place: usize) -> Key

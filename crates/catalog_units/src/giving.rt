@@ -1,18 +1,18 @@
 //! The units of homes that go, given back.
 
 ghost use Rattle.std.specs.Prelude.{◌≡◌, ◌<◌, ◌+◌, ◌*◌, ◌^◌, ◌∷◌, [], length, List as Items, Some, true, Bool};
-ghost use Rattle.asm_placement.specs.Placed.{placed_copies, placed_extents};
-ghost use Rattle.allocator.specs.UnitMaps.{UnitMap};
-ghost use Rattle.asm_base.specs.Chunks.{Chunk};
-ghost use Rattle.extent_map.specs.Changing.{AreChunks};
+ghost use Rattle.catalog_tables.specs.asm_placement.Placed.{placed_copies, placed_extents};
+ghost use Rattle.catalog_tables.specs.allocator.UnitMaps.{UnitMap};
+ghost use Rattle.catalog_tables.specs.asm_base.Chunks.{Chunk};
+ghost use Rattle.catalog_tables.specs.extent_map.Changing.{AreChunks};
 ghost use Rattle.catalog_units.specs.Giving.{AreUnitsOfKept, but};
 ghost use Rattle.catalog_tables.specs.Placing.{after_homes, home_placed, home_taken};
 
-use allocator::Units;
-use asm_base::{Home, Homes};
+use catalog_tables::allocator_crate::Units;
+use catalog_tables::asm_base_crate::{Home, Homes};
+use catalog_tables::extent_map_crate::ExtentMap;
 use catalog_tables::place_chunk;
-use extent_map::ExtentMap;
-use striping::units_of;
+use catalog_tables::striping_crate::units_of;
 
 /// Gives the units of a chunk's homes back, where the chunk is there. Whichever chunks the units are those of, they are
 /// those of the others then.

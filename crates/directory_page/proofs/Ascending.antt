@@ -3,10 +3,10 @@ use Rattle.std.proofs.Common.{◌≡◌, ℕ, zero, suc, ◌+◌, ◌-◌, ◌<�
 use Rattle.std.specs.Prelude.{◌&&◌}
 use Rattle.std.specs.Option.{option_and_then, option_map}
 use Rattle.std.specs.List.{AllByRecursion}
-use Rattle.asm_group.specs.Names.{Bytes, folded, is_name}
-use Rattle.asm_group.specs.declared.Stripe.{Stripe}
-use Rattle.asm_group.specs.Group.{Template}
-use Rattle.asm_formats.specs.Items.{names_ascend, precedes}
+use Rattle.asm_base.specs.asm_group.Names.{Bytes, folded, is_name}
+use Rattle.asm_base.specs.asm_group.declared.Stripe.{Stripe}
+use Rattle.asm_base.specs.asm_group.Group.{Template}
+use Rattle.asm_base.specs.asm_formats.Items.{names_ascend, precedes}
 use Rattle.asm_base.specs.Readings.{both, byte_reading, flag_reading, repeated, text_reading}
 use Rattle.asm_base.specs.Words.{stripe_reading}
 use Rattle.asm_base.specs.Parts.{TemplateParts, to_template}

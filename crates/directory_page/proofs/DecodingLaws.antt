@@ -4,10 +4,10 @@ use Rattle.std.specs.Prelude.{◌&&◌}
 use Rattle.std.specs.Option.{is_some}
 use Rattle.std.proofs.lemmas.Bool.{and_parts, and_from, cases_eq, cases_lt, ltb-true, lt-ltb, le-ltb, ne_eqb, true≢false}
 use Rattle.std.proofs.lemmas.Option.{none-some}
-use Rattle.asm_group.specs.Names.{Bytes}
-use Rattle.asm_formats.specs.Items.{Item, Key, key, is_item, marks_item}
-use Rattle.asm_formats.specs.Values.{value, decoded_item, item_by, disk_info_at, node_at}
-use Rattle.asm_formats.proofs.Bodies.{item_codec}
+use Rattle.asm_base.specs.asm_group.Names.{Bytes}
+use Rattle.asm_base.specs.asm_formats.Items.{Item, Key, key, is_item, marks_item}
+use Rattle.asm_base.specs.asm_formats.Values.{value, decoded_item, item_by, disk_info_at, node_at}
+use Rattle.asm_base.proofs.asm_formats.Bodies.{item_codec}
 use Rattle.asm_base.proofs.Exact.{IsBytes}
 use Rattle.record_values.proofs.Decoded.{by_kind, nothing_decoded}
 use Rattle.record_values.proofs.Disks.{disk_fits, disk_form}

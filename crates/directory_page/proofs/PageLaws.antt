@@ -3,11 +3,11 @@ use Rattle.std.proofs.Common.{◌≡◌, Bool, true, false, cond, [], ◌∷◌,
 use Rattle.std.specs.Prelude.{◌&&◌, nat_le, ◌==◌, drop, take}
 use Rattle.std.specs.Option.{is_some, option_and_then, option_map}
 use Rattle.std.specs.List.{list_all}
-use Rattle.asm_group.specs.Names.{Bytes}
-use Rattle.asm_formats.specs.Items.{Item}
-use Rattle.asm_formats.specs.Values.{decoded_item}
-use Rattle.asm_formats.specs.Records.{Frame, decoded_record}
-use Rattle.asm_formats.specs.Content.{is_empty_page, is_page, page_items}
+use Rattle.asm_base.specs.asm_group.Names.{Bytes}
+use Rattle.asm_base.specs.asm_formats.Items.{Item}
+use Rattle.asm_base.specs.asm_formats.Values.{decoded_item}
+use Rattle.asm_base.specs.asm_formats.Records.{Frame, decoded_record}
+use Rattle.asm_base.specs.asm_formats.Content.{is_empty_page, is_page, page_items}
 use Rattle.asm_base.specs.Records.{Entry}
 use Rattle.asm_base.specs.Frames.{Head, entry_frame, entry_in, framed, head_reading}
 use Rattle.asm_base.proofs.Exact.{IsBytes}

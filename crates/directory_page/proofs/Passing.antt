@@ -1,8 +1,8 @@
 -- A check passes over just what a reading takes.
 use Rattle.std.proofs.Common.{◌≡◌, ℕ, zero, suc, ◌+◌, ◌-◌, ◌<◌, ◌≤◌, Bool, true, false, cond, eqb, List, ◌∷◌, length, Option, Some, None, refl, sym, ap, ◌∙◌, arith}
 use Rattle.std.specs.Option.{is_some, option_and_then, option_map}
-use Rattle.asm_formats.specs.Items.{Item, Key}
-use Rattle.asm_formats.specs.Values.{decoded_item}
+use Rattle.asm_base.specs.asm_formats.Items.{Item, Key}
+use Rattle.asm_base.specs.asm_formats.Values.{decoded_item}
 use Rattle.asm_base.specs.Readings.{Reading, both, as_a, repeated}
 use Rattle.asm_base.specs.Records.{all_of}
 use Rattle.asm_base.proofs.Exact.{IsBytes}

@@ -2,9 +2,9 @@
 use Rattle.std.proofs.Common.{◌≡◌, ℕ, ◌+◌, ◌^◌, ◌<◌}
 use Rattle.std.specs.Int.{w16, w32, w64}
 use Rattle.std.specs.Option.{is_some}
-use Rattle.asm_group.specs.Names.{Bytes}
-use Rattle.asm_formats.specs.Items.{file_item, chunk_item, disk_item, rebalance_item, pending_item, templates_item, node_item, settings_item}
-use Rattle.asm_formats.specs.Values.{decoded_item}
+use Rattle.asm_base.specs.asm_group.Names.{Bytes}
+use Rattle.asm_base.specs.asm_formats.Items.{file_item, chunk_item, disk_item, rebalance_item, pending_item, templates_item, node_item, settings_item}
+use Rattle.asm_base.specs.asm_formats.Values.{decoded_item}
 use Rattle.asm_base.specs.Parts.{home_reading, to_disk, to_pending, to_node, to_settings}
 use Rattle.asm_base.specs.Readings.{number_reading, name_reading, text_reading}
 use Rattle.asm_base.specs.Words.{stripe_reading, node_kind_reading, pending_kind_reading}

@@ -3,10 +3,10 @@ use Rattle.std.specs.Prelude.{ℕ, zero, suc, ◌-◌, ◌^◌, Bool, true, fals
 use Rattle.std.specs.Option.{option_and_then, option_map}
 use Rattle.std.specs.List.{list_all}
 use Rattle.std.specs.Int.{w16, w32, w64}
-use Rattle.asm_group.specs.Names.{Bytes, folded}
-use Rattle.asm_group.specs.Group.{Template}
-use Rattle.asm_formats.specs.Sets.{most_disks}
-use Rattle.asm_formats.specs.Items.{chunk_len, disks_kind, files_kind, marks_kind, most_templates, nodes_kind, operations_kind, precedes, settings_kind, templates_kind}
+use Rattle.asm_base.specs.asm_group.Names.{Bytes, folded}
+use Rattle.asm_base.specs.asm_group.Group.{Template}
+use Rattle.asm_base.specs.asm_formats.Sets.{most_disks}
+use Rattle.asm_base.specs.asm_formats.Items.{chunk_len, disks_kind, files_kind, marks_kind, most_templates, nodes_kind, operations_kind, precedes, settings_kind, templates_kind}
 use Rattle.asm_base.specs.Readings.{Reading, byte_reading, flag_reading, number_reading, name_reading, text_reading}
 use Rattle.asm_base.specs.Words.{stripe_reading, node_kind_reading, pending_kind_reading}
 use Rattle.asm_base.specs.Parts.{home_reading}

@@ -1,8 +1,8 @@
 // Whether a block is a page.
 ghost use Rattle.std.specs.Prelude.{◌≡◌, ◌≤◌, length};
 ghost use Rattle.std.specs.Option.{is_some, option_copied};
-ghost use Rattle.asm_formats.specs.Content.{is_empty_page, is_page};
-ghost use Rattle.asm_formats.specs.Records.{decoded_record};
+ghost use Rattle.asm_base.specs.asm_formats.Content.{is_empty_page, is_page};
+ghost use Rattle.asm_base.specs.asm_formats.Records.{decoded_record};
 ghost use Rattle.asm_base.specs.Frames.{head_reading};
 ghost use Rattle.directory_page.specs.Frames.{is_framed, value_in};
 

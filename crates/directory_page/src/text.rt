@@ -1,7 +1,7 @@
 // Names and texts in a record, as the bytes where they stand.
 ghost use Rattle.std.specs.Prelude.{◌≡◌};
-ghost use Rattle.asm_group.specs.Names.{folded};
-ghost use Rattle.asm_formats.specs.Items.{precedes};
+ghost use Rattle.asm_base.specs.asm_group.Names.{folded};
+ghost use Rattle.asm_base.specs.asm_formats.Items.{precedes};
 ghost use Rattle.asm_base.specs.Cursors.{ReadsBy};
 ghost use Rattle.asm_base.specs.Readings.{name_reading, text_reading};
 ghost use Rattle.directory_page.specs.Checks.{Passes, passed};

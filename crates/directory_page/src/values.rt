@@ -4,7 +4,7 @@ ghost use Rattle.std.specs.List.{list_all};
 ghost use Rattle.std.specs.Int.{w16};
 ghost use Rattle.std.specs.Option.{is_some};
 ghost use Rattle.asm_base.specs.Readings.{number_reading};
-ghost use Rattle.asm_formats.specs.Values.{decoded_item};
+ghost use Rattle.asm_base.specs.asm_formats.Values.{decoded_item};
 ghost use Rattle.directory_page.specs.Checks.{Passes, is_all, passed};
 ghost use Rattle.directory_page.specs.Values.{file_check, file_numbers_check, chunk_check, extent_check, disk_check, pending_check, node_check, settings_check, are_marks, operation_passes, single_passes, value_passes};
 

@@ -1,3 +1,4 @@
+pub use Rattle.page_map.proofs as page_map
 pub mod CopyLaws
 pub mod Steps
 pub mod Rows

@@ -1,3 +1,5 @@
+pub use Rattle.change_directory.specs as change_directory
+pub use Rattle.page_map.specs as page_map
 pub mod Contents
 pub mod Copies
 pub mod Stores

@@ -8,11 +8,11 @@ use Rattle.asm_base.specs.declared.refusal.Refusal.TheVariants as cause
 use Rattle.asm_group.specs.Names.{Bytes}
 use Rattle.asm_group.specs.Refusal as r
 use Rattle.asm_world.specs.World.{DismountedBy, Mounted, SessionEntry, SessionState, entry_among}
-use Rattle.group_engine.specs.Mounts.{MountedGroup}
-use Rattle.relocation.specs.Shortfalls.{EndCause}
-use Rattle.relocation.specs.Slices.{SliceCause}
-use Rattle.relocation.specs.declared.asking.Slice.{Slice}
-use Rattle.relocation.specs.declared.asking.Slice.TheVariants as slice
+use Rattle.session.specs.group_engine.Mounts.{MountedGroup}
+use Rattle.session.specs.relocation.Shortfalls.{EndCause}
+use Rattle.session.specs.relocation.Slices.{SliceCause}
+use Rattle.session.specs.relocation.declared.asking.Slice.{Slice}
+use Rattle.session.specs.relocation.declared.asking.Slice.TheVariants as slice
 use Rattle.session.specs.Entries.{disk_name}
 use Rattle.session.specs.Naming.{ChangesGroup, IsMountedName, IsOutCause, group_among, in_state, key_of, of_entry, with_group}
 use Rattle.session.specs.Sessions.{SessionView}

@@ -5,10 +5,10 @@ use Rattle.asm_base.specs.declared.refusal.Refusal.{Refusal}
 use Rattle.asm_base.specs.declared.refusal.Refusal.TheVariants as cause
 use Rattle.asm_group.specs.Names.{Bytes}
 use Rattle.asm_group.specs.Refusal as r
-use Rattle.group_engine.specs.Mounts.{MountedGroup}
-use Rattle.relocation.specs.Shortfalls.{HasNoDiskFor, HasNoSource}
-use Rattle.relocation.specs.declared.asking.Slice.{Slice}
-use Rattle.relocation.specs.declared.asking.Slice.TheVariants as slice
+use Rattle.session.specs.group_engine.Mounts.{MountedGroup}
+use Rattle.session.specs.relocation.Shortfalls.{HasNoDiskFor, HasNoSource}
+use Rattle.session.specs.relocation.declared.asking.Slice.{Slice}
+use Rattle.session.specs.relocation.declared.asking.Slice.TheVariants as slice
 use Rattle.session.specs.Entries.{disk_name}
 use Rattle.session.specs.Naming.{group_among}
 use Rattle.session.specs.Sessions.{SessionView}

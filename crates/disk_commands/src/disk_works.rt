@@ -1,20 +1,17 @@
 // What statements do to the disks of one group.
 ghost use Rattle.std.specs.Prelude.{⊤, ◌≤◌, length};
-ghost use Rattle.disk_joining.specs.Taking.{IsApart, TakesIn};
-ghost use Rattle.group_engine.specs.Mounts.{Takes};
-ghost use Rattle.group_engine.specs.Members.{LetsGo};
+ghost use Rattle.session.specs.disk_joining.Taking.{IsApart, TakesIn};
+ghost use Rattle.session.specs.group_engine.Mounts.{Takes};
+ghost use Rattle.session.specs.group_engine.Members.{LetsGo};
 
 use asm_base::{DiskSet, MOST_DISKS, Name, NoMemory, Refusal};
 use bay::Bay;
-use disk_joining::{add_disks, online_disks};
-use disk_modes::{
-    DropDisk, GroupSort, disk_named, disks_in_group, drop_disks, offline_disks, offline_set,
-    resize_disks, serving_disks, set_rebalance, undrop_disks,
-};
-use group_engine::Mounted;
 use group_sql::{DroppedDisk, FailgroupKind, NewFailgroup, Rebalance};
-use new_groups::Known;
-use session::{Attaching, GroupWork};
+use session::{
+    Attaching, DropDisk, GroupSort, GroupWork, Known, Mounted, add_disks, disk_named,
+    disks_in_group, drop_disks, offline_disks, offline_set, online_disks, resize_disks,
+    serving_disks, set_rebalance, undrop_disks,
+};
 use std::alloc::Global;
 
 /// The most steps that a slice of a rebalance may have.

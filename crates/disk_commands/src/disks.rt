@@ -13,9 +13,8 @@ use crate::disk_works::{Chosen, DiskChange, said_of};
 use crate::waiting::{add_and_wait, bring_back_and_wait, change_and_wait};
 use asm_base::{List, Name, Text};
 use bay::{Bay, Host};
-use group_disks::create_disk as make_disk;
 use group_sql::{Disks, DroppedDisk, FailgroupKind, NewFailgroup, Rebalance};
-use session::{Answer, Desk, Reply, no_memory, refused};
+use session::{Answer, Desk, Reply, create_disk as make_disk, no_memory, refused};
 
 /// CREATE DISK. Its refusals are those of the image: NoDisk, ReadFault, DiskTaken.
 pub fn create_disk<B: Bay, H: Host>(

@@ -1,6 +1,8 @@
 //! The commands on the disks of a group: which there are, how large they are, whether they are online.
 #![tactic(auto)]
 
+pub use session::{Answer, Desk, GroupTurn as Turn, Reply, Session, Turned, no_memory, unreadable};
+
 mod disk_works;
 mod disks;
 mod waiting;

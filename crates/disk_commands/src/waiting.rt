@@ -3,9 +3,9 @@ ghost use Rattle.std.specs.Prelude.{◌≡◌, ◌⊎◌, ⊤, ◌≤◌, [], le
 ghost use Rattle.asm_base.specs.Refusals.{said};
 ghost use Rattle.asm_base.specs.declared.refusal.Refusal.TheVariants as cause;
 ghost use Rattle.disk_commands.specs.Waits.{HasShortCause, HasWaited, IsNoShortfall, ReplyWaited, WaitCause, WaitsForRebalance, refusal_in, refused_after, shortfall};
-ghost use Rattle.group_engine.specs.Mounts.{Takes};
-ghost use Rattle.group_engine.specs.Own.{KeepsGroup};
-ghost use Rattle.relocation.specs.Shortfalls.{EndCause};
+ghost use Rattle.session.specs.group_engine.Mounts.{Takes};
+ghost use Rattle.session.specs.group_engine.Own.{KeepsGroup};
+ghost use Rattle.session.specs.relocation.Shortfalls.{EndCause};
 ghost use Rattle.session.specs.Naming.{CarriesOn};
 ghost use Rattle.session.specs.Sessions.{AreReady};
 
@@ -13,13 +13,12 @@ use crate::disk_works::{ChangeDisks, Chosen, DiskChange, Joining, checked_power}
 use asm_base::{DiskSet, List, MOST_DISKS, Name, NoMemory, Refusal, Text};
 use bay::Bay;
 use event_lines::Event;
-use group_engine::Mounted;
 use group_sql::NewFailgroup;
-use group_turns::{rebalanced, resynced, shown_name};
 use line_buffer::LineBuffer;
-use relocation::{Slice, run_to_end};
-use resync::{Resynced, sync_slice};
-use session::{GroupWork, Reply, Session, spelt};
+use session::{
+    GroupWork, Mounted, Reply, Session, Slice, SyncedSlice as Resynced, group_resynced as resynced,
+    rebalanced, run_to_end, shown_name, spelt, sync_slice,
+};
 use std::alloc::Global;
 
 // ---- lines

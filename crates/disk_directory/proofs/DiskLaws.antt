@@ -7,7 +7,7 @@ use Rattle.std.specs.Cmp.{nat_cmp_total}
 use Rattle.std.specs.FinMap.{nat_cmp-IsAntisymmetric}
 use Rattle.std.specs.Ordering.{nat_cmp}
 use Rattle.std.proofs.lemmas.Bool.{and_parts, eqb-true, ltb-true, lt-ltb}
-use Rattle.asm_group.specs.Names.{is_name}
+use Rattle.asm_formats.specs.asm_group.Names.{is_name}
 use Rattle.asm_formats.specs.Items.{DiskInfo, Key, disk_item, is_item}
 use Rattle.asm_formats.specs.Values.{decoded_item}
 use Rattle.asm_base.specs.Records.{Entry, all_of, of_kinds, read_from}

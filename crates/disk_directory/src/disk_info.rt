@@ -44,7 +44,7 @@ impl DiskInfo {
 }
 
 ghost use Rattle.std.specs.Prelude.{◌≡◌, ◌&&◌, nat_lt};
-ghost use Rattle.asm_group.specs.Names.{is_name};
+ghost use Rattle.asm_formats.specs.asm_group.Names.{is_name};
 ghost use Rattle.asm_formats.specs.Items.{disk_item, is_item};
 
 fn is_allowed(disk: u8, birth: u64, name: &Name, failgroup: &Name) -> bool

@@ -1,7 +1,7 @@
 //! The record of a disk.
 
 ghost use Rattle.std.specs.Prelude.{◌≡◌, IfOk, IsTrue, true};
-ghost use Rattle.asm_group.specs.Names.{is_name};
+ghost use Rattle.asm_formats.specs.asm_group.Names.{is_name};
 ghost use Rattle.asm_formats.specs.Items.{disk_item, disks_kind, is_item};
 ghost use Rattle.asm_formats.specs.Values.{value};
 ghost use Rattle.asm_base.specs.Tables.{item_record};

@@ -1,6 +1,8 @@
 //! The header of a disk, which makes it a member of a group, and its one spelling in a block.
 #![tactic(auto)]
 
+pub use asm_base as asm_base_crate;
+
 mod header;
 mod reading;
 mod writing;

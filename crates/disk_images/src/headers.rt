@@ -10,9 +10,9 @@ ghost use Rattle.asm_formats.specs.Header.{is_header, header_spelling};
 ghost use Rattle.asm_images.specs.Kept.{header_in};
 ghost use Rattle.disk_images.specs.Headers.{HasHeaderSlot, IsBlank};
 
-use asm_base::{Block, Shape};
 use bay::{Bay, Fault};
 use disk_forming::{close_all_gates, header_slot};
+use disk_header::asm_base_crate::{Block, Shape};
 use disk_header::{Header, encode};
 use gate_slot::{close_gate, put};
 

@@ -1,6 +1,8 @@
 //! What the program's images show, and how a disk gets its open header and loses it, for each shape and sector.
 #![tactic(auto)]
 
+pub use disk_header as disk_header_crate;
+
 mod headers;
 mod laws;
 mod looking;

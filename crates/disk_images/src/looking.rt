@@ -10,9 +10,9 @@ ghost use Rattle.asm_formats.specs.Header.{decoded_header, is_header};
 ghost use Rattle.asm_images.specs.Kept.{header_in};
 ghost use Rattle.disk_images.specs.Looks.{Looks, IsAllowed, HeaderIs, IsLooked, AreLooked};
 
-use asm_base::{BLOCK, Block, LEAST_SIZE, NoMemory};
 use bay::{Bay, BayError, Fault};
 use disk_forming::header_slot;
+use disk_header::asm_base_crate::{BLOCK, Block, LEAST_SIZE, NoMemory};
 use disk_header::{Header, decode};
 use gate_slot::is_open;
 use std::alloc::Global;

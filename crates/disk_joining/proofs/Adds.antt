@@ -11,16 +11,16 @@ use Rattle.asm_base.specs.declared.refusal.Refusal.TheVariants as refusal
 use Rattle.asm_group.specs.Names.{Bytes}
 use Rattle.asm_world.specs.NewDisks.{PlannedDisk}
 use Rattle.asm_world.specs.Statement.{NewFailgroup}
-use Rattle.catalog.specs.Plans.{MayAdd}
-use Rattle.catalog_tables.specs.Tables.{Tables}
+use Rattle.file_extents.specs.catalog.Plans.{MayAdd}
+use Rattle.file_extents.specs.catalog_tables.Tables.{Tables}
 use Rattle.file_extents.specs.Closing.{or_shut}
-use Rattle.group_mount.proofs.Told.{rose_before, rose_later}
-use Rattle.group_disks.proofs.Staying.{stays_keeps}
-use Rattle.group_engine.specs.Commits.{StatusCause}
-use Rattle.group_engine.specs.Mounts.{IsMounted, MountedGroup}
-use Rattle.group_engine.specs.Pending.{GoesOn}
-use Rattle.group_engine.proofs.Causes.{not_mounted}
-use Rattle.group_mount.specs.declared.finding.Headed.{Headed}
+use Rattle.new_groups.proofs.group_mount.Told.{rose_before, rose_later}
+use Rattle.new_groups.proofs.group_disks.Staying.{stays_keeps}
+use Rattle.file_extents.specs.group_engine.Commits.{StatusCause}
+use Rattle.file_extents.specs.group_engine.Mounts.{IsMounted, MountedGroup}
+use Rattle.file_extents.specs.group_engine.Pending.{GoesOn}
+use Rattle.file_extents.proofs.group_engine.Causes.{not_mounted}
+use Rattle.new_groups.specs.group_mount.declared.finding.Headed.{Headed}
 use Rattle.new_groups.specs.declared.asked.Known.{Known}
 use Rattle.disk_joining.specs.AddCauses.{AddCause, SomeFailed, IsWriteFault, JoinCause}
 use Rattle.disk_joining.specs.AddCauses.AddCause.{by_step}

@@ -5,14 +5,14 @@ use Rattle.std.specs.Option.{option_map}
 use Rattle.std.proofs.lemmas.Bool.{eq-eqb, true≢false}
 use Rattle.std.proofs.lemmas.Option.{same_Some}
 use Rattle.bay.specs.State.{BayState}
-use Rattle.group_disks.specs.Holding.{IsHeldSlot}
-use Rattle.group_disks.proofs.Staying.{stays_refl}
-use Rattle.group_engine.specs.Mounts.{IsOwn, IsWhole, MountedGroup, Takes, slot_at}
-use Rattle.group_engine.specs.declared.attached.Attached.{Attached}
-use Rattle.group_mount.proofs.Searches.{sector_of}
+use Rattle.new_groups.specs.group_disks.Holding.{IsHeldSlot}
+use Rattle.new_groups.proofs.group_disks.Staying.{stays_refl}
+use Rattle.file_extents.specs.group_engine.Mounts.{IsOwn, IsWhole, MountedGroup, Takes, slot_at}
+use Rattle.file_extents.specs.group_engine.declared.attached.Attached.{Attached}
+use Rattle.new_groups.proofs.group_mount.Searches.{sector_of}
 use Rattle.status_register.specs.declared.member.Member.{Member}
 use Rattle.disk_joining.specs.Attaching.{IsAttachable, has_slot, member_of}
-use Rattle.group_engine.specs.Members.{HasImage, with_disk}
+use Rattle.file_extents.specs.group_engine.Members.{HasImage, with_disk}
 use Rattle.disk_joining.specs.Taking.{IsApart, TakesIn}
 use Rattle.disk_joining.specs.declared.attaching.DiskImage.{DiskImage}
 use Rattle.disk_joining.proofs.Takings.{spares_none}

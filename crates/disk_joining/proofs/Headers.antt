@@ -10,11 +10,11 @@ use Rattle.bay.proofs.Images.{changes-within, window-same}
 use Rattle.asm_formats.specs.Metadata.{header_of}
 use Rattle.asm_images.specs.Kept.{header_in}
 use Rattle.asm_formats.specs.Among.{IsAmong}
-use Rattle.group_engine.specs.Frames.{SameDisk}
-use Rattle.group_engine.specs.Mounts.{MountedGroup}
-use Rattle.group_engine.specs.Own.{KeepsGroup}
-use Rattle.group_mount.specs.Verdicts.{IsSlotIn}
-use Rattle.group_mount.specs.declared.finding.Headed.{Headed}
+use Rattle.file_extents.specs.group_engine.Frames.{SameDisk}
+use Rattle.file_extents.specs.group_engine.Mounts.{MountedGroup}
+use Rattle.file_extents.specs.group_engine.Own.{KeepsGroup}
+use Rattle.new_groups.specs.group_mount.Verdicts.{IsSlotIn}
+use Rattle.new_groups.specs.group_mount.declared.finding.Headed.{Headed}
 use Rattle.new_groups.specs.Drafts.{AreDisksApart}
 use Rattle.new_groups.specs.Forming.{Works}
 use Rattle.new_groups.specs.Tests.{are_apart, is_apart}

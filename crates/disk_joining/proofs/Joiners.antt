@@ -20,31 +20,31 @@ use Rattle.asm_formats.specs.Status.{Entry, Status, entry_of}
 use Rattle.asm_group.specs.Shape.{Shape, is_shape}
 use Rattle.asm_images.proofs.Members.{member_shape}
 use Rattle.asm_formats.specs.Among.{IsAmong}
-use Rattle.disk_directory.specs.Disks.{Disk, info_at, with_info}
-use Rattle.catalog.specs.Plans as plans
-use Rattle.catalog_tables.proofs.NumberedLists.{either, number_is}
+use Rattle.new_groups.specs.disk_directory.Disks.{Disk, info_at, with_info}
+use Rattle.file_extents.specs.catalog.Plans as plans
+use Rattle.file_extents.proofs.catalog_tables.NumberedLists.{either, number_is}
 use Rattle.disk_images.specs.Headers.{HasHeaderSlot}
 use Rattle.disk_images.specs.Looks.{AreLooked, IsLooked}
 use Rattle.disk_images.specs.declared.looking.Looked.{Looked}
 use Rattle.disk_images.specs.declared.looking.Looked.TheVariants.{Absent, Unread, Read}
-use Rattle.extent_map.proofs.Lookups.{put_other}
+use Rattle.file_extents.proofs.extent_map.Lookups.{put_other}
 use Rattle.gate_slot.specs.Slot.{GateOf, MayClose}
 use Rattle.gate_slot.specs.declared.place.Place.{Place}
-use Rattle.group_disks.specs.Holding.{IsHeldSlot}
-use Rattle.group_disks.proofs.Spared.{change_held}
-use Rattle.group_disks.proofs.Staying.{stays_keeps}
-use Rattle.group_engine.specs.Frames.{StaysAttached}
-use Rattle.group_engine.specs.Mounts.{IsOwn, IsWhole, MountedGroup, Takes}
-use Rattle.group_mount.specs.Verdicts.{IsSlotIn}
-use Rattle.group_mount.specs.declared.finding.Headed.{Headed}
-use Rattle.group_mount.proofs.Searches.{sector_of}
-use Rattle.disk_forming.specs.Gates.{HasRegion}
+use Rattle.new_groups.specs.group_disks.Holding.{IsHeldSlot}
+use Rattle.new_groups.proofs.group_disks.Spared.{change_held}
+use Rattle.new_groups.proofs.group_disks.Staying.{stays_keeps}
+use Rattle.file_extents.specs.group_engine.Frames.{StaysAttached}
+use Rattle.file_extents.specs.group_engine.Mounts.{IsOwn, IsWhole, MountedGroup, Takes}
+use Rattle.new_groups.specs.group_mount.Verdicts.{IsSlotIn}
+use Rattle.new_groups.specs.group_mount.declared.finding.Headed.{Headed}
+use Rattle.new_groups.proofs.group_mount.Searches.{sector_of}
+use Rattle.disk_images.specs.disk_forming.Gates.{HasRegion}
 use Rattle.status_register.specs.Holders.{numbered}
 use Rattle.status_register.specs.Registered.{Registered}
 use Rattle.status_register.specs.declared.member.Member.{Member}
 use Rattle.new_groups.specs.Forming.{AreHeadable, AreLong, Works}
 use Rattle.new_groups.specs.Tests.{are_apart, is_there, shows_size}
-use Rattle.group_mount.specs.Founds.{is_held}
+use Rattle.new_groups.specs.group_mount.Founds.{is_held}
 use Rattle.new_groups.proofs.DiskLists.{pages_of}
 use Rattle.disk_joining.specs.Attaching.{has_slot}
 use Rattle.disk_joining.specs.Joiners.{AreJoiners, HasEntryWithBirth, AreEntered, IsJoiner, CanJoin, are_free, are_unrecorded, is_entered, records_disk, are_entered, fits_shape, may_join}

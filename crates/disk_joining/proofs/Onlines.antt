@@ -13,13 +13,13 @@ use Rattle.asm_formats.specs.Header.{Header}
 use Rattle.disk_images.specs.Looks.{AreLooked, IsLooked}
 use Rattle.disk_images.specs.declared.looking.Looked.{Looked}
 use Rattle.disk_images.specs.declared.looking.Looked.TheVariants.{Absent, Read}
-use Rattle.group_mount.proofs.Told.{rose_before}
-use Rattle.group_engine.specs.Commits.{StatusCause}
-use Rattle.group_engine.specs.Making.{IsShut}
-use Rattle.group_engine.specs.Mounts.{IsMounted, MountedGroup}
-use Rattle.group_engine.specs.Pending.{GoesOn}
-use Rattle.group_engine.specs.declared.access.Access.{Access}
-use Rattle.group_engine.specs.declared.access.Access.TheVariants as access
+use Rattle.new_groups.proofs.group_mount.Told.{rose_before}
+use Rattle.file_extents.specs.group_engine.Commits.{StatusCause}
+use Rattle.file_extents.specs.group_engine.Making.{IsShut}
+use Rattle.file_extents.specs.group_engine.Mounts.{IsMounted, MountedGroup}
+use Rattle.file_extents.specs.group_engine.Pending.{GoesOn}
+use Rattle.file_extents.specs.group_engine.declared.access.Access.{Access}
+use Rattle.file_extents.specs.group_engine.declared.access.Access.TheVariants as access
 use Rattle.disk_joining.specs.Causes.{IsLostBy, OnlineCause, StepCause}
 use Rattle.disk_joining.specs.Causes.IsLostBy.{has_failed, was_lost}
 use Rattle.disk_joining.specs.Causes.OnlineCause.{by_record}

@@ -10,18 +10,18 @@ use Rattle.asm_base.specs.declared.refusal.DiskRef.TheVariants as disk
 use Rattle.asm_base.specs.declared.refusal.Refusal.{Refusal}
 use Rattle.asm_base.specs.declared.refusal.Refusal.TheVariants as refusal
 use Rattle.disk_images.specs.Looks.{Looks}
-use Rattle.group_disks.specs.Holding.{SameHeld}
-use Rattle.group_disks.proofs.Spared.{change_held, held_trans, same_held}
-use Rattle.group_disks.proofs.Staying.{stays_keeps, stays_refl, stays_trans}
-use Rattle.group_mount.proofs.Told.{rose_before}
-use Rattle.group_engine.specs.Commits.{StatusCause}
-use Rattle.group_engine.specs.Frames.{SparesDisks, StaysAttached}
-use Rattle.group_engine.specs.Mounts.{IsMounted, IsOwn, MountedGroup, Takes, slot_at}
-use Rattle.group_engine.specs.Own.{KeepsGroup}
-use Rattle.group_engine.specs.Pending.{GoesOn}
-use Rattle.group_engine.specs.declared.attached.Attached.{Attached}
-use Rattle.group_engine.proofs.Causes.{gives_up, not_mounted, nothing_kept}
-use Rattle.group_engine.proofs.Elsewhere.{ready_elsewhere}
+use Rattle.new_groups.specs.group_disks.Holding.{SameHeld}
+use Rattle.new_groups.proofs.group_disks.Spared.{change_held, held_trans, same_held}
+use Rattle.new_groups.proofs.group_disks.Staying.{stays_keeps, stays_refl, stays_trans}
+use Rattle.new_groups.proofs.group_mount.Told.{rose_before}
+use Rattle.file_extents.specs.group_engine.Commits.{StatusCause}
+use Rattle.file_extents.specs.group_engine.Frames.{SparesDisks, StaysAttached}
+use Rattle.file_extents.specs.group_engine.Mounts.{IsMounted, IsOwn, MountedGroup, Takes, slot_at}
+use Rattle.file_extents.specs.group_engine.Own.{KeepsGroup}
+use Rattle.file_extents.specs.group_engine.Pending.{GoesOn}
+use Rattle.file_extents.specs.group_engine.declared.attached.Attached.{Attached}
+use Rattle.file_extents.proofs.group_engine.Causes.{gives_up, not_mounted, nothing_kept}
+use Rattle.file_extents.proofs.group_engine.Elsewhere.{ready_elsewhere}
 use Rattle.status_register.specs.declared.member.Member.{Member}
 use Rattle.disk_joining.specs.Causes.{StepCause}
 use Rattle.disk_joining.specs.Causes.IsLostBy.{has_failed}

@@ -8,11 +8,11 @@ use Rattle.asm_group.specs.Refusal as r
 use Rattle.asm_world.specs.NewDisks.{PlannedDisk, is_name_taken}
 use Rattle.asm_world.specs.Reports.{DiskRow}
 use Rattle.asm_world.specs.Statement.{NewFailgroup}
-use Rattle.catalog_tables.specs.Rules.{blocks_used}
-use Rattle.catalog_tables.specs.Tables.{Catalogued}
+use Rattle.file_extents.specs.catalog_tables.Rules.{blocks_used}
+use Rattle.file_extents.specs.catalog_tables.Tables.{Catalogued}
 use Rattle.disk_images.specs.Looks.{AreLooked}
 use Rattle.disk_images.specs.declared.looking.Looked.{Looked}
-use Rattle.group_engine.specs.Mounts.{MountedGroup}
+use Rattle.file_extents.specs.group_engine.Mounts.{MountedGroup}
 use Rattle.new_groups.specs.Causes.{IsThisRefusal, terms_of}
 use Rattle.new_groups.specs.declared.asked.Known.{Known}
 use Rattle.disk_joining.specs.AddCauses.{IsNotPrepared, IsUnfit, StandsAgainst, add_refusal, names_refusal, free_blocks, full_refusal}

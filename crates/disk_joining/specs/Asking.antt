@@ -8,9 +8,9 @@ use Rattle.asm_group.specs.Names.{Bytes}
 use Rattle.asm_world.specs.NewDisks.{PlannedDisk, planned_disk}
 use Rattle.asm_world.specs.Reports.{DiskRow}
 use Rattle.asm_world.specs.Statement.{NewDisk, NewFailgroup}
-use Rattle.disk_directory.specs.Disks.{Disk, info_at}
-use Rattle.group_engine.specs.Mounts.{MountedGroup}
-use Rattle.group_engine.specs.declared.attached.Attached.{Attached}
+use Rattle.new_groups.specs.disk_directory.Disks.{Disk, info_at}
+use Rattle.file_extents.specs.group_engine.Mounts.{MountedGroup}
+use Rattle.file_extents.specs.group_engine.declared.attached.Attached.{Attached}
 use Rattle.new_groups.specs.declared.asked.Known.{Known}
 use Rattle.new_groups.specs.declared.asked.Taken.{Taken}
 

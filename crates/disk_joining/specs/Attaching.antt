@@ -1,10 +1,10 @@
 -- An image that is to be attached as a disk of a group.
 use Rattle.std.specs.Prelude.{◌≤◌, ℕ, Bool, false, ◌||◌, ◌==◌, List, [], ◌∷◌, Option, Some, None}
 use Rattle.asm_formats.specs.Regions.{least_size}
-use Rattle.group_disks.specs.Holding.{IsHeldSlot}
-use Rattle.group_engine.specs.Members.{HasPlace}
-use Rattle.group_engine.specs.Mounts.{IsMounted, MountedGroup}
-use Rattle.group_engine.specs.declared.attached.Attached.{Attached}
+use Rattle.new_groups.specs.group_disks.Holding.{IsHeldSlot}
+use Rattle.file_extents.specs.group_engine.Members.{HasPlace}
+use Rattle.file_extents.specs.group_engine.Mounts.{IsMounted, MountedGroup}
+use Rattle.file_extents.specs.group_engine.declared.attached.Attached.{Attached}
 use Rattle.status_register.specs.declared.member.Member.{Member}
 use Rattle.disk_joining.specs.declared.attaching.DiskImage.{DiskImage}
 

@@ -11,8 +11,8 @@ use Rattle.asm_formats.specs.Status.{Entry, entry_of}
 use Rattle.asm_world.specs.Causes.{is_offline}
 use Rattle.disk_images.specs.Looks.{AreLooked}
 use Rattle.disk_images.specs.declared.looking.Looked.{Looked}
-use Rattle.group_engine.specs.Mounts.{MountedGroup, slot_at}
-use Rattle.group_engine.specs.declared.access.Access.TheVariants as access
+use Rattle.file_extents.specs.group_engine.Mounts.{MountedGroup, slot_at}
+use Rattle.file_extents.specs.group_engine.declared.access.Access.TheVariants as access
 use Rattle.disk_joining.specs.Returning.{is_present}
 
 -- The group was dismounted by the disk before the call, or the disk is attached to it and failed in the call.

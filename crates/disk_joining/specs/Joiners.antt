@@ -13,12 +13,12 @@ use Rattle.asm_group.specs.Shape.{Shape}
 use Rattle.asm_images.specs.Kept.{header_in}
 use Rattle.asm_formats.specs.Among.{IsAmong}
 use Rattle.asm_world.specs.NewDisks.{PlannedDisk}
-use Rattle.disk_directory.specs.Disks.{Disk, info_at}
-use Rattle.catalog.specs.Plans.{MayAdd}
+use Rattle.new_groups.specs.disk_directory.Disks.{Disk, info_at}
+use Rattle.file_extents.specs.catalog.Plans.{MayAdd}
 use Rattle.disk_images.specs.declared.looking.Looked.{Looked}
-use Rattle.group_disks.specs.Holding.{IsHeldSlot}
-use Rattle.group_engine.specs.Mounts.{IsMounted, IsOwn, MountedGroup}
-use Rattle.group_mount.specs.declared.finding.Headed.{Headed}
+use Rattle.new_groups.specs.group_disks.Holding.{IsHeldSlot}
+use Rattle.file_extents.specs.group_engine.Mounts.{IsMounted, IsOwn, MountedGroup}
+use Rattle.new_groups.specs.group_mount.declared.finding.Headed.{Headed}
 use Rattle.new_groups.specs.Drafts.{AreDisksApart}
 use Rattle.new_groups.specs.Tests.{are_apart, is_there}
 use Rattle.disk_joining.specs.Attaching.{has_slot}

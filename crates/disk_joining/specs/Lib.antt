@@ -5,3 +5,5 @@ pub mod AddCauses
 pub mod Attaching
 pub mod Returning
 pub mod Joiners
+pub mod disk_directory
+pub mod new_groups

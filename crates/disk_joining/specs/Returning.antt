@@ -6,7 +6,7 @@ use Rattle.asm_formats.specs.Header.{Header}
 use Rattle.asm_formats.specs.Status.{Entry}
 use Rattle.disk_images.specs.declared.looking.Looked.{Looked}
 use Rattle.disk_images.specs.declared.looking.Looked.TheVariants.{Absent, Unread, Read}
-use Rattle.group_engine.specs.Mounts.{MountedGroup, slot_at}
+use Rattle.file_extents.specs.group_engine.Mounts.{MountedGroup, slot_at}
 use Rattle.disk_joining.specs.Attaching.{has_slot}
 use Rattle.disk_joining.specs.declared.attaching.DiskImage.{DiskImage}
 

@@ -2,9 +2,9 @@
 use Rattle.std.specs.Prelude.{◌≡◌, ⊤, ℕ, List}
 use Rattle.bay.specs.Moments.{Runs}
 use Rattle.bay.specs.State.{BayState}
-use Rattle.group_disks.specs.Holding.{IsHeldSlot, SameHeld}
-use Rattle.group_engine.specs.Frames.{StaysAttached}
-use Rattle.group_engine.specs.Mounts.{IsMounted, IsOwn, IsReady, IsWhole, MountedGroup}
+use Rattle.new_groups.specs.group_disks.Holding.{IsHeldSlot, SameHeld}
+use Rattle.file_extents.specs.group_engine.Frames.{StaysAttached}
+use Rattle.file_extents.specs.group_engine.Mounts.{IsMounted, IsOwn, IsReady, IsWhole, MountedGroup}
 
 -- no attached disk of the group is in one of these slots
 abbrev pub IsApart : List ℕ → MountedGroup → Type 0

@@ -1,9 +1,9 @@
 //! ADD: new disks join a mounted group.
 ghost use Rattle.std.specs.Prelude.{◌≡◌, ◌≤◌, IfErr, OnOk, length, map};
 ghost use Rattle.std.specs.String.{string_bytes};
-ghost use Rattle.catalog.specs.Plans.{MayAdd};
-ghost use Rattle.group_engine.specs.Mounts.{IsMounted, Takes};
-ghost use Rattle.group_engine.specs.Pending.{GoesOn};
+ghost use Rattle.file_extents.specs.catalog.Plans.{MayAdd};
+ghost use Rattle.file_extents.specs.group_engine.Mounts.{IsMounted, Takes};
+ghost use Rattle.file_extents.specs.group_engine.Pending.{GoesOn};
 ghost use Rattle.new_groups.specs.Drafts.{AreDisksApart};
 ghost use Rattle.disk_joining.specs.AddCauses.{AddCause};
 ghost use Rattle.disk_joining.specs.Asking.{asked_disks, given_numbers};
@@ -19,13 +19,8 @@ use crate::recording::write_next;
 use crate::returning::give_back;
 use asm_base::{DiskSet, Mode, NoMemory, Refusal};
 use bay::Bay;
-use catalog_tables::DiskInfo;
-use file_extents::or_shut;
-use group_engine::Mounted;
-use group_mount::Headed;
-use group_sql::NewFailgroup;
-use new_groups::Known;
-use partnership::partners;
+use file_extents::{DiskInfo, Mounted, or_shut};
+use new_groups::{Headed, Known, NewFailgroup, partners};
 use status_table::{PstEntry, PstRecord, with_births, with_entry, with_partners};
 use std::alloc::Global;
 

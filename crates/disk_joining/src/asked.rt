@@ -11,10 +11,8 @@ ghost use Rattle.disk_joining.specs.Asking.{asked_disks, asked_from, asked_in, f
 
 use crate::recording::entry_of;
 use asm_base::{Limited, NoMemory, Refusal};
-use group_engine::Mounted;
-use group_sql::{NewDisk, NewFailgroup};
-use new_disks::PlannedDisk;
-use new_groups::{Terms, disks_within, planned_disk};
+use file_extents::Mounted;
+use new_groups::{NewDisk, NewFailgroup, PlannedDisk, Terms, disks_within, planned_disk};
 use status_table::PstRecord;
 use std::alloc::Global;
 

@@ -1,13 +1,13 @@
 //! An image is attached as a disk of a group.
 ghost use Rattle.std.specs.Prelude.{◌≡◌, Some};
 ghost use Rattle.std.specs.Bool.{OnTrue};
-ghost use Rattle.group_engine.specs.Mounts.{Takes};
+ghost use Rattle.file_extents.specs.group_engine.Mounts.{Takes};
 ghost use Rattle.disk_joining.specs.Taking.{IsApart, TakesIn};
 ghost use Rattle.disk_joining.specs.Attaching.{IsAttachable, member_of};
 
 use crate::slots::is_held;
 use bay::Bay;
-use group_engine::Mounted;
+use file_extents::Mounted;
 use status_register::Member;
 
 /// The bytes that a member has at least: up to its directory region.

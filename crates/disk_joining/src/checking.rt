@@ -1,6 +1,6 @@
 //! What new disks become is tried before the first write.
 ghost use Rattle.std.specs.Prelude.{◌≡◌, ◌&&◌, is_some, not};
-ghost use Rattle.disk_directory.specs.Disks.{info_at};
+ghost use Rattle.new_groups.specs.disk_directory.Disks.{info_at};
 ghost use Rattle.new_groups.specs.Tests.{is_there};
 ghost use Rattle.disk_joining.specs.Attaching.{has_slot};
 ghost use Rattle.disk_joining.specs.Joiners.{are_free, are_asked, are_unrecorded, is_entered, records_disk, are_entered, fits_shape, may_join};
@@ -9,14 +9,10 @@ use crate::joining::Joining;
 use crate::recording::entry_of;
 use crate::slots::is_own;
 use asm_base::Shape;
-use catalog::Catalog;
-use catalog_tables::DiskInfo;
 use disk_header::is_header;
 use disk_images::Looked;
-use group_engine::Mounted;
-use group_mount::Headed;
-use new_disks::PlannedDisk;
-use new_groups::{are_apart, is_there};
+use file_extents::{Catalog, DiskInfo, Mounted};
+use new_groups::{Headed, PlannedDisk, are_apart, is_there};
 use status_table::PstRecord;
 
 /// Whether the header is one of a group of this shape.

@@ -1,7 +1,7 @@
 //! New disks get their headers.
 ghost use Rattle.std.specs.Prelude.{◌<◌, ◌≤◌, ◌∷◌, [], IfErr, IsTrue, OnErr, OnOk, length};
 ghost use Rattle.asm_group.specs.Shape.{is_shape};
-ghost use Rattle.disk_forming.specs.Gates.{HasRegion};
+ghost use Rattle.disk_images.specs.disk_forming.Gates.{HasRegion};
 ghost use Rattle.new_groups.specs.Drafts.{AreDisksApart};
 ghost use Rattle.new_groups.specs.Forming.{AreHeadable, AreLong, IsHeadable, Works};
 ghost use Rattle.disk_joining.specs.AddCauses.{SomeFailed};
@@ -10,7 +10,7 @@ ghost use Rattle.disk_joining.specs.Joiners.{ShowHeaders, ShowsHeader};
 use asm_base::Shape;
 use bay::{Bay, Fault};
 use disk_images::{close_gates, close_header, write_header};
-use group_mount::Headed;
+use new_groups::Headed;
 
 /// Closes the gates of a disk, and gives it its header.
 fn give_header<B: Bay>(bay: &mut B, disk: &Headed, shape: Shape) -> Result<(), Fault>

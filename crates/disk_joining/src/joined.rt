@@ -1,14 +1,14 @@
 //! Disks that got their headers are attached.
 ghost use Rattle.std.specs.Prelude.{◌≡◌, Some};
 ghost use Rattle.asm_formats.specs.Among.{IsAmong};
-ghost use Rattle.group_engine.specs.Mounts.{Takes};
-ghost use Rattle.group_mount.specs.declared.finding.Headed.{Headed as Disk};
+ghost use Rattle.file_extents.specs.group_engine.Mounts.{Takes};
+ghost use Rattle.new_groups.specs.group_mount.declared.finding.Headed.{Headed as Disk};
 ghost use Rattle.disk_joining.specs.Taking.{IsApart, TakesIn};
 
 use crate::attaching::{DiskImage, attach_image};
 use bay::Bay;
-use group_engine::Mounted;
-use group_mount::Headed;
+use file_extents::Mounted;
+use new_groups::Headed;
 
 /// Attaches disks that got their headers.
 pub fn attach_all<B: Bay>(m: &mut Mounted, bay: &B, held: &[u32], disks: &[Headed])

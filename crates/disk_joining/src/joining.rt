@@ -5,7 +5,7 @@ ghost use Rattle.asm_base.specs.Refusals.{said};
 ghost use Rattle.asm_group.specs.Refusal.{NoMemory as NoMemoryLeft};
 ghost use Rattle.asm_group.specs.Shape.{is_shape};
 ghost use Rattle.disk_images.specs.Looks.{Looks};
-ghost use Rattle.group_engine.specs.Mounts.{IsWhole};
+ghost use Rattle.file_extents.specs.group_engine.Mounts.{IsWhole};
 ghost use Rattle.disk_joining.specs.AddCauses.{IsNotPrepared, IsUnfit};
 ghost use Rattle.disk_joining.specs.Asking.{asked_disks, given_numbers};
 ghost use Rattle.disk_joining.specs.Joiners.{CanJoin, are_asked, may_join};
@@ -15,14 +15,10 @@ use crate::checking::{are_asked, may_join};
 use crate::looking::{Fitting, fit_disks, known_with};
 use asm_base::{NoMemory, Refusal};
 use bay::Bay;
-use catalog_tables::DiskInfo;
 use disk_header::Header;
 use disk_images::{Looked, look_at_images};
-use group_engine::Mounted;
-use group_mount::Headed;
-use group_sql::NewFailgroup;
-use new_disks::PlannedDisk;
-use new_groups::{Known, Place};
+use file_extents::{DiskInfo, Mounted};
+use new_groups::{Headed, Known, NewFailgroup, Place, PlannedDisk};
 use std::alloc::Global;
 
 /// The disks that join a group, in the order of the statement: each with its image and the header that it gets, with its

@@ -11,9 +11,8 @@ use crate::asked::Asked;
 use crate::naming::check_names;
 use asm_base::{NoMemory, Refusal};
 use disk_images::Looked;
-use group_engine::{Attached, Mounted};
-use new_disks::PlannedDisk;
-use new_groups::{Known, Place, Taken, all_units, check_all_free, find_places};
+use file_extents::{Attached, Mounted};
+use new_groups::{Known, Place, PlannedDisk, Taken, all_units, check_all_free, find_places};
 use status_table::PstEntry;
 use std::alloc::Global;
 

@@ -7,10 +7,8 @@ ghost use Rattle.disk_joining.specs.AddCauses.{names_refusal};
 ghost use Rattle.disk_joining.specs.Asking.{row_of, group_rows};
 
 use asm_base::{Name, NoMemory, Refusal};
-use catalog::Catalog;
-use catalog_tables::DiskInfo;
-use group_engine::Mounted;
-use new_disks::{DiskRow, PlannedDisk, is_name_taken};
+use file_extents::{Catalog, DiskInfo, Mounted};
+use new_groups::{DiskRow, PlannedDisk, is_name_taken};
 use status_table::{PstEntry, PstRecord, least_free_failgroup};
 use std::alloc::Global;
 

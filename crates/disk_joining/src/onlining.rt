@@ -1,7 +1,7 @@
 //! ONLINE: disks that were offline come back.
 ghost use Rattle.std.specs.Prelude.{◌≡◌, ◌+◌, ◌<◌, ◌≤◌, ◌&&◌, IfErr, IfSome, OnOk, is_some, length, slice_get};
 ghost use Rattle.asm_formats.specs.Status.{entry_of};
-ghost use Rattle.group_engine.specs.Mounts.{IsMounted, Takes};
+ghost use Rattle.file_extents.specs.group_engine.Mounts.{IsMounted, Takes};
 ghost use Rattle.disk_joining.specs.Causes.{ImageCause, OnlineCause, PassBelow, JoinStateCause, StepCause, may_return};
 ghost use Rattle.disk_joining.specs.Returning.{AreShown, IsShownAs, IsShownFrom, IsSize, is_disk_of, is_free, is_present, shows_at, shows_disk, shows_in_free};
 ghost use Rattle.disk_joining.specs.Taking.{IsApart, TakesIn};
@@ -13,7 +13,7 @@ use asm_base::{DiskRef, DiskSet, Mode, NoMemory, Refusal};
 use bay::Bay;
 use disk_header::Header;
 use disk_images::{Looked, look_at_images};
-use group_engine::Mounted;
+use file_extents::Mounted;
 use status_table::{PstEntry, PstRecord, with_mode};
 use std::alloc::Global;
 

@@ -1,13 +1,13 @@
 //! Status records of an ADD or ONLINE.
 ghost use Rattle.std.specs.Prelude.{◌≡◌, OnOk};
 ghost use Rattle.asm_formats.specs.Status.{entry_of};
-ghost use Rattle.group_engine.specs.Mounts.{Takes};
-ghost use Rattle.group_engine.specs.Pending.{GoesOn};
+ghost use Rattle.file_extents.specs.group_engine.Mounts.{Takes};
+ghost use Rattle.file_extents.specs.group_engine.Pending.{GoesOn};
 ghost use Rattle.status_register.specs.Holders.{numbered};
 
 use asm_base::Refusal;
 use bay::Bay;
-use group_engine::Mounted;
+use file_extents::Mounted;
 use status_table::{PstEntry, PstRecord};
 use std::alloc::Global;
 

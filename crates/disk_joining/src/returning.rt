@@ -1,7 +1,7 @@
 //! What an ADD that is refused gives back: the headers of the disks, and their directory records.
 ghost use Rattle.std.specs.Prelude.{◌⊎◌, ◌<◌, length};
-ghost use Rattle.group_engine.specs.Mounts.{IsMounted, Takes};
-ghost use Rattle.group_engine.specs.Pending.{GoesOn};
+ghost use Rattle.file_extents.specs.group_engine.Mounts.{IsMounted, Takes};
+ghost use Rattle.file_extents.specs.group_engine.Pending.{GoesOn};
 ghost use Rattle.disk_joining.specs.AddCauses.{IsWriteFault};
 ghost use Rattle.disk_joining.specs.Causes.{StepCause};
 ghost use Rattle.disk_joining.specs.Joiners.{AreJoiners};
@@ -10,8 +10,8 @@ ghost use Rattle.disk_joining.specs.Taking.{IsApart, TakesIn};
 use crate::heading::take_headers;
 use asm_base::{DiskRef, NoMemory, Refusal, Text};
 use bay::Bay;
-use group_engine::Mounted;
-use group_mount::Headed;
+use file_extents::Mounted;
+use new_groups::Headed;
 use std::alloc::Global;
 
 /// Takes away the directory record of a disk that didn't join.

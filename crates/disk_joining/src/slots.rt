@@ -3,7 +3,7 @@ ghost use Rattle.std.specs.Prelude.{◌≡◌, ◌==◌};
 ghost use Rattle.std.specs.List.{list_any};
 ghost use Rattle.disk_joining.specs.Attaching.{has_slot, is_in};
 
-use group_engine::{Attached, Mounted};
+use file_extents::{Attached, Mounted};
 
 /// Whether an attached disk is in the slot.
 fn is_in(place: Option<Attached>, slot: u32) -> bool

@@ -15,8 +15,8 @@ use Rattle.asm_placement.proofs.Membership.{among_split}
 use Rattle.asm_images.proofs.Committing.{find_passes}
 use Rattle.asm_images.proofs.Replacing.{found_among}
 use Rattle.asm_images.proofs.UserBytes.{all_of_list}
-use Rattle.group_engine.specs.Mounts.{MountedGroup}
-use Rattle.group_engine.proofs.Records.{record_parts}
+use Rattle.record_laws.specs.group_engine.Mounts.{MountedGroup}
+use Rattle.record_laws.proofs.group_engine.Records.{record_parts}
 use Rattle.disk_modes.specs.declared.checking.Statement.{Statement}
 use Rattle.disk_modes.specs.declared.changing.Changes.{Changes}
 use Rattle.disk_modes.specs.declared.changing.Changes.TheVariants as changes

@@ -6,8 +6,8 @@ use Rattle.asm_base.specs.declared.refusal.Refusal.{Refusal}
 use Rattle.asm_formats.specs.Sets.{has_bit}
 use Rattle.asm_formats.specs.Status.{Entry, Status, is_status}
 use Rattle.asm_placement.specs.Partners.{with_partners}
-use Rattle.group_engine.specs.Mounts.{MountedGroup}
-use Rattle.group_engine.proofs.Records.{record_parts}
+use Rattle.record_laws.specs.group_engine.Mounts.{MountedGroup}
+use Rattle.record_laws.proofs.group_engine.Records.{record_parts}
 use Rattle.disk_modes.specs.declared.changing.Changes.{Changes}
 use Rattle.disk_modes.specs.declared.changing.Changes.TheVariants as changes
 use Rattle.disk_modes.specs.declared.dropping.DropDisk.{DropDisk}

@@ -7,13 +7,13 @@ use Rattle.asm_base.specs.Records as records
 use Rattle.asm_formats.specs.Items.{Key}
 use Rattle.asm_formats.specs.Sets.{has_bit}
 use Rattle.asm_formats.specs.Status.{Status}
-use Rattle.catalog_tables.specs.Changing.{IsAfter}
-use Rattle.catalog.specs.Plans.{IsPlan}
-use Rattle.catalog_tables.specs.Tables.{Catalogued, Tables}
-use Rattle.catalog_tables.proofs.AfterLaws.{one_after}
-use Rattle.group_engine.specs.Commits.{KeepsRecord}
-use Rattle.group_engine.specs.Mounts.{MountedGroup}
-use Rattle.status_register.specs.Holders.{numbered}
+use Rattle.group_reports.specs.catalog_tables.Changing.{IsAfter}
+use Rattle.group_reports.specs.catalog.Plans.{IsPlan}
+use Rattle.group_reports.specs.catalog_tables.Tables.{Catalogued, Tables}
+use Rattle.group_reports.proofs.catalog_tables.AfterLaws.{one_after}
+use Rattle.record_laws.specs.group_engine.Commits.{KeepsRecord}
+use Rattle.record_laws.specs.group_engine.Mounts.{MountedGroup}
+use Rattle.record_laws.specs.status_register.Holders.{numbered}
 use Rattle.disk_modes.specs.declared.changing.Changes.{Changes}
 use Rattle.disk_modes.specs.declared.changing.Changes.TheVariants as changes
 use Rattle.disk_modes.specs.declared.records.NewModes.{NewModes}

@@ -9,8 +9,8 @@ use Rattle.asm_formats.specs.Items.{Home, Homes}
 use Rattle.asm_formats.specs.Regions.{reserved_units}
 use Rattle.asm_placement.specs.Layout.{units_of}
 use Rattle.asm_placement.proofs.Membership.{among_left, among_right, among_split}
-use Rattle.catalog_tables.specs.Tables.{Catalogued}
-use Rattle.extent_map.specs.Extents.{Chunked}
+use Rattle.group_reports.specs.catalog_tables.Tables.{Catalogued}
+use Rattle.group_reports.specs.extent_map.Extents.{Chunked}
 use Rattle.disk_modes.specs.Ends.{AreUsedTo, HasEnds, IsChunkEnd, IsCopyEnd, IsEndIn, IsHomeEnd, IsUsedTo, NeedsUnits}
 
 -- ---- some ends more

@@ -8,8 +8,8 @@ use Rattle.asm_formats.specs.Status.{Entry, Status, ascends_from}
 use Rattle.disk_modes.specs.declared.records.Becomes.{Becomes}
 use Rattle.disk_modes.specs.declared.records.Becomes.TheVariants as becomes
 use Rattle.disk_modes.specs.declared.records.NewModes.{NewModes}
-use Rattle.group_engine.specs.Dropping.{IsWithout}
-use Rattle.group_engine.specs.NextRecords.{KeepsDisks}
+use Rattle.record_laws.specs.group_engine.Dropping.{IsWithout}
+use Rattle.record_laws.specs.group_engine.NextRecords.{KeepsDisks}
 use Rattle.disk_modes.specs.Records.{HasFewer, IsUnder, change_of, entry_as, entry_after, status_as, taken_off, with_partners_for}
 
 abbrev numbers : List Entry → List ℕ

@@ -9,10 +9,10 @@ use Rattle.asm_formats.specs.Sets.{elements, has_bit, most_disks}
 use Rattle.asm_formats.specs.Status.{Entry, Status}
 use Rattle.asm_images.proofs.Committing.{find_passes}
 use Rattle.asm_images.proofs.Replacing.{found_among}
-use Rattle.catalog_tables.specs.Tables.{Catalogued}
-use Rattle.group_engine.specs.Mounts.{MountedGroup}
-use Rattle.group_engine.proofs.Including.{element_of}
-use Rattle.group_engine.proofs.Sets.{element_bit, element_small}
+use Rattle.group_reports.specs.catalog_tables.Tables.{Catalogued}
+use Rattle.record_laws.specs.group_engine.Mounts.{MountedGroup}
+use Rattle.record_laws.proofs.group_engine.Including.{element_of}
+use Rattle.record_laws.proofs.group_engine.Sets.{element_bit, element_small}
 use Rattle.group_reports.specs.Disks.{expiring, holds_all, is_due, may_go}
 use Rattle.group_reports.specs.Extents.{first_lost}
 use Rattle.disk_modes.specs.declared.records.NewModes.TheVariants as modes

@@ -6,7 +6,7 @@ use Rattle.std.proofs.lemmas.List.{take_all}
 use Rattle.std.proofs.lemmas.List.Folds.{list_any_more}
 use Rattle.asm_formats.specs.Sets.{has_bit}
 use Rattle.asm_formats.specs.Status.{Entry}
-use Rattle.group_engine.specs.Mounts.{MountedGroup}
+use Rattle.record_laws.specs.group_engine.Mounts.{MountedGroup}
 use Rattle.disk_modes.specs.Finding.{HasAttachedDisks, IsSetOf, is_attached}
 use Rattle.disk_modes.proofs.Naming.{no_bit}
 

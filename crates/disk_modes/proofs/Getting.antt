@@ -19,16 +19,16 @@ use Rattle.asm_placement.proofs.Membership.{map_among}
 use Rattle.asm_images.specs.Kept.{Kept}
 use Rattle.asm_images.specs.RecordLaws.{bare}
 use Rattle.asm_images.proofs.UserBytes.{all_of_list}
-use Rattle.group_engine.specs.Commits.{KeepsRecord, StandsIn, turns_at_most}
-use Rattle.group_engine.specs.Mounts.{IsMounted, MountedGroup, Mounts}
-use Rattle.group_engine.specs.Pending.{HasTurns}
-use Rattle.group_engine.specs.Recorded.{MayGet}
-use Rattle.group_engine.specs.Statuses.{IsNextOf}
-use Rattle.group_engine.proofs.Including.{element_of}
-use Rattle.group_engine.proofs.Mounting.{entries_describe}
-use Rattle.group_engine.proofs.NextRecords.{same_disks_are_next}
-use Rattle.group_engine.proofs.Records.{record_parts}
-use Rattle.group_engine.proofs.Sets.{element_bit, element_small}
+use Rattle.record_laws.specs.group_engine.Commits.{KeepsRecord, StandsIn, turns_at_most}
+use Rattle.record_laws.specs.group_engine.Mounts.{IsMounted, MountedGroup, Mounts}
+use Rattle.record_laws.specs.group_engine.Pending.{HasTurns}
+use Rattle.record_laws.specs.group_engine.Recorded.{MayGet}
+use Rattle.record_laws.specs.group_engine.Statuses.{IsNextOf}
+use Rattle.record_laws.proofs.group_engine.Including.{element_of}
+use Rattle.record_laws.proofs.group_engine.Mounting.{entries_describe}
+use Rattle.record_laws.proofs.group_engine.NextRecords.{same_disks_are_next}
+use Rattle.record_laws.proofs.group_engine.Records.{record_parts}
+use Rattle.record_laws.proofs.group_engine.Sets.{element_bit, element_small}
 use Rattle.record_laws.specs.Changing.{KeepsDisk, KeepsPlace}
 use Rattle.record_laws.specs.Getting.{ChangesModesAlone, NamesFewer}
 use Rattle.record_laws.proofs.Changing.{modes_join, modes_of_each}

@@ -9,19 +9,19 @@ use Rattle.asm_images.specs.Kept.{Kept}
 use Rattle.asm_base.specs.Records as records
 use Rattle.asm_base.specs.declared.refusal.Refusal.{Refusal}
 use Rattle.asm_formats.specs.Items.{Key}
-use Rattle.catalog.specs.Plans.{IsPlan}
-use Rattle.catalog_tables.specs.Changing.{IsAfter}
-use Rattle.catalog_tables.specs.Rules.{KeepsRules}
-use Rattle.catalog_tables.specs.Tables.{Catalogued, Tables}
-use Rattle.catalog_tables.proofs.AfterLaws.{one_after}
-use Rattle.group_engine.specs.Commits.{CommitsPlan, turns_at_most}
-use Rattle.group_engine.specs.Making.{closed}
-use Rattle.group_engine.specs.Mounts.{IsMounted, MountedGroup, Mounts, Takes}
-use Rattle.group_engine.specs.Own.{IsSameGroup, KeepsGroup}
-use Rattle.group_engine.specs.Pending.{GoesOn, HasTurns}
-use Rattle.group_engine.proofs.Causes.{gives_up}
-use Rattle.group_engine.proofs.Cuts.{operation_surplus}
-use Rattle.group_engine.proofs.Endings.{closed_takes_none, ends_planned, kept_before, stands_here}
+use Rattle.group_reports.specs.catalog.Plans.{IsPlan}
+use Rattle.group_reports.specs.catalog_tables.Changing.{IsAfter}
+use Rattle.group_reports.specs.catalog_tables.Rules.{KeepsRules}
+use Rattle.group_reports.specs.catalog_tables.Tables.{Catalogued, Tables}
+use Rattle.group_reports.proofs.catalog_tables.AfterLaws.{one_after}
+use Rattle.record_laws.specs.group_engine.Commits.{CommitsPlan, turns_at_most}
+use Rattle.record_laws.specs.group_engine.Making.{closed}
+use Rattle.record_laws.specs.group_engine.Mounts.{IsMounted, MountedGroup, Mounts, Takes}
+use Rattle.record_laws.specs.group_engine.Own.{IsSameGroup, KeepsGroup}
+use Rattle.record_laws.specs.group_engine.Pending.{GoesOn, HasTurns}
+use Rattle.record_laws.proofs.group_engine.Causes.{gives_up}
+use Rattle.record_laws.proofs.group_engine.Cuts.{operation_surplus}
+use Rattle.record_laws.proofs.group_engine.Endings.{closed_takes_none, ends_planned, kept_before, stands_here}
 use Rattle.disk_modes.specs.Effects.{with_rebalance}
 use Rattle.disk_modes.specs.Stops.{CommitsRebalance, HasTwoTurns, StaysHeld}
 

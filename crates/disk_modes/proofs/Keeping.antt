@@ -5,7 +5,7 @@ use Rattle.asm_group.specs.declared.Mode.TheVariants.{Offline}
 use Rattle.asm_formats.specs.Status.{Entry, Status, is_status}
 use Rattle.asm_images.specs.RecordLaws.{bare}
 use Rattle.status_table.specs.Changes.{entries_with_partners, entry_with_mode, entry_with_offline, status_with_mode, status_with_offline, status_with_partners}
-use Rattle.group_engine.specs.NextRecords.{KeepsDisks}
+use Rattle.record_laws.specs.group_engine.NextRecords.{KeepsDisks}
 use Rattle.disk_modes.specs.declared.records.NewModes.{NewModes}
 use Rattle.disk_modes.specs.Records.{HasFewer, IsChanged, entry_after}
 

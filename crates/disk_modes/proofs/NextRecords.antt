@@ -1,10 +1,10 @@
 -- A record with the same disks and fewer directory copies may come next.
 use Rattle.std.proofs.Common.{ℕ, refl, sym, subst, IsTrue}
 use Rattle.asm_formats.specs.Status.{Status, is_status}
-use Rattle.group_engine.specs.Mounts.{IsWhole, MountedGroup}
-use Rattle.group_engine.specs.Statuses.{IsNextOf}
-use Rattle.group_engine.proofs.NextRecords.{same_disks_are_next}
-use Rattle.status_register.proofs.Reaching.{same_sets_reach}
+use Rattle.record_laws.specs.group_engine.Mounts.{IsWhole, MountedGroup}
+use Rattle.record_laws.specs.group_engine.Statuses.{IsNextOf}
+use Rattle.record_laws.proofs.group_engine.NextRecords.{same_disks_are_next}
+use Rattle.record_laws.proofs.status_register.Reaching.{same_sets_reach}
 use Rattle.disk_modes.specs.Records.{HasFewer, IsChanged}
 
 -- the record may come without some copies too

@@ -5,8 +5,8 @@ use Rattle.asm_group.specs.declared.GroupKind.{GroupKind}
 use Rattle.asm_base.specs.declared.refusal.Refusal.{Refusal}
 use Rattle.asm_formats.specs.Sets.{has_bit}
 use Rattle.asm_formats.specs.Status.{Entry, Status}
-use Rattle.catalog_tables.specs.Tables.{Catalogued}
-use Rattle.group_engine.specs.Mounts.{MountedGroup}
+use Rattle.group_reports.specs.catalog_tables.Tables.{Catalogued}
+use Rattle.record_laws.specs.group_engine.Mounts.{MountedGroup}
 use Rattle.disk_modes.specs.declared.checking.Statement.{Statement}
 use Rattle.disk_modes.specs.declared.checking.Statement.TheVariants as statement
 use Rattle.disk_modes.specs.declared.losing.Counted.TheVariants as counted

@@ -8,12 +8,12 @@ use Rattle.asm_group.specs.Shape.{Shape}
 use Rattle.asm_formats.specs.Regions.{most_units}
 use Rattle.asm_formats.specs.Sets.{has_bit, most_disks}
 use Rattle.asm_formats.specs.Status.{Entry, Status, is_entry, is_status}
-use Rattle.status_register.specs.Holders.{numbered}
+use Rattle.record_laws.specs.status_register.Holders.{numbered}
 use Rattle.status_table.specs.Changes.{entry_with_units}
-use Rattle.group_engine.specs.declared.attached.Attached.{Attached}
-use Rattle.group_engine.specs.Mounts.{MountedGroup}
-use Rattle.group_engine.specs.Own.{IsSameGroup}
-use Rattle.group_engine.proofs.Records.{record_parts}
+use Rattle.record_laws.specs.group_engine.declared.attached.Attached.{Attached}
+use Rattle.record_laws.specs.group_engine.Mounts.{MountedGroup}
+use Rattle.record_laws.specs.group_engine.Own.{IsSameGroup}
+use Rattle.record_laws.proofs.group_engine.Records.{record_parts}
 use Rattle.disk_modes.specs.declared.sizes.Asked.{Asked}
 use Rattle.disk_modes.specs.Effects.{PutsRebalance}
 use Rattle.disk_modes.specs.Sizes.{HasAsked, PutsUnits, ResizesDisks, capped, entry_capped, entry_resized, is_other, status_resized, units_asked}

@@ -14,13 +14,13 @@ use Rattle.asm_placement.proofs.Chosen.{entry_found}
 use Rattle.asm_placement.proofs.Membership.{map_among}
 use Rattle.asm_images.specs.Kept.{Kept}
 use Rattle.asm_images.proofs.UserBytes.{all_of_list}
-use Rattle.catalog_tables.specs.Rules.{KeepsRules}
-use Rattle.group_engine.specs.declared.attached.Attached.{Attached}
-use Rattle.group_engine.specs.Mounts.{MountedGroup, Mounts}
-use Rattle.group_engine.specs.Own.{IsSameGroup}
-use Rattle.group_engine.specs.Recorded.{MayGet}
-use Rattle.group_engine.specs.Statuses.{IsNextOf}
-use Rattle.group_engine.proofs.Records.{record_parts}
+use Rattle.group_reports.specs.catalog_tables.Rules.{KeepsRules}
+use Rattle.record_laws.specs.group_engine.declared.attached.Attached.{Attached}
+use Rattle.record_laws.specs.group_engine.Mounts.{MountedGroup, Mounts}
+use Rattle.record_laws.specs.group_engine.Own.{IsSameGroup}
+use Rattle.record_laws.specs.group_engine.Recorded.{MayGet}
+use Rattle.record_laws.specs.group_engine.Statuses.{IsNextOf}
+use Rattle.record_laws.proofs.group_engine.Records.{record_parts}
 use Rattle.record_laws.specs.Changing.{KeepsPlace}
 use Rattle.record_laws.specs.Getting.{ChangesDisks, IsAttachedWith, KeepsEntry}
 use Rattle.record_laws.proofs.Entries.{entries_may_be_got}

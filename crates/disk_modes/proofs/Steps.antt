@@ -4,14 +4,14 @@ use Rattle.std.specs.Prelude.{IfErr}
 use Rattle.bay.specs.State.{BayState}
 use Rattle.asm_base.specs.declared.refusal.Refusal.{Refusal}
 use Rattle.asm_base.specs.declared.refusal.Refusal.TheVariants as cause
-use Rattle.group_engine.specs.Commits.{StatusCause}
-use Rattle.group_engine.specs.Making.{IsShut}
-use Rattle.group_engine.specs.Mounts.{IsMounted, MountedGroup, Takes}
-use Rattle.group_engine.specs.Own.{KeepsGroup}
-use Rattle.group_engine.specs.Pending.{GoesOn}
-use Rattle.group_engine.specs.declared.access.Access.{Access}
-use Rattle.group_engine.specs.declared.access.Access.TheVariants as access
-use Rattle.group_engine.proofs.Causes.{gives_up, nothing_kept}
+use Rattle.record_laws.specs.group_engine.Commits.{StatusCause}
+use Rattle.record_laws.specs.group_engine.Making.{IsShut}
+use Rattle.record_laws.specs.group_engine.Mounts.{IsMounted, MountedGroup, Takes}
+use Rattle.record_laws.specs.group_engine.Own.{KeepsGroup}
+use Rattle.record_laws.specs.group_engine.Pending.{GoesOn}
+use Rattle.record_laws.specs.group_engine.declared.access.Access.{Access}
+use Rattle.record_laws.specs.group_engine.declared.access.Access.TheVariants as access
+use Rattle.record_laws.proofs.group_engine.Causes.{gives_up, nothing_kept}
 
 -- no call was made
 pub kept : (m : MountedGroup) (s : BayState) → Takes m s → KeepsGroup m m s s

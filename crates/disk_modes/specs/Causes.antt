@@ -5,7 +5,7 @@ use Rattle.asm_base.specs.declared.refusal.Refusal.{Refusal}
 use Rattle.asm_base.specs.declared.refusal.Refusal.TheVariants as cause
 use Rattle.asm_formats.specs.Sets.{has_bit}
 use Rattle.asm_formats.specs.Status.{Entry}
-use Rattle.group_engine.specs.Mounts.{MountedGroup}
+use Rattle.record_laws.specs.group_engine.Mounts.{MountedGroup}
 use Rattle.disk_modes.specs.declared.checking.Statement.{Statement}
 use Rattle.disk_modes.specs.declared.checking.Statement.TheVariants as statement
 use Rattle.disk_modes.specs.declared.dropping.DropDisk.{DropDisk}

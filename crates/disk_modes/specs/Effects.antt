@@ -7,9 +7,9 @@ use Rattle.asm_formats.specs.Sets.{has_bit}
 use Rattle.asm_formats.specs.Status.{Entry}
 use Rattle.asm_placement.specs.Modes.{is_dropping}
 use Rattle.asm_placement.specs.Partners.{with_partners}
-use Rattle.catalog_tables.specs.Tables.{Tables}
-use Rattle.group_engine.specs.Commits.{KeepsRecord}
-use Rattle.group_engine.specs.Mounts.{MountedGroup}
+use Rattle.group_reports.specs.catalog_tables.Tables.{Tables}
+use Rattle.record_laws.specs.group_engine.Commits.{KeepsRecord}
+use Rattle.record_laws.specs.group_engine.Mounts.{MountedGroup}
 use Rattle.group_reports.specs.Disks.{expiring}
 use Rattle.disk_modes.specs.declared.changing.Changes.{Changes}
 use Rattle.disk_modes.specs.declared.changing.Changes.TheVariants as changes

@@ -4,8 +4,8 @@ use Rattle.asm_formats.specs.Among.{IsAmong}
 use Rattle.asm_formats.specs.Items.{Home, Homes}
 use Rattle.asm_formats.specs.Regions.{reserved_units}
 use Rattle.asm_placement.specs.Layout.{units_of}
-use Rattle.catalog_tables.specs.Tables.{Catalogued}
-use Rattle.extent_map.specs.Extents.{Chunked}
+use Rattle.group_reports.specs.catalog_tables.Tables.{Catalogued}
+use Rattle.group_reports.specs.extent_map.Extents.{Chunked}
 
 -- a copy of so many units, with this home, ends there on a disk
 abbrev pub IsHomeEnd : ℕ → Option Home → ℕ → ℕ → Type 0

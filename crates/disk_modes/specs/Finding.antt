@@ -6,9 +6,9 @@ use Rattle.asm_formats.specs.Items.{DiskInfo}
 use Rattle.asm_formats.specs.Sets.{has_bit}
 use Rattle.asm_formats.specs.Status.{Entry}
 use Rattle.asm_placement.specs.Modes.{serves}
-use Rattle.disk_directory.specs.Disks.{info_at}
-use Rattle.catalog_tables.specs.Tables.{Catalogued}
-use Rattle.group_engine.specs.Mounts.{MountedGroup, slot_at}
+use Rattle.group_reports.specs.disk_directory.Disks.{info_at}
+use Rattle.group_reports.specs.catalog_tables.Tables.{Catalogued}
+use Rattle.record_laws.specs.group_engine.Mounts.{MountedGroup, slot_at}
 use Rattle.group_reports.specs.Disks as reports
 use Rattle.disk_modes.specs.declared.finding.GroupSort.{GroupSort}
 use Rattle.disk_modes.specs.declared.finding.GroupSort.TheVariants as sort

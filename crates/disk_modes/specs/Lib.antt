@@ -8,3 +8,6 @@ pub mod Ends
 pub mod Finding
 pub mod Sizes
 pub mod Stops
+pub mod disk_directory
+pub mod group_engine
+pub mod group_reports

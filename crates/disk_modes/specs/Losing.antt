@@ -6,9 +6,9 @@ use Rattle.asm_base.specs.declared.refusal.Refusal.TheVariants as cause
 use Rattle.asm_formats.specs.Items.{Home}
 use Rattle.asm_formats.specs.Sets.{has_bit}
 use Rattle.asm_formats.specs.Status.{Entry}
-use Rattle.catalog_tables.specs.Tables.{Catalogued}
-use Rattle.extent_copies.specs.declared.extent.Extent.{Extent}
-use Rattle.extent_copies.specs.Usable.{is_current_at, is_usable_at}
+use Rattle.group_reports.specs.catalog_tables.Tables.{Catalogued}
+use Rattle.group_reports.specs.extent_copies.declared.extent.Extent.{Extent}
+use Rattle.group_reports.specs.extent_copies.Usable.{is_current_at, is_usable_at}
 use Rattle.group_reports.specs.Extents.{all_extents}
 use Rattle.disk_modes.specs.declared.losing.Counted.{Counted}
 use Rattle.disk_modes.specs.declared.losing.Counted.TheVariants as counted

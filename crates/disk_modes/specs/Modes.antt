@@ -11,7 +11,7 @@ use Rattle.asm_formats.specs.Among.{IsAmong}
 use Rattle.asm_formats.specs.Sets.{has_bit}
 use Rattle.asm_formats.specs.Status.{Entry, Status}
 use Rattle.asm_placement.specs.Modes.{is_forced, is_online, serves}
-use Rattle.extent_copies.specs.NewFiles.{serving_groups}
+use Rattle.group_reports.specs.extent_copies.NewFiles.{serving_groups}
 use Rattle.disk_modes.specs.declared.checking.Statement.{Statement}
 use Rattle.disk_modes.specs.declared.checking.Statement.TheVariants as statement
 

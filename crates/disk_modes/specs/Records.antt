@@ -7,8 +7,8 @@ use Rattle.asm_formats.specs.Among.{IsAmong}
 use Rattle.asm_placement.specs.Modes.{is_dropping}
 use Rattle.asm_placement.specs.Partners.{with_partners}
 use Rattle.status_table.specs.Changes.{status_with_mode, status_with_offline}
-use Rattle.group_engine.specs.Dropping.{IsWithout}
-use Rattle.group_engine.specs.NextRecords.{KeepsDisks}
+use Rattle.record_laws.specs.group_engine.Dropping.{IsWithout}
+use Rattle.record_laws.specs.group_engine.NextRecords.{KeepsDisks}
 use Rattle.disk_modes.specs.declared.records.Becomes.{Becomes}
 use Rattle.disk_modes.specs.declared.records.Becomes.TheVariants as becomes
 use Rattle.disk_modes.specs.declared.records.NewModes.{NewModes}

@@ -5,8 +5,8 @@ use Rattle.asm_group.specs.Shape.{Shape}
 use Rattle.asm_formats.specs.Sets.{has_bit}
 use Rattle.asm_formats.specs.Status.{Entry, Status}
 use Rattle.status_table.specs.Changes.{status_with_units}
-use Rattle.group_engine.specs.declared.attached.Attached.{Attached}
-use Rattle.group_engine.specs.Mounts.{MountedGroup}
+use Rattle.record_laws.specs.group_engine.declared.attached.Attached.{Attached}
+use Rattle.record_laws.specs.group_engine.Mounts.{MountedGroup}
 use Rattle.disk_modes.specs.declared.sizes.Asked.{Asked}
 use Rattle.disk_modes.specs.Directories.{IsSubset}
 use Rattle.disk_modes.specs.Effects.{with_rebalance}

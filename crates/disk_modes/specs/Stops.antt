@@ -6,10 +6,10 @@ use Rattle.asm_formats.specs.Among.{IsAmong}
 use Rattle.asm_formats.specs.Sets.{has_bit}
 use Rattle.asm_formats.specs.Status.{Entry, Status}
 use Rattle.asm_placement.specs.Modes.{is_forced, is_online}
-use Rattle.catalog_tables.specs.Rules.{KeepsRules}
-use Rattle.group_engine.specs.Commits.{turns_at_most}
-use Rattle.group_engine.specs.Mounts.{IsMounted, MountedGroup}
-use Rattle.group_engine.specs.Pending.{StandsThrough, StaysMounted}
+use Rattle.group_reports.specs.catalog_tables.Rules.{KeepsRules}
+use Rattle.record_laws.specs.group_engine.Commits.{turns_at_most}
+use Rattle.record_laws.specs.group_engine.Mounts.{IsMounted, MountedGroup}
+use Rattle.record_laws.specs.group_engine.Pending.{StandsThrough, StaysMounted}
 use Rattle.disk_modes.specs.declared.changing.Changes.{Changes}
 use Rattle.disk_modes.specs.declared.changing.Changes.TheVariants as changes
 use Rattle.disk_modes.specs.declared.checking.Statement.{Statement}

@@ -1,7 +1,7 @@
 // The two changes of which each statement on disks is made: the status record, and the record of the active rebalance.
 ghost use Rattle.std.specs.Prelude.{OnOk, Some};
-ghost use Rattle.group_engine.specs.Mounts.{IsMounted, Takes};
-ghost use Rattle.group_engine.specs.Pending.{GoesOn};
+ghost use Rattle.record_laws.specs.group_engine.Mounts.{IsMounted, Takes};
+ghost use Rattle.record_laws.specs.group_engine.Pending.{GoesOn};
 ghost use Rattle.disk_modes.specs.Effects.{MakesChanges, PutsBoth, PutsModes, PutsRebalance};
 ghost use Rattle.disk_modes.specs.declared.changing.Changes.TheVariants as changes;
 ghost use Rattle.disk_modes.specs.Stops.{CommitsRebalance, MayMakeChanges, MayPutModes, StaysHeld};
@@ -9,7 +9,7 @@ ghost use Rattle.disk_modes.specs.Stops.{CommitsRebalance, MayMakeChanges, MayPu
 use crate::records::{NewModes, next_record};
 use asm_base::{NoMemory, Refusal};
 use bay::Bay;
-use group_engine::Mounted;
+use record_laws::Mounted;
 use std::alloc::Global;
 
 /// The changes that a statement makes, in their order. The rebalance is of a power.

@@ -8,8 +8,7 @@ ghost use Rattle.disk_modes.specs.Modes.{TakesEachDisk, GroupsCause, ModeStateCa
 
 use crate::losing::{Counted, first_losing};
 use asm_base::{DiskRef, DiskSet, GroupKind, Mode, Refusal};
-use catalog::Catalog;
-use extent_copies::serving_groups;
+use group_reports::{Catalog, serving_groups};
 use status_table::{PstEntry, PstRecord};
 
 /// A statement that takes disks of some modes.

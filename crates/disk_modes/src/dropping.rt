@@ -2,10 +2,10 @@
 ghost use Rattle.std.specs.Prelude.{◌≡◌, ◌⊎◌, ◌<◌, ◌==◌, ℕ, IfErr, OnOk, if◌then◌else◌, not};
 ghost use Rattle.asm_formats.specs.Sets.{has_bit};
 ghost use Rattle.asm_placement.specs.Modes.{is_dropping};
-ghost use Rattle.group_engine.specs.Commits.{StatusCause};
-ghost use Rattle.group_engine.specs.Mounts.{IsMounted, IsWhole, Takes};
-ghost use Rattle.group_engine.specs.Own.{KeepsGroup};
-ghost use Rattle.group_engine.specs.Pending.{GoesOn};
+ghost use Rattle.record_laws.specs.group_engine.Commits.{StatusCause};
+ghost use Rattle.record_laws.specs.group_engine.Mounts.{IsMounted, IsWhole, Takes};
+ghost use Rattle.record_laws.specs.group_engine.Own.{KeepsGroup};
+ghost use Rattle.record_laws.specs.group_engine.Pending.{GoesOn};
 ghost use Rattle.disk_modes.specs.declared.records.NewModes.TheVariants as modes;
 ghost use Rattle.disk_modes.specs.Causes.{DropDisksCause, DropRefused, IsFirstState, IsStateOf, LeavesTooLittle};
 ghost use Rattle.disk_modes.specs.Directories.{LeavesCopy};
@@ -22,7 +22,7 @@ use crate::losing::Counted;
 use crate::records::{NewModes, with_modes};
 use asm_base::{DiskSet, GroupKind, Mode, Refusal};
 use bay::Bay;
-use group_engine::Mounted;
+use record_laws::Mounted;
 use status_table::PstEntry;
 use std::alloc::Global;
 

@@ -1,9 +1,9 @@
 //! Expiry of disks, and REBALANCE.
 ghost use Rattle.std.specs.Prelude.{◌≡◌, IfErr, IfOk, OnOk, true};
-ghost use Rattle.group_engine.specs.Commits.{StatusCause};
-ghost use Rattle.group_engine.specs.Mounts.{IsMounted, Takes};
-ghost use Rattle.group_engine.specs.Own.{KeepsGroup};
-ghost use Rattle.group_engine.specs.Pending.{GoesOn};
+ghost use Rattle.record_laws.specs.group_engine.Commits.{StatusCause};
+ghost use Rattle.record_laws.specs.group_engine.Mounts.{IsMounted, Takes};
+ghost use Rattle.record_laws.specs.group_engine.Own.{KeepsGroup};
+ghost use Rattle.record_laws.specs.group_engine.Pending.{GoesOn};
 ghost use Rattle.group_reports.specs.Disks.{may_go};
 ghost use Rattle.disk_modes.specs.Effects.{DropsByForce, DropsExpiredDisk, PutsRebalance};
 ghost use Rattle.disk_modes.specs.Stops.{CommitsRebalance, HasTwoTurns, StaysHeld};
@@ -13,8 +13,8 @@ use crate::finding::with_number;
 use crate::records::NewModes;
 use asm_base::{DiskSet, Refusal};
 use bay::Bay;
-use group_engine::Mounted;
 use group_reports::expiring;
+use record_laws::Mounted;
 use std::alloc::Global;
 
 /// Drops by force the least Offline disk whose time is up at a second, and which has neither the only directory copy nor all current

@@ -6,7 +6,7 @@ ghost use Rattle.group_reports.specs.Disks.{number_of};
 ghost use Rattle.disk_modes.specs.Finding.{HasAttachedDisks, IsSetOf, has_name, is_attached, is_in_group, is_offline, is_serving, lies_in, takes};
 
 use asm_base::{DiskSet, Mode, Name};
-use group_engine::Mounted;
+use record_laws::Mounted;
 use status_table::PstEntry;
 
 /// Which failure groups a statement means.

@@ -4,9 +4,7 @@ ghost use Rattle.group_reports.specs.Extents.{chunk_extents, extent_there, exten
 ghost use Rattle.disk_modes.specs.Losing.{counts, first_losing, is_elsewhere, is_kept, is_losing, some_copy};
 
 use asm_base::{DiskSet, Home, Homes};
-use catalog::Catalog;
-use extent_copies::Extent;
-use group_reports::extent_there;
+use group_reports::{Catalog, Extent, extent_there};
 use status_table::PstEntry;
 
 /// Which copies of an extent count.

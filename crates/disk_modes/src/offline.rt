@@ -1,9 +1,9 @@
 //! OFFLINE.
 ghost use Rattle.std.specs.Prelude.{◌≡◌, ◌⊎◌, IfErr, OnOk, unwrap_or};
-ghost use Rattle.group_engine.specs.Commits.{StatusCause};
-ghost use Rattle.group_engine.specs.Mounts.{IsMounted, Takes};
-ghost use Rattle.group_engine.specs.Own.{KeepsGroup};
-ghost use Rattle.group_engine.specs.Pending.{GoesOn};
+ghost use Rattle.record_laws.specs.group_engine.Commits.{StatusCause};
+ghost use Rattle.record_laws.specs.group_engine.Mounts.{IsMounted, Takes};
+ghost use Rattle.record_laws.specs.group_engine.Own.{KeepsGroup};
+ghost use Rattle.record_laws.specs.group_engine.Pending.{GoesOn};
 ghost use Rattle.disk_modes.specs.Causes.{OfflineRefused};
 ghost use Rattle.disk_modes.specs.Directories.{LeavesCopy};
 ghost use Rattle.disk_modes.specs.Effects.{TakesOffline};
@@ -16,7 +16,7 @@ use crate::losing::Counted;
 use crate::records::NewModes;
 use asm_base::{DiskSet, Refusal};
 use bay::Bay;
-use group_engine::Mounted;
+use record_laws::Mounted;
 use std::alloc::Global;
 
 /// Takes disks Offline since a second. They expire after so many seconds, or after those of the group's attribute, and have no directory

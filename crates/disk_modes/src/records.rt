@@ -2,13 +2,13 @@
 ghost use Rattle.std.specs.Prelude.{◌≡◌, IfOk, IsTrue, map};
 ghost use Rattle.asm_formats.specs.Status.{is_status};
 ghost use Rattle.asm_placement.specs.Partners.{with_partners};
-ghost use Rattle.group_engine.specs.Dropping.{IsWithout};
-ghost use Rattle.group_engine.specs.NextRecords.{KeepsDisks};
+ghost use Rattle.record_laws.specs.group_engine.Dropping.{IsWithout};
+ghost use Rattle.record_laws.specs.group_engine.NextRecords.{KeepsDisks};
 ghost use Rattle.disk_modes.specs.declared.records.NewModes.TheVariants as modes;
 ghost use Rattle.disk_modes.specs.Records.{HasFewer, IsChanged, IsUnder, change_of, entry_after, status_as, taken_off, with_partners_for};
 
 use asm_base::{DiskSet, Mode, NoMemory};
-use partnership::partners;
+use group_reports::partners;
 use status_table::{PstEntry, PstRecord, with_dirs, with_mode, with_offline, with_partners};
 use std::alloc::Global;
 

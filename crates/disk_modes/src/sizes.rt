@@ -8,9 +8,8 @@ ghost use Rattle.disk_modes.specs.Ends.{AreUsedTo, HasEnds, IsChunkEnd, IsCopyEn
 ghost use Rattle.disk_modes.specs.Sizes.{image_units, units_asked, units_in};
 
 use asm_base::{DiskRef, DiskSet, Home, Homes, Refusal, Shape};
-use catalog::Catalog;
-use group_engine::Mounted;
-use striping::units_of;
+use group_reports::{Catalog, units_of};
+use record_laws::Mounted;
 
 /// The most units that a disk may have.
 const MOST_UNITS: u64 = 16_777_216;

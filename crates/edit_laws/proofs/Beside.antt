@@ -2,10 +2,10 @@
 use Rattle.std.proofs.Common.{[], ◌∷◌}
 use Rattle.bay.specs.Moments.{Runs}
 use Rattle.bay.specs.State.{BayState, IsSound}
-use Rattle.group_engine.specs.Frames.{SparesOtherIds}
-use Rattle.group_engine.specs.Mounts.{IsOwn}
-use Rattle.group_engine.proofs.Beside as engine
-use Rattle.group_engine.proofs.Elsewhere.{mounts_elsewhere, stays_attached}
+use Rattle.group_files.specs.group_engine.Frames.{SparesOtherIds}
+use Rattle.group_files.specs.group_engine.Mounts.{IsOwn}
+use Rattle.group_files.proofs.group_engine.Beside as engine
+use Rattle.group_files.proofs.group_engine.Elsewhere.{mounts_elsewhere, stays_attached}
 use Rattle.edit_laws.specs.Edits.{OthersAreSpared, OthersStayMounted}
 
 pub others_are_spared : (s t : BayState) → IsSound s → IsSound t → OthersAreSpared s t

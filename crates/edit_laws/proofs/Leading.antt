@@ -11,20 +11,20 @@ use Rattle.asm_formats.specs.Items.{Key}
 use Rattle.asm_base.specs.Records.{Entry}
 use Rattle.asm_base.specs.declared.refusal.Refusal.{Refusal}
 use Rattle.asm_images.specs.Kept.{Kept}
-use Rattle.alias_edits.specs.Edits as names
-use Rattle.template_directory.specs.Meant as templates
-use Rattle.catalog_tables.specs.Changing.{IsAfter}
-use Rattle.catalog_tables.specs.Tables.{AreTables, Tables}
-use Rattle.group_engine.specs.Becoming.{HoldsIn, SameBytes}
-use Rattle.group_engine.specs.Commits.{LeadsTo}
-use Rattle.group_engine.specs.Mounts.{MountedGroup, Mounts}
-use Rattle.group_engine.proofs.Bytes.{mounted_holds, same_bytes_hold}
+use Rattle.group_files.specs.alias_edits.Edits as names
+use Rattle.group_files.specs.template_directory.Meant as templates
+use Rattle.group_files.specs.catalog_tables.Changing.{IsAfter}
+use Rattle.group_files.specs.catalog_tables.Tables.{AreTables, Tables}
+use Rattle.group_files.specs.group_engine.Becoming.{HoldsIn, SameBytes}
+use Rattle.group_files.specs.group_engine.Commits.{LeadsTo}
+use Rattle.group_files.specs.group_engine.Mounts.{MountedGroup, Mounts}
+use Rattle.group_files.proofs.group_engine.Bytes.{mounted_holds, same_bytes_hold}
 use Rattle.group_files.specs.declared.edit.GroupEdit.TheVariants.{Tree, Templates, SetAttribute}
-use Rattle.group_of.specs.Groups.{cells_of, group_of}
-use Rattle.group_of.specs.Describing.{IsDescribed}
-use Rattle.group_of.specs.Edits.{LeadsOn, with_settings, with_templates, with_tree}
-use Rattle.group_of.proofs.Leading.{attribute_leads_on, described_is_of_catalog, template_leads_on, tree_leads_on}
-use Rattle.group_of.proofs.Refusals.{attribute_refusals, template_refusals, tree_refusals}
+use Rattle.group_files.specs.group_of.Groups.{cells_of, group_of}
+use Rattle.group_files.specs.group_of.Describing.{IsDescribed}
+use Rattle.group_files.specs.group_of.Edits.{LeadsOn, with_settings, with_templates, with_tree}
+use Rattle.group_files.proofs.group_of.Leading.{attribute_leads_on, described_is_of_catalog, template_leads_on, tree_leads_on}
+use Rattle.group_files.proofs.group_of.Refusals.{attribute_refusals, template_refusals, tree_refusals}
 use Rattle.edit_laws.specs.Edits.{EditIsHeld, EditIsRefused, EditLeadsTo, IsEditRefusedIn, edited_by}
 
 module _ (n : ℕ) (m : MountedGroup) (s : BayState) (g : Group) (kept : Kept) (mounts : Mounts n m s g kept) where

@@ -6,16 +6,16 @@ use Rattle.asm_group.specs.Refusal as r
 use Rattle.asm_group.specs.Shape.{Shape}
 use Rattle.asm_formats.specs.Items.{Key}
 use Rattle.asm_base.specs.Records.{Entry}
-use Rattle.alias_edits.specs.Edits as names
-use Rattle.template_directory.specs.Meant as templates
-use Rattle.catalog_tables.specs.Changing.{IsAfter}
-use Rattle.catalog_tables.specs.Tables.{Tables}
-use Rattle.catalog_tables.proofs.AfterLaws.{one_after}
+use Rattle.group_files.specs.alias_edits.Edits as names
+use Rattle.group_files.specs.template_directory.Meant as templates
+use Rattle.group_files.specs.catalog_tables.Changing.{IsAfter}
+use Rattle.group_files.specs.catalog_tables.Tables.{Tables}
+use Rattle.group_files.proofs.catalog_tables.AfterLaws.{one_after}
 use Rattle.group_files.specs.declared.edit.GroupEdit.TheVariants.{Tree, Templates, SetAttribute}
-use Rattle.group_of.specs.Edits.{with_settings, with_templates, with_tree}
-use Rattle.group_of.specs.Groups.{HasCells, group_of}
-use Rattle.group_of.proofs.EditedGroups as worlds
-use Rattle.group_of.proofs.Refusals.{attribute_refusals, template_refusals, tree_refusals}
+use Rattle.group_files.specs.group_of.Edits.{with_settings, with_templates, with_tree}
+use Rattle.group_files.specs.group_of.Groups.{HasCells, group_of}
+use Rattle.group_files.proofs.group_of.EditedGroups as worlds
+use Rattle.group_files.proofs.group_of.Refusals.{attribute_refusals, template_refusals, tree_refusals}
 use Rattle.edit_laws.specs.Edits.{EditIsOfTables, RefusalIsOfTables}
 
 -- the tables after the change are those of the plan

@@ -14,9 +14,9 @@ use Rattle.asm_images.specs.Members.{Member, with_member, members_from, members,
 use Rattle.asm_images.specs.Register.{Fits}
 use Rattle.asm_images.specs.Sound.{SoundBy}
 use Rattle.asm_images.proofs.Bridges.{disks_are_listed, same_disk}
-use Rattle.group_engine.specs.Frames.{SameDisk, SparesGroup}
-use Rattle.group_engine.proofs.Covering.{cover_over}
-use Rattle.group_engine.proofs.Slots.{member_seen}
+use Rattle.group_files.specs.group_engine.Frames.{SameDisk, SparesGroup}
+use Rattle.group_files.proofs.group_engine.Covering.{cover_over}
+use Rattle.group_files.proofs.group_engine.Slots.{member_seen}
 use Rattle.edit_laws.specs.Edits.{SparedIsSound}
 
 -- a disk of another group, or of none, is no member

@@ -17,20 +17,20 @@ use Rattle.asm_images.specs.Sound.{SoundBy}
 use Rattle.asm_images.specs.Stands.{Standing}
 use Rattle.asm_world.specs.Edits as world
 use Rattle.asm_world.specs.Settings as settings
-use Rattle.alias_edits.specs.Edits as names
-use Rattle.template_directory.specs.Meant as templates
-use Rattle.catalog_tables.specs.Changing.{IsAfter}
-use Rattle.catalog_tables.specs.Tables.{Catalogued, Tables}
-use Rattle.group_engine.specs.Commits.{LeadsTo, StandsIn}
-use Rattle.group_engine.specs.Frames.{SparesGroup, SparesOtherIds}
-use Rattle.group_engine.specs.Mounts.{IsMounted, IsOwn, MountedGroup, Mounts}
-use Rattle.group_engine.specs.Own.{KeepsGroup}
+use Rattle.group_files.specs.alias_edits.Edits as names
+use Rattle.group_files.specs.template_directory.Meant as templates
+use Rattle.group_files.specs.catalog_tables.Changing.{IsAfter}
+use Rattle.group_files.specs.catalog_tables.Tables.{Catalogued, Tables}
+use Rattle.group_files.specs.group_engine.Commits.{LeadsTo, StandsIn}
+use Rattle.group_files.specs.group_engine.Frames.{SparesGroup, SparesOtherIds}
+use Rattle.group_files.specs.group_engine.Mounts.{IsMounted, IsOwn, MountedGroup, Mounts}
+use Rattle.group_files.specs.group_engine.Own.{KeepsGroup}
 use Rattle.group_files.specs.Edits.{IsCommitted}
 use Rattle.group_files.specs.GroupEdits.{IsEditPlan, IsEditRefusedAs}
 use Rattle.group_files.specs.declared.edit.GroupEdit.{GroupEdit}
 use Rattle.group_files.specs.declared.edit.GroupEdit.TheVariants.{Tree, Templates, SetAttribute}
-use Rattle.group_of.specs.Edits.{IsRefusedBeside, IsWorldsRefusal, attribute_meant}
-use Rattle.group_of.specs.Groups.{HasCells, group_of}
+use Rattle.group_files.specs.group_of.Edits.{IsRefusedBeside, IsWorldsRefusal, attribute_meant}
+use Rattle.group_files.specs.group_of.Groups.{HasCells, group_of}
 
 -- The world's group after the edit, or why it is refused.
 abbrev pub edited_by : Group → GroupEdit → Result Group r.Refusal

@@ -4,6 +4,7 @@
 ghost use Rattle.edit_laws.specs.Edits.{EditIsHeld, EditIsOfTables, EditIsRefused, EditLeadsTo, OthersAreSpared, OthersStayMounted, RefusalIsOfTables, SparedIsSound, StandsWithAll};
 
 use bay::Bay;
+pub use group_files::{GroupEdit, edit_group};
 
 /// A change that is an edit leads a mounted group to the world's group after the edit, and what refuses the edit is what the
 /// world refuses it by, or want of memory or of a block.

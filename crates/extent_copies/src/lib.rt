@@ -2,6 +2,10 @@
 //! No call takes memory.
 #![tactic(auto)]
 
+pub use partnership as partnership_crate;
+pub use partnership::striping_crate;
+pub use template_directory as template_directory_crate;
+
 mod extent;
 mod fullness;
 mod homes;

@@ -4,7 +4,7 @@ use Rattle.std.specs.List.{AllByRecursion, list_all}
 use Rattle.std.proofs.lemmas.Bool.{and_from}
 use Rattle.asm_formats.specs.Among.{IsAmong}
 use Rattle.catalog_tables.specs.Rules.{first_wrong}
-use Rattle.catalog.proofs.NumberedEntries.{passes_more}
+use Rattle.catalog_laws.proofs.catalog.NumberedEntries.{passes_more}
 
 -- where each entry passes there is no first one that doesn't
 pub none_wrong : {K X : Type 0} (test : K × X → Bool) (es : List (K × X)) → ((x : K × X) → IsAmong es x → test x ≡ true) → first_wrong test es ≡ None

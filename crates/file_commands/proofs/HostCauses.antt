@@ -18,18 +18,18 @@ use Rattle.asm_group.specs.Shape.{Shape}
 use Rattle.asm_world.specs.Files.{NewName}
 use Rattle.asm_world.specs.Paths.{is_host_path}
 use Rattle.asm_world.specs.World.{SessionEntry, SessionState, Mounted, DismountedBy, entry_among}
-use Rattle.catalog.specs.NameChecks.{IsCheckRefusal, check_causes}
-use Rattle.catalog.specs.NamePlans.{name_at}
-use Rattle.catalog.specs.declared.new_file.NewFile.{NewFile}
+use Rattle.report_laws.specs.catalog.NameChecks.{IsCheckRefusal, check_causes}
+use Rattle.report_laws.specs.catalog.NamePlans.{name_at}
+use Rattle.report_laws.specs.catalog.declared.new_file.NewFile.{NewFile}
 use Rattle.catalog_tables.specs.Tables.{Catalogued, Tables}
-use Rattle.file_extents.specs.Filling.{PutCause}
-use Rattle.file_extents.specs.Rows.{ChoiceCause}
-use Rattle.file_extents.specs.declared.rows.NewExtents.{NewExtents}
-use Rattle.group_contents.specs.Creating.{BeginCause, IsTemplateCause, RoomCause}
-use Rattle.group_contents.specs.Files.{AtFile, LostFileCause, OpenCause}
-use Rattle.group_contents.specs.declared.opening.OpenFile.{OpenFile}
-use Rattle.group_engine.specs.Commits.{StatusCause}
-use Rattle.group_engine.specs.Mounts.{MountedGroup}
+use Rattle.session.specs.file_extents.Filling.{PutCause}
+use Rattle.session.specs.file_extents.Rows.{ChoiceCause}
+use Rattle.session.specs.file_extents.declared.rows.NewExtents.{NewExtents}
+use Rattle.session.specs.group_contents.Creating.{BeginCause, IsTemplateCause, RoomCause}
+use Rattle.session.specs.group_contents.Files.{AtFile, LostFileCause, OpenCause}
+use Rattle.session.specs.group_contents.declared.opening.OpenFile.{OpenFile}
+use Rattle.session.specs.group_engine.Commits.{StatusCause}
+use Rattle.session.specs.group_engine.Mounts.{MountedGroup}
 use Rattle.session.specs.Entries.{disk_name}
 use Rattle.session.specs.Leading.{IsNoTarget}
 use Rattle.session.specs.Naming.{IsOutCause, in_state, of_entry}

@@ -19,14 +19,14 @@ use Rattle.asm_world.specs.Files as f
 use Rattle.alias_tree.specs.Nodes.{node_at, number_of}
 use Rattle.alias_tree.specs.Trees.{tree_of}
 use Rattle.file_directory.specs.Files.{head_at}
-use Rattle.catalog.proofs.NumberedEntries.{found_passes}
+use Rattle.report_laws.proofs.catalog.NumberedEntries.{found_passes}
 use Rattle.catalog_tables.specs.Rules as rules
 use Rattle.catalog_tables.specs.Rules.{KeepsRules}
 use Rattle.catalog_tables.specs.Tables.{AreTables, Tables}
-use Rattle.group_of.specs.Groups.{HasCells, file_of_head, files_by_number, group_of}
-use Rattle.group_of.proofs.HeadedFiles.{file_at, files_are}
-use Rattle.group_contents.specs.Files.{IsOpened, file_of_node, head_named, named_file}
-use Rattle.group_contents.specs.declared.opening.OpenFile.{OpenFile}
+use Rattle.report_laws.specs.group_of.Groups.{HasCells, file_of_head, files_by_number, group_of}
+use Rattle.report_laws.proofs.group_of.HeadedFiles.{file_at, files_are}
+use Rattle.session.specs.group_contents.Files.{IsOpened, file_of_node, head_named, named_file}
+use Rattle.session.specs.group_contents.declared.opening.OpenFile.{OpenFile}
 use Rattle.report_laws.proofs.Spelling.{entry_by}
 
 same_kind : (kind : NodeKind) (file : ℕ) → tree.file_of_node (node_kind kind file) ≡ (if is_directory kind then None else Some file)

@@ -10,12 +10,12 @@ use Rattle.asm_base.specs.declared.refusal.Refusal.{Refusal}
 use Rattle.asm_base.specs.declared.refusal.Refusal.TheVariants as cause
 use Rattle.asm_group.specs.Names.{Bytes, Path}
 use Rattle.asm_group.specs.Refusal as r
-use Rattle.group_engine.specs.Commits.{DismountCause}
-use Rattle.group_engine.specs.Mounts.{IsMounted, MountedGroup}
-use Rattle.group_engine.proofs.Causes.{not_mounted}
-use Rattle.group_contents.specs.Files.{ReadCause}
-use Rattle.group_contents.specs.Reading.{ShowsFile, WhereMounted}
-use Rattle.group_contents.specs.declared.opening.OpenFile.{OpenFile}
+use Rattle.session.specs.group_engine.Commits.{DismountCause}
+use Rattle.session.specs.group_engine.Mounts.{IsMounted, MountedGroup}
+use Rattle.session.proofs.group_engine.Causes.{not_mounted}
+use Rattle.session.specs.group_contents.Files.{ReadCause}
+use Rattle.session.specs.group_contents.Reading.{ShowsFile, WhereMounted}
+use Rattle.session.specs.group_contents.declared.opening.OpenFile.{OpenFile}
 use Rattle.session.specs.Entries.{disk_name}
 use Rattle.session.specs.Listing.{IsInGroup}
 use Rattle.session.specs.Naming.{IsGroupOf}

@@ -23,19 +23,19 @@ use Rattle.asm_world.specs.Reply.{Reply, Done, Refused}
 use Rattle.asm_world.specs.Step.{Has, Reads, Step}
 use Rattle.asm_world.specs.Waits.{HasLines}
 use Rattle.asm_world.specs.World.{SessionEntry, SessionState, World, Mounted, DismountedBy, entry_among, entry_in, groups_of, is_mounted, mounted_group}
-use Rattle.catalog_laws.proofs.HavingItems.{have_items}
+use Rattle.session.proofs.catalog_laws.HavingItems.{have_items}
 use Rattle.catalog_tables.specs.Items.{AreItemsOf}
 use Rattle.catalog_tables.specs.Rules.{KeepsRules}
-use Rattle.group_disks.specs.Found.{Counts, counts_of}
-use Rattle.group_engine.specs.Mounts.{MountedGroup}
-use Rattle.group_engine.proofs.Elsewhere.{stays_attached}
-use Rattle.group_of.specs.Groups.{HasCells, cells_of, group_of}
-use Rattle.group_of.proofs.Describes.{described_has_cells}
-use Rattle.group_of.proofs.Leading.{described_is_of_catalog}
-use Rattle.group_contents.specs.Files.{IsOpened, IsSpan, OpenCause, SpanCause}
-use Rattle.group_contents.specs.declared.opening.OpenFile.{OpenFile}
-use Rattle.session_claims.specs.Claims.{IsMountedAs, IsPaired, StandsFor}
-use Rattle.session_claims.proofs.Looks.{looks_keep}
+use Rattle.session.specs.group_disks.Found.{Counts, counts_of}
+use Rattle.session.specs.group_engine.Mounts.{MountedGroup}
+use Rattle.session.proofs.group_engine.Elsewhere.{stays_attached}
+use Rattle.report_laws.specs.group_of.Groups.{HasCells, cells_of, group_of}
+use Rattle.report_laws.proofs.group_of.Describes.{described_has_cells}
+use Rattle.report_laws.proofs.group_of.Leading.{described_is_of_catalog}
+use Rattle.session.specs.group_contents.Files.{IsOpened, IsSpan, OpenCause, SpanCause}
+use Rattle.session.specs.group_contents.declared.opening.OpenFile.{OpenFile}
+use Rattle.session.specs.session_claims.Claims.{IsMountedAs, IsPaired, StandsFor}
+use Rattle.session.proofs.session_claims.Looks.{looks_keep}
 use Rattle.session.specs.Counts.{ReplyCause}
 use Rattle.session.specs.Effects.{HasEffect, IsProvedOn, IsServed, anywhere, below_with, on_disks}
 use Rattle.session.specs.Groups.{mounts}

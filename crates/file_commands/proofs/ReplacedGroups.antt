@@ -10,11 +10,11 @@ use Rattle.asm_group.specs.Group.{Group}
 use Rattle.asm_group.specs.Names.{Bytes, ByNumber, is_same_name}
 use Rattle.asm_formats.specs.Among.{IsAmong}
 use Rattle.asm_world.specs.World.{SessionEntry, SessionState, World, Mounted, DismountedBy, entry_among, groups_of, is_mounted, with_dismounted, with_group}
-use Rattle.group_engine.specs.Making.{dismounted_by}
-use Rattle.group_engine.specs.Mounts.{IsMounted, MountedGroup}
-use Rattle.group_engine.specs.declared.access.Access.{Access}
-use Rattle.session_claims.specs.Claims.{IsPaired}
-use Rattle.session_claims.specs.Laws.{MountsGoOn, ReplacesGroups}
+use Rattle.session.specs.group_engine.Making.{dismounted_by}
+use Rattle.session.specs.group_engine.Mounts.{IsMounted, MountedGroup}
+use Rattle.session.specs.group_engine.declared.access.Access.{Access}
+use Rattle.session.specs.session_claims.Claims.{IsPaired}
+use Rattle.session.specs.session_claims.Laws.{MountsGoOn, ReplacesGroups}
 use Rattle.world_steps.specs.Told.{AreIdsApart}
 use Rattle.world_steps.proofs.Told.{named_among, one_entry, torn_apart}
 use Rattle.session.specs.Entries.{by_disk, state_view}

@@ -13,10 +13,10 @@ use Rattle.asm_world.specs.Files as f
 use Rattle.asm_world.specs.Numbers as code
 use Rattle.catalog_tables.specs.Rules.{KeepsRules}
 use Rattle.catalog_tables.specs.Tables.{AreTables}
-use Rattle.group_engine.specs.Mounts.{MountedGroup}
-use Rattle.group_of.specs.Groups.{HasCells, group_of}
-use Rattle.group_contents.specs.Files.{IsOpened, IsSpan, are_sectors, head_named}
-use Rattle.group_contents.specs.declared.opening.OpenFile.{OpenFile}
+use Rattle.session.specs.group_engine.Mounts.{MountedGroup}
+use Rattle.report_laws.specs.group_of.Groups.{HasCells, group_of}
+use Rattle.session.specs.group_contents.Files.{IsOpened, IsSpan, are_sectors, head_named}
+use Rattle.session.specs.group_contents.declared.opening.OpenFile.{OpenFile}
 use Rattle.file_commands.specs.Reading.{FailsRead}
 use Rattle.file_commands.proofs.Named as named
 

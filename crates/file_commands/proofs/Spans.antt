@@ -13,11 +13,11 @@ use Rattle.asm_group.specs.Names.{Bytes, Path}
 use Rattle.asm_world.specs.Files.{Agrees}
 use Rattle.asm_world.specs.Text.{read_lines}
 use Rattle.asmcmd.specs.Runs.{HoldsRun, RunsView}
-use Rattle.group_engine.specs.Mounts.{IsOwn, MountedGroup}
-use Rattle.group_engine.specs.Own.{KeepsGroup}
-use Rattle.group_pieces.proofs.Keeping.{still_mounted}
-use Rattle.group_contents.specs.Reading.{ShowsFile}
-use Rattle.group_contents.specs.declared.opening.OpenFile.{OpenFile}
+use Rattle.session.specs.group_engine.Mounts.{IsOwn, MountedGroup}
+use Rattle.session.specs.group_engine.Own.{KeepsGroup}
+use Rattle.session.proofs.group_pieces.Keeping.{still_mounted}
+use Rattle.session.specs.group_contents.Reading.{ShowsFile}
+use Rattle.session.specs.group_contents.declared.opening.OpenFile.{OpenFile}
 use Rattle.session.specs.Listing.{IsInGroup}
 use Rattle.session.specs.Sessions.{SessionView}
 use Rattle.file_commands.specs.Reading.{HasRead, OpensSpan, PutsRead, ReadsLines, ReadsOnly, ShowsBytes}

@@ -24,22 +24,22 @@ use Rattle.asm_world.specs.Reply.{Reply, Done, Refused}
 use Rattle.asm_world.specs.Step.{Has}
 use Rattle.asm_world.specs.World.{SessionEntry, World, Mounted, DismountedBy, groups_of, is_mounted, with_group}
 use Rattle.catalog_tables.specs.Rules.{KeepsRules}
-use Rattle.directory_store.specs.Answers.{NoCalls}
-use Rattle.group_contents.specs.Files.{AtFile, IsOpened, IsSpan, OpenCause, SpanCause, WriteCause}
-use Rattle.group_contents.specs.Writing.{EndsAs, HasSpan, StaysFor, TakesSpan, WritesFile, WritesNothing, WritesOpened, WritesSpan}
-use Rattle.group_contents.specs.declared.opening.OpenFile.{OpenFile}
-use Rattle.group_disks.specs.Found.{counts_of}
-use Rattle.group_engine.proofs.Elsewhere.{stays_attached}
-use Rattle.group_engine.specs.Making.{dismounted_by}
-use Rattle.group_engine.specs.Mounts.{IsMounted, MountedGroup}
-use Rattle.group_engine.specs.Own.{KeepsGroup}
-use Rattle.group_engine.specs.declared.access.Access.{Access}
-use Rattle.group_engine.specs.declared.access.Access.TheVariants as access
-use Rattle.group_of.specs.Groups.{group_of}
-use Rattle.session_claims.specs.Claims.{KeepsWorlds, StandsFor}
-use Rattle.session_claims.specs.Laws.{IsWrittenIn, WritesGroup}
-use Rattle.session_claims.proofs.Looks.{looks_keep}
-use Rattle.session_claims.proofs.Written.{write_tears, writes_keep}
+use Rattle.session.specs.directory_store.Answers.{NoCalls}
+use Rattle.session.specs.group_contents.Files.{AtFile, IsOpened, IsSpan, OpenCause, SpanCause, WriteCause}
+use Rattle.session.specs.group_contents.Writing.{EndsAs, HasSpan, StaysFor, TakesSpan, WritesFile, WritesNothing, WritesOpened, WritesSpan}
+use Rattle.session.specs.group_contents.declared.opening.OpenFile.{OpenFile}
+use Rattle.session.specs.group_disks.Found.{counts_of}
+use Rattle.session.proofs.group_engine.Elsewhere.{stays_attached}
+use Rattle.session.specs.group_engine.Making.{dismounted_by}
+use Rattle.session.specs.group_engine.Mounts.{IsMounted, MountedGroup}
+use Rattle.session.specs.group_engine.Own.{KeepsGroup}
+use Rattle.session.specs.group_engine.declared.access.Access.{Access}
+use Rattle.session.specs.group_engine.declared.access.Access.TheVariants as access
+use Rattle.report_laws.specs.group_of.Groups.{group_of}
+use Rattle.session.specs.session_claims.Claims.{KeepsWorlds, StandsFor}
+use Rattle.session.specs.session_claims.Laws.{IsWrittenIn, WritesGroup}
+use Rattle.session.proofs.session_claims.Looks.{looks_keep}
+use Rattle.session.proofs.session_claims.Written.{write_tears, writes_keep}
 use Rattle.session.specs.Counts.{ReplyCause}
 use Rattle.session.specs.Effects.{IsServed, Past, below_with}
 use Rattle.session.specs.Entries.{by_disk, disk_name, state_view}

@@ -15,14 +15,14 @@ use Rattle.asm_world.specs.Paths.{target_from}
 use Rattle.asm_world.specs.Reply.{Refused}
 use Rattle.asm_world.specs.World.{SessionEntry, World, Mounted}
 use Rattle.catalog_tables.specs.Rules.{KeepsRules}
-use Rattle.group_contents.specs.Works.{WorkDoes}
-use Rattle.group_contents.specs.Writing.{WritesFile}
-use Rattle.group_contents.specs.declared.work.FileWork.{FileWork}
-use Rattle.group_contents.specs.declared.work.FileWork.TheVariants as work
-use Rattle.group_engine.specs.Making.{dismounted_by}
-use Rattle.group_engine.specs.Mounts.{MountedGroup}
-use Rattle.group_engine.specs.Own.{KeepsGroup}
-use Rattle.group_engine.specs.declared.access.Access.{Access}
+use Rattle.session.specs.group_contents.Works.{WorkDoes}
+use Rattle.session.specs.group_contents.Writing.{WritesFile}
+use Rattle.session.specs.group_contents.declared.work.FileWork.{FileWork}
+use Rattle.session.specs.group_contents.declared.work.FileWork.TheVariants as work
+use Rattle.session.specs.group_engine.Making.{dismounted_by}
+use Rattle.session.specs.group_engine.Mounts.{MountedGroup}
+use Rattle.session.specs.group_engine.Own.{KeepsGroup}
+use Rattle.session.specs.group_engine.declared.access.Access.{Access}
 use Rattle.session.specs.declared.answer.Answer.{Answer}
 use Rattle.session.specs.declared.desk.Desk.{Desk}
 use Rattle.session.specs.declared.reply.Reply as code

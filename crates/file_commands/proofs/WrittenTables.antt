@@ -19,15 +19,15 @@ use Rattle.asm_world.specs.Numbers as code
 use Rattle.file_directory.specs.Files as heads
 use Rattle.file_directory.specs.Files.{head_at}
 use Rattle.catalog_tables.specs.Tables.{AreTables, Tables}
-use Rattle.group_engine.specs.Mounts.{MountedGroup}
-use Rattle.group_of.specs.Describing.{KeepsNames}
-use Rattle.group_of.specs.Groups.{AreCellsButFor, HasCells, file_of_head, files_by_number, group_of}
-use Rattle.group_of.proofs.EditedGroups.{names_are_group, same_files}
-use Rattle.group_of.proofs.HeadedFiles.{file_at, files_are}
-use Rattle.piece_laws.specs.FileSpans.{freed_to, written_to}
-use Rattle.group_contents.specs.Files.{IsOpened, IsSpan}
-use Rattle.group_contents.specs.Writing.{HasSpan}
-use Rattle.group_contents.specs.declared.opening.OpenFile.{OpenFile}
+use Rattle.session.specs.group_engine.Mounts.{MountedGroup}
+use Rattle.report_laws.specs.group_of.Describing.{KeepsNames}
+use Rattle.report_laws.specs.group_of.Groups.{AreCellsButFor, HasCells, file_of_head, files_by_number, group_of}
+use Rattle.report_laws.proofs.group_of.EditedGroups.{names_are_group, same_files}
+use Rattle.report_laws.proofs.group_of.HeadedFiles.{file_at, files_are}
+use Rattle.session.specs.piece_laws.FileSpans.{freed_to, written_to}
+use Rattle.session.specs.group_contents.Files.{IsOpened, IsSpan}
+use Rattle.session.specs.group_contents.Writing.{HasSpan}
+use Rattle.session.specs.group_contents.declared.opening.OpenFile.{OpenFile}
 use Rattle.session.specs.Sessions.{IsToldBy}
 use Rattle.file_commands.proofs.Named as named
 use Rattle.file_commands.proofs.SpanCauses as spans

@@ -14,10 +14,10 @@ use Rattle.asm_world.specs.Language.{command_of}
 use Rattle.asm_world.specs.Text.{read_lines}
 use Rattle.asmcmd.specs.Runs.{HoldsRun, RunsView}
 use Rattle.catalog_tables.specs.Rules.{KeepsRules}
-use Rattle.group_engine.specs.Mounts.{MountedGroup}
-use Rattle.group_contents.specs.Files.{AtFile, IsOpened, IsSpan, SpanCause}
-use Rattle.group_contents.specs.Reading.{ShowsFile, WhereMounted}
-use Rattle.group_contents.specs.declared.opening.OpenFile.{OpenFile}
+use Rattle.session.specs.group_engine.Mounts.{MountedGroup}
+use Rattle.session.specs.group_contents.Files.{AtFile, IsOpened, IsSpan, SpanCause}
+use Rattle.session.specs.group_contents.Reading.{ShowsFile, WhereMounted}
+use Rattle.session.specs.group_contents.declared.opening.OpenFile.{OpenFile}
 use Rattle.session.specs.Leading.{IsLedTo}
 use Rattle.session.specs.Listing.{IsInGroup}
 use Rattle.session.specs.Naming.{IsGroupOf, IsOutCause}

@@ -3,8 +3,8 @@ use Rattle.std.specs.Prelude.{◌≡◌, List}
 use Rattle.asm_group.specs.Names.{Bytes}
 use Rattle.asm_world.specs.Command.{Asked, DbFill, DbWrite}
 use Rattle.asm_world.specs.Language.{command_of}
-use Rattle.group_contents.specs.declared.work.FileWork.{FileWork}
-use Rattle.group_contents.specs.declared.work.FileWork.TheVariants as work
+use Rattle.session.specs.group_contents.declared.work.FileWork.{FileWork}
+use Rattle.session.specs.group_contents.declared.work.FileWork.TheVariants as work
 use Rattle.session.specs.Leading.{IsLedTo}
 
 -- The text asks for this write in the group of the name, at a path to which the path of the verb leads from a place.

@@ -16,10 +16,10 @@ use crate::files::{read_from, system_line};
 use crate::works::{Begin, Finish, GiveUp, Put};
 use asm_base::{List, Name, NoMemory, Path, Refusal, Text};
 use bay::{Bay, Host, HostError};
-use catalog::{FileBy, NewFile};
-use file_extents::Filling;
-use group_contents::{OpenFile, buffer, check_source};
-use session::{Answer, Desk, Session, answer_lines, path_of_verb};
+use report_laws::{FileBy, NewFile};
+use session::{
+    Answer, Desk, Filling, OpenFile, Session, answer_lines, buffer, check_source, path_of_verb,
+};
 use std::alloc::Global;
 use std::str::from_utf8;
 use verb_paths::is_host_path;

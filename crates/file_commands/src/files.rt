@@ -16,13 +16,10 @@ use crate::works::{Create, OnFile};
 use asm_base::{List, Name, NoMemory, Path, Refusal, Text};
 use asmcmd::Runs;
 use bay::{Bay, Host};
-use catalog::{FileBy, NewFile};
-use group_contents::{FileWork, OpenFile, buffer, check_span, open, read_next};
-use group_engine::Mounted;
-use group_reports::path_to;
+use report_laws::{FileBy, NewFile, path_to};
 use session::{
-    Answer, Desk, Session, answer_lines, answer_of, no_memory, path_in, path_of_verb, refuse,
-    refused, spelt,
+    Answer, Desk, FileWork, Mounted, OpenFile, Session, answer_lines, answer_of, buffer,
+    check_span, no_memory, open, path_in, path_of_verb, read_next, refuse, refused, spelt,
 };
 use std::alloc::Global;
 

@@ -1,19 +1,19 @@
 // What commands do to the files of one group.
 ghost use Rattle.std.specs.Prelude.{◌≡◌, ◌⊎◌, IfErr, IfOk};
-ghost use Rattle.group_engine.specs.Commits.{StatusCause};
-ghost use Rattle.group_engine.specs.Mounts.{MountedGroup};
-ghost use Rattle.group_engine.specs.Own.{KeepsGroup};
-ghost use Rattle.file_extents.specs.Filling.{PutCause};
-ghost use Rattle.group_contents.specs.Creating.{BeginCause, NamesFile};
-ghost use Rattle.group_contents.specs.Works.{WorkDoes};
+ghost use Rattle.session.specs.group_engine.Commits.{StatusCause};
+ghost use Rattle.session.specs.group_engine.Mounts.{MountedGroup};
+ghost use Rattle.session.specs.group_engine.Own.{KeepsGroup};
+ghost use Rattle.session.specs.file_extents.Filling.{PutCause};
+ghost use Rattle.session.specs.group_contents.Creating.{BeginCause, NamesFile};
+ghost use Rattle.session.specs.group_contents.Works.{WorkDoes};
 
 use asm_base::Refusal;
 use bay::Bay;
-use catalog::NewFile;
-use file_extents::{Contents, Filling, put_next};
-use group_contents::{FileWork, begin_new, create, finish_new, give_up, work_on_file};
-use group_engine::Mounted;
-use session::GroupWork;
+use report_laws::NewFile;
+use session::{
+    Contents, FileWork, Filling, GroupWork, Mounted, begin_new, create, finish_new, give_up,
+    put_next, work_on_file,
+};
 use std::alloc::Global;
 
 /// A file is worked on, at a time in seconds.

@@ -7,7 +7,7 @@ use Rattle.std.specs.Cmp.{nat_cmp_total}
 use Rattle.std.specs.FinMap.{nat_cmp-IsAntisymmetric}
 use Rattle.std.specs.Ordering.{nat_cmp}
 use Rattle.std.proofs.lemmas.Bool.{and_parts, eqb-true, le-leb, leb-true, lt-ltb, true≢false}
-use Rattle.asm_group.specs.Names.{is_part}
+use Rattle.asm_formats.specs.asm_group.Names.{is_part}
 use Rattle.asm_formats.specs.Items.{FileHead, Key, file_item, is_item, is_redundancy}
 use Rattle.asm_formats.specs.Values.{decoded_item}
 use Rattle.asm_base.specs.Records.{Entry, all_of, of_kinds, read_from}

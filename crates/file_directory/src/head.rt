@@ -1,7 +1,7 @@
 //! The head of a file.
 
 ghost use Rattle.std.specs.Prelude.{◌≡◌, ◌&&◌, length, nat_le, nat_lt, true};
-ghost use Rattle.asm_group.specs.Names.{is_part};
+ghost use Rattle.asm_formats.specs.asm_group.Names.{is_part};
 ghost use Rattle.asm_formats.specs.Items.{is_redundancy};
 
 use asm_base::{Name, NoMemory, Stripe};

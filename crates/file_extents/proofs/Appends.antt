@@ -6,12 +6,12 @@ use Rattle.bay.specs.State.{BayState}
 use Rattle.asm_base.specs.declared.refusal.Refusal.TheVariants as cause
 use Rattle.asm_formats.specs.Items.{FileHead, Pending}
 use Rattle.asm_placement.specs.Naming.{is_pending}
-use Rattle.file_directory.specs.Files.{head_at}
-use Rattle.extent_map.specs.Extents.{Chunked, has_extent}
+use Rattle.catalog_tables.specs.file_directory.Files.{head_at}
+use Rattle.catalog_tables.specs.extent_map.Extents.{Chunked, has_extent}
 use Rattle.catalog_tables.specs.Tables.{Tables}
-use Rattle.group_engine.specs.Mounts.{MountedGroup, Takes}
-use Rattle.group_engine.specs.Pending.{GoesOn}
-use Rattle.group_engine.proofs.Causes.{nothing_kept}
+use Rattle.group_pieces.specs.group_engine.Mounts.{MountedGroup, Takes}
+use Rattle.group_pieces.specs.group_engine.Pending.{GoesOn}
+use Rattle.group_pieces.proofs.group_engine.Causes.{nothing_kept}
 use Rattle.file_extents.specs.Appending.{IsOwner, has_owner}
 
 -- the head has so many copies

@@ -3,9 +3,9 @@ use Rattle.std.proofs.Common.{◌≡◌, ℕ, ◌+◌, ◌<◌, take, List, leng
 use Rattle.std.proofs.lemmas.List.{length-take}
 use Rattle.asm_base.specs.declared.kinds.ExtentId.{ExtentId}
 use Rattle.asm_formats.specs.Items.{Homes}
-use Rattle.allocator.specs.UnitMaps.{UnitMap}
-use Rattle.partnership.specs.Rows.{IsRow, homes_at}
-use Rattle.group_engine.specs.Mounts.{MountedGroup}
+use Rattle.catalog_tables.specs.allocator.UnitMaps.{UnitMap}
+use Rattle.catalog_tables.specs.partnership.Rows.{IsRow, homes_at}
+use Rattle.group_pieces.specs.group_engine.Mounts.{MountedGroup}
 use Rattle.file_extents.specs.Rows.{HasNoSpace, choosing}
 use Rattle.file_extents.specs.declared.rows.NewExtents.{NewExtents}
 

@@ -10,16 +10,16 @@ use Rattle.asm_formats.specs.Status.{Status, ascends_from, is_entry, is_status}
 use Rattle.asm_placement.specs.DiskSets.{numbers}
 use Rattle.asm_placement.specs.Naming.{is_pending}
 use Rattle.asm_placement.specs.Placed.{placed_extents}
-use Rattle.file_directory.specs.Files.{head_at, is_file}
-use Rattle.extent_map.specs.Extents.{Chunked, chunk_at, chunk_or_blank, count_in, has_extent, has_home, extent_at}
-use Rattle.extent_map.proofs.FileEnds.{same_place}
-use Rattle.catalog.specs.ExtentPlans.{MayAppend}
+use Rattle.catalog_tables.specs.file_directory.Files.{head_at, is_file}
+use Rattle.catalog_tables.specs.extent_map.Extents.{Chunked, chunk_at, chunk_or_blank, count_in, has_extent, has_home, extent_at}
+use Rattle.catalog_tables.proofs.extent_map.FileEnds.{same_place}
+use Rattle.group_pieces.specs.catalog.ExtentPlans.{MayAppend}
 use Rattle.catalog_tables.specs.Placing.{after_homes}
-use Rattle.catalog.specs.Plans.{AreOwned}
-use Rattle.catalog.proofs.NumberedEntries.{passes_where}
+use Rattle.group_pieces.specs.catalog.Plans.{AreOwned}
+use Rattle.group_pieces.proofs.catalog.NumberedEntries.{passes_where}
 use Rattle.catalog_tables.specs.Rules.{are_marks_of, are_on_disks, are_within, are_within_head, first_wrong, has_copies, is_owned}
 use Rattle.catalog_tables.specs.Tables.{Catalogued, Tables}
-use Rattle.group_engine.specs.Mounts.{IsWhole, MountedGroup}
+use Rattle.group_pieces.specs.group_engine.Mounts.{IsWhole, MountedGroup}
 use Rattle.file_extents.specs.Appending.{AreMarks, HasAllExtents, MayStand, are_copies, has_owner}
 use Rattle.file_extents.specs.declared.appending.Part.{Part}
 

@@ -5,3 +5,9 @@ pub mod Choices
 pub mod Extents
 pub mod Layouts
 pub mod Within
+pub mod catalog_laws
+pub mod catalog_tables
+pub mod extent_map
+pub mod group_engine
+pub mod group_of
+pub mod group_pieces

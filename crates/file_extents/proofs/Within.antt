@@ -9,9 +9,9 @@ use Rattle.std.proofs.lemmas.Cmp.{ranked}
 use Rattle.std.proofs.Math.Arith.{lt_of_le-ne}
 use Rattle.asm_formats.specs.Items.{Homes}
 use Rattle.asm_base.specs.Records.{Ascend}
-use Rattle.extent_map.specs.Extents.{Chunked, chunks_from}
+use Rattle.catalog_tables.specs.extent_map.Extents.{Chunked, chunks_from}
 use Rattle.asm_base.specs.Chunks.{chunk_cmp, is_before}
-use Rattle.catalog.specs.NamePlans.{is_within_file}
+use Rattle.group_pieces.specs.catalog.NamePlans.{is_within_file}
 use Rattle.catalog_tables.specs.Rules.{are_within, first_wrong}
 
 -- ---- the order of chunks

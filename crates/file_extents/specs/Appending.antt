@@ -3,8 +3,8 @@ use Rattle.std.specs.Prelude.{◌≡◌, ℕ, ◌+◌, ◌/◌, ◌%◌, ◌≤�
 use Rattle.std.specs.List.{list_all, zip}
 use Rattle.asm_formats.specs.Items.{FileHead, Homes}
 use Rattle.asm_placement.specs.Naming.{is_pending}
-use Rattle.file_directory.specs.Files.{head_at}
-use Rattle.extent_map.specs.Extents.{chunk_or_blank, count_in, extent_at, follows}
+use Rattle.catalog_tables.specs.file_directory.Files.{head_at}
+use Rattle.catalog_tables.specs.extent_map.Extents.{chunk_or_blank, count_in, extent_at, follows}
 use Rattle.catalog_tables.specs.Rules.{are_marks_of, are_on_disks, are_within, has_copies}
 use Rattle.catalog_tables.specs.Tables.{Tables}
 use Rattle.file_extents.specs.declared.appending.Part.{Part}

@@ -6,10 +6,10 @@ use Rattle.asm_base.specs.Records.{Entry}
 use Rattle.asm_base.specs.declared.refusal.Refusal.{Refusal}
 use Rattle.asm_formats.specs.Items.{Key}
 use Rattle.catalog_tables.specs.Changing.{IsAfter}
-use Rattle.catalog.specs.Plans.{IsPlan}
+use Rattle.group_pieces.specs.catalog.Plans.{IsPlan}
 use Rattle.catalog_tables.specs.Tables.{Tables}
-use Rattle.group_engine.specs.Commits.{StatusCause}
-use Rattle.group_engine.specs.Mounts.{IsMounted, MountedGroup}
+use Rattle.group_pieces.specs.group_engine.Commits.{StatusCause}
+use Rattle.group_pieces.specs.group_engine.Mounts.{IsMounted, MountedGroup}
 use Rattle.file_extents.specs.Rows.{SpaceCause}
 use Rattle.file_extents.specs.declared.rows.NewExtents.{NewExtents}
 

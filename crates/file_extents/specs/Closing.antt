@@ -2,8 +2,8 @@
 use Rattle.std.specs.Prelude.{◌≡◌, Result, Err}
 use Rattle.asm_base.specs.declared.refusal.Refusal.{Refusal}
 use Rattle.asm_base.specs.declared.refusal.Refusal.TheVariants as cause
-use Rattle.group_engine.specs.Making.{closed}
-use Rattle.group_engine.specs.Mounts.{MountedGroup}
+use Rattle.group_pieces.specs.group_engine.Making.{closed}
+use Rattle.group_pieces.specs.group_engine.Mounts.{MountedGroup}
 
 -- the group takes no more calls
 abbrev pub shut : MountedGroup → MountedGroup

@@ -6,8 +6,8 @@ use Rattle.asm_base.specs.declared.refusal.DiskRef.TheVariants as disk
 use Rattle.asm_base.specs.declared.refusal.Refusal.{Refusal}
 use Rattle.asm_base.specs.declared.refusal.Refusal.TheVariants as cause
 use Rattle.asm_formats.specs.Sets.{has_bit}
-use Rattle.group_engine.specs.Commits.{DismountCause}
-use Rattle.group_engine.specs.Mounts.{MountedGroup}
+use Rattle.group_pieces.specs.group_engine.Commits.{DismountCause}
+use Rattle.group_pieces.specs.group_engine.Mounts.{MountedGroup}
 use Rattle.group_pieces.specs.Faults.{RoseOnDisk}
 use Rattle.file_extents.specs.declared.sparing.Took.{Took}
 use Rattle.file_extents.specs.declared.sparing.Took.TheVariants as took

@@ -4,3 +4,17 @@ pub mod Closing
 pub mod Filling
 pub mod Pieces
 pub mod Rows
+pub mod alias_tree
+pub mod asm_images
+pub mod catalog
+pub mod catalog_tables
+pub mod directory_store
+pub mod extent_copies
+pub mod extent_map
+pub mod file_directory
+pub mod group_engine
+pub mod group_of
+pub mod group_pieces
+pub mod rebalance
+pub mod status_register
+pub mod status_table

@@ -2,8 +2,8 @@
 use Rattle.std.specs.Prelude.{◌≡◌, ℕ}
 use Rattle.asm_group.specs.declared.Stripe.{Stripe}
 use Rattle.asm_group.specs.Shape.{Shape}
-use Rattle.striping.specs.declared.layout.Layout.{Layout}
-use Rattle.piece_laws.specs.Walks.{IsStep}
+use Rattle.catalog_tables.specs.striping.declared.layout.Layout.{Layout}
+use Rattle.group_pieces.specs.piece_laws.Walks.{IsStep}
 use Rattle.group_pieces.specs.Usable.{piece_of}
 use Rattle.file_extents.specs.declared.layout.Piece.{Piece}
 

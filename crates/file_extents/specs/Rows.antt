@@ -1,12 +1,12 @@
 -- Homes that are chosen for new extents of a file of a mounted group.
 use Rattle.std.specs.Prelude.{◌≡◌, ⊤, ◌+◌, ◌<◌, List, length, None}
-use Rattle.allocator.specs.UnitMaps.{UnitMap}
+use Rattle.catalog_tables.specs.allocator.UnitMaps.{UnitMap}
 use Rattle.asm_formats.specs.Items.{Homes}
 use Rattle.asm_base.specs.declared.kinds.ExtentId.{ExtentId}
 use Rattle.asm_base.specs.declared.refusal.Refusal.{Refusal}
 use Rattle.asm_base.specs.declared.refusal.Refusal.TheVariants as cause
-use Rattle.partnership.specs.Rows.{Choosing, IsRow, homes_at}
-use Rattle.group_engine.specs.Mounts.{MountedGroup}
+use Rattle.catalog_tables.specs.partnership.Rows.{Choosing, IsRow, homes_at}
+use Rattle.group_pieces.specs.group_engine.Mounts.{MountedGroup}
 use Rattle.file_extents.specs.declared.rows.NewExtents.{NewExtents}
 
 -- what the homes of the extents are chosen by

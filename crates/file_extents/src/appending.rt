@@ -4,22 +4,21 @@ ghost use Rattle.std.specs.Prelude.{◌≡◌, ◌||◌, ◌<◌, ◌+◌, ◌/�
 ghost use Rattle.std.specs.List.{list_all};
 ghost use Rattle.asm_formats.specs.Sets.{has_bit};
 ghost use Rattle.asm_placement.specs.Placed.{placed_extents};
-ghost use Rattle.catalog.specs.ExtentPlans.{MayAppend};
-ghost use Rattle.catalog.specs.NamePlans.{is_within_file};
+ghost use Rattle.group_pieces.specs.catalog.ExtentPlans.{MayAppend};
+ghost use Rattle.group_pieces.specs.catalog.NamePlans.{is_within_file};
 ghost use Rattle.catalog_tables.specs.Placing.{after_homes};
 ghost use Rattle.catalog_tables.specs.Rules.{are_marks_of, are_on_disks, are_within, first_wrong, has_copies};
-ghost use Rattle.extent_map.specs.Extents.{chunk_or_blank, count_in, extent_at, follows, has_extent};
-ghost use Rattle.group_engine.specs.Mounts.{IsMounted, Takes};
-ghost use Rattle.group_engine.specs.Pending.{GoesOn};
+ghost use Rattle.catalog_tables.specs.extent_map.Extents.{chunk_or_blank, count_in, extent_at, follows, has_extent};
+ghost use Rattle.group_pieces.specs.group_engine.Mounts.{IsMounted, Takes};
+ghost use Rattle.group_pieces.specs.group_engine.Pending.{GoesOn};
 ghost use Rattle.file_extents.specs.Appending.{AreMarks, HasAllExtents, IsOwner, MayStand, are_all_copies};
 
 use crate::placing::{copy_units, place_row};
 use crate::rows::{CHUNK, MOST_EXTENTS};
 use asm_base::{ExtentId, Home, Homes, NoMemory, Refusal};
 use bay::Bay;
-use catalog::Catalog;
 use catalog_tables::{are_on_disks, are_within};
-use group_engine::Mounted;
+use group_pieces::{Catalog, Mounted};
 use std::alloc::Global;
 
 // ---- one extent

@@ -1,8 +1,8 @@
 // A file's operation begins, and its new extents get their homes.
 ghost use Rattle.std.specs.Prelude.{◌≡◌, IfErr, OnOk};
-ghost use Rattle.group_engine.specs.Mounts.{IsMounted, Takes};
-ghost use Rattle.group_engine.specs.Own.{KeepsGroup};
-ghost use Rattle.group_engine.specs.Pending.{GoesOn};
+ghost use Rattle.group_pieces.specs.group_engine.Mounts.{IsMounted, Takes};
+ghost use Rattle.group_pieces.specs.group_engine.Own.{KeepsGroup};
+ghost use Rattle.group_pieces.specs.group_engine.Pending.{GoesOn};
 ghost use Rattle.file_extents.specs.Beginning.{Begins, HomesCause};
 
 use crate::committing::{give_back, is_at_rest, shut};
@@ -10,8 +10,8 @@ use crate::filling::{Filling, choose_all, open_part};
 use crate::rows::NewExtents;
 use asm_base::Refusal;
 use bay::Bay;
-use group_engine::Mounted;
-use operations_directory::{Pending, PendingKind};
+use catalog_tables::operations_directory_crate::{Pending, PendingKind};
+use group_pieces::Mounted;
 use std::alloc::Global;
 
 /// Begins an operation on a file: it is committed as the pending one. The move that is on its way is given up. Refusals: Dismounted, and

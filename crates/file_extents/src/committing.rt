@@ -1,16 +1,16 @@
 // What is done where a call ends behind a commit.
 ghost use Rattle.std.specs.Bool.{OnTrue};
 ghost use Rattle.std.specs.Prelude.{◌≡◌, ◌⊎◌, None};
-ghost use Rattle.group_engine.specs.Commits.{KeepsRecord, StatusCause};
-ghost use Rattle.group_engine.specs.Making.{closed};
-ghost use Rattle.group_engine.specs.Mounts.{IsMounted, Takes};
-ghost use Rattle.group_engine.specs.Own.{KeepsGroup};
+ghost use Rattle.group_pieces.specs.group_engine.Commits.{KeepsRecord, StatusCause};
+ghost use Rattle.group_pieces.specs.group_engine.Making.{closed};
+ghost use Rattle.group_pieces.specs.group_engine.Mounts.{IsMounted, Takes};
+ghost use Rattle.group_pieces.specs.group_engine.Own.{KeepsGroup};
 ghost use Rattle.asm_base.specs.declared.refusal.Refusal.TheVariants as cause;
 ghost use Rattle.file_extents.specs.Closing.{IsOrShut};
 
 use asm_base::Refusal;
 use bay::Bay;
-use group_engine::Mounted;
+use group_pieces::Mounted;
 use std::alloc::Global;
 
 /// Memory was wanted behind a commit: the group takes no more calls.

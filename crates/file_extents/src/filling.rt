@@ -1,10 +1,10 @@
 //! New extents of a file, which all get homes, and then are filled and committed chunk by chunk. Whoever fills them hands over their
 //! bytes in order.
 ghost use Rattle.std.specs.Prelude.{◌≡◌, ◌<◌, ◌≤◌, ◌+◌, IfErr, IfOk, IfSome, OnOk, vec_len};
-ghost use Rattle.striping.specs.Pieces.{IsLayout};
-ghost use Rattle.group_engine.specs.Mounts.{IsMounted, IsWhole, Takes};
-ghost use Rattle.group_engine.specs.Own.{KeepsGroup};
-ghost use Rattle.group_engine.specs.Pending.{GoesOn};
+ghost use Rattle.catalog_tables.specs.striping.Pieces.{IsLayout};
+ghost use Rattle.group_pieces.specs.group_engine.Mounts.{IsMounted, IsWhole, Takes};
+ghost use Rattle.group_pieces.specs.group_engine.Own.{KeepsGroup};
+ghost use Rattle.group_pieces.specs.group_engine.Pending.{GoesOn};
 ghost use Rattle.file_extents.specs.Filling.{FailsMore, FillCause, PutCause, end_by};
 ghost use Rattle.file_extents.specs.Rows.{SpaceCause};
 
@@ -15,9 +15,9 @@ use crate::rows::{ABSENT, CHUNK, MOST_EXTENTS, NewExtents, choose_row_of};
 use crate::sparing::{Filled, are_all_marked, fill_copies};
 use asm_base::{DiskRef, DiskSet, Homes, NoMemory, Refusal, Stripe};
 use bay::Bay;
-use group_engine::Mounted;
+use catalog_tables::striping_crate::Layout;
+use group_pieces::Mounted;
 use std::alloc::Global;
-use striping::Layout;
 
 /// What the new extents of a file are filled with.
 #[derive(Clone, Copy, Debug, PartialEq, Eq)]

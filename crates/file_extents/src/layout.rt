@@ -1,11 +1,11 @@
 // Where the bytes of a file lie, in pieces.
 ghost use Rattle.std.specs.Prelude.{◌≡◌, ◌+◌, ◌<◌, ◌≤◌, ◌^◌, IfSome};
-ghost use Rattle.striping.specs.Pieces.{IsLayout};
+ghost use Rattle.catalog_tables.specs.striping.Pieces.{IsLayout};
 ghost use Rattle.group_pieces.specs.Usable.{FitsExtent};
 ghost use Rattle.file_extents.specs.Pieces.{IsFirstPiece, IsOfShape};
 
 use asm_base::{ExtentId, Shape, Span, Stripe};
-use striping::{Layout, next_piece, units_of};
+use catalog_tables::striping_crate::{Layout, next_piece, units_of};
 
 /// The most bytes of a piece.
 pub const LONGEST_PIECE: u64 = 1_048_576;

@@ -3,11 +3,11 @@ ghost use Rattle.std.specs.Prelude.{◌≡◌, ◌<◌, ◌+◌, ◌^◌, if◌t
 ghost use Rattle.asm_placement.specs.Placed.{placed_extents};
 ghost use Rattle.catalog_tables.specs.Placing.{after_homes};
 
-use allocator::Units;
 use asm_base::{Homes, NoMemory};
+use catalog_tables::allocator_crate::Units;
 use catalog_tables::place_extent;
+use catalog_tables::striping_crate::units_of;
 use std::alloc::Global;
-use striping::units_of;
 
 /// The unit maps, once more.
 pub(crate) fn copy_units(alloc: Global, units: &[Units]) -> Result<Vec<Units>, NoMemory>

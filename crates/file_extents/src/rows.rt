@@ -1,13 +1,13 @@
 // The homes of new extents are chosen.
 ghost use Rattle.std.specs.Prelude.{◌≡◌, ◌+◌, ◌<◌, ◌^◌, IfErr, length};
-ghost use Rattle.group_engine.specs.Mounts.{IsWhole};
+ghost use Rattle.group_pieces.specs.group_engine.Mounts.{IsWhole};
 ghost use Rattle.file_extents.specs.Rows.{ChoiceCause, SpaceCause};
 
 use crate::placing::copy_units;
-use allocator::Units;
 use asm_base::{ExtentId, Homes, Refusal};
-use group_engine::Mounted;
-use partnership::choose_row;
+use catalog_tables::allocator_crate::Units;
+use catalog_tables::partnership_crate::choose_row;
+use group_pieces::Mounted;
 use std::alloc::Global;
 
 /// Extents of a chunk.

@@ -2,17 +2,16 @@
 ghost use Rattle.std.specs.Bool.{OnTrue};
 ghost use Rattle.std.specs.Prelude.{◌≡◌, ◌≤◌, IfSome};
 ghost use Rattle.asm_formats.specs.Regions.{reserved_units};
-ghost use Rattle.group_engine.specs.Mounts.{IsMounted, Takes};
-ghost use Rattle.group_engine.specs.Own.{KeepsGroup};
+ghost use Rattle.group_pieces.specs.group_engine.Mounts.{IsMounted, Takes};
+ghost use Rattle.group_pieces.specs.group_engine.Own.{KeepsGroup};
 ghost use Rattle.group_pieces.specs.Spare.{IsRunOf};
 ghost use Rattle.file_extents.specs.Filling.{FailsMore, HasFailedWrite};
 
 use crate::layout::Piece;
 use asm_base::{BLOCK, DiskSet, Home, Homes, Shape};
 use bay::{Bay, Fault};
-use group_engine::Mounted;
-use group_pieces::write_spare;
-use striping::units_of;
+use catalog_tables::striping_crate::units_of;
+use group_pieces::{Mounted, write_spare};
 
 /// Units of a disk that hold no bytes of files. None where a unit has no bytes.
 #[tactic(auto, unfolding(asm_formats::specs::Regions::reserved_units))]

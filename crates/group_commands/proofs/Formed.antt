@@ -11,10 +11,10 @@ use Rattle.asm_world.specs.Below.{GroupBelow}
 use Rattle.asm_world.specs.Reply.{Reply}
 use Rattle.asm_world.specs.Reply as world
 use Rattle.asm_world.specs.World.{World}
-use Rattle.group_disks.specs.FirstParts.{IsNewlyMounted}
-use Rattle.group_disks.specs.Holding.{SparesHeld}
-use Rattle.group_engine.specs.Frames.{StaysAttached}
-use Rattle.group_engine.specs.Mounts.{MountedGroup}
+use Rattle.session.specs.group_disks.FirstParts.{IsNewlyMounted}
+use Rattle.session.specs.group_disks.Holding.{SparesHeld}
+use Rattle.session.specs.group_engine.Frames.{StaysAttached}
+use Rattle.session.specs.group_engine.Mounts.{MountedGroup}
 use Rattle.session.specs.declared.answer.Answer.{Answer}
 use Rattle.session.specs.declared.desk.Desk.{Desk}
 use Rattle.session.specs.declared.reply.Reply.TheVariants.{Refused}

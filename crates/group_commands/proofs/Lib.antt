@@ -9,3 +9,4 @@ pub mod MountDisks
 pub mod MountWorld
 pub mod Named
 pub mod ToldGroup
+pub mod session_claims

@@ -17,19 +17,19 @@ use Rattle.asm_world.specs.Step.{Mounts, Step}
 use Rattle.asm_world.specs.Waits.{HasLines}
 use Rattle.asm_world.specs.World.{SessionEntry, World, entry_among, entry_in, groups_of, has_mounted, is_mounted, mounted_entry, with_group, without_entry}
 use Rattle.asm_world.proofs.Memory.{stays}
-use Rattle.group_disks.specs.Found.{counts_of}
-use Rattle.group_disks.specs.Leaving.{IsMountedOn, LeavesRefused, WasMounted}
-use Rattle.group_disks.specs.MountCauses.{AreElsewhere, ErrorCause, look}
-use Rattle.group_disks.specs.Mounting.{IsMountCause, IsMountedBy}
-use Rattle.group_disks.proofs.MountRefusals.{refusals_have_causes}
-use Rattle.group_engine.specs.Frames.{StaysAttached}
-use Rattle.group_engine.specs.Mounts.{MountedGroup}
+use Rattle.session.specs.group_disks.Found.{counts_of}
+use Rattle.session.specs.group_disks.Leaving.{IsMountedOn, LeavesRefused, WasMounted}
+use Rattle.session.specs.group_disks.MountCauses.{AreElsewhere, ErrorCause, look}
+use Rattle.session.specs.group_disks.Mounting.{IsMountCause, IsMountedBy}
+use Rattle.session.proofs.group_disks.MountRefusals.{refusals_have_causes}
+use Rattle.session.specs.group_engine.Frames.{StaysAttached}
+use Rattle.session.specs.group_engine.Mounts.{MountedGroup}
 use Rattle.group_mount.specs.declared.error.MountError.{MountError}
 use Rattle.group_mount.specs.declared.error.MountError.TheVariants as error
 use Rattle.group_mount.specs.declared.quorum.MountOption.{MountOption}
-use Rattle.session_claims.specs.Claims.{KeepsWorlds, StandsFor}
-use Rattle.session_claims.specs.Found.{IsNameFree}
-use Rattle.session_claims.specs.Laws.{MountsGoOn, ReplacesGroups}
+use Rattle.session.specs.session_claims.Claims.{KeepsWorlds, StandsFor}
+use Rattle.session.specs.session_claims.Found.{IsNameFree}
+use Rattle.session.specs.session_claims.Laws.{MountsGoOn, ReplacesGroups}
 use Rattle.session.specs.Counts.{ReplyCause}
 use Rattle.session.specs.Entries.{AreAlike}
 use Rattle.session.specs.Naming.{AreNamesApart}

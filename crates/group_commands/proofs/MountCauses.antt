@@ -12,19 +12,19 @@ use Rattle.asm_group.specs.Names.{Bytes}
 use Rattle.asm_formats.specs.Among.{IsAmong}
 use Rattle.asm_formats.specs.Header.{Header}
 use Rattle.asm_world.specs.World.{Mounted, SessionEntry, SessionState, World, has_mounted, is_mounted}
-use Rattle.group_disks.specs.Holding.{IsHeldSlot}
-use Rattle.group_disks.specs.MountCauses.{AreElsewhere, ErrorCause, HasNamedDisk, IsMountRefused, Look, look}
-use Rattle.group_engine.specs.Making.{dismounted_by}
-use Rattle.group_engine.specs.Mounts.{IsOwn, IsWhole, MountedGroup, slot_at}
-use Rattle.group_engine.specs.declared.attached.Attached.{Attached}
+use Rattle.session.specs.group_disks.Holding.{IsHeldSlot}
+use Rattle.session.specs.group_disks.MountCauses.{AreElsewhere, ErrorCause, HasNamedDisk, IsMountRefused, Look, look}
+use Rattle.session.specs.group_engine.Making.{dismounted_by}
+use Rattle.session.specs.group_engine.Mounts.{IsOwn, IsWhole, MountedGroup, slot_at}
+use Rattle.session.specs.group_engine.declared.attached.Attached.{Attached}
 use Rattle.group_mount.specs.declared.error.MountError.{MountError}
 use Rattle.group_mount.specs.declared.error.MountError.TheVariants as error
 use Rattle.group_mount.specs.declared.quorum.MountOption.{MountOption}
 use Rattle.group_mount.specs.declared.quorum.MountOption.TheVariants.{Force, NoForce}
-use Rattle.status_register.specs.declared.member.Member.{Member}
-use Rattle.session_claims.specs.Claims.{IsPaired, StandsFor}
-use Rattle.session_claims.specs.Found.{HasNamed, HaveNames, IsNameFree}
-use Rattle.session_claims.proofs.FoundMembers.{named_is_unmounted, pair_among}
+use Rattle.group_mount.specs.status_register.declared.member.Member.{Member}
+use Rattle.session.specs.session_claims.Claims.{IsPaired, StandsFor}
+use Rattle.session.specs.session_claims.Found.{HasNamed, HaveNames, IsNameFree}
+use Rattle.session.proofs.session_claims.FoundMembers.{named_is_unmounted, pair_among}
 use Rattle.session.specs.Entries.{AreAlike, by_disk}
 use Rattle.session.specs.Sessions.{held_by, held_of, slots_in}
 use Rattle.group_commands.specs.Mounting.{mount_said, option_of}

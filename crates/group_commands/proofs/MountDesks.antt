@@ -20,8 +20,8 @@ use Rattle.asm_world.specs.Language.{command_of}
 use Rattle.asm_world.specs.Reply.{Reply, Refused}
 use Rattle.asm_world.specs.Statement.{Alter, Mount}
 use Rattle.asm_world.specs.World.{SessionEntry, World, entry_among, entry_in}
-use Rattle.group_disks.specs.Leaving.{LeavesRefused, WasMounted}
-use Rattle.group_disks.specs.Mounting.{IsMountCause}
+use Rattle.session.specs.group_disks.Leaving.{LeavesRefused, WasMounted}
+use Rattle.session.specs.group_disks.Mounting.{IsMountCause}
 use Rattle.group_mount.specs.declared.quorum.MountOption.{MountOption}
 use Rattle.session.specs.declared.answer.Answer.{Answer}
 use Rattle.session.specs.declared.desk.Desk.{Desk}

@@ -8,24 +8,24 @@ use Rattle.asm_group.specs.Group.{Group}
 use Rattle.asm_group.specs.Names.{Bytes}
 use Rattle.asm_world.specs.Command.{Command}
 use Rattle.asm_world.specs.World.{World, groups_of, has_mounted}
-use Rattle.group_disks.specs.Leaving.{IsMountedOn, LeavesClaimed, LeavesLost, LeavesRefused, MountsOne, WasMounted, before_record, behind_record, claimed, looked}
-use Rattle.group_disks.specs.Mounting.{WasQuorate}
-use Rattle.group_disks.proofs.ReadNames.{reads_named}
-use Rattle.group_engine.specs.Commits.{StandsIn}
-use Rattle.group_engine.specs.Frames.{StaysAttached}
-use Rattle.group_engine.specs.Mounts.{MountedGroup}
+use Rattle.session.specs.group_disks.Leaving.{IsMountedOn, LeavesClaimed, LeavesLost, LeavesRefused, MountsOne, WasMounted, before_record, behind_record, claimed, looked}
+use Rattle.session.specs.group_disks.Mounting.{WasQuorate}
+use Rattle.session.proofs.group_disks.ReadNames.{reads_named}
+use Rattle.session.specs.group_engine.Commits.{StandsIn}
+use Rattle.session.specs.group_engine.Frames.{StaysAttached}
+use Rattle.session.specs.group_engine.Mounts.{MountedGroup}
 use Rattle.group_mount.specs.Mounting.{Allows}
 use Rattle.group_mount.specs.Recovered.{ChangesMembers, StoodFor}
 use Rattle.group_mount.specs.declared.error.MountError.{MountError}
 use Rattle.group_mount.specs.declared.error.MountError.TheVariants as error
 use Rattle.group_mount.specs.declared.quorum.MountOption.{MountOption}
-use Rattle.session_claims.specs.Claims.{KeepsWorlds, StandsFor}
-use Rattle.session_claims.specs.Found.{IsNameFree}
-use Rattle.session_claims.specs.Laws.{MountsGoOn, ReplacesGroups, WorksUnder}
-use Rattle.session_claims.proofs.Images.{held_allows}
-use Rattle.session_claims.proofs.Looks.{looks_keep}
-use Rattle.session_claims.proofs.Mounted.{mounts_keep, refused_mounts_keep}
-use Rattle.session_claims.proofs.FoundMembers.{found_is_unmounted}
+use Rattle.session.specs.session_claims.Claims.{KeepsWorlds, StandsFor}
+use Rattle.session.specs.session_claims.Found.{IsNameFree}
+use Rattle.session.specs.session_claims.Laws.{MountsGoOn, ReplacesGroups, WorksUnder}
+use Rattle.session.proofs.session_claims.Images.{held_allows}
+use Rattle.session.proofs.session_claims.Looks.{looks_keep}
+use Rattle.session.proofs.session_claims.Mounted.{mounts_keep, refused_mounts_keep}
+use Rattle.session.proofs.session_claims.FoundMembers.{found_is_unmounted}
 use Rattle.session.specs.Proved.{HasOwnGroups, IsAloneByName}
 use Rattle.session.proofs.Creation.{same_some}
 

@@ -10,10 +10,10 @@ use Rattle.asm_group.specs.Group.{Group}
 use Rattle.asm_group.specs.Names.{Bytes, folded, is_same_name}
 use Rattle.asm_world.specs.Below.{GroupBelow}
 use Rattle.asm_world.specs.World.{SessionEntry, World, groups_of, has_mounted, is_mounted, mounted_entry, with_group, without_entry}
-use Rattle.group_engine.specs.Mounts.{MountedGroup}
-use Rattle.session_claims.specs.Claims.{IsPaired}
-use Rattle.session_claims.specs.Laws.{MountsGoOn, ReplacesGroups}
-use Rattle.session_claims.proofs.Pairs.{has_id}
+use Rattle.session.specs.group_engine.Mounts.{MountedGroup}
+use Rattle.session.specs.session_claims.Claims.{IsPaired}
+use Rattle.session.specs.session_claims.Laws.{MountsGoOn, ReplacesGroups}
+use Rattle.session.proofs.session_claims.Pairs.{has_id}
 use Rattle.world_steps.specs.Told.{AreIdsApart}
 use Rattle.world_steps.proofs.Told.{fewer_among, fewer_apart}
 use Rattle.session.specs.Sessions.{AreToldBy, Knows, SessionView, groups_below, without_groups}

@@ -6,14 +6,14 @@ use Rattle.std.proofs.lemmas.List.{length-replicate}
 use Rattle.asm_group.specs.Group.{Cell, Free, Group}
 use Rattle.asm_group.specs.Names.{Bytes}
 use Rattle.asm_formats.specs.Items.{FileHead}
-use Rattle.catalog_laws.proofs.HavingItems.{have_items}
-use Rattle.catalog_tables.specs.Tables.{Tables}
+use Rattle.session.proofs.catalog_laws.HavingItems.{have_items}
+use Rattle.group_mount.specs.catalog_tables.Tables.{Tables}
 use Rattle.file_directory.specs.Files.{head_at}
-use Rattle.group_engine.specs.Mounts.{IsWhole, MountedGroup, Represents}
-use Rattle.group_of.specs.Describing.{IsDescribed}
-use Rattle.group_of.specs.Groups.{HasCells, cells_of, group_of}
-use Rattle.group_of.proofs.Describes.{described_has_cells}
-use Rattle.group_of.proofs.Leading.{described_is_of_catalog}
+use Rattle.session.specs.group_engine.Mounts.{IsWhole, MountedGroup, Represents}
+use Rattle.session.specs.group_of.Describing.{IsDescribed}
+use Rattle.session.specs.group_of.Groups.{HasCells, cells_of, group_of}
+use Rattle.session.proofs.group_of.Describes.{described_has_cells}
+use Rattle.session.proofs.group_of.Leading.{described_is_of_catalog}
 use Rattle.session.specs.Sessions.{IsToldBy}
 
 -- the cells where there are so many, else free ones

@@ -1,1 +1,3 @@
 pub mod Mounting
+pub mod group_mount
+pub mod session_claims

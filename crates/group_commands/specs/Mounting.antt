@@ -8,10 +8,10 @@ use Rattle.asm_base.specs.declared.refusal.Refusal.TheVariants as cause
 use Rattle.asm_group.specs.Names.{Bytes}
 use Rattle.asm_group.specs.Refusal as r
 use Rattle.asm_world.specs.World.{mounted_entry, without_entry}
-use Rattle.group_disks.specs.Leaving.{LeavesRefused, WasMounted}
-use Rattle.group_disks.specs.Mounting.{IsMountCause, IsMountedBy}
-use Rattle.group_engine.specs.Frames.{StaysAttached}
-use Rattle.group_engine.specs.Mounts.{MountedGroup}
+use Rattle.session.specs.group_disks.Leaving.{LeavesRefused, WasMounted}
+use Rattle.session.specs.group_disks.Mounting.{IsMountCause, IsMountedBy}
+use Rattle.session.specs.group_engine.Frames.{StaysAttached}
+use Rattle.session.specs.group_engine.Mounts.{MountedGroup}
 use Rattle.group_mount.specs.declared.error.MountError.{MountError}
 use Rattle.group_mount.specs.declared.error.MountError.TheVariants as error
 use Rattle.group_mount.specs.declared.quorum.MountOption.{MountOption}

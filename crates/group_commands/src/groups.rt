@@ -16,11 +16,12 @@ ghost use Rattle.session.specs.Meaning.{meaning};
 use crate::mounting::{mount_named, option_of};
 use asm_base::{GroupKind, List, Name, NoMemory, Refusal, Text};
 use bay::{Bay, Host};
-use group_disks::{create_group, drop_group as drop_disks_of};
-use group_engine::Mounted;
 use group_sql::{Attribute, NewDisk, NewFailgroup};
-use new_groups::{GroupAsked, Known};
-use session::{Answer, Desk, FoundIds, GroupWork, Reply, no_memory, refused, too_many_groups};
+use session::{
+    Answer, Desk, FoundIds, GroupAsked, GroupWork, Known, Mounted, Reply,
+    create_on_disk as create_group, drop_group as drop_disks_of, no_memory, refused,
+    too_many_groups,
+};
 use std::alloc::Global;
 
 /// The item of a list of one.
@@ -148,7 +149,7 @@ fn form_any<B: Bay, H: Host>(
     ensures answers { IsAnswered text.now result desk.old desk.new }
 {
     let mut ids = Vec::new(desk.alloc);
-    let (made, answer) = new_groups::create_group(
+    let (made, answer) = session::create_new_group(
         desk.alloc,
         &mut desk.bay,
         &desk.paths,

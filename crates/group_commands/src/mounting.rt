@@ -7,9 +7,8 @@ ghost use Rattle.session.specs.Sessions.{AreReady};
 
 use asm_base::{DiskRef, Name, NoMemory, Refusal, Text};
 use bay::{Bay, Host};
-use group_disks::mount_group;
 use group_mount::{MountError, MountOption};
-use session::Desk;
+use session::{Desk, mount_group};
 use std::alloc::Global;
 
 /// Whether missing disks are passed over.

@@ -9,13 +9,13 @@ use Rattle.asm_base.specs.declared.refusal.DiskRef.TheVariants.{Number, Spelt}
 use Rattle.asm_base.specs.declared.refusal.Refusal.{Refusal}
 use Rattle.asm_base.specs.declared.refusal.Refusal.TheVariants as cause
 use Rattle.asm_formats.specs.Sets.{has_bit}
-use Rattle.group_engine.specs.Commits.{StatusCause}
-use Rattle.group_engine.specs.Making.{IsShut}
-use Rattle.group_engine.specs.Mounts.{IsMounted, MountedGroup}
-use Rattle.group_engine.specs.Own.{KeepsGroup}
-use Rattle.group_engine.proofs.Causes.{dismount_on}
-use Rattle.group_pieces.specs.Faults.{AreRisen}
-use Rattle.group_pieces.specs.Pieces.{PieceFault}
+use Rattle.file_extents.specs.group_engine.Commits.{StatusCause}
+use Rattle.file_extents.specs.group_engine.Making.{IsShut}
+use Rattle.file_extents.specs.group_engine.Mounts.{IsMounted, MountedGroup}
+use Rattle.file_extents.specs.group_engine.Own.{KeepsGroup}
+use Rattle.file_extents.proofs.group_engine.Causes.{dismount_on}
+use Rattle.file_extents.specs.group_pieces.Faults.{AreRisen}
+use Rattle.file_extents.specs.group_pieces.Pieces.{PieceFault}
 use Rattle.file_extents.specs.Filling.{FailedIn, FailsMore, FillCause, PutCause}
 use Rattle.file_extents.proofs.Chains.{fault_on, no_bit, shut_cause}
 use Rattle.group_contents.specs.Files.{AtFile, IsOpened, ReadCause, WriteCause, WriteFileCause}

@@ -7,3 +7,8 @@ pub mod Shown
 pub mod Spans
 pub mod Steps
 pub mod Written
+pub mod catalog_laws
+pub mod catalog_tables
+pub mod group_engine
+pub mod group_of
+pub mod group_pieces

@@ -4,11 +4,11 @@ use Rattle.std.specs.Prelude.{if◌then◌else◌, is_some, nat_le, nat_lt}
 use Rattle.std.proofs.lemmas.Bool.{false≢true}
 use Rattle.asm_base.specs.declared.kinds.ExtentId.{ExtentId}
 use Rattle.asm_formats.specs.Items.{Home}
-use Rattle.extent_copies.specs.declared.extent.Extent.{Extent}
-use Rattle.extent_copies.specs.Extents.{can_be_read_at}
-use Rattle.group_engine.specs.Mounts.{MountedGroup, slot_at}
-use Rattle.group_pieces.specs.declared.copies.Place.{Place}
-use Rattle.group_pieces.specs.Usable.{AreNone, at_home, extent_of, on_disk, on_slot, place_at, places_at, size_at}
+use Rattle.file_extents.specs.extent_copies.declared.extent.Extent.{Extent}
+use Rattle.file_extents.specs.extent_copies.Extents.{can_be_read_at}
+use Rattle.file_extents.specs.group_engine.Mounts.{MountedGroup, slot_at}
+use Rattle.file_extents.specs.group_pieces.declared.copies.Place.{Place}
+use Rattle.file_extents.specs.group_pieces.Usable.{AreNone, at_home, extent_of, on_disk, on_slot, place_at, places_at, size_at}
 
 -- of two places each is there where the other is
 some_if : (c : Bool) (x y : Option Place) → is_some x ≡ is_some y → is_some (if c then x else None) ≡ is_some (if c then y else None)

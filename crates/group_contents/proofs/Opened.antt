@@ -4,10 +4,10 @@ use Rattle.std.specs.Prelude.{IfSome}
 use Rattle.std.specs.Option.{option_and_then}
 use Rattle.asm_group.specs.Names.{Path}
 use Rattle.asm_base.specs.declared.kinds.ExtentId.{ExtentId}
-use Rattle.file_directory.specs.Files.{head_at}
-use Rattle.catalog_tables.specs.Tables.{Tables}
-use Rattle.group_engine.specs.Mounts.{MountedGroup}
-use Rattle.group_pieces.specs.Usable.{IsLost}
+use Rattle.file_extents.specs.file_directory.Files.{head_at}
+use Rattle.file_extents.specs.catalog_tables.Tables.{Tables}
+use Rattle.file_extents.specs.group_engine.Mounts.{MountedGroup}
+use Rattle.file_extents.specs.group_pieces.Usable.{IsLost}
 use Rattle.group_contents.specs.Files.{LostIn, head_named, named_file}
 use Rattle.group_contents.specs.declared.opening.OpenFile.{OpenFile}
 

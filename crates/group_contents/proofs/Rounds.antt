@@ -6,9 +6,9 @@ use Rattle.asm_group.specs.Names.{Bytes}
 use Rattle.asm_base.specs.declared.kinds.ExtentId.{ExtentId}
 use Rattle.asm_base.specs.declared.refusal.Refusal.{Refusal}
 use Rattle.piece_laws.specs.Walks.{IsStep}
-use Rattle.group_engine.specs.Mounts.{IsMounted, MountedGroup}
-use Rattle.group_pieces.specs.Held.{PieceHeld}
-use Rattle.group_pieces.specs.Usable.{piece_of}
+use Rattle.file_extents.specs.group_engine.Mounts.{IsMounted, MountedGroup}
+use Rattle.file_extents.specs.group_pieces.Held.{PieceHeld}
+use Rattle.file_extents.specs.group_pieces.Usable.{piece_of}
 use Rattle.group_contents.specs.Writing.{WritesSpan, done_of}
 use Rattle.group_contents.specs.declared.opening.OpenFile.{OpenFile}
 use Rattle.group_contents.proofs.Spans.{span_join, span_longer, span_piece, span_refused}

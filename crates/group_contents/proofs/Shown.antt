@@ -17,10 +17,10 @@ use Rattle.asm_images.specs.Spans.{Span}
 use Rattle.piece_laws.specs.Targets.{AgreesIn}
 use Rattle.piece_laws.specs.Walks.{IsStep}
 use Rattle.piece_laws.proofs.FileSpans.{agrees_by}
-use Rattle.group_engine.specs.Mounts.{IsOwn, MountedGroup}
+use Rattle.file_extents.specs.group_engine.Mounts.{IsOwn, MountedGroup}
 use Rattle.striping.specs.declared.layout.Layout.{Layout}
-use Rattle.group_pieces.specs.Reads.{ReadsGroup}
-use Rattle.group_pieces.specs.Usable.{piece_of}
+use Rattle.file_extents.specs.group_pieces.Reads.{ReadsGroup}
+use Rattle.file_extents.specs.group_pieces.Usable.{piece_of}
 use Rattle.file_extents.specs.Pieces.{IsFirstPiece, IsOfShape}
 use Rattle.file_extents.specs.declared.layout.Piece.{Piece}
 use Rattle.group_contents.specs.Reading.{ShowsFile, KeepsMounted, WhereMounted}

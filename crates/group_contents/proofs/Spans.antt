@@ -25,15 +25,15 @@ use Rattle.piece_laws.specs.Walks.{DiffersIn, IsStep, IsWalk, settled_all}
 use Rattle.piece_laws.proofs.FileSpans.{settled_next, span_is_free, walks_exist, written_none}
 use Rattle.piece_laws.proofs.Rewriting.{rewritten_is_described}
 use Rattle.piece_laws.proofs.Walks.{cells_same, cells_twice, freed_is_free, got_same, length_free, settled_is_written, world_put}
-use Rattle.catalog_tables.specs.Tables.{Tables}
-use Rattle.group_of.specs.Describing.{KeepsNames}
-use Rattle.group_engine.specs.Commits.{StandsIn}
-use Rattle.group_engine.specs.Mounts.{IsMounted, MountedGroup, Mounts}
-use Rattle.group_engine.specs.Pending.{OutlastsFaults}
-use Rattle.group_engine.proofs.Endings.{kept_before}
-use Rattle.group_engine.proofs.Standings.{stands_at_rest}
-use Rattle.group_pieces.specs.Held.{PieceHeld, PieceStays, TakesBytes, piece_freed, piece_written}
-use Rattle.group_pieces.specs.Usable.{piece_of}
+use Rattle.file_extents.specs.catalog_tables.Tables.{Tables}
+use Rattle.file_extents.specs.group_of.Describing.{KeepsNames}
+use Rattle.file_extents.specs.group_engine.Commits.{StandsIn}
+use Rattle.file_extents.specs.group_engine.Mounts.{IsMounted, MountedGroup, Mounts}
+use Rattle.file_extents.specs.group_engine.Pending.{OutlastsFaults}
+use Rattle.file_extents.proofs.group_engine.Endings.{kept_before}
+use Rattle.file_extents.proofs.group_engine.Standings.{stands_at_rest}
+use Rattle.file_extents.specs.group_pieces.Held.{PieceHeld, PieceStays, TakesBytes, piece_freed, piece_written}
+use Rattle.file_extents.specs.group_pieces.Usable.{piece_of}
 use Rattle.group_contents.specs.Writing.{EndsAs, HasSpan, StaysFor, TakesSpan, WritesSpan, done_of}
 use Rattle.group_contents.specs.declared.opening.OpenFile.{OpenFile}
 

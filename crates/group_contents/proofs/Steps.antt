@@ -12,18 +12,18 @@ use Rattle.asm_base.specs.declared.refusal.DiskRef.TheVariants.{Number, Spelt}
 use Rattle.asm_base.specs.declared.refusal.Refusal.{Refusal}
 use Rattle.asm_base.specs.declared.refusal.Refusal.TheVariants as cause
 use Rattle.asm_formats.specs.Items.{Key}
-use Rattle.catalog_tables.specs.Changing.{IsAfter}
-use Rattle.catalog.specs.FilePlans.{IsRemovalPlan, IsSizePlan, is_on_file, removed, sized}
-use Rattle.catalog.specs.NamePlans.{IsNamePlan, made_file}
-use Rattle.catalog.specs.Plans.{IsPlan}
-use Rattle.catalog_tables.specs.Tables.{Catalogued, Tables}
-use Rattle.catalog.specs.TreePlans.{IsTreePlan, IsTreeRefusal}
-use Rattle.catalog.specs.declared.new_file.NewFile.{NewFile}
-use Rattle.group_engine.specs.Commits.{StatusCause}
-use Rattle.group_engine.specs.Mounts.{IsMounted, MountedGroup, Takes}
-use Rattle.group_engine.specs.Own.{IsSameGroup, KeepsGroup}
-use Rattle.group_engine.proofs.Causes.{cause_on}
-use Rattle.group_engine.proofs.Endings.{keeps_closed}
+use Rattle.file_extents.specs.catalog_tables.Changing.{IsAfter}
+use Rattle.file_extents.specs.catalog.FilePlans.{IsRemovalPlan, IsSizePlan, is_on_file, removed, sized}
+use Rattle.file_extents.specs.catalog.NamePlans.{IsNamePlan, made_file}
+use Rattle.file_extents.specs.catalog.Plans.{IsPlan}
+use Rattle.file_extents.specs.catalog_tables.Tables.{Catalogued, Tables}
+use Rattle.file_extents.specs.catalog.TreePlans.{IsTreePlan, IsTreeRefusal}
+use Rattle.file_extents.specs.catalog.declared.new_file.NewFile.{NewFile}
+use Rattle.file_extents.specs.group_engine.Commits.{StatusCause}
+use Rattle.file_extents.specs.group_engine.Mounts.{IsMounted, MountedGroup, Takes}
+use Rattle.file_extents.specs.group_engine.Own.{IsSameGroup, KeepsGroup}
+use Rattle.file_extents.proofs.group_engine.Causes.{cause_on}
+use Rattle.file_extents.proofs.group_engine.Endings.{keeps_closed}
 use Rattle.file_extents.specs.Beginning.{Begins, HomesCause}
 use Rattle.file_extents.specs.Closing.{IsOrShut, or_shut}
 use Rattle.file_extents.specs.Filling.{FaultOn}

@@ -7,10 +7,10 @@ use Rattle.bay.proofs.Images.{same-refl}
 use Rattle.asm_group.specs.Names.{Bytes, Path}
 use Rattle.asm_base.specs.declared.refusal.Refusal.{Refusal}
 use Rattle.asm_base.specs.declared.refusal.Refusal.TheVariants as cause
-use Rattle.group_engine.specs.Making.{IsShut}
-use Rattle.group_engine.specs.Mounts.{IsMounted, MountedGroup}
-use Rattle.group_engine.specs.declared.access.Access.{Access}
-use Rattle.group_pieces.specs.Held.{PieceHeld, PieceStays}
+use Rattle.file_extents.specs.group_engine.Making.{IsShut}
+use Rattle.file_extents.specs.group_engine.Mounts.{IsMounted, MountedGroup}
+use Rattle.file_extents.specs.group_engine.declared.access.Access.{Access}
+use Rattle.file_extents.specs.group_pieces.Held.{PieceHeld, PieceStays}
 use Rattle.asm_base.specs.declared.kinds.ExtentId.{ExtentId}
 use Rattle.group_contents.specs.Files.{AtFile, IsOpened, IsSpan, SpanCause, WriteCause}
 use Rattle.group_contents.specs.Writing.{WritesFile, WritesSpan}

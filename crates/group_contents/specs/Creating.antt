@@ -10,22 +10,22 @@ use Rattle.asm_base.specs.Records.{Entry}
 use Rattle.asm_formats.specs.Items.{Key}
 use Rattle.asm_placement.specs.Layout.{has_extent}
 use Rattle.asm_world.specs.Files.{copies_for}
-use Rattle.catalog_tables.specs.Changing.{IsAfter}
-use Rattle.catalog.specs.NameChecks.{IsCheckRefusal}
-use Rattle.catalog.specs.NamePlans.{IsNamePlan, made_file}
-use Rattle.catalog.specs.Numbers.{IsNextFile}
-use Rattle.catalog_tables.specs.Rules.{blocks_used, has_copies}
-use Rattle.extent_map.specs.Extents.{extent_at}
-use Rattle.file_directory.specs.Files.{head_at}
+use Rattle.file_extents.specs.catalog_tables.Changing.{IsAfter}
+use Rattle.file_extents.specs.catalog.NameChecks.{IsCheckRefusal}
+use Rattle.file_extents.specs.catalog.NamePlans.{IsNamePlan, made_file}
+use Rattle.file_extents.specs.catalog.Numbers.{IsNextFile}
+use Rattle.file_extents.specs.catalog_tables.Rules.{blocks_used, has_copies}
+use Rattle.file_extents.specs.extent_map.Extents.{extent_at}
+use Rattle.file_extents.specs.file_directory.Files.{head_at}
 use Rattle.asm_group.specs.declared.PendingKind.TheVariants.{Create}
-use Rattle.catalog_tables.specs.Tables.{Catalogued, Tables}
-use Rattle.catalog.specs.declared.new_file.FileBy.{FileBy}
-use Rattle.catalog.specs.declared.new_file.FileBy.TheVariants as by
-use Rattle.catalog.specs.declared.new_file.NewFile.{NewFile}
-use Rattle.extent_copies.specs.NewFiles.{serving_groups, template_by}
-use Rattle.group_engine.specs.Commits.{StatusCause}
-use Rattle.group_engine.specs.Mounts.{IsWhole, MountedGroup}
-use Rattle.group_engine.specs.Own.{IsSameGroup}
+use Rattle.file_extents.specs.catalog_tables.Tables.{Catalogued, Tables}
+use Rattle.file_extents.specs.catalog.declared.new_file.FileBy.{FileBy}
+use Rattle.file_extents.specs.catalog.declared.new_file.FileBy.TheVariants as by
+use Rattle.file_extents.specs.catalog.declared.new_file.NewFile.{NewFile}
+use Rattle.file_extents.specs.extent_copies.NewFiles.{serving_groups, template_by}
+use Rattle.file_extents.specs.group_engine.Commits.{StatusCause}
+use Rattle.file_extents.specs.group_engine.Mounts.{IsWhole, MountedGroup}
+use Rattle.file_extents.specs.group_engine.Own.{IsSameGroup}
 use Rattle.file_extents.specs.Beginning.{Begins, IsGivenBack}
 use Rattle.file_extents.specs.Rows.{SpaceCause}
 use Rattle.file_extents.specs.declared.rows.NewExtents.{NewExtents}

@@ -9,12 +9,12 @@ use Rattle.asm_base.specs.declared.refusal.Refusal.{Refusal}
 use Rattle.asm_base.specs.declared.refusal.Refusal.TheVariants as cause
 use Rattle.asm_formats.specs.Items.{FileHead, Node}
 use Rattle.asm_placement.specs.Naming.{is_directory}
-use Rattle.alias_tree.specs.Nodes.{node_at, number_of}
-use Rattle.file_directory.specs.Files.{head_at}
-use Rattle.catalog_tables.specs.Tables.{Tables}
-use Rattle.group_engine.specs.Commits.{DismountCause}
-use Rattle.group_engine.specs.Mounts.{MountedGroup}
-use Rattle.group_pieces.specs.Usable.{IsLost}
+use Rattle.file_extents.specs.alias_tree.Nodes.{node_at, number_of}
+use Rattle.file_extents.specs.file_directory.Files.{head_at}
+use Rattle.file_extents.specs.catalog_tables.Tables.{Tables}
+use Rattle.file_extents.specs.group_engine.Commits.{DismountCause}
+use Rattle.file_extents.specs.group_engine.Mounts.{MountedGroup}
+use Rattle.file_extents.specs.group_pieces.Usable.{IsLost}
 use Rattle.file_extents.specs.Filling.{FaultOn}
 use Rattle.group_contents.specs.declared.opening.OpenFile.{OpenFile}
 

@@ -5,3 +5,12 @@ pub mod Removing
 pub mod Sizes
 pub mod Works
 pub mod Writing
+pub mod asm_images
+pub mod catalog
+pub mod catalog_tables
+pub mod directory_store
+pub mod file_directory
+pub mod file_extents
+pub mod group_engine
+pub mod group_of
+pub mod piece_laws

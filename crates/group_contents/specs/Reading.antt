@@ -7,7 +7,7 @@ use Rattle.asm_group.specs.Names.{Bytes}
 use Rattle.asm_group.specs.Group.{File, Group}
 use Rattle.asm_images.specs.Kept.{Kept}
 use Rattle.asm_world.specs.Files.{Agrees}
-use Rattle.group_engine.specs.Mounts.{MountedGroup, Mounts}
+use Rattle.file_extents.specs.group_engine.Mounts.{MountedGroup, Mounts}
 use Rattle.group_contents.specs.declared.opening.OpenFile.{OpenFile}
 
 -- where the group has the file that is open, and so many bytes of it from byte `at` on, its cells there agree with these

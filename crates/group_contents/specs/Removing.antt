@@ -7,13 +7,13 @@ use Rattle.asm_base.specs.Records.{Entry}
 use Rattle.asm_base.specs.declared.refusal.Refusal.{Refusal}
 use Rattle.asm_formats.specs.Items.{Key, Node}
 use Rattle.asm_placement.specs.Naming.{is_directory}
-use Rattle.alias_tree.specs.Nodes.{node_at, number_of}
-use Rattle.catalog_tables.specs.Changing.{IsAfter}
-use Rattle.catalog.specs.FilePlans.{IsRemovalPlan}
-use Rattle.catalog_tables.specs.Tables.{Tables}
-use Rattle.catalog.specs.TreePlans.{IsTreePlan, IsTreeRefusal}
-use Rattle.group_engine.specs.Commits.{StatusCause}
-use Rattle.group_engine.specs.Mounts.{MountedGroup}
+use Rattle.file_extents.specs.alias_tree.Nodes.{node_at, number_of}
+use Rattle.file_extents.specs.catalog_tables.Changing.{IsAfter}
+use Rattle.file_extents.specs.catalog.FilePlans.{IsRemovalPlan}
+use Rattle.file_extents.specs.catalog_tables.Tables.{Tables}
+use Rattle.file_extents.specs.catalog.TreePlans.{IsTreePlan, IsTreeRefusal}
+use Rattle.file_extents.specs.group_engine.Commits.{StatusCause}
+use Rattle.file_extents.specs.group_engine.Mounts.{MountedGroup}
 use Rattle.group_contents.specs.Files.{OpenCause, named_file}
 
 -- the head and the names of a file were taken away, and its removal is pending

@@ -9,12 +9,12 @@ use Rattle.asm_base.specs.declared.refusal.Refusal.{Refusal}
 use Rattle.asm_base.specs.declared.refusal.Refusal.TheVariants as cause
 use Rattle.asm_formats.specs.Items.{Key}
 use Rattle.asm_placement.specs.Layout.{has_extent}
-use Rattle.catalog_tables.specs.Changing.{IsAfter}
-use Rattle.catalog.specs.FilePlans.{IsSizePlan}
-use Rattle.catalog_tables.specs.Tables.{Catalogued}
-use Rattle.group_engine.specs.Commits.{StatusCause}
-use Rattle.group_engine.specs.Mounts.{IsMounted, IsWhole, MountedGroup}
-use Rattle.group_engine.specs.Own.{IsSameGroup}
+use Rattle.file_extents.specs.catalog_tables.Changing.{IsAfter}
+use Rattle.file_extents.specs.catalog.FilePlans.{IsSizePlan}
+use Rattle.file_extents.specs.catalog_tables.Tables.{Catalogued}
+use Rattle.file_extents.specs.group_engine.Commits.{StatusCause}
+use Rattle.file_extents.specs.group_engine.Mounts.{IsMounted, IsWhole, MountedGroup}
+use Rattle.file_extents.specs.group_engine.Own.{IsSameGroup}
 use Rattle.file_extents.specs.Beginning.{Begins, IsGivenBack}
 use Rattle.file_extents.specs.Rows.{SpaceCause}
 use Rattle.file_extents.specs.declared.rows.NewExtents.{NewExtents}

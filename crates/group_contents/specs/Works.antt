@@ -2,8 +2,8 @@
 use Rattle.std.specs.Prelude.{◌⊎◌, ⊤, length, replicate, OnOk, Result}
 use Rattle.bay.specs.State.{BayState}
 use Rattle.asm_base.specs.declared.refusal.Refusal.{Refusal}
-use Rattle.group_engine.specs.Commits.{StatusCause}
-use Rattle.group_engine.specs.Mounts.{MountedGroup}
+use Rattle.file_extents.specs.group_engine.Commits.{StatusCause}
+use Rattle.file_extents.specs.group_engine.Mounts.{MountedGroup}
 use Rattle.group_contents.specs.Files.{OpenCause, WriteFileCause}
 use Rattle.group_contents.specs.Removing.{IsRemoved, RemoveCause, RemovesPath}
 use Rattle.group_contents.specs.Sizes.{ResizeCause, ResizesFile}

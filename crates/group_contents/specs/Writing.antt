@@ -9,12 +9,12 @@ use Rattle.asm_group.specs.Shape.{Shape}
 use Rattle.asm_base.specs.declared.refusal.Refusal.{Refusal}
 use Rattle.asm_base.specs.declared.refusal.Refusal.TheVariants as cause
 use Rattle.asm_images.specs.Kept.{Kept}
-use Rattle.directory_store.specs.Answers.{NoCalls}
-use Rattle.group_of.specs.Describing.{KeepsNames}
-use Rattle.group_engine.specs.Commits.{StandsIn}
-use Rattle.group_engine.specs.Mounts.{IsMounted, MountedGroup, Mounts}
-use Rattle.group_engine.specs.Pending.{OutlastsFaults, turns_with_faults}
-use Rattle.group_pieces.specs.Held.{FlightIsSpare}
+use Rattle.file_extents.specs.directory_store.Answers.{NoCalls}
+use Rattle.file_extents.specs.group_of.Describing.{KeepsNames}
+use Rattle.file_extents.specs.group_engine.Commits.{StandsIn}
+use Rattle.file_extents.specs.group_engine.Mounts.{IsMounted, MountedGroup, Mounts}
+use Rattle.file_extents.specs.group_engine.Pending.{OutlastsFaults, turns_with_faults}
+use Rattle.file_extents.specs.group_pieces.Held.{FlightIsSpare}
 use Rattle.piece_laws.specs.FileSpans.{freed_to, written_to}
 use Rattle.striping.specs.declared.layout.Layout.{Layout}
 use Rattle.file_extents.specs.Pieces.{IsOfShape}

@@ -3,11 +3,11 @@ ghost use Rattle.std.specs.Bool.{OnTrue};
 ghost use Rattle.std.specs.Option.{option_copied};
 ghost use Rattle.std.specs.Prelude.{◌≡◌, ◌⊎◌, IfErr, IfOk, None, OnOk};
 ghost use Rattle.asm_base.specs.declared.refusal.Refusal.TheVariants.{NoTemplate};
-ghost use Rattle.catalog.specs.NamePlans.{IsFileBeingMade, made_file};
-ghost use Rattle.group_engine.specs.Commits.{StatusCause};
-ghost use Rattle.group_engine.specs.Mounts.{IsMounted, MountedGroup, Takes};
-ghost use Rattle.group_engine.specs.Own.{KeepsGroup};
-ghost use Rattle.group_engine.specs.Pending.{GoesOn};
+ghost use Rattle.file_extents.specs.catalog.NamePlans.{IsFileBeingMade, made_file};
+ghost use Rattle.file_extents.specs.group_engine.Commits.{StatusCause};
+ghost use Rattle.file_extents.specs.group_engine.Mounts.{IsMounted, MountedGroup, Takes};
+ghost use Rattle.file_extents.specs.group_engine.Own.{KeepsGroup};
+ghost use Rattle.file_extents.specs.group_engine.Pending.{GoesOn};
 ghost use Rattle.file_extents.specs.Filling.{end_by};
 ghost use Rattle.group_contents.specs.Creating.{AreNext, AreOfNew, BeginCause, BegunCause, CreateCause, HasAskedExtents, IsCreationPending, IsBy, IsChosen, IsTemplateCause, NamesFile, NewCause, RoomCause, template_in};
 ghost use Rattle.group_contents.specs.Files.{WriteCause};
@@ -16,14 +16,11 @@ use crate::buffers::buffer;
 use crate::chunks::chunks_of;
 use asm_base::{Name, NoMemory, Path, Refusal, Stripe};
 use bay::Bay;
-use catalog::{Catalog, FileBy, NewFile};
-use extent_copies::{copies_for, serving_groups, template_for};
 use file_extents::{
-    Contents, Filling, LONGEST_PIECE, NewExtents, begin_operation, give_back, give_homes, has_all,
-    is_within_file, layout_of, or_shut, prepare, put_zeros,
+    Catalog, Contents, FileBy, Filling, LONGEST_PIECE, Mounted, NewExtents, NewFile, PendingKind,
+    begin_operation, copies_for, give_back, give_homes, has_all, is_within_file, layout_of,
+    or_shut, prepare, put_zeros, serving_groups, template_for,
 };
-use group_engine::Mounted;
-use operations_directory::PendingKind;
 use std::alloc::Global;
 use striping::extents_for;
 

@@ -2,8 +2,7 @@
 ghost use Rattle.std.specs.Prelude.{◌<◌};
 
 use asm_base::{DiskSet, ExtentId, Home, Mode};
-use extent_copies::Extent;
-use group_engine::Mounted;
+use file_extents::{Extent, Mounted};
 use striping::units_of;
 
 /// How many extents of a file are written by turns: those of a fine set.

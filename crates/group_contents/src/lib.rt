@@ -1,6 +1,8 @@
 //! The files of a mounted group: how they come, go and change their size, and their bytes.
 #![tactic(auto)]
 
+pub use file_extents::{Attached, Contents, Filling, Mounted, put_next};
+
 mod buffers;
 mod chunks;
 mod creating;

@@ -1,15 +1,12 @@
 // A file of a mounted group by its path, and which spans of it may be read and written.
 ghost use Rattle.std.specs.Prelude.{◌≡◌, IfErr, IfOk, IfSome, IsTrue, OnOk};
 ghost use Rattle.striping.specs.Pieces.{IsLayout};
-ghost use Rattle.group_pieces.specs.Usable.{IsLost};
+ghost use Rattle.file_extents.specs.group_pieces.Usable.{IsLost};
 ghost use Rattle.asm_group.specs.Shape.{is_shape};
 ghost use Rattle.group_contents.specs.Files.{AtFile, IsOpened, IsSpan, LostFileCause, LostIn, OpenCause, SpanCause, are_sectors, named_file};
 
 use asm_base::{ExtentId, NodeKind, Path, Refusal, Stripe};
-use catalog::Catalog;
-use file_extents::{first_piece, layout_of};
-use group_engine::Mounted;
-use group_pieces::is_lost;
+use file_extents::{Catalog, Mounted, first_piece, is_lost, layout_of};
 use striping::Layout;
 
 /// A file of a mounted group, as its head has it.

@@ -4,10 +4,10 @@ ghost use Rattle.bay.specs.Image.{Same};
 ghost use Rattle.bay.specs.Moments.{Runs};
 ghost use Rattle.striping.specs.Pieces.{IsLayout};
 ghost use Rattle.piece_laws.specs.Targets.{AgreesIn};
-ghost use Rattle.group_engine.specs.Mounts.{IsMounted, IsOwn, Takes};
-ghost use Rattle.group_engine.specs.Own.{KeepsGroup};
-ghost use Rattle.group_pieces.specs.Reads.{ReadsGroup};
-ghost use Rattle.group_pieces.specs.Usable.{FitsExtent, piece_of};
+ghost use Rattle.file_extents.specs.group_engine.Mounts.{IsMounted, IsOwn, Takes};
+ghost use Rattle.file_extents.specs.group_engine.Own.{KeepsGroup};
+ghost use Rattle.file_extents.specs.group_pieces.Reads.{ReadsGroup};
+ghost use Rattle.file_extents.specs.group_pieces.Usable.{FitsExtent, piece_of};
 ghost use Rattle.file_extents.specs.Pieces.{IsOfShape};
 ghost use Rattle.group_contents.specs.Files.{AtFile, ReadCause, SpanCause};
 ghost use Rattle.group_contents.specs.Reading.{ShowsFile, KeepsMounted, WhereMounted};
@@ -15,9 +15,7 @@ ghost use Rattle.group_contents.specs.Reading.{ShowsFile, KeepsMounted, WhereMou
 use crate::opening::{OpenFile, open_span};
 use asm_base::{DiskRef, Path, Refusal, Span};
 use bay::Bay;
-use file_extents::{Piece, first_piece, layout_of};
-use group_engine::Mounted;
-use group_pieces::{ReadError, read_piece};
+use file_extents::{Mounted, Piece, ReadError, first_piece, layout_of, read_piece};
 use striping::Layout;
 
 /// Fills the buffer with a piece.

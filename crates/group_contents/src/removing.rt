@@ -1,23 +1,20 @@
 //! Files that go.
 ghost use Rattle.std.specs.Bool.{OnTrue};
 ghost use Rattle.std.specs.Prelude.{◌≡◌, ◌⊎◌, IfErr, IfOk, IsTrue, None, OnOk};
-ghost use Rattle.file_directory.specs.Files.{is_file};
+ghost use Rattle.file_extents.specs.file_directory.Files.{is_file};
 ghost use Rattle.asm_group.specs.TreeEdits as e;
-ghost use Rattle.catalog.specs.TreePlans.{IsTreePlan, IsTreeRefusal};
-ghost use Rattle.group_engine.specs.Commits.{StatusCause};
-ghost use Rattle.group_engine.specs.Mounts.{IsMounted, MountedGroup, Takes};
-ghost use Rattle.group_engine.specs.Own.{KeepsGroup};
-ghost use Rattle.group_engine.specs.Pending.{GoesOn};
+ghost use Rattle.file_extents.specs.catalog.TreePlans.{IsTreePlan, IsTreeRefusal};
+ghost use Rattle.file_extents.specs.group_engine.Commits.{StatusCause};
+ghost use Rattle.file_extents.specs.group_engine.Mounts.{IsMounted, MountedGroup, Takes};
+ghost use Rattle.file_extents.specs.group_engine.Own.{KeepsGroup};
+ghost use Rattle.file_extents.specs.group_engine.Pending.{GoesOn};
 ghost use Rattle.group_contents.specs.Files.{OpenCause};
 ghost use Rattle.group_contents.specs.Removing.{DropsDirectory, IsRemoved, RemoveCause, RemovesPath, RemovesFile, leads_to_directory};
 
 use crate::opening::open;
-use alias_edits::TreeEdit;
 use asm_base::{Change, NoMemory, NodeKind, Path, Refusal};
 use bay::Bay;
-use catalog::Catalog;
-use file_extents::is_at_rest;
-use group_engine::Mounted;
+use file_extents::{Catalog, Mounted, TreeEdit, is_at_rest};
 use std::alloc::Global;
 
 /// Whether no operation is pending, and the file has a head.

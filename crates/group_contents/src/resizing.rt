@@ -1,12 +1,12 @@
 //! Another size of a file.
 ghost use Rattle.std.specs.Bool.{OnTrue};
 ghost use Rattle.std.specs.Prelude.{◌≡◌, IfErr, IfOk, IsTrue, OnOk};
-ghost use Rattle.file_directory.specs.Files.{is_file};
-ghost use Rattle.catalog.specs.FilePlans.{MayGrow, is_on_file};
-ghost use Rattle.group_engine.specs.Commits.{StatusCause};
-ghost use Rattle.group_engine.specs.Mounts.{IsMounted, Takes};
-ghost use Rattle.group_engine.specs.Own.{KeepsGroup};
-ghost use Rattle.group_engine.specs.Pending.{GoesOn};
+ghost use Rattle.file_extents.specs.file_directory.Files.{is_file};
+ghost use Rattle.file_extents.specs.catalog.FilePlans.{MayGrow, is_on_file};
+ghost use Rattle.file_extents.specs.group_engine.Commits.{StatusCause};
+ghost use Rattle.file_extents.specs.group_engine.Mounts.{IsMounted, Takes};
+ghost use Rattle.file_extents.specs.group_engine.Own.{KeepsGroup};
+ghost use Rattle.file_extents.specs.group_engine.Pending.{GoesOn};
 ghost use Rattle.group_contents.specs.Creating.{RoomCause};
 ghost use Rattle.group_contents.specs.Files.{WriteCause};
 ghost use Rattle.group_contents.specs.Sizes.{AreMore, GrowCause, GrowthCause, IsCut, IsFaultBack, IsSized, LaterCause, MoreCause, ResizeCause, ResizesFile, SetsSize};
@@ -17,13 +17,11 @@ use crate::opening::{OpenFile, first_lost, is_sectors, open};
 use crate::writing::fill_span;
 use asm_base::{DiskRef, NoMemory, Path, Refusal};
 use bay::Bay;
-use catalog::Catalog;
 use file_extents::{
-    Contents, Filling, LONGEST_PIECE, NewExtents, begin_operation, bytes_before, give_back,
-    give_homes, has_all, is_at_rest, layout_of, or_shut, prepare, put_zeros,
+    Catalog, Contents, Filling, LONGEST_PIECE, Mounted, NewExtents, PendingKind, begin_operation,
+    bytes_before, give_back, give_homes, has_all, is_at_rest, layout_of, or_shut, prepare,
+    put_zeros,
 };
-use group_engine::Mounted;
-use operations_directory::PendingKind;
 use std::alloc::Global;
 use striping::extents_for;
 

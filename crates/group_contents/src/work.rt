@@ -1,7 +1,7 @@
 //! What commands ask of the files of one group.
 ghost use Rattle.std.specs.Prelude.{IfErr, OnOk};
-ghost use Rattle.group_engine.specs.Mounts.{IsMounted, Takes};
-ghost use Rattle.group_engine.specs.Own.{KeepsGroup};
+ghost use Rattle.file_extents.specs.group_engine.Mounts.{IsMounted, Takes};
+ghost use Rattle.file_extents.specs.group_engine.Own.{KeepsGroup};
 ghost use Rattle.group_contents.specs.Works.{WorkCause, WorkDoes, WorkDone};
 
 use crate::removing::{remove, remove_file};
@@ -9,7 +9,7 @@ use crate::resizing::resize;
 use crate::writing::{fill, write};
 use asm_base::{Path, Refusal, Text};
 use bay::Bay;
-use group_engine::Mounted;
+use file_extents::Mounted;
 use std::alloc::Global;
 
 /// What is asked of a group's files.

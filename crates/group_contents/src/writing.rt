@@ -3,10 +3,10 @@ ghost use Rattle.std.specs.Prelude.{◌≡◌, ◌⊎◌, ◌+◌, ◌<◌, ◌^
 ghost use Rattle.asm_formats.specs.Sets.{has_bit};
 ghost use Rattle.asm_base.specs.declared.refusal.Refusal.TheVariants.{WriteFault};
 ghost use Rattle.striping.specs.Pieces.{IsLayout};
-ghost use Rattle.group_engine.specs.Mounts.{IsMounted, Takes};
-ghost use Rattle.group_engine.specs.Own.{KeepsGroup};
-ghost use Rattle.group_pieces.specs.Held.{PieceHeld};
-ghost use Rattle.group_pieces.specs.Usable.{FitsExtent};
+ghost use Rattle.file_extents.specs.group_engine.Mounts.{IsMounted, Takes};
+ghost use Rattle.file_extents.specs.group_engine.Own.{KeepsGroup};
+ghost use Rattle.file_extents.specs.group_pieces.Held.{PieceHeld};
+ghost use Rattle.file_extents.specs.group_pieces.Usable.{FitsExtent};
 ghost use Rattle.file_extents.specs.Filling.{FailsMore, FillCause, PutCause};
 ghost use Rattle.group_contents.specs.Files.{WriteCause, WriteFileCause};
 ghost use Rattle.group_contents.specs.Writing.{IsLayoutOf, WritesFile, WritesSpan, done_of};
@@ -16,9 +16,7 @@ use crate::entry_copies::EntryCopies;
 use crate::opening::{OpenFile, open_span};
 use asm_base::{DiskRef, DiskSet, Path, Refusal};
 use bay::Bay;
-use file_extents::{Piece, first_piece, layout_of};
-use group_engine::Mounted;
-use group_pieces::write_piece;
+use file_extents::{Mounted, Piece, first_piece, layout_of, write_piece};
 use std::alloc::Global;
 use striping::Layout;
 

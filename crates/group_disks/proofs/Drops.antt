@@ -17,7 +17,7 @@ use Rattle.asm_group.specs.Shape.{Shape, is_dir_blocks, is_sector, is_shape, is_
 use Rattle.asm_formats.specs.Metadata.{header_of}
 use Rattle.asm_images.specs.Kept.{header_in}
 use Rattle.asm_images.proofs.Bridges.{same_disk}
-use Rattle.disk_images.specs.Headers.{HasHeaderSlot}
+use Rattle.group_mount.specs.disk_images.Headers.{HasHeaderSlot}
 use Rattle.group_engine.specs.Gone.{GoneCause, IsGone}
 use Rattle.group_engine.specs.Making.{IsShut}
 use Rattle.group_engine.specs.Mounts.{IsMounted, IsOwn, IsReady, IsWhole, MountedGroup, Takes, slot_at}

@@ -14,16 +14,16 @@ use Rattle.asm_formats.specs.Items.{Item, Key, is_item, key}
 use Rattle.asm_formats.specs.Values.{value}
 use Rattle.asm_formats.specs.Status as status
 use Rattle.asm_formats.proofs.Bodies.{item_codec}
-use Rattle.catalog_tables.specs.declared.error.CatalogError.{CatalogError}
-use Rattle.catalog_tables.specs.declared.error.CatalogError.TheVariants as answer
-use Rattle.catalog_tables.specs.Faults.{IsAtFault, IsCatalogOf, NamesFault}
-use Rattle.catalog_tables.specs.Placing.{HasUnits, after_chunks, unused_maps}
-use Rattle.catalog_tables.specs.Rules.{KeepsRules}
-use Rattle.catalog_tables.specs.Tables.{AreTables, Catalogued, HasRecords, Tables, first_unreadable, is_record}
-use Rattle.catalog_laws.proofs.NoCatalog.{fault_refuses}
-use Rattle.catalog_tables.proofs.SameTables.{same_lookups}
-use Rattle.catalog_tables.proofs.TableItems.{key_total, keys_exact}
-use Rattle.directory_store.specs.Stores.{AreFirst}
+use Rattle.group_mount.specs.catalog_tables.declared.error.CatalogError.{CatalogError}
+use Rattle.group_mount.specs.catalog_tables.declared.error.CatalogError.TheVariants as answer
+use Rattle.group_mount.specs.catalog_tables.Faults.{IsAtFault, IsCatalogOf, NamesFault}
+use Rattle.group_mount.specs.catalog_tables.Placing.{HasUnits, after_chunks, unused_maps}
+use Rattle.group_mount.specs.catalog_tables.Rules.{KeepsRules}
+use Rattle.group_mount.specs.catalog_tables.Tables.{AreTables, Catalogued, HasRecords, Tables, first_unreadable, is_record}
+use Rattle.group_engine.proofs.catalog_laws.NoCatalog.{fault_refuses}
+use Rattle.group_mount.proofs.catalog_tables.SameTables.{same_lookups}
+use Rattle.group_mount.proofs.catalog_tables.TableItems.{key_total, keys_exact}
+use Rattle.group_mount.specs.directory_store.Stores.{AreFirst}
 use Rattle.page_map.proofs.Keys.{same_key, key_itself}
 use Rattle.page_map.specs.Tables.{PageTable}
 use Rattle.group_disks.specs.Creating.{usual_shape}

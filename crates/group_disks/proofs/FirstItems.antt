@@ -6,12 +6,12 @@ use Rattle.asm_base.specs.Records.{is_key, record_at}
 use Rattle.asm_formats.specs.Among.{IsAmong}
 use Rattle.asm_formats.specs.Items.{Item, Key, key}
 use Rattle.asm_formats.specs.Values.{value}
-use Rattle.catalog_tables.specs.Items.{AreItemsOf}
+use Rattle.group_mount.specs.catalog_tables.Items.{AreItemsOf}
 use Rattle.page_map.specs.Contents.{IsItemOf}
-use Rattle.catalog_tables.specs.Tables.{AreTables, HasRecords, Tables}
-use Rattle.catalog_laws.proofs.HavingItems.{items_are_one}
-use Rattle.catalog_tables.proofs.TableItems.{items_of_records}
-use Rattle.directory_store.specs.Stores.{AreFirst}
+use Rattle.group_mount.specs.catalog_tables.Tables.{AreTables, HasRecords, Tables}
+use Rattle.group_engine.proofs.catalog_laws.HavingItems.{items_are_one}
+use Rattle.group_mount.proofs.catalog_tables.TableItems.{items_of_records}
+use Rattle.group_mount.specs.directory_store.Stores.{AreFirst}
 use Rattle.page_map.specs.Tables.{PageTable}
 use Rattle.page_map.proofs.Keys.{same_key}
 use Rattle.group_disks.specs.Planned.{Plan, IsGroupPlan, disk_of_plan, first_entries, items_of_plan}

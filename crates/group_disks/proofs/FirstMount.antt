@@ -10,12 +10,12 @@ use Rattle.asm_formats.specs.Following.{disks_of, sets_of}
 use Rattle.asm_formats.specs.Sets.{elements, has_bit}
 use Rattle.asm_formats.specs.Status.{Entry, Status, entry_of}
 use Rattle.asm_formats.specs.Among.{IsAmong}
-use Rattle.catalog_tables.specs.Faults.{IsCatalogOf}
-use Rattle.catalog_tables.specs.Tables.{Catalogued}
-use Rattle.catalog_laws.proofs.ToldRecords.{records_told}
+use Rattle.group_mount.specs.catalog_tables.Faults.{IsCatalogOf}
+use Rattle.group_mount.specs.catalog_tables.Tables.{Catalogued}
+use Rattle.group_engine.proofs.catalog_laws.ToldRecords.{records_told}
 use Rattle.change_directory.specs.Places.{IsCopy}
 use Rattle.change_directory.specs.declared.copy.DirCopy.{DirCopy}
-use Rattle.directory_store.specs.Stores.{Stored}
+use Rattle.group_mount.specs.directory_store.Stores.{Stored}
 use Rattle.group_engine.specs.Making.{made}
 use Rattle.group_engine.specs.Mounts.{AreCopiesOf, IsCopyOf, IsOwn, IsWhole, MountedGroup, slot_at}
 use Rattle.group_engine.specs.declared.attached.Attached.{Attached}

@@ -21,13 +21,13 @@ use Rattle.page_map.specs.Changes.{is_put}
 use Rattle.page_map.specs.Tables.{PageTable, place_at, one_if, is_new, new_in, room}
 use Rattle.page_map.specs.Contents.{AreRecords, IsItemOf}
 use Rattle.page_map.proofs.Keys.{same_key, key_itself}
-use Rattle.directory_store.specs.Contents.{HasCopyRecords, ArePutItems}
-use Rattle.directory_store.specs.declared.error.StoreError.{StoreError}
-use Rattle.directory_store.specs.declared.error.StoreError.TheVariants.{Full, Gone}
-use Rattle.directory_store.specs.Answers.{IsFirstRefusal}
-use Rattle.directory_store.specs.Copies.{AllAreShut, AreCopiesApart, AreNamedCopies, IsFailedSlot, IsNamedCopy, IsSlotOfCopy, RegionsOf}
-use Rattle.directory_store.specs.Stores.{AreFirst, IsEmpty, HaveNoneOrFirst, HaveOneSize, HaveRecords, Keeps, Stored}
-use Rattle.directory_store.proofs.Storing.{keeps_elsewhere}
+use Rattle.group_mount.specs.directory_store.Contents.{HasCopyRecords, ArePutItems}
+use Rattle.group_mount.specs.directory_store.declared.error.StoreError.{StoreError}
+use Rattle.group_mount.specs.directory_store.declared.error.StoreError.TheVariants.{Full, Gone}
+use Rattle.group_mount.specs.directory_store.Answers.{IsFirstRefusal}
+use Rattle.group_mount.specs.directory_store.Copies.{AllAreShut, AreCopiesApart, AreNamedCopies, IsFailedSlot, IsNamedCopy, IsSlotOfCopy, RegionsOf}
+use Rattle.group_mount.specs.directory_store.Stores.{AreFirst, IsEmpty, HaveNoneOrFirst, HaveOneSize, HaveRecords, Keeps, Stored}
+use Rattle.group_mount.proofs.directory_store.Storing.{keeps_elsewhere}
 use Rattle.change_directory.specs.declared.copy.DirCopy.{DirCopy}
 use Rattle.change_directory.specs.Places.{IsCopy}
 use Rattle.change_directory.specs.Formatting.{AreShut}

@@ -18,13 +18,13 @@ use Rattle.asm_images.specs.Kept.{IsHeld, IsMemberIn, header_in}
 use Rattle.asm_images.specs.Sound.{Sound}
 use Rattle.asm_images.proofs.Bridges.{same_disk, same_is_same}
 use Rattle.asm_images.proofs.Held.{same_member}
-use Rattle.catalog_laws.proofs.ToldRecords.{records_told}
-use Rattle.catalog_tables.specs.Items.{AreItemsOf}
+use Rattle.group_engine.proofs.catalog_laws.ToldRecords.{records_told}
+use Rattle.group_mount.specs.catalog_tables.Items.{AreItemsOf}
 use Rattle.change_directory.specs.declared.copy.DirCopy.{DirCopy}
 use Rattle.change_directory.specs.Changes.{content_in}
-use Rattle.directory_store.specs.Copies.{AreCopiesApart}
-use Rattle.directory_store.specs.Stores.{Stored}
-use Rattle.directory_store.proofs.Storing.{kept_have_records}
+use Rattle.group_mount.specs.directory_store.Copies.{AreCopiesApart}
+use Rattle.group_mount.specs.directory_store.Stores.{Stored}
+use Rattle.group_mount.proofs.directory_store.Storing.{kept_have_records}
 use Rattle.group_engine.specs.CommitSteps.{content_of}
 use Rattle.group_engine.specs.Mounts.{AreOwn, MountedGroup, Mounts, Represents}
 use Rattle.group_engine.proofs.Items.{content_is}

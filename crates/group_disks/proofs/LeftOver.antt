@@ -14,14 +14,14 @@ use Rattle.asm_formats.specs.Items.{DiskInfo, Key}
 use Rattle.asm_formats.specs.Status as status
 use Rattle.asm_formats.specs.Status.{entry_of}
 use Rattle.asm_placement.specs.Naming as naming
-use Rattle.catalog.specs.Plans.{IsDiskRefusal, IsPlan}
-use Rattle.disk_directory.specs.Disks.{Disk, info_at, without_disk}
-use Rattle.catalog_tables.specs.Rules.{first_unknown, has_info}
-use Rattle.catalog_tables.specs.Changing.{IsAfter}
-use Rattle.catalog_tables.specs.Tables.{AreTables, Catalogued, Tables}
-use Rattle.catalog_tables.proofs.AfterLaws.{one_after}
-use Rattle.catalog_tables.proofs.NumberedLists.{number_is}
-use Rattle.extent_map.proofs.Lookups.{gone_here, gone_other}
+use Rattle.group_mount.specs.catalog.Plans.{IsDiskRefusal, IsPlan}
+use Rattle.group_mount.specs.disk_directory.Disks.{Disk, info_at, without_disk}
+use Rattle.group_mount.specs.catalog_tables.Rules.{first_unknown, has_info}
+use Rattle.group_mount.specs.catalog_tables.Changing.{IsAfter}
+use Rattle.group_mount.specs.catalog_tables.Tables.{AreTables, Catalogued, Tables}
+use Rattle.group_mount.proofs.catalog_tables.AfterLaws.{one_after}
+use Rattle.group_mount.proofs.catalog_tables.NumberedLists.{number_is}
+use Rattle.group_engine.proofs.extent_map.Lookups.{gone_here, gone_other}
 use Rattle.group_engine.specs.Mounts.{IsReady, IsWhole, MountedGroup}
 use Rattle.group_engine.specs.Pending.{EndsOn}
 use Rattle.group_engine.specs.Surplus.{IsSurplus}

@@ -45,3 +45,6 @@ pub mod LookedIds
 pub mod TakenDisks
 pub mod MountRefusals
 pub mod ReadNames
+pub mod catalog_laws
+pub mod group_engine
+pub mod group_mount

@@ -12,9 +12,9 @@ use Rattle.asm_group.specs.Names.{Bytes}
 use Rattle.asm_group.specs.Refusal as r
 use Rattle.asm_formats.specs.Header.{Header}
 use Rattle.asm_images.specs.Kept.{header_in}
-use Rattle.disk_images.specs.Looks.{IsLooked, Looks}
-use Rattle.disk_images.specs.declared.looking.Looked.{Looked}
-use Rattle.disk_images.specs.declared.looking.Looked.TheVariants as look
+use Rattle.group_mount.specs.disk_images.Looks.{IsLooked, Looks}
+use Rattle.group_mount.specs.disk_images.declared.looking.Looked.{Looked}
+use Rattle.group_mount.specs.disk_images.declared.looking.Looked.TheVariants as look
 use Rattle.group_engine.specs.Frames.{SameDisk}
 use Rattle.group_disks.specs.FirstParts.{SameBut, SparesAllBut}
 use Rattle.group_disks.specs.Found.{Counts, IsSlotOfPath, Told, counts_of}

@@ -19,16 +19,16 @@ use Rattle.asm_formats.specs.Status.{Entry, Status}
 use Rattle.asm_images.specs.Register.{greatest}
 use Rattle.asm_placement.specs.Modes.{serves}
 use Rattle.asm_placement.proofs.Membership.{among_right}
-use Rattle.disk_directory.specs.Disks.{info_at}
-use Rattle.catalog_tables.specs.Tables.{Catalogued}
+use Rattle.group_mount.specs.disk_directory.Disks.{info_at}
+use Rattle.group_mount.specs.catalog_tables.Tables.{Catalogued}
 use Rattle.change_directory.specs.Formatting.{AreShut}
 use Rattle.change_directory.specs.declared.copy.DirCopy.{DirCopy}
-use Rattle.directory_store.specs.Loading.{HasTakenTwins, HasTwins, LoadCause}
-use Rattle.directory_store.specs.Reading.{ArePartOf, HasDamage, IsFirstDamaged, IsCopyUnread}
-use Rattle.directory_store.specs.Copies.{AreKept}
-use Rattle.directory_store.specs.Stores.{Keeps, Stored}
-use Rattle.directory_store.specs.declared.error.LoadError.{LoadError}
-use Rattle.directory_store.specs.declared.error.LoadError.TheVariants as load
+use Rattle.group_mount.specs.directory_store.Loading.{HasTakenTwins, HasTwins, LoadCause}
+use Rattle.group_mount.specs.directory_store.Reading.{ArePartOf, HasDamage, IsFirstDamaged, IsCopyUnread}
+use Rattle.group_mount.specs.directory_store.Copies.{AreKept}
+use Rattle.group_mount.specs.directory_store.Stores.{Keeps, Stored}
+use Rattle.group_mount.specs.directory_store.declared.error.LoadError.{LoadError}
+use Rattle.group_mount.specs.directory_store.declared.error.LoadError.TheVariants as load
 use Rattle.status_register.specs.Answers.{IsAnswer, Surveyed}
 use Rattle.status_register.specs.SurveyLaws.{IsMemberOn}
 use Rattle.status_register.specs.Surveys.{AreRead, claims_on, first_damage, greatest_epoch, missing, records_on}

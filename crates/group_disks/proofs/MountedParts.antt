@@ -5,7 +5,7 @@ use Rattle.bay.specs.State.{BayState}
 use Rattle.asm_group.specs.Names.{Bytes}
 use Rattle.asm_group.specs.Shape.{Shape, is_shape}
 use Rattle.asm_formats.specs.Among.{IsAmong}
-use Rattle.catalog_laws.proofs.ToldRecords.{records_told}
+use Rattle.group_engine.proofs.catalog_laws.ToldRecords.{records_told}
 use Rattle.group_engine.specs.Mounts.{AreCopiesOf, IsReady, IsWhole}
 use Rattle.group_mount.specs.Founds.{FoundDisks}
 use Rattle.group_mount.specs.Quorum.{IsQuorate}

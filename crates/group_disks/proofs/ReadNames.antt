@@ -18,7 +18,7 @@ use Rattle.asm_images.specs.Kept.{header_in}
 use Rattle.asm_images.specs.Register.{greatest}
 use Rattle.change_directory.specs.declared.copy.DirCopy.{DirCopy}
 use Rattle.change_directory.specs.Changes.{content_in}
-use Rattle.directory_store.specs.Copies.{AreKept}
+use Rattle.group_mount.specs.directory_store.Copies.{AreKept}
 use Rattle.status_register.specs.SurveyLaws.{IsMemberOn}
 use Rattle.status_register.specs.Surveys.{disk_in, records_on}
 use Rattle.status_register.specs.declared.member.Member.{Member}

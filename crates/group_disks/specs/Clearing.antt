@@ -9,8 +9,8 @@ use Rattle.asm_base.specs.declared.refusal.Refusal.TheVariants as refusal
 use Rattle.asm_formats.specs.Among.{IsAmong}
 use Rattle.asm_formats.specs.Items.{DiskInfo}
 use Rattle.asm_formats.specs.Status.{Entry, entry_of}
-use Rattle.disk_directory.specs.Disks.{Disk, info_at, without_disk}
-use Rattle.catalog_tables.specs.Tables.{Tables}
+use Rattle.group_mount.specs.disk_directory.Disks.{Disk, info_at, without_disk}
+use Rattle.group_mount.specs.catalog_tables.Tables.{Tables}
 use Rattle.status_register.specs.Registered.{is_birth}
 use Rattle.group_engine.specs.Mounts.{IsMounted, MountedGroup, slot_at}
 use Rattle.group_engine.specs.Own.{KeepsGroup}

@@ -7,8 +7,8 @@ use Rattle.bay.specs.State.{BayState, KeepsAttached}
 use Rattle.asm_base.specs.declared.refusal.Refusal.{Refusal}
 use Rattle.asm_base.specs.declared.refusal.Refusal.TheVariants as refusal
 use Rattle.asm_images.specs.Kept.{header_in}
-use Rattle.disk_images.specs.Headers.{HasHeaderSlot}
-use Rattle.file_directory.specs.Files.{is_file}
+use Rattle.group_mount.specs.disk_images.Headers.{HasHeaderSlot}
+use Rattle.group_engine.specs.file_directory.Files.{is_file}
 use Rattle.group_engine.specs.Commits.{DismountCause}
 use Rattle.group_engine.specs.Mounts.{IsOwn, MountedGroup, slot_at}
 use Rattle.group_engine.specs.Own.{OnOwnDisks}

@@ -9,8 +9,8 @@ use Rattle.asm_formats.specs.Items.{Item}
 use Rattle.asm_formats.specs.Metadata.{metadata}
 use Rattle.asm_images.specs.Bridge.{disk_bytes}
 use Rattle.asm_images.specs.Kept.{Kept}
-use Rattle.catalog_tables.specs.Items.{AreItemsOf}
-use Rattle.directory_store.specs.Stores.{Keeps, Stored, AreFirst}
+use Rattle.group_mount.specs.catalog_tables.Items.{AreItemsOf}
+use Rattle.group_mount.specs.directory_store.Stores.{Keeps, Stored, AreFirst}
 use Rattle.group_engine.specs.Commits.{turns_at_most}
 use Rattle.group_engine.specs.Frames.{SameDisk}
 use Rattle.group_engine.specs.Mounts.{HasOnly, IsMounted, IsOwn, IsReady, IsWhole, MountedGroup, Mounts, Represents}

@@ -9,7 +9,7 @@ use Rattle.bay.specs.declared.fault.BayError.TheVariants.{Fault}
 use Rattle.asm_base.specs.declared.refusal.Refusal.{Refusal}
 use Rattle.asm_base.specs.Refusals.{said}
 use Rattle.change_directory.specs.StoreLaws.{RegionOf}
-use Rattle.directory_store.specs.Stores.{Stored}
+use Rattle.group_mount.specs.directory_store.Stores.{Stored}
 use Rattle.disk_forming.specs.Forming.{MetaOf}
 use Rattle.group_disks.specs.Creating.{CreatesGroupOn, Founds, made_group}
 use Rattle.group_disks.specs.FirstParts.{IsFirstStore, SaysAll}

@@ -18,3 +18,9 @@ pub mod Prepares
 pub mod Taking
 pub mod Leaving
 pub mod MountCauses
+pub mod attribute_values
+pub mod catalog_tables
+pub mod disk_directory
+pub mod group_engine
+pub mod group_mount
+pub mod status_register

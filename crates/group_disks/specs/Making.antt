@@ -8,8 +8,8 @@ use Rattle.asm_group.specs.Names.{Bytes}
 use Rattle.asm_group.specs.Refusal as r
 use Rattle.asm_formats.specs.Header.{Header}
 use Rattle.asm_images.specs.Kept.{header_in}
-use Rattle.disk_images.specs.declared.looking.Looked.{Looked}
-use Rattle.disk_images.specs.declared.looking.Looked.TheVariants as look
+use Rattle.group_mount.specs.disk_images.declared.looking.Looked.{Looked}
+use Rattle.group_mount.specs.disk_images.declared.looking.Looked.TheVariants as look
 use Rattle.group_disks.specs.Found.{Counts, IsSlotOfPath, NoDiskCause, Told, counts_of}
 use Rattle.group_disks.specs.Holding.{IsHeldSlot}
 

@@ -13,14 +13,14 @@ use Rattle.asm_formats.specs.Status.{Entry, Status}
 use Rattle.asm_images.specs.Kept.{IsMemberIn, header_in}
 use Rattle.asm_images.specs.Register.{greatest}
 use Rattle.asm_placement.specs.Modes.{serves}
-use Rattle.disk_directory.specs.Disks.{info_at}
-use Rattle.catalog_tables.specs.Tables.{Catalogued}
+use Rattle.group_mount.specs.disk_directory.Disks.{info_at}
+use Rattle.group_mount.specs.catalog_tables.Tables.{Catalogued}
 use Rattle.change_directory.specs.declared.copy.DirCopy.{DirCopy}
 use Rattle.change_directory.specs.Formatting.{AreShut}
-use Rattle.directory_store.specs.Copies.{AreKept}
-use Rattle.directory_store.specs.Loading.{HasTwins}
-use Rattle.directory_store.specs.Reading.{HasDamage}
-use Rattle.directory_store.specs.Stores.{Stored}
+use Rattle.group_mount.specs.directory_store.Copies.{AreKept}
+use Rattle.group_mount.specs.directory_store.Loading.{HasTwins}
+use Rattle.group_mount.specs.directory_store.Reading.{HasDamage}
+use Rattle.group_mount.specs.directory_store.Stores.{Stored}
 use Rattle.page_map.specs.Tables.{Shows}
 use Rattle.status_register.specs.SurveyLaws.{IsMemberOn}
 use Rattle.status_register.specs.Surveys.{claims_on, first_damage, greatest_epoch, missing, records_on}

@@ -6,9 +6,8 @@ ghost use Rattle.group_engine.specs.Pending.{EndsOn};
 
 use asm_base::{DiskRef, Refusal};
 use bay::Bay;
-use catalog::Catalog;
 use group_engine::Mounted;
-use group_mount::MountError;
+use group_mount::{Catalog, MountError};
 use status_register::{Member, is_of_entry};
 use status_table::PstRecord;
 use std::alloc::Global;

@@ -27,8 +27,8 @@ use crate::mount_new::mount_new;
 use crate::new_group::{Bodies, NewGroup, first_bodies};
 use asm_base::{Name, Refusal};
 use bay::{Bay, BayError};
-use directory_store::Store;
 use group_engine::{Attached, Mounted};
+use group_mount::Store;
 use std::alloc::Global;
 
 /// Creates an EXTERNAL group on the image at a path, which is one of the program's images. The ids in the headers that were

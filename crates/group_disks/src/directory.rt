@@ -10,7 +10,7 @@ use crate::first_change::first_change;
 use crate::new_group::NewGroup;
 use bay::{Bay, BayError};
 use change_directory::DirCopy;
-use directory_store::{Store, StoreError, kept_have_records};
+use group_mount::{Store, StoreError, kept_have_records};
 use std::alloc::Global;
 
 /// Makes the directory copy of a new group on its disk, where no log slot is open. At each moment the copy has no content, or

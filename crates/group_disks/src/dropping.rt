@@ -6,8 +6,8 @@ ghost use Rattle.group_engine.specs.Own.{KeepsGroup};
 
 use asm_base::Refusal;
 use bay::Bay;
-use disk_images::close_header;
 use group_engine::Mounted;
+use group_mount::close_header;
 
 /// Whether the group has a file.
 fn has_file(m: &Mounted) -> bool

@@ -9,8 +9,8 @@ ghost use Rattle.group_disks.specs.Probes.{IsShown};
 use asm_base::{BLOCK, Block, LEAST_SIZE, NoMemory};
 use bay::{Bay, BayError, Fault};
 use disk_forming::header_slot;
-use disk_header::{Header, decode};
 use gate_slot::is_open;
+use group_mount::{Header, decode};
 use std::alloc::Global;
 
 /// What a look at an image has shown. Sizes are in bytes.

@@ -11,8 +11,8 @@ use asm_base::{
     Block, Change, GroupKind, Key, List, Name, NoMemory, SETTINGS_KEY, TEMPLATES_KEY, Value,
     Writer, put_name, put_u64, record_kind,
 };
+use group_mount::{Settings, settings_value, system, templates_value};
 use std::alloc::Global;
-use template_directory::{Settings, settings_value, system, templates_value};
 
 /// The record of disk 0.
 const DISK: Key = Key {

@@ -8,8 +8,8 @@ ghost use Rattle.group_disks.specs.Stages.{IsHeaded};
 use crate::directory::give_directory;
 use crate::new_group::{Bodies, NewGroup};
 use bay::{Bay, BayError, Fault};
-use directory_store::Store;
 use disk_forming::{give_header, give_record};
+use group_mount::Store;
 use std::alloc::Global;
 
 /// Gives the disk of a new group all its parts. Memory is taken for the directory copy, after the header is there.

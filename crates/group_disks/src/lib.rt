@@ -1,6 +1,12 @@
 //! The disks of a group: how a group comes to be on them, how it is mounted and goes, and how an image is made.
 #![tactic(auto)]
 
+pub use group_engine::{Attached, Mounted};
+pub use group_mount::{
+    Catalog, CatalogError, Creation, DiskInfo, Found, Headed, MountError, MountOption, Settings,
+    are_allowed, disk_record, has_region, is_held, settings_value, system, templates_value,
+};
+
 mod bringing;
 mod choose;
 mod clearing;

@@ -13,7 +13,7 @@ use crate::choose::{disk_taken, is_held, no_disk};
 use crate::find::slot_of;
 use asm_base::{DiskRef, NoMemory, Refusal, Text};
 use bay::{Bay, BayError};
-use disk_images::{Looked, look_at};
+use group_mount::{Looked, look_at};
 use std::alloc::Global;
 
 /// The image at the path couldn't be read.

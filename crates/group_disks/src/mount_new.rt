@@ -2,8 +2,8 @@
 ghost use Rattle.std.specs.Prelude.{◌≡◌, [], Some, IfErr, IfOk};
 ghost use Rattle.asm_base.specs.Refusals.{said};
 ghost use Rattle.asm_group.specs.Refusal.{NoMemory as WithoutMemory};
-ghost use Rattle.catalog_tables.specs.Faults.{IsCatalogOf};
-ghost use Rattle.directory_store.specs.Stores.{AreFirst};
+ghost use Rattle.group_mount.specs.catalog_tables.Faults.{IsCatalogOf};
+ghost use Rattle.group_mount.specs.directory_store.Stores.{AreFirst};
 ghost use Rattle.group_disks.specs.Creating.{usual_shape};
 ghost use Rattle.group_disks.specs.FirstParts.{IsFirstStore, IsMountedOnSlot, first_disks};
 ghost use Rattle.group_disks.specs.Planned.{IsGroupPlan, first_entries, record_of_plan};
@@ -11,10 +11,8 @@ ghost use Rattle.group_disks.specs.Planned.{IsGroupPlan, first_entries, record_o
 use crate::new_group::{NewGroup, first_status};
 use asm_base::{GroupKind, NoMemory, Refusal, Shape};
 use bay::Bay;
-use catalog::Catalog;
-use catalog_tables::CatalogError;
-use directory_store::Store;
 use group_engine::{Attached, Mounted};
+use group_mount::{Catalog, CatalogError, Store};
 use status_register::{Member, Register};
 use status_table::PstRecord;
 use std::alloc::Global;

@@ -7,7 +7,7 @@ ghost use Rattle.group_disks.specs.Planned.{IsGroupPlan, header_of_plan, record_
 ghost use Rattle.group_disks.specs.Ready.{AreBodies};
 
 use asm_base::{Block, DiskSet, GroupKind, Mode, Name, NoMemory};
-use disk_header::Header;
+use group_mount::Header;
 use status_table::{Claim, PstEntry, PstRecord, encode_claim};
 use std::alloc::Global;
 use std::marker::Model;
@@ -74,7 +74,7 @@ fn header_block(alloc: Global, group: &NewGroup) -> Result<Block, NoMemory>
         dir_blocks: 1_024,
     };
     let mut block = Block::zeros();
-    disk_header::encode(&header, &mut block);
+    group_mount::encode(&header, &mut block);
     Ok(block)
 }
 

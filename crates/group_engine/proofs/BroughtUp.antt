@@ -38,12 +38,12 @@ use Rattle.asm_images.proofs.Bridges.{bytes_are_listed, disks_are_listed, listed
 use Rattle.asm_images.proofs.Membership.{among_within}
 use Rattle.asm_images.proofs.OneContent.{one_content_is_covered}
 use Rattle.asm_images.proofs.Spans.{widen_keeps}
-use Rattle.change_directory.specs.Places.{IsCopy}
-use Rattle.change_directory.specs.declared.copy.DirCopy.{DirCopy}
-use Rattle.change_directory.specs.Changes.{content_in}
-use Rattle.change_directory.specs.StoreLaws.{HasRegion, RegionOf}
-use Rattle.catalog_tables.specs.Items.{AreItemsOf}
-use Rattle.catalog_tables.proofs.TableItems.{from_map}
+use Rattle.directory_store.specs.change_directory.Places.{IsCopy}
+use Rattle.directory_store.specs.change_directory.declared.copy.DirCopy.{DirCopy}
+use Rattle.directory_store.specs.change_directory.Changes.{content_in}
+use Rattle.directory_store.specs.change_directory.StoreLaws.{HasRegion, RegionOf}
+use Rattle.rebalance.specs.catalog_tables.Items.{AreItemsOf}
+use Rattle.rebalance.proofs.catalog_tables.TableItems.{from_map}
 use Rattle.directory_store.specs.Contents.{HasCopyRecords}
 use Rattle.directory_store.specs.Copies.{IsCopyApart}
 use Rattle.directory_store.specs.Copying.{IsReadable, MayBringUp, MayTakeRecords}

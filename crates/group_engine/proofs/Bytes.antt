@@ -23,11 +23,11 @@ use Rattle.asm_images.proofs.Bridges.{disks_are_listed}
 use Rattle.asm_images.proofs.History.{status_counts}
 use Rattle.asm_images.proofs.Membership.{among_within}
 use Rattle.asm_images.proofs.OneContent.{found_is_held}
-use Rattle.catalog_tables.specs.Rules.{marks_of}
-use Rattle.catalog_laws.proofs.HavingItems.{have_items, items_are_one}
-use Rattle.catalog_laws.proofs.ItemLists.{items_say}
-use Rattle.extent_map.specs.Extents.{Chunked, chunk_at}
-use Rattle.staleness_directory.specs.Marks.{Marked}
+use Rattle.rebalance.specs.catalog_tables.Rules.{marks_of}
+use Rattle.rebalance.proofs.catalog_laws.HavingItems.{have_items, items_are_one}
+use Rattle.rebalance.proofs.catalog_laws.ItemLists.{items_say}
+use Rattle.rebalance.specs.extent_map.Extents.{Chunked, chunk_at}
+use Rattle.rebalance.specs.staleness_directory.Marks.{Marked}
 use Rattle.group_engine.specs.Becoming.{HoldsIn, SameBytesHold}
 use Rattle.group_engine.specs.CommitSteps.{content_of}
 use Rattle.group_engine.specs.Mounts.{MountedGroup, Mounts}

@@ -11,11 +11,11 @@ use Rattle.asm_formats.specs.Status.{Status}
 use Rattle.asm_base.specs.Records.{record_at}
 use Rattle.asm_formats.specs.Among.{IsAmong}
 use Rattle.asm_images.specs.Kept.{Kept, IsHeld}
-use Rattle.catalog_tables.specs.Items.{AreItemsOf}
-use Rattle.catalog_tables.specs.Tables.{AreTables, Tables, records_of}
-use Rattle.catalog_laws.proofs.HavingItems.{have_items}
-use Rattle.change_directory.specs.declared.copy.DirCopy.{DirCopy}
-use Rattle.change_directory.specs.Changes.{content_in}
+use Rattle.rebalance.specs.catalog_tables.Items.{AreItemsOf}
+use Rattle.rebalance.specs.catalog_tables.Tables.{AreTables, Tables, records_of}
+use Rattle.rebalance.proofs.catalog_laws.HavingItems.{have_items}
+use Rattle.directory_store.specs.change_directory.declared.copy.DirCopy.{DirCopy}
+use Rattle.directory_store.specs.change_directory.Changes.{content_in}
 use Rattle.directory_store.specs.Contents.{HasCopyRecords}
 use Rattle.directory_store.specs.Copies.{RegionsOf}
 use Rattle.directory_store.specs.Stores.{Stored, HaveRecords, HaveEitherRecords}

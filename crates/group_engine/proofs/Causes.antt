@@ -17,8 +17,8 @@ use Rattle.asm_formats.specs.Following.{sets}
 use Rattle.asm_formats.specs.Sets.{elements}
 use Rattle.asm_formats.specs.Status.{Status, status_spelling}
 use Rattle.asm_formats.specs.Among.{IsAmong}
-use Rattle.catalog_tables.proofs.TableItems.{from_map}
-use Rattle.change_directory.specs.declared.copy.DirCopy.{DirCopy}
+use Rattle.rebalance.proofs.catalog_tables.TableItems.{from_map}
+use Rattle.directory_store.specs.change_directory.declared.copy.DirCopy.{DirCopy}
 use Rattle.directory_store.specs.Copies.{IsSlotOfCopy, RegionsOf}
 use Rattle.status_register.specs.Holders.{SlotsDiffer, attached_to, numbered}
 use Rattle.status_register.specs.Registered.{Registered}

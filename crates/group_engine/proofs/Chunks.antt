@@ -14,16 +14,16 @@ use Rattle.asm_formats.specs.Items.{FileHead, Homes, Pending, chunk_len}
 use Rattle.asm_group.specs.Shape.{Shape}
 use Rattle.asm_formats.specs.Among.{IsAmong}
 use Rattle.asm_placement.specs.Naming.{is_pending}
-use Rattle.catalog.specs.ExtentPlans.{IsUndue}
-use Rattle.catalog.specs.Plans.{AreOwned}
-use Rattle.catalog_tables.specs.Rules.{first_wrong, is_due, is_owned}
-use Rattle.catalog_tables.specs.Tables.{Tables}
-use Rattle.catalog.proofs.NumberedEntries.{passes_where}
-use Rattle.catalog_tables.proofs.TableItems.{below, chunks_exact, found_is, some_found, tail_up}
-use Rattle.extent_map.specs.Extents.{Chunked, chunk_at, chunks_from, has_extent, has_home}
+use Rattle.rebalance.specs.catalog.ExtentPlans.{IsUndue}
+use Rattle.rebalance.specs.catalog.Plans.{AreOwned}
+use Rattle.rebalance.specs.catalog_tables.Rules.{first_wrong, is_due, is_owned}
+use Rattle.rebalance.specs.catalog_tables.Tables.{Tables}
+use Rattle.rebalance.proofs.catalog.NumberedEntries.{passes_where}
+use Rattle.rebalance.proofs.catalog_tables.TableItems.{below, chunks_exact, found_is, some_found, tail_up}
+use Rattle.rebalance.specs.extent_map.Extents.{Chunked, chunk_at, chunks_from, has_extent, has_home}
 use Rattle.asm_base.specs.Chunks.{Chunk, chunk_cmp, is_before}
-use Rattle.extent_map.proofs.Laws.{chunk_total}
-use Rattle.file_directory.specs.Files.{is_file}
+use Rattle.rebalance.proofs.extent_map.Laws.{chunk_total}
+use Rattle.rebalance.specs.file_directory.Files.{is_file}
 use Rattle.group_engine.specs.Pending.{HasAtMost, first_key, without_pending}
 
 -- ---- the order

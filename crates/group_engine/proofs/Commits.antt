@@ -10,14 +10,14 @@ use Rattle.asm_formats.specs.Items.{Key}
 use Rattle.asm_formats.specs.Sets.{has_bit, elements}
 use Rattle.asm_formats.specs.Status.{Status, is_status, status_spelling}
 use Rattle.asm_base.specs.Records.{Entry}
-use Rattle.page_map.specs.Changes.{value_after}
+use Rattle.directory_store.specs.page_map.Changes.{value_after}
 use Rattle.asm_formats.specs.Among.{IsAmong}
 use Rattle.asm_images.specs.Kept.{Kept, IsHeld}
-use Rattle.catalog_tables.specs.Changing.{IsAfter}
-use Rattle.catalog_tables.specs.Placing.{HasUnits}
-use Rattle.catalog_tables.specs.Tables.{Catalogued, Tables}
-use Rattle.change_directory.specs.declared.copy.DirCopy.{DirCopy}
-use Rattle.change_directory.specs.StoreLaws.{SameRegion}
+use Rattle.rebalance.specs.catalog_tables.Changing.{IsAfter}
+use Rattle.rebalance.specs.catalog_tables.Placing.{HasUnits}
+use Rattle.rebalance.specs.catalog_tables.Tables.{Catalogued, Tables}
+use Rattle.directory_store.specs.change_directory.declared.copy.DirCopy.{DirCopy}
+use Rattle.directory_store.specs.change_directory.StoreLaws.{SameRegion}
 use Rattle.directory_store.specs.Stores.{Stored, others}
 use Rattle.directory_store.specs.Stores as stores
 use Rattle.directory_store.specs.declared.error.StoreError.{StoreError}

@@ -22,15 +22,15 @@ use Rattle.asm_formats.specs.Status.{Entry, Status, entry_of, has_entry}
 use Rattle.asm_formats.specs.Among.{IsAmong}
 use Rattle.asm_images.specs.Kept.{Kept}
 use Rattle.asm_placement.proofs.Membership.{among_left, among_right, among_split}
-use Rattle.change_directory.specs.Places.{IsCopy}
-use Rattle.change_directory.specs.declared.copy.DirCopy.{DirCopy}
+use Rattle.directory_store.specs.change_directory.Places.{IsCopy}
+use Rattle.directory_store.specs.change_directory.declared.copy.DirCopy.{DirCopy}
 use Rattle.directory_store.specs.Contents.{HasCopyRecords}
 use Rattle.directory_store.specs.Copies.{IsCopyApart}
 use Rattle.directory_store.specs.Copying.{MayBringUp}
 use Rattle.directory_store.specs.Stores.{Stored}
 use Rattle.directory_store.specs.Stores as stores
 use Rattle.directory_store.proofs.Storing.{kept_have_records}
-use Rattle.page_map.specs.Tables.{PageTable}
+use Rattle.directory_store.specs.page_map.Tables.{PageTable}
 use Rattle.status_register.specs.Holders.{is_of, next_turn, numbered}
 use Rattle.status_register.specs.Reaching.{Reaches}
 use Rattle.status_register.specs.Registered.{Registered, is_birth}

@@ -14,21 +14,21 @@ use Rattle.asm_formats.specs.Status as status
 use Rattle.asm_formats.specs.Status.{entry_of}
 use Rattle.asm_placement.specs.Naming.{is_birth}
 use Rattle.asm_base.specs.Chunks.{Chunk, chunk_cmp}
-use Rattle.extent_map.specs.Extents.{Chunked, absent, chunk_at, chunk_or_blank}
-use Rattle.extent_map.proofs.Laws.{chunk_total, same_chunk}
-use Rattle.extent_map.proofs.Lookups.{gone_other, key_is, put_here, put_other}
-use Rattle.extent_map.proofs.Numbering.{found_self, size_of}
-use Rattle.file_directory.specs.Files.{head_at}
-use Rattle.staleness_directory.specs.Marks.{Marked, item_of, marks_at}
-use Rattle.catalog.specs.ExtentPlans.{IsUndue, MayCut, with_cut, with_fewer, with_released}
-use Rattle.catalog.specs.Plans.{with_record}
-use Rattle.catalog.proofs.MarkPlans.{are_marks, some_of}
-use Rattle.catalog.proofs.NumberedEntries.{number_other}
-use Rattle.catalog_laws.proofs.RegularHomes.{cutting_keeps}
-use Rattle.catalog_tables.specs.Rules.{first_unknown, has_info, is_due}
-use Rattle.catalog_tables.specs.Tables.{AreTables, Tables}
-use Rattle.catalog_tables.proofs.EntryLaws.{either, holds_at}
-use Rattle.catalog_tables.proofs.TableItems.{numbers_exact}
+use Rattle.rebalance.specs.extent_map.Extents.{Chunked, absent, chunk_at, chunk_or_blank}
+use Rattle.rebalance.proofs.extent_map.Laws.{chunk_total, same_chunk}
+use Rattle.rebalance.proofs.extent_map.Lookups.{gone_other, key_is, put_here, put_other}
+use Rattle.rebalance.proofs.extent_map.Numbering.{found_self, size_of}
+use Rattle.rebalance.specs.file_directory.Files.{head_at}
+use Rattle.rebalance.specs.staleness_directory.Marks.{Marked, item_of, marks_at}
+use Rattle.rebalance.specs.catalog.ExtentPlans.{IsUndue, MayCut, with_cut, with_fewer, with_released}
+use Rattle.rebalance.specs.catalog.Plans.{with_record}
+use Rattle.rebalance.proofs.catalog.MarkPlans.{are_marks, some_of}
+use Rattle.rebalance.proofs.catalog.NumberedEntries.{number_other}
+use Rattle.rebalance.proofs.catalog_laws.RegularHomes.{cutting_keeps}
+use Rattle.rebalance.specs.catalog_tables.Rules.{first_unknown, has_info, is_due}
+use Rattle.rebalance.specs.catalog_tables.Tables.{AreTables, Tables}
+use Rattle.rebalance.proofs.catalog_tables.EntryLaws.{either, holds_at}
+use Rattle.rebalance.proofs.catalog_tables.TableItems.{numbers_exact}
 use Rattle.group_of.specs.Describing.{KeepsNames}
 use Rattle.group_engine.specs.Surplus.{CutIsSurplus, KeepsDue, LeftDiskIsSurplus, OperationIsSurplus}
 

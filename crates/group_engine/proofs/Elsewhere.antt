@@ -20,12 +20,12 @@ use Rattle.asm_images.specs.Sound.{SoundBy}
 use Rattle.asm_images.proofs.Bridges.{disks_are_listed, same_disk}
 use Rattle.asm_formats.specs.Bytes.{block_size}
 use Rattle.asm_formats.specs.Regions.{least_size, region_end}
-use Rattle.catalog_tables.proofs.TableItems.{from_map}
+use Rattle.rebalance.proofs.catalog_tables.TableItems.{from_map}
 use Rattle.directory_store.specs.Stores as stores
 use Rattle.directory_store.proofs.Storing.{keeps_elsewhere}
-use Rattle.change_directory.specs.Places.{IsCopy}
-use Rattle.change_directory.specs.declared.copy.DirCopy.{DirCopy}
-use Rattle.change_directory.specs.StoreLaws.{SameRegion}
+use Rattle.directory_store.specs.change_directory.Places.{IsCopy}
+use Rattle.directory_store.specs.change_directory.declared.copy.DirCopy.{DirCopy}
+use Rattle.directory_store.specs.change_directory.StoreLaws.{SameRegion}
 use Rattle.status_register.specs.Elsewhere.{LeavesRegister}
 use Rattle.status_register.specs.Places.{HasSlots}
 use Rattle.status_register.specs.declared.member.Member.{Member as Disk}

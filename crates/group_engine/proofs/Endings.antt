@@ -16,9 +16,9 @@ use Rattle.asm_images.specs.Bridge.{disks_in}
 use Rattle.asm_images.specs.Kept.{Kept, IsHeld}
 use Rattle.asm_images.specs.Stands.{Standing}
 use Rattle.asm_images.proofs.Spans.{widen_keeps}
-use Rattle.catalog_tables.specs.Changing.{IsAfter}
-use Rattle.catalog_tables.specs.Tables.{Tables}
-use Rattle.catalog_tables.proofs.AfterLaws.{one_after}
+use Rattle.rebalance.specs.catalog_tables.Changing.{IsAfter}
+use Rattle.rebalance.specs.catalog_tables.Tables.{Tables}
+use Rattle.rebalance.proofs.catalog_tables.AfterLaws.{one_after}
 use Rattle.group_of.specs.Describing.{KeepsNames}
 use Rattle.group_engine.specs.Commits.{CommitsChange, CommitsPlan, DismountCause, LeadsTo, StandsIn, StatusCause}
 use Rattle.group_engine.specs.Making.{closed}

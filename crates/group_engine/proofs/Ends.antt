@@ -8,8 +8,8 @@ use Rattle.asm_base.specs.declared.refusal.Refusal.{Refusal}
 use Rattle.asm_base.specs.declared.refusal.Refusal.TheVariants as cause
 use Rattle.asm_formats.specs.Items.{Key}
 use Rattle.asm_formats.specs.Status.{Status}
-use Rattle.catalog_tables.specs.Tables.{Catalogued}
-use Rattle.catalog_tables.proofs.AfterLaws.{one_after}
+use Rattle.rebalance.specs.catalog_tables.Tables.{Catalogued}
+use Rattle.rebalance.proofs.catalog_tables.AfterLaws.{one_after}
 use Rattle.directory_store.specs.Answers.{IsUnchanged}
 use Rattle.directory_store.specs.Stores.{Stored}
 use Rattle.directory_store.specs.declared.error.StoreError.{StoreError}

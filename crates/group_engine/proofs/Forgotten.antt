@@ -6,7 +6,7 @@ use Rattle.std.proofs.lemmas.Option.{same_Some, none-some}
 use Rattle.asm_formats.specs.Sets.{has_bit}
 use Rattle.asm_formats.specs.Among.{IsAmong}
 use Rattle.asm_placement.proofs.Membership.{among_filter, among_filtered, filter_out}
-use Rattle.change_directory.specs.declared.copy.DirCopy.{DirCopy}
+use Rattle.directory_store.specs.change_directory.declared.copy.DirCopy.{DirCopy}
 use Rattle.directory_store.specs.Stores.{Stored, off}
 use Rattle.group_engine.specs.Forgetting.{Forgets, IsUnnamed, KeepsNamed}
 use Rattle.group_engine.specs.Mounts.{slot_at}

@@ -25,10 +25,10 @@ use Rattle.asm_images.specs.Sound.{SoundBy}
 use Rattle.asm_images.specs.Stands.{Describes, IsDiskOf}
 use Rattle.asm_images.proofs.Bridges.{bytes_are_listed, disks_are_listed, listed, same_disk}
 use Rattle.asm_images.proofs.History.{status_counts}
-use Rattle.change_directory.specs.declared.copy.DirCopy.{DirCopy}
-use Rattle.change_directory.specs.Changes.{content_in}
-use Rattle.catalog_tables.specs.Items.{AreItemsOf}
-use Rattle.catalog_tables.specs.Tables.{Tables}
+use Rattle.directory_store.specs.change_directory.declared.copy.DirCopy.{DirCopy}
+use Rattle.directory_store.specs.change_directory.Changes.{content_in}
+use Rattle.rebalance.specs.catalog_tables.Items.{AreItemsOf}
+use Rattle.rebalance.specs.catalog_tables.Tables.{Tables}
 use Rattle.directory_store.specs.Copies.{RegionsOf}
 use Rattle.status_register.specs.SurveyLaws.{IsMemberOn}
 use Rattle.status_register.specs.Surveys.{disk_in}
@@ -46,7 +46,7 @@ use Rattle.asm_images.proofs.Covers.{fewer_copies_are_covered}
 use Rattle.asm_images.proofs.Membership.{among_filter, among_filtered, among_within, filter_out}
 use Rattle.asm_images.proofs.Mounts.{renumbered_is_covered}
 use Rattle.asm_images.proofs.OneContent.{found_is_held}
-use Rattle.catalog_tables.proofs.TableItems.{from_map}
+use Rattle.rebalance.proofs.catalog_tables.TableItems.{from_map}
 use Rattle.group_engine.proofs.Recording.{MayBeWritten}
 use Rattle.group_engine.proofs.Renewing.{among_some, some_found}
 use Rattle.group_engine.proofs.Standings.{IsThere, completed_held, there_by}

@@ -37,3 +37,9 @@ pub mod BroughtUp
 pub mod Copied
 pub mod TakingOut
 pub mod Turns
+pub mod catalog
+pub mod catalog_laws
+pub mod catalog_tables
+pub mod directory_store
+pub mod extent_map
+pub mod group_of

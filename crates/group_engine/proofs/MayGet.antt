@@ -7,13 +7,13 @@ use Rattle.std.specs.Option.{option_map}
 use Rattle.std.proofs.lemmas.Bool.{cases_Bool, cases_lt, cond-false, eqb-true, false≢true, ne_eqb}
 use Rattle.std.proofs.lemmas.List.{get_or_past, take_all}
 use Rattle.std.proofs.lemmas.Option.{same_Some, none-some}
-use Rattle.allocator.specs.UnitMaps.{UnitMap}
+use Rattle.rebalance.specs.allocator.UnitMaps.{UnitMap}
 use Rattle.asm_formats.specs.Following.{Follows, FollowsSets, Holder, disks_of, holder_of, sets, sets_of}
 use Rattle.asm_formats.specs.Sets.{elements, has_bit}
 use Rattle.asm_formats.specs.Status.{Entry, Status, entry_of, is_status}
 use Rattle.asm_formats.specs.Among.{IsAmong}
-use Rattle.catalog_tables.specs.Placing.{HasUnits}
-use Rattle.change_directory.specs.declared.copy.DirCopy.{DirCopy}
+use Rattle.rebalance.specs.catalog_tables.Placing.{HasUnits}
+use Rattle.directory_store.specs.change_directory.declared.copy.DirCopy.{DirCopy}
 use Rattle.directory_store.specs.Stores.{has_disk}
 use Rattle.status_register.specs.declared.member.Member.{Member}
 use Rattle.group_engine.specs.Mounts.{HaveBirths, MountedGroup}

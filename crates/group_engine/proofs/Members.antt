@@ -12,7 +12,7 @@ use Rattle.asm_base.specs.declared.refusal.DiskRef.TheVariants.{Number, Spelt}
 use Rattle.asm_base.specs.declared.refusal.Refusal.{Refusal}
 use Rattle.asm_base.specs.declared.refusal.Refusal.TheVariants as cause
 use Rattle.asm_formats.specs.Status.{Entry, Status, entry_of}
-use Rattle.catalog_tables.proofs.TableItems.{from_map}
+use Rattle.rebalance.proofs.catalog_tables.TableItems.{from_map}
 use Rattle.status_register.specs.Holders.{attached_to, is_of}
 use Rattle.status_register.specs.Reaching.{Reaches}
 use Rattle.status_register.specs.Registered.{is_birth}

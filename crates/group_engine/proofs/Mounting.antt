@@ -15,9 +15,9 @@ use Rattle.asm_placement.specs.Partners.{HasPartners}
 use Rattle.asm_placement.specs.Placed.{places_fit}
 use Rattle.asm_placement.proofs.Membership.{among_filtered}
 use Rattle.asm_images.specs.Describing.{AreRegular, DescribesGroup, has_info}
-use Rattle.catalog_tables.specs.Placing.{HasUnits}
-use Rattle.catalog_tables.specs.Tables.{Catalogued}
-use Rattle.change_directory.specs.declared.copy.DirCopy.{DirCopy}
+use Rattle.rebalance.specs.catalog_tables.Placing.{HasUnits}
+use Rattle.rebalance.specs.catalog_tables.Tables.{Catalogued}
+use Rattle.directory_store.specs.change_directory.declared.copy.DirCopy.{DirCopy}
 use Rattle.directory_store.specs.Copies.{RegionsOf}
 use Rattle.directory_store.specs.Stores.{Stored, others}
 use Rattle.directory_store.specs.Stores as stores

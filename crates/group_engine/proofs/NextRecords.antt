@@ -3,7 +3,7 @@ use Rattle.std.proofs.Common.{◌≡◌, ℕ, List, map, refl, sym, ap, subst, �
 use Rattle.std.specs.List.{range_with_len}
 use Rattle.std.specs.Option.{option_map}
 use Rattle.std.proofs.lemmas.Option.{same_Some}
-use Rattle.allocator.specs.UnitMaps.{UnitMap, unused}
+use Rattle.rebalance.specs.allocator.UnitMaps.{UnitMap, unused}
 use Rattle.asm_formats.specs.Following.{sets_of, sets}
 use Rattle.asm_formats.specs.Regions.{reserved_units}
 use Rattle.asm_formats.specs.Sets.{elements, most_disks}
@@ -13,7 +13,7 @@ use Rattle.asm_group.specs.Shape.{Shape}
 use Rattle.asm_formats.specs.Among.{IsAmong}
 use Rattle.asm_images.specs.RecordLaws.{bare}
 use Rattle.asm_images.proofs.Bare.{Bare, same_entry, same_sets}
-use Rattle.catalog_tables.specs.Placing.{after_chunks, disk_units, entry_units, unused_maps}
+use Rattle.rebalance.specs.catalog_tables.Placing.{after_chunks, disk_units, entry_units, unused_maps}
 use Rattle.status_register.specs.Holders.{is_of}
 use Rattle.status_register.specs.Registered.{is_birth}
 use Rattle.status_register.specs.declared.member.Member.{Member}

@@ -7,11 +7,11 @@ use Rattle.asm_formats.specs.Items.{Key}
 use Rattle.asm_base.specs.Records.{Entry, key_cmp}
 use Rattle.asm_base.specs.declared.refusal.Refusal.{Refusal}
 use Rattle.asm_base.specs.declared.refusal.Refusal.TheVariants as cause
-use Rattle.page_map.specs.Listing.{key_of_place}
-use Rattle.page_map.specs.Tables.{new_in, room}
-use Rattle.catalog_laws.specs.Blocks.{PlansHaveRoom}
-use Rattle.catalog.specs.Plans.{IsPlan}
-use Rattle.catalog_tables.specs.Tables.{Tables}
+use Rattle.directory_store.specs.page_map.Listing.{key_of_place}
+use Rattle.directory_store.specs.page_map.Tables.{new_in, room}
+use Rattle.rebalance.specs.catalog_laws.Blocks.{PlansHaveRoom}
+use Rattle.rebalance.specs.catalog.Plans.{IsPlan}
+use Rattle.rebalance.specs.catalog_tables.Tables.{Tables}
 use Rattle.group_engine.specs.Commits.{CommitCause, IsFull, StatusCause}
 use Rattle.group_engine.specs.Mounts.{IsReady, IsWhole, MountedGroup, Takes}
 use Rattle.group_engine.proofs.Commits.{one_of}

@@ -9,15 +9,15 @@ use Rattle.asm_formats.specs.Among.{IsAmong}
 use Rattle.asm_formats.specs.Items.{Homes, Key}
 use Rattle.asm_formats.specs.Status.{Entry, Status}
 use Rattle.asm_base.specs.Records as records
-use Rattle.extent_map.specs.Extents.{Chunked, chunk_at}
+use Rattle.rebalance.specs.extent_map.Extents.{Chunked, chunk_at}
 use Rattle.asm_base.specs.Chunks.{Chunk, chunk_cmp}
-use Rattle.extent_map.proofs.Laws.{chunk_total}
-use Rattle.catalog_tables.specs.Changing.{IsAfter}
-use Rattle.catalog_tables.specs.Rules.{AreOnRegular, first_wrong, is_regular_chunk}
-use Rattle.catalog_tables.specs.Tables.{AreTables, Catalogued, Tables}
-use Rattle.catalog_tables.proofs.AfterLaws.{one_after}
-use Rattle.catalog.proofs.NumberedEntries.{passes_each, passes_more}
-use Rattle.catalog_tables.proofs.TableItems.{among_found, chunks_exact, found_is}
+use Rattle.rebalance.proofs.extent_map.Laws.{chunk_total}
+use Rattle.rebalance.specs.catalog_tables.Changing.{IsAfter}
+use Rattle.rebalance.specs.catalog_tables.Rules.{AreOnRegular, first_wrong, is_regular_chunk}
+use Rattle.rebalance.specs.catalog_tables.Tables.{AreTables, Catalogued, Tables}
+use Rattle.rebalance.proofs.catalog_tables.AfterLaws.{one_after}
+use Rattle.rebalance.proofs.catalog.NumberedEntries.{passes_each, passes_more}
+use Rattle.rebalance.proofs.catalog_tables.TableItems.{among_found, chunks_exact, found_is}
 use Rattle.rebalance.specs.Cursors.{IsFollowed, IsSameBut, SearchPlaces, passes_at, passes_found}
 use Rattle.group_engine.specs.Searches.{IsPlanIn, IsSearchOf, SearchState, WasSearchOf}
 

@@ -6,8 +6,8 @@ use Rattle.bay.proofs.Calls.{leaves_begin}
 use Rattle.asm_base.specs.declared.refusal.Refusal.{Refusal}
 use Rattle.asm_base.specs.declared.refusal.Refusal.TheVariants as cause
 use Rattle.asm_formats.specs.Status.{Status}
-use Rattle.catalog_tables.specs.Placing.{HasUnits, HaveSameUnits}
-use Rattle.catalog_tables.specs.Tables.{Catalogued}
+use Rattle.rebalance.specs.catalog_tables.Placing.{HasUnits, HaveSameUnits}
+use Rattle.rebalance.specs.catalog_tables.Tables.{Catalogued}
 use Rattle.directory_store.specs.Answers.{IsUnchanged}
 use Rattle.directory_store.specs.Stores.{Stored}
 use Rattle.directory_store.specs.Stores as stores

@@ -10,14 +10,14 @@ use Rattle.asm_group.specs.Shape.{Shape, is_shape}
 use Rattle.asm_formats.specs.Sets.{has_bit, elements}
 use Rattle.asm_formats.specs.Status.{Status, status_spelling}
 use Rattle.asm_images.specs.Kept.{Kept, IsHeld}
-use Rattle.catalog_tables.specs.Items.{AreItemsOf}
-use Rattle.catalog_tables.specs.Placing.{HasUnits}
-use Rattle.catalog_tables.specs.Tables.{AreTables, Catalogued, Tables, records_of}
-use Rattle.catalog_tables.proofs.TableItems.{from_map}
-use Rattle.change_directory.specs.declared.copy.DirCopy.{DirCopy}
+use Rattle.rebalance.specs.catalog_tables.Items.{AreItemsOf}
+use Rattle.rebalance.specs.catalog_tables.Placing.{HasUnits}
+use Rattle.rebalance.specs.catalog_tables.Tables.{AreTables, Catalogued, Tables, records_of}
+use Rattle.rebalance.proofs.catalog_tables.TableItems.{from_map}
+use Rattle.directory_store.specs.change_directory.declared.copy.DirCopy.{DirCopy}
 use Rattle.directory_store.specs.Stores.{Stored}
 use Rattle.directory_store.specs.Stores as stores
-use Rattle.page_map.specs.Tables.{PageTable}
+use Rattle.directory_store.specs.page_map.Tables.{PageTable}
 use Rattle.asm_base.specs.Records.{record_at}
 use Rattle.asm_formats.specs.Among.{IsAmong}
 use Rattle.status_register.specs.Holders.{attached_to, next_turn, numbered}

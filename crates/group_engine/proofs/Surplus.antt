@@ -20,17 +20,17 @@ use Rattle.asm_placement.specs.Naming.{is_birth}
 use Rattle.asm_placement.specs.Tables.{head_of}
 use Rattle.asm_images.specs.Copies.{IsCurrent}
 use Rattle.asm_images.specs.Describing.{AreRegular, IsHeadOf, LiesIn, SameFile, has_info}
-use Rattle.extent_map.specs.Extents.{Chunked, chunk_at}
-use Rattle.extent_map.proofs.Laws.{chunk_total, same_chunk}
-use Rattle.extent_map.proofs.Numbering.{size_of}
-use Rattle.file_directory.specs.Files.{head_at}
-use Rattle.catalog_tables.specs.Items.{AreItemsOf}
-use Rattle.catalog_tables.specs.Rules as rules
-use Rattle.catalog_tables.specs.Rules.{AreOnRegular, are_on_regular, first_unknown, homes_at, is_due, is_on_regular, is_regular_chunk, marks_of}
-use Rattle.catalog_tables.specs.Tables.{AreTables, Tables}
-use Rattle.catalog_tables.proofs.EntryLaws.{holds_all, none_wrong}
-use Rattle.catalog_laws.proofs.HavingItems.{have_items}
-use Rattle.catalog_laws.proofs.ItemLists.{items_say}
+use Rattle.rebalance.specs.extent_map.Extents.{Chunked, chunk_at}
+use Rattle.rebalance.proofs.extent_map.Laws.{chunk_total, same_chunk}
+use Rattle.rebalance.proofs.extent_map.Numbering.{size_of}
+use Rattle.rebalance.specs.file_directory.Files.{head_at}
+use Rattle.rebalance.specs.catalog_tables.Items.{AreItemsOf}
+use Rattle.rebalance.specs.catalog_tables.Rules as rules
+use Rattle.rebalance.specs.catalog_tables.Rules.{AreOnRegular, are_on_regular, first_unknown, homes_at, is_due, is_on_regular, is_regular_chunk, marks_of}
+use Rattle.rebalance.specs.catalog_tables.Tables.{AreTables, Tables}
+use Rattle.rebalance.proofs.catalog_tables.EntryLaws.{holds_all, none_wrong}
+use Rattle.rebalance.proofs.catalog_laws.HavingItems.{have_items}
+use Rattle.rebalance.proofs.catalog_laws.ItemLists.{items_say}
 use Rattle.group_of.specs.Describing.{HaveGroup, StandUnder}
 use Rattle.group_of.proofs.Describes.{surplus_describes}
 use Rattle.group_of.proofs.Extents.{home_by}

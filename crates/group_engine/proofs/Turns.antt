@@ -7,7 +7,7 @@ use Rattle.bay.specs.State.{BayState}
 use Rattle.asm_formats.specs.Among.{IsAmong}
 use Rattle.asm_formats.specs.Sets.{has_bit}
 use Rattle.asm_formats.specs.Status.{Status}
-use Rattle.change_directory.specs.declared.copy.DirCopy.{DirCopy}
+use Rattle.directory_store.specs.change_directory.declared.copy.DirCopy.{DirCopy}
 use Rattle.directory_store.specs.Copies.{HasOnlyFailedCopies}
 use Rattle.directory_store.specs.Stores.{others}
 use Rattle.status_register.specs.Registered.{Registered}

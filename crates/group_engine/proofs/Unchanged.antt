@@ -6,16 +6,16 @@ use Rattle.bay.specs.State.{BayState, KeepsAttached}
 use Rattle.bay.specs.Moments.{Runs, NowOnly, LeavesOnly}
 use Rattle.asm_group.specs.Group.{Group}
 use Rattle.asm_group.specs.Shape.{Shape, is_shape}
-use Rattle.allocator.specs.UnitMaps.{UnitMap}
+use Rattle.rebalance.specs.allocator.UnitMaps.{UnitMap}
 use Rattle.asm_formats.specs.Among.{IsAmong}
 use Rattle.asm_images.specs.Bridge.{disks_in}
 use Rattle.asm_images.specs.Kept.{Kept, IsHeld}
 use Rattle.asm_images.proofs.Held.{same_is_held}
 use Rattle.asm_images.proofs.Spans.{widen_keeps}
-use Rattle.catalog_tables.specs.Items.{AreItemsOf}
-use Rattle.catalog_tables.specs.Placing.{HasUnits}
-use Rattle.catalog_tables.specs.Tables.{AreTables, Catalogued, Tables, records_of}
-use Rattle.change_directory.specs.declared.copy.DirCopy.{DirCopy}
+use Rattle.rebalance.specs.catalog_tables.Items.{AreItemsOf}
+use Rattle.rebalance.specs.catalog_tables.Placing.{HasUnits}
+use Rattle.rebalance.specs.catalog_tables.Tables.{AreTables, Catalogued, Tables, records_of}
+use Rattle.directory_store.specs.change_directory.declared.copy.DirCopy.{DirCopy}
 use Rattle.directory_store.specs.Answers.{IsUnchanged}
 use Rattle.directory_store.specs.Stores.{Stored}
 use Rattle.directory_store.specs.Stores as stores

@@ -16,12 +16,12 @@ use Rattle.asm_formats.specs.Among.{IsAmong}
 use Rattle.asm_images.specs.Bridge.{disks_in}
 use Rattle.asm_images.specs.Kept.{Kept, IsHeld}
 use Rattle.asm_images.specs.Stands.{Standing}
-use Rattle.catalog_tables.specs.Changing.{IsAfter}
-use Rattle.catalog_tables.specs.Tables.{Tables}
+use Rattle.rebalance.specs.catalog_tables.Changing.{IsAfter}
+use Rattle.rebalance.specs.catalog_tables.Tables.{Tables}
 use Rattle.asm_formats.specs.Sets.{elements, has_bit}
 use Rattle.asm_formats.specs.Status.{Status}
 use Rattle.directory_store.specs.Answers.{NoCalls}
-use Rattle.page_map.specs.Tables.{new_in, room}
+use Rattle.directory_store.specs.page_map.Tables.{new_in, room}
 use Rattle.status_register.specs.Holders.{attached_to}
 use Rattle.status_register.specs.Surveys.{AreRead}
 use Rattle.status_register.specs.Writes.{IsLost}

@@ -18,3 +18,15 @@ pub mod Gone
 pub mod Members
 pub mod Copying
 pub mod Trying
+pub mod alias_edits
+pub mod allocator
+pub mod asm_base
+pub mod catalog
+pub mod catalog_tables
+pub mod directory_store
+pub mod extent_copies
+pub mod extent_map
+pub mod file_directory
+pub mod group_of
+pub mod rebalance
+pub mod staleness_directory

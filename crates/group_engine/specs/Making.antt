@@ -4,7 +4,7 @@ use Rattle.asm_group.specs.Names.{Bytes}
 use Rattle.asm_base.specs.declared.refusal.DiskRef.TheVariants as disk
 use Rattle.asm_base.specs.declared.refusal.Refusal.{Refusal}
 use Rattle.asm_base.specs.declared.refusal.Refusal.TheVariants as cause
-use Rattle.catalog_tables.specs.Tables.{Catalogued}
+use Rattle.rebalance.specs.catalog_tables.Tables.{Catalogued}
 use Rattle.directory_store.specs.Stores.{Stored}
 use Rattle.status_register.specs.Registered.{Registered}
 use Rattle.group_engine.specs.Mounts.{MountedGroup}

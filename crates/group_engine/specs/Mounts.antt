@@ -14,7 +14,7 @@ use Rattle.asm_base.specs.Records.{record_at}
 use Rattle.asm_formats.specs.Among.{IsAmong}
 use Rattle.asm_images.specs.Describing.{DescribesGroup}
 use Rattle.asm_images.specs.Kept.{Kept, IsHeld, IsMemberIn}
-use Rattle.change_directory.specs.declared.copy.DirCopy.{DirCopy}
+use Rattle.directory_store.specs.change_directory.declared.copy.DirCopy.{DirCopy}
 use Rattle.directory_store.specs.Stores.{Stored}
 use Rattle.directory_store.specs.Stores as stores
 use Rattle.status_register.specs.Holders.{is_of}
@@ -22,9 +22,9 @@ use Rattle.status_register.specs.Keeping as registers
 use Rattle.status_register.specs.Reaching.{Reaches}
 use Rattle.status_register.specs.Registered.{Registered}
 use Rattle.status_register.specs.declared.member.Member.{Member}
-use Rattle.catalog_tables.specs.Items.{AreItemsOf}
-use Rattle.catalog_tables.specs.Placing.{HasUnits}
-use Rattle.catalog_tables.specs.Tables.{AreTables, Catalogued, records_of}
+use Rattle.rebalance.specs.catalog_tables.Items.{AreItemsOf}
+use Rattle.rebalance.specs.catalog_tables.Placing.{HasUnits}
+use Rattle.rebalance.specs.catalog_tables.Tables.{AreTables, Catalogued, records_of}
 use Rattle.group_engine.specs.declared.attached.Attached.{Attached}
 use Rattle.group_engine.specs.declared.flight.Flight.{Flight}
 use Rattle.group_engine.specs.declared.access.Access.{Access}

@@ -9,9 +9,9 @@ use Rattle.asm_formats.specs.Items.{FileHead}
 use Rattle.asm_formats.specs.Status.{Entry}
 use Rattle.asm_placement.specs.Modes.{serves}
 use Rattle.asm_images.specs.Kept.{Kept}
-use Rattle.catalog.specs.FilePlans.{HasSoMany}
-use Rattle.catalog_tables.specs.Tables.{Tables}
-use Rattle.extent_map.specs.Extents.{Chunked}
+use Rattle.rebalance.specs.catalog.FilePlans.{HasSoMany}
+use Rattle.rebalance.specs.catalog_tables.Tables.{Tables}
+use Rattle.rebalance.specs.extent_map.Extents.{Chunked}
 use Rattle.asm_base.specs.Chunks.{Chunk}
 use Rattle.group_of.specs.Describing.{KeepsNames}
 use Rattle.group_engine.specs.Commits.{KeepsRecord, StandsIn, StatusCause, turns_at_most}

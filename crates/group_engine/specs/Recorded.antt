@@ -15,7 +15,7 @@ use Rattle.asm_images.specs.Kept.{Kept}
 use Rattle.asm_images.specs.Members.{Member, all_members, within}
 use Rattle.asm_images.specs.Register.{is_enough}
 use Rattle.asm_images.specs.Sound.{IsCovered}
-use Rattle.catalog_tables.specs.Items.{AreItemsOf}
+use Rattle.rebalance.specs.catalog_tables.Items.{AreItemsOf}
 use Rattle.status_register.specs.Holders.{numbered}
 use Rattle.group_engine.specs.Mounts.{MountedGroup, Mounts}
 

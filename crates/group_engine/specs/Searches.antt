@@ -5,10 +5,10 @@ use Rattle.asm_formats.specs.Items.{Item, Key}
 use Rattle.asm_formats.specs.Status.{Status}
 use Rattle.asm_base.specs.Records.{Entry}
 use Rattle.asm_placement.specs.Rebalancing.{next}
-use Rattle.catalog_tables.specs.Items.{AreItemsOf}
-use Rattle.catalog.specs.Plans.{IsPlan}
-use Rattle.catalog_tables.specs.Rules.{AreOnRegular}
-use Rattle.catalog_tables.specs.Tables.{Catalogued, Tables}
+use Rattle.rebalance.specs.catalog_tables.Items.{AreItemsOf}
+use Rattle.rebalance.specs.catalog.Plans.{IsPlan}
+use Rattle.rebalance.specs.catalog_tables.Rules.{AreOnRegular}
+use Rattle.rebalance.specs.catalog_tables.Tables.{Catalogued, Tables}
 use Rattle.asm_base.specs.Chunks.{Chunk}
 use Rattle.rebalance.specs.Cursors.{IsCursor, IsSameBut, SearchPlaces}
 use Rattle.rebalance.specs.Falling.{Falls}

@@ -2,16 +2,16 @@
 use Rattle.std.specs.Prelude.{◌≡◌, ℕ, ◌+◌, ◌≤◌, false, List, [], ◌∷◌, IfErr, IsTrue, OnErr, OnOk, Result}
 use Rattle.bay.specs.State.{BayState}
 use Rattle.bay.specs.Moments.{LeavesOnly}
-use Rattle.allocator.specs.UnitMaps.{UnitMap}
+use Rattle.rebalance.specs.allocator.UnitMaps.{UnitMap}
 use Rattle.asm_base.specs.declared.refusal.Refusal.{Refusal}
 use Rattle.asm_formats.specs.Following.{Follows}
 use Rattle.asm_formats.specs.Sets.{elements}
 use Rattle.asm_formats.specs.Status.{Status, is_status}
 use Rattle.asm_formats.specs.Among.{IsAmong}
-use Rattle.change_directory.specs.declared.copy.DirCopy.{DirCopy}
+use Rattle.directory_store.specs.change_directory.declared.copy.DirCopy.{DirCopy}
 use Rattle.asm_group.specs.Group.{Group}
 use Rattle.asm_images.specs.Kept.{Kept}
-use Rattle.catalog_tables.specs.Placing.{HasUnits, HaveSameUnits}
+use Rattle.rebalance.specs.catalog_tables.Placing.{HasUnits, HaveSameUnits}
 use Rattle.status_register.specs.Holders.{numbered}
 use Rattle.status_register.specs.Reaching.{Reaches}
 use Rattle.group_engine.specs.Commits.{StandsIn, StatusCause, turns_at_most}

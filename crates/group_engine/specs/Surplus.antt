@@ -9,12 +9,12 @@ use Rattle.asm_formats.specs.Status as status
 use Rattle.asm_formats.specs.Status.{Status}
 use Rattle.asm_base.specs.Records.{Entry}
 use Rattle.asm_images.specs.Kept.{Kept}
-use Rattle.catalog.specs.ExtentPlans.{MayCut, with_cut}
-use Rattle.catalog.specs.Plans.{IsPlan, with_record}
-use Rattle.catalog_tables.specs.Rules.{AreOnRegular, first_unknown, homes_at, is_due, marks_of}
-use Rattle.catalog_tables.specs.Tables.{AreTables, Catalogued, Tables}
-use Rattle.file_directory.specs.Files.{head_at}
-use Rattle.operations_directory.specs.Operations.{Operations}
+use Rattle.rebalance.specs.catalog.ExtentPlans.{MayCut, with_cut}
+use Rattle.rebalance.specs.catalog.Plans.{IsPlan, with_record}
+use Rattle.rebalance.specs.catalog_tables.Rules.{AreOnRegular, first_unknown, homes_at, is_due, marks_of}
+use Rattle.rebalance.specs.catalog_tables.Tables.{AreTables, Catalogued, Tables}
+use Rattle.rebalance.specs.file_directory.Files.{head_at}
+use Rattle.group_of.specs.operations_directory.Operations.{Operations}
 use Rattle.group_of.specs.Describing.{HaveGroup, KeepsNames}
 use Rattle.group_engine.specs.Becoming.{HoldsIn}
 use Rattle.group_engine.specs.Commits.{LeadsTo}

@@ -5,11 +5,11 @@ ghost use Rattle.bay.specs.Moments.{LeavesOnly};
 ghost use Rattle.asm_group.specs.Group.{Group};
 ghost use Rattle.asm_images.specs.Kept.{Kept};
 ghost use Rattle.asm_base.specs.Records.{key_cmp};
-ghost use Rattle.page_map.specs.Listing.{key_of_place};
-ghost use Rattle.catalog.specs.Applying.{Leaves};
-ghost use Rattle.catalog_tables.specs.Changing.{IsAfter};
-ghost use Rattle.catalog.specs.Plans.{IsPlan};
-ghost use Rattle.catalog_tables.specs.Tables.{Tables};
+ghost use Rattle.directory_store.specs.page_map.Listing.{key_of_place};
+ghost use Rattle.rebalance.specs.catalog.Applying.{Leaves};
+ghost use Rattle.rebalance.specs.catalog_tables.Changing.{IsAfter};
+ghost use Rattle.rebalance.specs.catalog.Plans.{IsPlan};
+ghost use Rattle.rebalance.specs.catalog_tables.Tables.{Tables};
 ghost use Rattle.directory_store.specs.Contents.{ArePutItems};
 ghost use Rattle.group_engine.specs.Commits.{CommitCause, CommitsChange, CommitsPlan, IsDismountedBy, IsIdleBut, KeepsRecord, LeadsTo, StandsIn, turns_at_most};
 ghost use Rattle.group_engine.specs.Mounts.{IsMounted, IsReady, IsWhole, Mounts, Takes};
@@ -23,8 +23,8 @@ use crate::mounted::{Mounted, disk_in};
 use crate::search::Search;
 use asm_base::{Change, DiskRef, Refusal};
 use bay::Bay;
-use catalog_laws::blocks_are_counted;
 use directory_store::StoreError;
+use rebalance::blocks_are_counted;
 use std::alloc::Global;
 
 impl Mounted {

@@ -1,6 +1,6 @@
 //! A change of one extent is committed, and the search for the next move goes on.
 ghost use Rattle.std.specs.Prelude.{◌≡◌, ◌/◌};
-ghost use Rattle.catalog_tables.specs.Tables.{AreTables};
+ghost use Rattle.rebalance.specs.catalog_tables.Tables.{AreTables};
 ghost use Rattle.group_engine.specs.Commits.{CommitsPlan, KeepsRecord};
 ghost use Rattle.group_engine.specs.Mounts.{Takes};
 ghost use Rattle.group_engine.specs.Pending.{GoesOn};

@@ -1,8 +1,8 @@
 //! A disk that holds nothing of a mounted group is taken out of it.
 ghost use Rattle.std.specs.Prelude.{◌≡◌, ◌<◌, IfErr, IfOk, None, OnErr, OnOk};
 ghost use Rattle.asm_formats.specs.Status.{entry_of};
-ghost use Rattle.catalog.specs.Plans.{IsPlan};
-ghost use Rattle.catalog_tables.specs.Tables.{Tables};
+ghost use Rattle.rebalance.specs.catalog.Plans.{IsPlan};
+ghost use Rattle.rebalance.specs.catalog_tables.Tables.{Tables};
 ghost use Rattle.group_engine.specs.Members.{LeavesOne, LetsGo, LettingCause};
 ghost use Rattle.group_engine.specs.Mounts.{IsMounted, IsReady, IsWhole, Takes, slot_at};
 ghost use Rattle.group_engine.specs.Pending.{GoesOn};
@@ -11,7 +11,7 @@ ghost use Rattle.group_engine.specs.Statuses.{IsNextOf};
 use crate::mounted::Mounted;
 use asm_base::Refusal;
 use bay::Bay;
-use status_table::{PstRecord, with_dirs, without_entry};
+use status_register::status_table_crate::{PstRecord, with_dirs, without_entry};
 use std::alloc::Global;
 
 /// The record without a disk's entry and its directory copy.

@@ -1,6 +1,12 @@
 //! A mounted group: the calls that change its metadata.
 #![tactic(auto)]
 
+pub use group_of::TreeEdit;
+pub use rebalance::{
+    Catalog, ExtentCopies as Extent, FileBy, Move, NewFile, Next, copies_for, items_say_tables,
+    partners, planned_moves_change_one_chunk, serving_groups, tables_have_items, template_for,
+};
+
 mod access;
 mod attached;
 mod attaching;

@@ -2,7 +2,7 @@
 ghost use Rattle.std.specs.Prelude.{◌≡◌, ◌<◌, ℕ, IfErr, IfNone, IfSome, None, OnOk, Some, get_or, length};
 ghost use Rattle.std.specs.Bool.{OnFalse, OnTrue};
 ghost use Rattle.std.specs.Option.{option_map};
-ghost use Rattle.catalog_tables.specs.Rules.{AreOnRegular};
+ghost use Rattle.rebalance.specs.catalog_tables.Rules.{AreOnRegular};
 ghost use Rattle.group_engine.specs.declared.attached.Attached.{Attached as AttachedDisk};
 ghost use Rattle.group_engine.specs.Making.{IsShut, closed, dismounted_by, made};
 ghost use Rattle.group_engine.specs.Mounts.{IsMounted, IsWhole, slot_at};
@@ -13,11 +13,10 @@ use crate::attached::Attached;
 use crate::flight::Flight;
 use crate::search::Search;
 use asm_base::{DiskRef, Name, Refusal};
-use catalog::Catalog;
 use directory_store::Store;
-use rebalance::Next;
+use rebalance::{Catalog, Next};
 use status_register::Register;
-use status_table::PstRecord;
+use status_register::status_table_crate::PstRecord;
 use std::marker::Model;
 
 /// A mounted group: its tables, the records of its directories on their copies, and its status on its disks. Contracts see it as

@@ -2,12 +2,12 @@
 ghost use Rattle.std.specs.Prelude.{◌≡◌, ◌≤◌, IfErr, IfSome, IsTrue, None, OnErr, OnOk, is_some};
 ghost use Rattle.std.specs.Bool.{OnTrue};
 ghost use Rattle.asm_group.specs.Shape.{is_shape};
-ghost use Rattle.catalog.specs.ExtentPlans.{MayCut};
-ghost use Rattle.catalog.specs.FilePlans.{HasSoMany};
-ghost use Rattle.catalog.specs.Plans.{AreOwned};
-ghost use Rattle.catalog_tables.specs.Tables.{AreTables};
-ghost use Rattle.extent_map.specs.Extents.{chunk_at, chunks_from};
-ghost use Rattle.file_directory.specs.Files.{head_at};
+ghost use Rattle.rebalance.specs.catalog.ExtentPlans.{MayCut};
+ghost use Rattle.rebalance.specs.catalog.FilePlans.{HasSoMany};
+ghost use Rattle.rebalance.specs.catalog.Plans.{AreOwned};
+ghost use Rattle.rebalance.specs.catalog_tables.Tables.{AreTables};
+ghost use Rattle.rebalance.specs.extent_map.Extents.{chunk_at, chunks_from};
+ghost use Rattle.rebalance.specs.file_directory.Files.{head_at};
 ghost use Rattle.group_of.specs.Describing.{KeepsNames};
 ghost use Rattle.group_engine.specs.Commits.{KeepsRecord, StatusCause, turns_at_most};
 ghost use Rattle.group_engine.specs.Mounts.{IsMounted, IsReady, IsWhole};
@@ -18,10 +18,8 @@ use crate::access::Access;
 use crate::mounted::Mounted;
 use asm_base::{DiskRef, ExtentId, Refusal, Shape};
 use bay::Bay;
-use catalog::Catalog;
-use file_directory::FileHead;
+use rebalance::{Catalog, FileHead, Layout, extents_for};
 use std::alloc::Global;
-use striping::{Layout, extents_for};
 
 /// Extents of a chunk.
 const CHUNK: u64 = 256;

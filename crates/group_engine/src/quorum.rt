@@ -3,14 +3,13 @@ ghost use Rattle.std.specs.Bool.{OnFalse, OnTrue};
 ghost use Rattle.std.specs.List.{list_all};
 ghost use Rattle.std.specs.Prelude.{◌≡◌};
 ghost use Rattle.asm_placement.specs.Work.{is_regular};
-ghost use Rattle.catalog_tables.specs.Rules.{AreOnRegular, are_on_regular, first_wrong, is_on_regular, is_regular_chunk};
-ghost use Rattle.catalog_tables.specs.Tables.{AreTables};
+ghost use Rattle.rebalance.specs.catalog_tables.Rules.{AreOnRegular, are_on_regular, first_wrong, is_on_regular, is_regular_chunk};
+ghost use Rattle.rebalance.specs.catalog_tables.Tables.{AreTables};
 ghost use Rattle.rebalance.specs.Cursors.{passes_at};
 
 use asm_base::{Home, Homes};
-use catalog::Catalog;
-use partnership::entry_of;
-use status_table::PstEntry;
+use rebalance::{Catalog, entry_of};
+use status_register::status_table_crate::PstEntry;
 
 /// Whether no home of the tables lies on a disk of a quorum failure group.
 pub(crate) fn are_all_regular(catalog: &Catalog, disks: &[PstEntry]) -> bool

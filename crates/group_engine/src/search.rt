@@ -1,16 +1,15 @@
 // What a mounted group knows of the search for the next move of its rebalance.
 ghost use Rattle.std.specs.Prelude.{◌/◌, IfNone, IfSome, IsTrue};
 ghost use Rattle.asm_formats.specs.Status.{Status, is_status};
-ghost use Rattle.catalog_tables.specs.Placing.{HasUnits};
-ghost use Rattle.catalog_tables.specs.Rules.{AreOnRegular};
-ghost use Rattle.catalog_tables.specs.Tables.{AreTables, Catalogued};
+ghost use Rattle.rebalance.specs.catalog_tables.Placing.{HasUnits};
+ghost use Rattle.rebalance.specs.catalog_tables.Rules.{AreOnRegular};
+ghost use Rattle.rebalance.specs.catalog_tables.Tables.{AreTables, Catalogued};
 ghost use Rattle.group_engine.specs.Searches.{IsNextMove, IsSearchOf, WasSearchOf};
 
 use crate::quorum::{are_all_regular, is_chunk_regular};
 use asm_base::ExtentId;
-use catalog::Catalog;
-use rebalance::{Cursor, Next, next_move_from};
-use status_table::PstRecord;
+use rebalance::{Catalog, Cursor, Next, next_move_from};
+use status_register::status_table_crate::PstRecord;
 use std::marker::Model;
 
 /// Where the search goes on, and whether no home is known to lie on a disk of a quorum failure group, as the search asks.

@@ -3,7 +3,7 @@ ghost use Rattle.std.specs.Prelude.{◌≡◌, ◌≤◌, ◌+◌, ◌∷◌, []
 ghost use Rattle.bay.specs.Moments.{LeavesOnly};
 ghost use Rattle.asm_group.specs.Group.{Group};
 ghost use Rattle.asm_images.specs.Kept.{Kept};
-ghost use Rattle.catalog_tables.specs.Placing.{HaveSameUnits};
+ghost use Rattle.rebalance.specs.catalog_tables.Placing.{HaveSameUnits};
 ghost use Rattle.status_register.specs.Holders.{numbered};
 ghost use Rattle.group_engine.specs.Commits.{StandsIn, StatusCause, turns_at_most};
 ghost use Rattle.group_engine.specs.Mounts.{IsMounted, IsReady, IsWhole, Mounts};
@@ -17,7 +17,7 @@ use crate::mounted::Mounted;
 use crate::search::Search;
 use asm_base::{DiskRef, Refusal};
 use bay::Bay;
-use status_table::PstRecord;
+use status_register::status_table_crate::PstRecord;
 use std::alloc::Global;
 
 impl Mounted {

@@ -8,7 +8,7 @@ use Rattle.asm_group.specs.TemplateEdits.{TemplateEdit, templates_edited}
 use Rattle.asm_formats.specs.Items.{Key}
 use Rattle.asm_base.specs.Records.{Entry}
 use Rattle.asm_base.specs.declared.refusal.Refusal.{Refusal}
-use Rattle.catalog_tables.specs.Tables.{Catalogued}
+use Rattle.group_engine.specs.catalog_tables.Tables.{Catalogued}
 use Rattle.template_directory.specs.Meant.{IsRefusal}
 use Rattle.group_engine.specs.Commits.{CommitsPlan}
 use Rattle.group_engine.specs.Mounts.{MountedGroup}

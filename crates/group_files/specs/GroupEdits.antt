@@ -4,12 +4,12 @@ use Rattle.asm_formats.specs.Items.{Key}
 use Rattle.asm_base.specs.Records.{Entry}
 use Rattle.asm_base.specs.declared.refusal.Refusal.{Refusal}
 use Rattle.asm_base.specs.declared.refusal.Refusal.TheVariants as cause
-use Rattle.alias_edits.specs.Edits as names
+use Rattle.group_engine.specs.alias_edits.Edits as names
 use Rattle.template_directory.specs.Meant as templates
-use Rattle.catalog.specs.FilePlans.{IsAttributePlan, IsAttributeRefusal}
-use Rattle.catalog.specs.Plans.{IsTemplatePlan}
-use Rattle.catalog_tables.specs.Tables.{Catalogued}
-use Rattle.catalog.specs.TreePlans.{IsTreePlan, IsTreeRefusal, keeps_files}
+use Rattle.group_engine.specs.catalog.FilePlans.{IsAttributePlan, IsAttributeRefusal}
+use Rattle.group_engine.specs.catalog.Plans.{IsTemplatePlan}
+use Rattle.group_engine.specs.catalog_tables.Tables.{Catalogued}
+use Rattle.group_engine.specs.catalog.TreePlans.{IsTreePlan, IsTreeRefusal, keeps_files}
 use Rattle.group_files.specs.Edits.{IsTemplateRefusal}
 use Rattle.group_files.specs.declared.edit.GroupEdit.{GroupEdit}
 use Rattle.group_files.specs.declared.edit.GroupEdit.TheVariants.{Tree, Templates, SetAttribute}

@@ -1,5 +1,5 @@
 //! An attribute gets another value by one commit.
-ghost use Rattle.catalog.specs.FilePlans.{IsAttributePlan, IsAttributeRefusal};
+ghost use Rattle.group_engine.specs.catalog.FilePlans.{IsAttributePlan, IsAttributeRefusal};
 ghost use Rattle.group_engine.specs.Mounts.{Takes};
 ghost use Rattle.group_engine.specs.Own.{KeepsGroup};
 ghost use Rattle.group_files.specs.Edits.{Edits};

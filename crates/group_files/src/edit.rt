@@ -1,7 +1,7 @@
 //! What is edited of a group by one commit.
 ghost use Rattle.std.specs.Prelude.{◌≡◌};
-ghost use Rattle.alias_edits.specs.Edits.{edit_meant};
-ghost use Rattle.catalog.specs.TreePlans.{keeps_files};
+ghost use Rattle.group_engine.specs.alias_edits.Edits.{edit_meant};
+ghost use Rattle.group_engine.specs.catalog.TreePlans.{keeps_files};
 ghost use Rattle.group_engine.specs.Mounts.{Takes};
 ghost use Rattle.group_engine.specs.Own.{KeepsGroup};
 ghost use Rattle.group_files.specs.Edits.{Edits};
@@ -10,10 +10,9 @@ ghost use Rattle.group_files.specs.GroupEdits.{IsEditPlan, IsEditRefusal, is_gro
 use crate::attributes::edit_attribute;
 use crate::names::edit_tree;
 use crate::templates::edit_template;
-use alias_edits::TreeEdit;
 use asm_base::{Name, Refusal, Text};
 use bay::Bay;
-use group_engine::Mounted;
+use group_engine::{Mounted, TreeEdit};
 use std::alloc::Global;
 use template_directory::TemplateEdit;
 

@@ -1,15 +1,14 @@
 //! The tree of names is edited by one commit.
 ghost use Rattle.std.specs.Prelude.{◌≡◌, IsTrue, true};
-ghost use Rattle.alias_edits.specs.Edits.{edit_meant, is_edit};
-ghost use Rattle.catalog.specs.TreePlans.{IsTreePlan, IsTreeRefusal, keeps_files};
+ghost use Rattle.group_engine.specs.alias_edits.Edits.{edit_meant, is_edit};
+ghost use Rattle.group_engine.specs.catalog.TreePlans.{IsTreePlan, IsTreeRefusal, keeps_files};
 ghost use Rattle.group_engine.specs.Mounts.{Takes};
 ghost use Rattle.group_engine.specs.Own.{KeepsGroup};
 ghost use Rattle.group_files.specs.Edits.{Edits};
 
-use alias_edits::TreeEdit;
 use asm_base::Refusal;
 use bay::Bay;
-use group_engine::Mounted;
+use group_engine::{Mounted, TreeEdit};
 use std::alloc::Global;
 
 /// Edits the tree of a group's names. The refusals are tried in this order: those of the edit, DirectoryFull where it makes a

@@ -2,7 +2,7 @@
 ghost use Rattle.std.specs.Prelude.{IsTrue};
 ghost use Rattle.asm_group.specs.NewGroup.{templates_by_name};
 ghost use Rattle.asm_group.specs.TemplateEdits.{templates_edited};
-ghost use Rattle.catalog.specs.Plans.{IsTemplatePlan};
+ghost use Rattle.group_engine.specs.catalog.Plans.{IsTemplatePlan};
 ghost use Rattle.group_engine.specs.Mounts.{Takes};
 ghost use Rattle.group_engine.specs.Own.{KeepsGroup};
 ghost use Rattle.group_files.specs.Edits.{Edits, IsTemplateRefusal};

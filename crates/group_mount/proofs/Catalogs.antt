@@ -4,7 +4,7 @@ use Rattle.std.specs.Prelude.{find}
 use Rattle.std.specs.List.{list_all, range_with_len}
 use Rattle.std.specs.Option.{option_map}
 use Rattle.std.proofs.lemmas.Option.{same_Some}
-use Rattle.allocator.specs.UnitMaps.{UnitMap, unused}
+use Rattle.catalog.specs.allocator.UnitMaps.{UnitMap, unused}
 use Rattle.asm_base.specs.Records as records
 use Rattle.asm_formats.specs.Items.{Home, Homes}
 use Rattle.asm_formats.specs.Regions.{reserved_units}
@@ -13,11 +13,11 @@ use Rattle.asm_formats.specs.Status.{Entry, entry_of}
 use Rattle.asm_group.specs.Shape.{Shape}
 use Rattle.asm_images.specs.RecordLaws.{bare}
 use Rattle.asm_placement.specs.Naming.{is_birth}
-use Rattle.disk_directory.specs.Disks.{info_at}
-use Rattle.catalog_tables.specs.Faults.{IsCatalogOf}
-use Rattle.catalog_tables.specs.Placing.{after_chunks, disk_units, entry_units, unused_maps}
-use Rattle.catalog_tables.specs.Rules.{AreOnRegular, first_unknown, first_wrong, has_info, is_on_regular}
-use Rattle.catalog_tables.specs.Tables.{Catalogued, Tables}
+use Rattle.catalog.specs.disk_directory.Disks.{info_at}
+use Rattle.catalog.specs.catalog_tables.Faults.{IsCatalogOf}
+use Rattle.catalog.specs.catalog_tables.Placing.{after_chunks, disk_units, entry_units, unused_maps}
+use Rattle.catalog.specs.catalog_tables.Rules.{AreOnRegular, first_unknown, first_wrong, has_info, is_on_regular}
+use Rattle.catalog.specs.catalog_tables.Tables.{Catalogued, Tables}
 use Rattle.asm_images.proofs.Bare.{same_entry, same_regular}
 
 abbrev Bare : Type 0

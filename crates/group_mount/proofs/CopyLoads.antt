@@ -13,7 +13,7 @@ use Rattle.asm_formats.specs.Sets.{has_bit}
 use Rattle.asm_formats.specs.Status.{Status, Entry, entry_of}
 use Rattle.asm_formats.specs.Among.{IsAmong}
 use Rattle.asm_images.proofs.Members.{member_shape}
-use Rattle.change_directory.specs.declared.copy.DirCopy.{DirCopy}
+use Rattle.directory_store.specs.change_directory.declared.copy.DirCopy.{DirCopy}
 use Rattle.directory_store.specs.Copies.{AreCopiesApart, AreNamedCopies, IsNamedCopy, IsSlotOfCopy}
 use Rattle.directory_store.specs.Loading.{AreDurable as AreSettled}
 use Rattle.directory_store.specs.Stores.{HaveOneSize}

@@ -10,8 +10,8 @@ use Rattle.bay.proofs.Images.{changes-same, changes-trans, changes-within}
 use Rattle.asm_formats.specs.Claim.{decoded_claim}
 use Rattle.asm_formats.specs.Status.{decoded_status}
 use Rattle.asm_formats.specs.Among.{IsAmong}
-use Rattle.change_directory.specs.declared.copy.DirCopy.{DirCopy}
-use Rattle.change_directory.specs.StoreLaws.{SameRegion}
+use Rattle.directory_store.specs.change_directory.declared.copy.DirCopy.{DirCopy}
+use Rattle.directory_store.specs.change_directory.StoreLaws.{SameRegion}
 use Rattle.status_register.specs.Rows.{PutsRow, no_put, one_put}
 use Rattle.status_register.specs.Slots.{claim_gate, claim_number, other_gate, record_number, said, status_gate}
 use Rattle.status_register.specs.Tallies.{IsSlotOf}

@@ -27,8 +27,8 @@ use Rattle.asm_images.specs.Directories.{IsNamed}
 use Rattle.asm_images.specs.Stands.{Describes, Standing}
 use Rattle.asm_images.proofs.Held.{complete_stands}
 use Rattle.asm_images.proofs.Membership.{among_filtered}
-use Rattle.change_directory.specs.declared.copy.DirCopy.{DirCopy}
-use Rattle.change_directory.specs.Changes.{content_in}
+use Rattle.directory_store.specs.change_directory.declared.copy.DirCopy.{DirCopy}
+use Rattle.directory_store.specs.change_directory.Changes.{content_in}
 use Rattle.directory_store.proofs.Present.{disk_has, has_of_disk}
 use Rattle.status_register.specs.Holders.{is_of, numbered}
 use Rattle.status_register.specs.Keeping as registers

@@ -25,3 +25,5 @@ pub mod Fronts
 pub mod Owns
 pub mod Recovered
 pub mod LeftGroups
+pub mod catalog_tables
+pub mod directory_store

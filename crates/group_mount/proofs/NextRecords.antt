@@ -12,7 +12,7 @@ use Rattle.asm_formats.specs.Among.{IsAmong}
 use Rattle.asm_placement.specs.Partners.{HasPartners, partner_set}
 use Rattle.asm_placement.proofs.Bits.{set_of_is}
 use Rattle.asm_placement.proofs.Membership.{among_filter, among_filtered, filter_out, map_among}
-use Rattle.change_directory.specs.declared.copy.DirCopy.{DirCopy}
+use Rattle.directory_store.specs.change_directory.declared.copy.DirCopy.{DirCopy}
 use Rattle.directory_store.specs.Stores.{has_disk}
 use Rattle.directory_store.proofs.Present.{has_of_disk}
 use Rattle.directory_store.proofs.ReadingCopies.{part_among}

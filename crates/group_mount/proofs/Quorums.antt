@@ -8,12 +8,12 @@ use Rattle.bay.specs.State.{BayState, KeepsAttached}
 use Rattle.bay.specs.Moments.{Runs, NowOnly}
 use Rattle.bay.proofs.Calls.{stops}
 use Rattle.asm_formats.specs.Among.{IsAmong}
-use Rattle.change_directory.specs.declared.copy.DirCopy.{DirCopy}
+use Rattle.directory_store.specs.change_directory.declared.copy.DirCopy.{DirCopy}
 use Rattle.directory_store.specs.Loading.{HasBehind, HasNumber, HasTakenTwins, HasTwins, IsLeastOf, LoadCause}
 use Rattle.directory_store.specs.Reading.{HasDamage, IsFirstDamaged, IsUndamaged, IsCopyUnread, RoseOnCopy}
 use Rattle.directory_store.specs.declared.error.LoadError.{LoadError}
 use Rattle.directory_store.specs.declared.error.LoadError.TheVariants.{DirectoriesLost, Damaged, NoMemory}
-use Rattle.change_directory.specs.Formatting.{AreShut}
+use Rattle.directory_store.specs.change_directory.Formatting.{AreShut}
 use Rattle.status_register.specs.Answers.{Surveyed}
 use Rattle.status_register.specs.SurveyLaws.{IsMemberOn}
 use Rattle.bay.specs.Told.{Told}
@@ -22,9 +22,9 @@ use Rattle.status_register.proofs.Filling.{still_slots}
 use Rattle.asm_formats.specs.Status.{Status, is_entry, is_status}
 use Rattle.asm_group.specs.Shape.{Shape, is_shape}
 use Rattle.asm_images.proofs.Members.{member_shape}
-use Rattle.catalog_tables.specs.Faults.{IsAtFault, NamesFault}
-use Rattle.catalog_tables.specs.declared.error.CatalogError.{CatalogError}
-use Rattle.catalog_tables.specs.declared.error.CatalogError.TheVariants as answer
+use Rattle.catalog.specs.catalog_tables.Faults.{IsAtFault, NamesFault}
+use Rattle.catalog.specs.catalog_tables.declared.error.CatalogError.{CatalogError}
+use Rattle.catalog.specs.catalog_tables.declared.error.CatalogError.TheVariants as answer
 use Rattle.directory_store.specs.Loading.{AreDurable as AreSettled}
 use Rattle.directory_store.specs.Reading.{ArePartOf}
 use Rattle.directory_store.specs.Stores.{Keeps, Stored}

@@ -13,7 +13,7 @@ use Rattle.asm_group.specs.Shape.{Shape, is_shape}
 use Rattle.asm_formats.specs.Among.{IsAmong}
 use Rattle.asm_images.specs.Copies.{is_kept}
 use Rattle.asm_images.proofs.Members.{member_shape}
-use Rattle.change_directory.specs.declared.copy.DirCopy.{DirCopy}
+use Rattle.directory_store.specs.change_directory.declared.copy.DirCopy.{DirCopy}
 use Rattle.directory_store.specs.Stores.{Keeps}
 use Rattle.directory_store.proofs.Present.{disk_has, has_of_disk}
 use Rattle.directory_store.proofs.Storing.{keeps_elsewhere}

@@ -20,3 +20,10 @@ pub mod Quorum
 pub mod NextRecord
 pub mod Recovering
 pub mod Recovered
+pub mod attribute_values
+pub mod catalog
+pub mod catalog_tables
+pub mod directory_store
+pub mod disk_directory
+pub mod disk_images
+pub mod status_register

@@ -1,7 +1,7 @@
 -- The directory copies that a mount loads, and why it doesn't.
 use Rattle.std.specs.Prelude.{◌≡◌, ◌⊎◌, ℕ, List}
 use Rattle.bay.specs.State.{BayState}
-use Rattle.change_directory.specs.declared.copy.DirCopy.{DirCopy}
+use Rattle.directory_store.specs.change_directory.declared.copy.DirCopy.{DirCopy}
 use Rattle.directory_store.specs.Loading.{LoadCause}
 use Rattle.directory_store.specs.declared.error.LoadError.{LoadError}
 use Rattle.directory_store.specs.declared.error.LoadError.TheVariants as load

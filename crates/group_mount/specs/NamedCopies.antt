@@ -3,7 +3,7 @@ use Rattle.std.specs.Prelude.{ℕ, ◌==◌, ◌&&◌, Bool, List, [], ◌∷◌
 use Rattle.asm_formats.specs.Regions.{has_region}
 use Rattle.asm_formats.specs.Sets.{has_bit}
 use Rattle.asm_formats.specs.Status.{Status}
-use Rattle.change_directory.specs.declared.copy.DirCopy.{DirCopy}
+use Rattle.directory_store.specs.change_directory.declared.copy.DirCopy.{DirCopy}
 use Rattle.status_register.specs.Holders.{is_of}
 use Rattle.status_register.specs.declared.member.Member.{Member}
 use Rattle.group_mount.specs.Missing.{has_units}

@@ -7,9 +7,9 @@ use Rattle.asm_formats.specs.Status.{Entry, Status, is_status}
 use Rattle.asm_formats.specs.Among.{IsAmong}
 use Rattle.asm_placement.specs.Modes.{is_online}
 use Rattle.asm_placement.specs.Partners.{with_partners}
-use Rattle.catalog_tables.specs.MarkedExtents.{HasNoneMarked, IsFirstMarked}
-use Rattle.catalog_tables.specs.Tables.{Tables}
-use Rattle.change_directory.specs.declared.copy.DirCopy.{DirCopy}
+use Rattle.catalog.specs.catalog_tables.MarkedExtents.{HasNoneMarked, IsFirstMarked}
+use Rattle.catalog.specs.catalog_tables.Tables.{Tables}
+use Rattle.directory_store.specs.change_directory.declared.copy.DirCopy.{DirCopy}
 use Rattle.directory_store.specs.Stores.{has_disk}
 use Rattle.group_mount.specs.Missing.{is_missing}
 use Rattle.group_mount.specs.declared.quorum.Quorate.{Quorate}

@@ -6,11 +6,11 @@ use Rattle.asm_group.specs.Shape.{Shape}
 use Rattle.asm_formats.specs.Items.{DiskInfo, Key}
 use Rattle.asm_formats.specs.Status.{Status, Entry}
 use Rattle.asm_formats.specs.Among.{IsAmong}
-use Rattle.disk_directory.specs.Disks.{info_at}
-use Rattle.catalog_tables.specs.Faults.{IsAtFault, IsCatalogOf}
-use Rattle.catalog_tables.specs.Tables.{Catalogued, Tables}
-use Rattle.catalog_tables.specs.declared.error.CatalogError.{CatalogError}
-use Rattle.catalog_tables.specs.declared.error.CatalogError.TheVariants as answer
+use Rattle.catalog.specs.disk_directory.Disks.{info_at}
+use Rattle.catalog.specs.catalog_tables.Faults.{IsAtFault, IsCatalogOf}
+use Rattle.catalog.specs.catalog_tables.Tables.{Catalogued, Tables}
+use Rattle.catalog.specs.catalog_tables.declared.error.CatalogError.{CatalogError}
+use Rattle.catalog.specs.catalog_tables.declared.error.CatalogError.TheVariants as answer
 use Rattle.directory_store.specs.Places.{block_read}
 use Rattle.directory_store.specs.Reading.{ArePartOf}
 use Rattle.directory_store.specs.Stores.{Keeps, Stored}

@@ -9,8 +9,8 @@ use Rattle.asm_formats.specs.Among.{IsAmong}
 use Rattle.asm_formats.specs.Content.{Content}
 use Rattle.asm_formats.specs.Status.{Status}
 use Rattle.asm_images.specs.Kept.{Kept, IsHeld, IsMemberIn}
-use Rattle.change_directory.specs.declared.copy.DirCopy.{DirCopy}
-use Rattle.change_directory.specs.Changes.{content_in}
+use Rattle.directory_store.specs.change_directory.declared.copy.DirCopy.{DirCopy}
+use Rattle.directory_store.specs.change_directory.Changes.{content_in}
 use Rattle.status_register.specs.Keeping.{Keeps}
 use Rattle.status_register.specs.declared.member.Member.{Member}
 use Rattle.group_mount.specs.Mounting.{Allows, DescribesIn}

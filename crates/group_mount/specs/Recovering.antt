@@ -7,7 +7,7 @@ use Rattle.asm_group.specs.Shape.{Shape, is_shape}
 use Rattle.asm_formats.specs.Sets.{elements}
 use Rattle.asm_formats.specs.Status.{Entry, Status, is_status}
 use Rattle.asm_formats.specs.Among.{IsAmong}
-use Rattle.change_directory.specs.declared.copy.DirCopy.{DirCopy}
+use Rattle.directory_store.specs.change_directory.declared.copy.DirCopy.{DirCopy}
 use Rattle.directory_store.specs.Stores.{Keeps}
 use Rattle.status_register.specs.Answers.{Surveyed}
 use Rattle.status_register.specs.Holders.{is_of, numbered}

@@ -25,7 +25,7 @@ use crate::surveying::survey_named;
 use asm_base::{Key, Shape};
 use bay::Bay;
 use catalog::Catalog;
-use catalog_tables::CatalogError;
+use catalog::catalog_tables_crate::CatalogError;
 use directory_store::Store;
 use status_register::Survey;
 use status_table::{PstEntry, PstRecord, majority};

@@ -4,7 +4,7 @@ ghost use Rattle.std.specs.List.{list_all, list_any};
 ghost use Rattle.asm_formats.specs.Sets.{has_bit};
 ghost use Rattle.asm_formats.specs.Status.{have_entries, is_entry, is_status};
 ghost use Rattle.asm_formats.specs.Among.{IsAmong};
-ghost use Rattle.change_directory.specs.declared.copy.DirCopy.{DirCopy as Copy};
+ghost use Rattle.directory_store.specs.change_directory.declared.copy.DirCopy.{DirCopy as Copy};
 ghost use Rattle.directory_store.specs.Stores.{has_disk};
 ghost use Rattle.group_mount.specs.NextRecord.{HasStaleDisks, IsMarkOf, IsNextRecord, MakesRecord, entry_after, has_number, moded};
 
@@ -12,8 +12,8 @@ use crate::missing::is_missing;
 use crate::quorum::Quorate;
 use asm_base::{DiskSet, ExtentId, Mode, NoMemory};
 use catalog::Catalog;
-use change_directory::DirCopy;
-use partnership::partners;
+use catalog::partnership_crate::partners;
+use directory_store::change_directory_crate::DirCopy;
 use status_table::{PstEntry, PstRecord, with_dirs, with_entries, with_partners};
 use std::alloc::Global;
 

@@ -13,16 +13,16 @@ use Rattle.asm_formats.proofs.Among.{among_filter, among_map}
 use Rattle.asm_images.specs.Describing.{is_operation}
 use Rattle.asm_base.specs.Records.{Ascend}
 use Rattle.asm_base.proofs.Exact.{some_is}
-use Rattle.file_directory.specs.Files as files
-use Rattle.extent_map.specs.Extents as extents
-use Rattle.alias_tree.specs.Nodes as nodes
-use Rattle.staleness_directory.specs.Marks as stale
-use Rattle.operations_directory.specs.Operations as operations
-use Rattle.disk_directory.specs.Disks as disks
-use Rattle.catalog_tables.specs.Tables.{AreTables, Tables}
-use Rattle.catalog_tables.specs.Rules.{blocks_used}
-use Rattle.catalog_tables.specs.Items.{AreItemsOf}
-use Rattle.catalog_tables.proofs.TableItems.{IsOf, a_file, a_chunk, a_disk, an_operation, the_templates, a_node, the_settings, marks, above_least, below, left_among, map_among, numbers_exact, rank, ranks, right_among, said, says, tail_up}
+use Rattle.catalog_laws.specs.file_directory.Files as files
+use Rattle.catalog_laws.specs.extent_map.Extents as extents
+use Rattle.catalog_laws.specs.alias_tree.Nodes as nodes
+use Rattle.catalog_laws.specs.staleness_directory.Marks as stale
+use Rattle.catalog_laws.specs.operations_directory.Operations as operations
+use Rattle.catalog_laws.specs.disk_directory.Disks as disks
+use Rattle.catalog_laws.specs.catalog_tables.Tables.{AreTables, Tables}
+use Rattle.catalog_laws.specs.catalog_tables.Rules.{blocks_used}
+use Rattle.catalog_laws.specs.catalog_tables.Items.{AreItemsOf}
+use Rattle.catalog_laws.proofs.catalog_tables.TableItems.{IsOf, a_file, a_chunk, a_disk, an_operation, the_templates, a_node, the_settings, marks, above_least, below, left_among, map_among, numbers_exact, rank, ranks, right_among, said, says, tail_up}
 
 -- ---- a list without repetitions whose elements are all in another is no longer
 

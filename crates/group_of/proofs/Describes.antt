@@ -18,22 +18,22 @@ use Rattle.asm_placement.specs.Naming.{is_birth}
 use Rattle.asm_placement.specs.Placed.{places_fit}
 use Rattle.asm_base.proofs.Exact.{some_is}
 use Rattle.asm_images.specs.Describing.{AreRegular, DescribesGroup, SameFile, has_info}
-use Rattle.file_directory.specs.Files as heads
-use Rattle.file_directory.specs.Files.{head_at}
-use Rattle.alias_tree.specs.Trees.{tree_of}
-use Rattle.alias_edits.proofs.Growing as trees
-use Rattle.disk_directory.specs.Disks.{Disk, info_at}
-use Rattle.catalog_tables.specs.Tables.{AreTables, Tables}
-use Rattle.catalog_tables.specs.Rules as rules
-use Rattle.catalog_tables.specs.Rules.{KeepsRules}
-use Rattle.catalog_tables.specs.Items.{AreItemsOf}
+use Rattle.catalog_laws.specs.file_directory.Files as heads
+use Rattle.catalog_laws.specs.file_directory.Files.{head_at}
+use Rattle.catalog_laws.specs.alias_tree.Trees.{tree_of}
+use Rattle.catalog_laws.proofs.alias_edits.Growing as trees
+use Rattle.catalog_laws.specs.disk_directory.Disks.{Disk, info_at}
+use Rattle.catalog_laws.specs.catalog_tables.Tables.{AreTables, Tables}
+use Rattle.catalog_laws.specs.catalog_tables.Rules as rules
+use Rattle.catalog_laws.specs.catalog_tables.Rules.{KeepsRules}
+use Rattle.catalog_laws.specs.catalog_tables.Items.{AreItemsOf}
 use Rattle.catalog_laws.proofs.RegularHomes.{homes_are_regular}
-use Rattle.catalog_tables.proofs.TableItems.{items_of_records}
+use Rattle.catalog_laws.proofs.catalog_tables.TableItems.{items_of_records}
 use Rattle.catalog_laws.proofs.ItemLaws.{heads_are}
 use Rattle.catalog_laws.proofs.HavingItems.{have_items}
 use Rattle.group_of.specs.Groups.{HasCells, cells_in_file, cells_of, files_by_number, group_of}
 use Rattle.group_of.specs.Describing.{CatalogDescribes, DescribedHasCells, DescribedIsOfTables, KeepsNames, KeepsPlaces, NextTablesDescribe, StandUnder, SurplusDescribes, TablesDescribe}
-use Rattle.extent_map.specs.Extents.{Chunked}
+use Rattle.catalog_laws.specs.extent_map.Extents.{Chunked}
 use Rattle.group_of.proofs.Says.{infos_are, settings_are, templates_are}
 use Rattle.group_of.proofs.EditedGroups as edits
 use Rattle.group_of.proofs.EditedGroups.{names_are_group}

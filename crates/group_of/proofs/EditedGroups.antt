@@ -19,13 +19,13 @@ use Rattle.asm_formats.specs.Items.{FileHead, Settings}
 use Rattle.asm_world.specs.Edits as world
 use Rattle.asm_world.specs.Settings as settings
 use Rattle.asm_base.proofs.Exact.{some_is}
-use Rattle.file_directory.specs.Files as heads
-use Rattle.file_directory.specs.Files.{head_at, with_head}
-use Rattle.alias_tree.specs.Nodes.{Numbered, number_of}
-use Rattle.alias_tree.specs.Trees.{tree_of}
-use Rattle.catalog_tables.specs.Tables.{Tables}
-use Rattle.catalog.specs.TreePlans.{aliased, aliased_head, files_after, with_alias}
-use Rattle.catalog_tables.proofs.NumberedLists.{number_is, put_at}
+use Rattle.catalog_laws.specs.file_directory.Files as heads
+use Rattle.catalog_laws.specs.file_directory.Files.{head_at, with_head}
+use Rattle.catalog_laws.specs.alias_tree.Nodes.{Numbered, number_of}
+use Rattle.catalog_laws.specs.alias_tree.Trees.{tree_of}
+use Rattle.catalog_laws.specs.catalog_tables.Tables.{Tables}
+use Rattle.catalog_laws.specs.catalog.TreePlans.{aliased, aliased_head, files_after, with_alias}
+use Rattle.catalog_laws.proofs.catalog_tables.NumberedLists.{number_is, put_at}
 use Rattle.group_of.specs.Groups.{files_by_number, group_of}
 use Rattle.group_of.specs.Edits.{AttributeIsWorlds, TemplateEditIsWorlds, TreeEditIsWorlds, TreeEditKeepsCells}
 use Rattle.group_of.specs.Describing.{NamesAreGroup}

@@ -15,19 +15,19 @@ use Rattle.asm_placement.specs.Naming.{is_pending}
 use Rattle.asm_placement.specs.Tables.{head_of, homes_in, home_of, is_extent, marks_in}
 use Rattle.asm_images.specs.Tables.{pending_of}
 use Rattle.asm_base.proofs.Exact.{some_is}
-use Rattle.file_directory.specs.Files.{head_at, is_file}
-use Rattle.extent_map.specs.Extents as extents
-use Rattle.extent_map.specs.Extents.{Chunked, chunk_at, has_extent, has_home}
+use Rattle.catalog_laws.specs.file_directory.Files.{head_at, is_file}
+use Rattle.catalog_laws.specs.extent_map.Extents as extents
+use Rattle.catalog_laws.specs.extent_map.Extents.{Chunked, chunk_at, has_extent, has_home}
 use Rattle.asm_base.specs.Chunks.{chunk_cmp}
 use Rattle.asm_base.specs.Chunks as chunk_order
-use Rattle.extent_map.proofs.Laws.{chunk_total}
-use Rattle.extent_map.proofs.Numbering.{numbers_extents}
-use Rattle.staleness_directory.specs.Marks.{marks_at}
-use Rattle.catalog_tables.specs.Tables.{AreTables, Tables}
-use Rattle.catalog_tables.specs.Rules.{HasExtents, KeepsRules, are_within, are_within_head, has_chunk, has_copies, has_marks, is_copied, is_due, is_owned, is_within, keeps_copies}
-use Rattle.catalog_tables.specs.Items.{AreItemsOf}
-use Rattle.catalog.proofs.NumberedEntries.{passes_each}
-use Rattle.catalog_tables.proofs.TableItems.{chunks_exact, each_of, found_is}
+use Rattle.catalog_laws.proofs.extent_map.Laws.{chunk_total}
+use Rattle.catalog_laws.proofs.extent_map.Numbering.{numbers_extents}
+use Rattle.catalog_laws.specs.staleness_directory.Marks.{marks_at}
+use Rattle.catalog_laws.specs.catalog_tables.Tables.{AreTables, Tables}
+use Rattle.catalog_laws.specs.catalog_tables.Rules.{HasExtents, KeepsRules, are_within, are_within_head, has_chunk, has_copies, has_marks, is_copied, is_due, is_owned, is_within, keeps_copies}
+use Rattle.catalog_laws.specs.catalog_tables.Items.{AreItemsOf}
+use Rattle.catalog_laws.proofs.catalog.NumberedEntries.{passes_each}
+use Rattle.catalog_laws.proofs.catalog_tables.TableItems.{chunks_exact, each_of, found_is}
 use Rattle.catalog_laws.proofs.ItemLaws.{heads_are, homes_are, marks_are}
 use Rattle.group_of.specs.Groups.{HasCells, file_of_head, files_by_number}
 use Rattle.group_of.proofs.HeadedFiles.{file_at, files_are, head_among, head_is}

@@ -8,11 +8,11 @@ use Rattle.asm_formats.specs.Among.{IsAmong}
 use Rattle.asm_formats.specs.Items.{FileHead, Pending}
 use Rattle.asm_formats.proofs.Among.{among_map}
 use Rattle.asm_placement.specs.Naming.{is_pending}
-use Rattle.file_directory.specs.Files as heads
-use Rattle.file_directory.specs.Files.{head_at, is_file}
-use Rattle.catalog.specs.Numbers.{is_taken}
-use Rattle.catalog_tables.specs.Rules.{KeepsRules}
-use Rattle.catalog_tables.specs.Tables.{Tables}
+use Rattle.catalog_laws.specs.file_directory.Files as heads
+use Rattle.catalog_laws.specs.file_directory.Files.{head_at, is_file}
+use Rattle.catalog_laws.specs.catalog.Numbers.{is_taken}
+use Rattle.catalog_laws.specs.catalog_tables.Rules.{KeepsRules}
+use Rattle.catalog_laws.specs.catalog_tables.Tables.{Tables}
 use Rattle.group_of.proofs.Counts.{AllApart, no_longer}
 use Rattle.group_of.proofs.HeadedFiles.{head_among}
 

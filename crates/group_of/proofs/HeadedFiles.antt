@@ -13,12 +13,12 @@ use Rattle.asm_formats.specs.Among.{IsAmong}
 use Rattle.asm_formats.specs.Items.{FileHead, Item, is_item, is_redundancy, file_item}
 use Rattle.asm_placement.specs.Tables.{head_of}
 use Rattle.asm_images.specs.Describing.{SameFile}
-use Rattle.file_directory.specs.Files as heads
-use Rattle.file_directory.specs.Files.{head_at}
-use Rattle.catalog_tables.specs.Tables.{AreTables, Tables}
-use Rattle.catalog_tables.specs.Items.{AreItemsOf}
-use Rattle.catalog_tables.proofs.NumberedLists.{number_is}
-use Rattle.catalog_tables.proofs.TableItems.{each_of, found_is, numbers_exact}
+use Rattle.catalog_laws.specs.file_directory.Files as heads
+use Rattle.catalog_laws.specs.file_directory.Files.{head_at}
+use Rattle.catalog_laws.specs.catalog_tables.Tables.{AreTables, Tables}
+use Rattle.catalog_laws.specs.catalog_tables.Items.{AreItemsOf}
+use Rattle.catalog_laws.proofs.catalog_tables.NumberedLists.{number_is}
+use Rattle.catalog_laws.proofs.catalog_tables.TableItems.{each_of, found_is, numbers_exact}
 use Rattle.catalog_laws.proofs.ItemLaws.{heads_are}
 use Rattle.group_of.specs.Groups.{HasCells, file_of_head, files_by_number}
 

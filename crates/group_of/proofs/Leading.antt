@@ -13,14 +13,14 @@ use Rattle.asm_base.proofs.Exact.{some_is}
 use Rattle.asm_world.specs.Edits as world
 use Rattle.asm_world.specs.Files as bytes
 use Rattle.asm_world.specs.Settings as settings
-use Rattle.allocator.specs.UnitMaps.{UnitMap}
-use Rattle.catalog.specs.FilePlans.{removed, sized, with_size}
-use Rattle.catalog_tables.specs.Items.{AreItemsOf}
-use Rattle.catalog.specs.NamePlans.{made_file, named}
-use Rattle.catalog_tables.specs.Placing.{HasUnits}
-use Rattle.catalog.specs.Plans.{IsPlan}
-use Rattle.catalog_tables.specs.Rules.{KeepsRules}
-use Rattle.catalog_tables.specs.Tables.{Catalogued, Tables}
+use Rattle.catalog_laws.specs.allocator.UnitMaps.{UnitMap}
+use Rattle.catalog_laws.specs.catalog.FilePlans.{removed, sized, with_size}
+use Rattle.catalog_laws.specs.catalog_tables.Items.{AreItemsOf}
+use Rattle.catalog_laws.specs.catalog.NamePlans.{made_file, named}
+use Rattle.catalog_laws.specs.catalog_tables.Placing.{HasUnits}
+use Rattle.catalog_laws.specs.catalog.Plans.{IsPlan}
+use Rattle.catalog_laws.specs.catalog_tables.Rules.{KeepsRules}
+use Rattle.catalog_laws.specs.catalog_tables.Tables.{Catalogued, Tables}
 use Rattle.catalog_laws.proofs.HavingItems.{have_items}
 use Rattle.group_of.specs.Groups.{AreCellsButFor, HasCells, cells_of, file_of_head, files_by_number, group_of}
 use Rattle.group_of.specs.Describing.{DescribedIsOfCatalog, HaveGroup, IsDescribed, KeepsPlaces}

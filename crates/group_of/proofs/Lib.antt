@@ -15,3 +15,4 @@ pub mod FreeNumbers
 pub mod NextNumbers
 pub mod Refusals
 pub mod NameRefusals
+pub mod catalog

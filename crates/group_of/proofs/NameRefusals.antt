@@ -8,10 +8,10 @@ use Rattle.asm_group.specs.Group.{Group}
 use Rattle.asm_base.specs.Refusals.{said}
 use Rattle.asm_world.specs.Files as bytes
 use Rattle.asm_world.specs.Files.{NewName}
-use Rattle.alias_edits.specs.Filing.{file_causes, with_file}
-use Rattle.alias_tree.specs.Trees.{tree_of}
-use Rattle.catalog.specs.NameChecks.{check_causes}
-use Rattle.catalog.specs.NamePlans.{filed_as, made_file, name_at, system_path}
+use Rattle.catalog_laws.specs.alias_edits.Filing.{file_causes, with_file}
+use Rattle.catalog_laws.specs.alias_tree.Trees.{tree_of}
+use Rattle.catalog_laws.specs.catalog.NameChecks.{check_causes}
+use Rattle.catalog_laws.specs.catalog.NamePlans.{filed_as, made_file, name_at, system_path}
 use Rattle.catalog_laws.proofs.NameLaws.{refuses_as_world}
 use Rattle.group_of.specs.Groups.{group_of}
 use Rattle.group_of.specs.Edits.{IsRefusedBeside, IsWorldsRefusal, full, no_memory, refused, worlds}

@@ -15,14 +15,14 @@ use Rattle.asm_group.specs.TreeEdits as tree
 use Rattle.asm_formats.specs.Items.{FileHead}
 use Rattle.asm_world.specs.Edits as world
 use Rattle.asm_world.specs.Files as bytes
-use Rattle.file_directory.specs.Files as heads
-use Rattle.file_directory.specs.Files.{head_at, with_head}
-use Rattle.alias_tree.specs.Trees.{tree_of}
-use Rattle.alias_edits.specs.Filing as of_tree
-use Rattle.catalog.specs.FilePlans.{with_size}
-use Rattle.catalog.specs.NamePlans.{made_file, named}
-use Rattle.catalog.proofs.NumberedEntries.{number_other}
-use Rattle.catalog_tables.proofs.NumberedLists.{either, number_is, number_itself, put_at}
+use Rattle.catalog_laws.specs.file_directory.Files as heads
+use Rattle.catalog_laws.specs.file_directory.Files.{head_at, with_head}
+use Rattle.catalog_laws.specs.alias_tree.Trees.{tree_of}
+use Rattle.catalog_laws.specs.alias_edits.Filing as of_tree
+use Rattle.catalog_laws.specs.catalog.FilePlans.{with_size}
+use Rattle.catalog_laws.specs.catalog.NamePlans.{made_file, named}
+use Rattle.catalog_laws.proofs.catalog.NumberedEntries.{number_other}
+use Rattle.catalog_laws.proofs.catalog_tables.NumberedLists.{either, number_is, number_itself, put_at}
 use Rattle.group_of.specs.Groups.{AreCellsButFor, file_of_head, files_by_number, group_of}
 use Rattle.group_of.specs.Files.{NewFileIsWorlds, NewNameIsWorlds, PutHasCells, ResizedCellsAreLong, ResizedHasCells, SizeIsWorlds, head_planned}
 use Rattle.group_of.proofs.EditedGroups.{done, same_files, size_of}

@@ -11,13 +11,13 @@ use Rattle.asm_group.specs.Group.{Cell}
 use Rattle.asm_formats.specs.Items.{FileHead, Pending}
 use Rattle.asm_placement.specs.Naming.{is_pending}
 use Rattle.asm_world.specs.Files.{least_from}
-use Rattle.file_directory.specs.Files.{head_at, is_file}
-use Rattle.file_directory.specs.Files as heads
-use Rattle.catalog.specs.NamePlans.{made_file}
-use Rattle.catalog.specs.Numbers.{IsNextFile, is_taken}
-use Rattle.catalog_tables.specs.Tables.{Tables}
-use Rattle.catalog.proofs.NumberedEntries.{number_other}
-use Rattle.catalog_tables.proofs.NumberedLists.{number_itself}
+use Rattle.catalog_laws.specs.file_directory.Files.{head_at, is_file}
+use Rattle.catalog_laws.specs.file_directory.Files as heads
+use Rattle.catalog_laws.specs.catalog.NamePlans.{made_file}
+use Rattle.catalog_laws.specs.catalog.Numbers.{IsNextFile, is_taken}
+use Rattle.catalog_laws.specs.catalog_tables.Tables.{Tables}
+use Rattle.catalog_laws.proofs.catalog.NumberedEntries.{number_other}
+use Rattle.catalog_laws.proofs.catalog_tables.NumberedLists.{number_itself}
 use Rattle.group_of.specs.Groups.{files_by_number, group_of}
 use Rattle.group_of.specs.Files.{IsAtRest, MadeNumberIsWorlds, NextNumberIsWorlds}
 use Rattle.group_of.proofs.FreeNumbers.{HasFreeNumber, number_is_free}

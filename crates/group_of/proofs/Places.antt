@@ -14,20 +14,20 @@ use Rattle.asm_formats.specs.Status.{Entry, entry_of}
 use Rattle.asm_placement.specs.Layout.{units_of}
 use Rattle.asm_placement.specs.Placed.{Placed, all_apart, are_apart, fits_entry, is_inside, placed_copies, placed_extents, places_fit}
 use Rattle.asm_base.specs.Records.{Ascend}
-use Rattle.extent_map.specs.Extents as extents
-use Rattle.extent_map.specs.Extents.{Chunked}
+use Rattle.catalog_laws.specs.extent_map.Extents as extents
+use Rattle.catalog_laws.specs.extent_map.Extents.{Chunked}
 use Rattle.asm_base.specs.Chunks.{chunk_cmp, is_before}
-use Rattle.extent_map.proofs.Laws.{chunk_total}
-use Rattle.catalog_tables.specs.Tables.{Tables}
-use Rattle.catalog_tables.specs.Rules.{KeepsRules, are_on_disks, are_on_two, is_on_disks}
-use Rattle.catalog_tables.specs.Items.{AreItemsOf}
-use Rattle.catalog_tables.specs.Placing.{HasUnits, disk_units, entry_units, homes_of, unused_maps}
-use Rattle.catalog_tables.proofs.HomeUnits.{chunks_are_homes, three_true}
+use Rattle.catalog_laws.proofs.extent_map.Laws.{chunk_total}
+use Rattle.catalog_laws.specs.catalog_tables.Tables.{Tables}
+use Rattle.catalog_laws.specs.catalog_tables.Rules.{KeepsRules, are_on_disks, are_on_two, is_on_disks}
+use Rattle.catalog_laws.specs.catalog_tables.Items.{AreItemsOf}
+use Rattle.catalog_laws.specs.catalog_tables.Placing.{HasUnits, disk_units, entry_units, homes_of, unused_maps}
+use Rattle.catalog_laws.proofs.catalog_tables.HomeUnits.{chunks_are_homes, three_true}
 use Rattle.catalog_laws.proofs.ItemLists.{items_say}
-use Rattle.catalog.proofs.NumberedEntries.{passes_each}
-use Rattle.catalog_tables.proofs.PlacingLaws.{units_some}
-use Rattle.catalog_tables.proofs.TableItems.{append_among, below, chunks_exact, each_of, tail_up}
-use Rattle.allocator.specs.UnitMaps.{UnitMap, is_free, unused}
+use Rattle.catalog_laws.proofs.catalog.NumberedEntries.{passes_each}
+use Rattle.catalog_laws.proofs.catalog_tables.PlacingLaws.{units_some}
+use Rattle.catalog_laws.proofs.catalog_tables.TableItems.{append_among, below, chunks_exact, each_of, tail_up}
+use Rattle.catalog_laws.specs.allocator.UnitMaps.{UnitMap, is_free, unused}
 use Rattle.group_of.proofs.Runs.{AllPairs, AreLong, AreTaken, DontOverlap, IsFreeIn, all_taken, unused_is, unused_whole}
 
 -- ---- what is placed

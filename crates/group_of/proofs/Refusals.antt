@@ -16,7 +16,7 @@ use Rattle.asm_base.specs.declared.refusal.Refusal.{Refusal}
 use Rattle.asm_base.specs.declared.refusal.Refusal.TheVariants as cause
 use Rattle.asm_world.specs.Edits as world
 use Rattle.asm_world.specs.Settings as settings
-use Rattle.alias_tree.specs.Trees.{tree_of}
+use Rattle.catalog_laws.specs.alias_tree.Trees.{tree_of}
 use Rattle.group_of.specs.Groups.{group_of}
 use Rattle.group_of.specs.Edits.{AttributeRefusalIsWorlds, TemplateRefusalIsWorlds, TreeRefusalIsWorlds, attribute_meant, full, no_memory, refused, worlds}
 use Rattle.group_of.proofs.EditedGroups.{done}

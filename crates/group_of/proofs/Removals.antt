@@ -15,21 +15,21 @@ use Rattle.asm_group.specs.TreeEdits as tree
 use Rattle.asm_formats.specs.Items.{FileHead, Node}
 use Rattle.asm_formats.specs.Nodes.{node_kind}
 use Rattle.asm_placement.specs.Naming.{is_directory, is_named_as, kind_eq, names_back}
-use Rattle.file_directory.specs.Files.{head_at, without_file}
+use Rattle.catalog_laws.specs.file_directory.Files.{head_at, without_file}
 use Rattle.asm_base.specs.Records.{Ascend}
-use Rattle.alias_tree.specs.Numbers.{is_name_of}
-use Rattle.alias_tree.specs.Nodes as nodes
-use Rattle.alias_tree.specs.Nodes.{node_at, without_node}
-use Rattle.alias_edits.proofs.Growing.{NamesGone, unnamed_tree}
-use Rattle.alias_tree.proofs.Keeping.{at_without, without_items}
-use Rattle.alias_tree.proofs.Leading.{same_bool}
-use Rattle.alias_tree.proofs.Ways.{no_root}
-use Rattle.catalog_tables.specs.Tables.{Tables}
-use Rattle.catalog.specs.FilePlans.{without_names}
-use Rattle.catalog_tables.specs.Rules as rules
-use Rattle.catalog_tables.specs.Rules.{KeepsRules}
-use Rattle.catalog.proofs.NumberedEntries.{found_passes, number_other}
-use Rattle.catalog_tables.proofs.NumberedLists.{either, gone_at, number_is, number_itself}
+use Rattle.catalog_laws.specs.alias_tree.Numbers.{is_name_of}
+use Rattle.catalog_laws.specs.alias_tree.Nodes as nodes
+use Rattle.catalog_laws.specs.alias_tree.Nodes.{node_at, without_node}
+use Rattle.catalog_laws.proofs.alias_edits.Growing.{NamesGone, unnamed_tree}
+use Rattle.catalog_laws.proofs.alias_tree.Keeping.{at_without, without_items}
+use Rattle.catalog_laws.proofs.alias_tree.Leading.{same_bool}
+use Rattle.catalog_laws.proofs.alias_tree.Ways.{no_root}
+use Rattle.catalog_laws.specs.catalog_tables.Tables.{Tables}
+use Rattle.catalog_laws.specs.catalog.FilePlans.{without_names}
+use Rattle.catalog_laws.specs.catalog_tables.Rules as rules
+use Rattle.catalog_laws.specs.catalog_tables.Rules.{KeepsRules}
+use Rattle.catalog_laws.proofs.catalog.NumberedEntries.{found_passes, number_other}
+use Rattle.catalog_laws.proofs.catalog_tables.NumberedLists.{either, gone_at, number_is, number_itself}
 use Rattle.group_of.specs.Groups.{files_by_number, group_of}
 use Rattle.group_of.specs.Files.{RemovalIsWorlds, RemovalKeepsCells}
 use Rattle.group_of.proofs.HeadedFiles as files

@@ -9,16 +9,16 @@ use Rattle.asm_group.specs.Shape.{Shape}
 use Rattle.asm_formats.specs.Items.{Homes, Item, chunk_len, is_item, marks_item}
 use Rattle.asm_formats.specs.Sets.{has_bit}
 use Rattle.asm_placement.specs.Tables.{home_of, is_stale}
-use Rattle.extent_map.specs.Extents.{chunk_at}
-use Rattle.extent_map.proofs.Laws.{chunk_total}
-use Rattle.extent_map.proofs.Numbering.{size_of}
-use Rattle.staleness_directory.specs.Marks as stale
-use Rattle.staleness_directory.specs.Marks.{Marked, marks_at}
-use Rattle.catalog_tables.specs.Items.{AreItemsOf}
-use Rattle.catalog_tables.specs.Tables.{Tables}
-use Rattle.catalog_tables.specs.Rules.{KeepsRules, are_chunk_marks, are_marks_of, has_chunk, is_mark_of, is_marked_right, marks_of}
-use Rattle.catalog.proofs.NumberedEntries.{passes_each}
-use Rattle.catalog_tables.proofs.TableItems.{chunks_exact, each_of, found_is}
+use Rattle.catalog_laws.specs.extent_map.Extents.{chunk_at}
+use Rattle.catalog_laws.proofs.extent_map.Laws.{chunk_total}
+use Rattle.catalog_laws.proofs.extent_map.Numbering.{size_of}
+use Rattle.catalog_laws.specs.staleness_directory.Marks as stale
+use Rattle.catalog_laws.specs.staleness_directory.Marks.{Marked, marks_at}
+use Rattle.catalog_laws.specs.catalog_tables.Items.{AreItemsOf}
+use Rattle.catalog_laws.specs.catalog_tables.Tables.{Tables}
+use Rattle.catalog_laws.specs.catalog_tables.Rules.{KeepsRules, are_chunk_marks, are_marks_of, has_chunk, is_mark_of, is_marked_right, marks_of}
+use Rattle.catalog_laws.proofs.catalog.NumberedEntries.{passes_each}
+use Rattle.catalog_laws.proofs.catalog_tables.TableItems.{chunks_exact, each_of, found_is}
 use Rattle.catalog_laws.proofs.ItemLaws.{stale_are}
 use Rattle.group_of.proofs.Extents.{home_by, or_else}
 use Rattle.asm_base.specs.Chunks as chunk_order

@@ -19,15 +19,15 @@ use Rattle.asm_images.specs.Tables.{node_of}
 use Rattle.asm_images.specs.Tree as images
 use Rattle.asm_images.specs.Tree.{KeepsTreeRules, node_at_path}
 use Rattle.asm_base.proofs.Exact.{some_is, test_some}
-use Rattle.alias_tree.specs.Nodes as nodes
-use Rattle.alias_tree.specs.Nodes.{child, node_at}
-use Rattle.alias_tree.specs.Trees.{number_by, tree_of}
-use Rattle.alias_tree.proofs.Ways.{ChildAt, child_at, child_found, no_root, reaches_more, tree_has}
-use Rattle.catalog_tables.specs.Tables.{AreTables, Tables, item_at}
-use Rattle.catalog_tables.specs.Rules as rules
-use Rattle.catalog_tables.specs.Rules.{KeepsRules}
-use Rattle.catalog_tables.specs.Items.{AreItemsOf}
-use Rattle.catalog.proofs.NumberedEntries.{found_passes}
+use Rattle.catalog_laws.specs.alias_tree.Nodes as nodes
+use Rattle.catalog_laws.specs.alias_tree.Nodes.{child, node_at}
+use Rattle.catalog_laws.specs.alias_tree.Trees.{number_by, tree_of}
+use Rattle.catalog_laws.proofs.alias_tree.Ways.{ChildAt, child_at, child_found, no_root, reaches_more, tree_has}
+use Rattle.catalog_laws.specs.catalog_tables.Tables.{AreTables, Tables, item_at}
+use Rattle.catalog_laws.specs.catalog_tables.Rules as rules
+use Rattle.catalog_laws.specs.catalog_tables.Rules.{KeepsRules}
+use Rattle.catalog_laws.specs.catalog_tables.Items.{AreItemsOf}
+use Rattle.catalog_laws.proofs.catalog.NumberedEntries.{found_passes}
 use Rattle.catalog_laws.proofs.ItemLaws.{heads_are}
 use Rattle.group_of.proofs.Says.{first_is, first_none, nodes_are}
 use Rattle.group_of.proofs.Counts.{few_nodes}

@@ -8,12 +8,12 @@ use Rattle.asm_formats.specs.Status.{Status}
 use Rattle.asm_base.specs.Records.{Entry}
 use Rattle.asm_placement.specs.Partners.{HasPartners}
 use Rattle.asm_images.specs.Describing.{DescribesGroup}
-use Rattle.allocator.specs.UnitMaps.{UnitMap}
-use Rattle.catalog_tables.specs.Faults.{IsCatalogOf}
-use Rattle.catalog_tables.specs.Items.{AreItemsIn, AreItemsOf}
-use Rattle.catalog_tables.specs.Placing.{HasUnits}
-use Rattle.catalog_tables.specs.Rules.{AreOnRegular, KeepsRules, first_unknown}
-use Rattle.catalog_tables.specs.Tables.{AreTables, Catalogued, Tables}
+use Rattle.catalog_laws.specs.allocator.UnitMaps.{UnitMap}
+use Rattle.catalog_laws.specs.catalog_tables.Faults.{IsCatalogOf}
+use Rattle.catalog_laws.specs.catalog_tables.Items.{AreItemsIn, AreItemsOf}
+use Rattle.catalog_laws.specs.catalog_tables.Placing.{HasUnits}
+use Rattle.catalog_laws.specs.catalog_tables.Rules.{AreOnRegular, KeepsRules, first_unknown}
+use Rattle.catalog_laws.specs.catalog_tables.Tables.{AreTables, Catalogued, Tables}
 use Rattle.group_of.specs.Groups.{HasCells, cells_of, group_of}
 
 -- The tables of a group of this shape may stand under the record.

@@ -17,12 +17,12 @@ use Rattle.asm_base.specs.declared.refusal.Refusal.TheVariants as cause
 use Rattle.asm_world.specs.Edits as world
 use Rattle.asm_world.specs.Settings as settings
 use Rattle.asm_world.specs.Statement.{Attribute}
-use Rattle.alias_tree.specs.Nodes.{Numbered}
-use Rattle.template_directory.specs.Meant.{IsRefusal}
-use Rattle.catalog.specs.FilePlans.{IsAttributePlan, IsAttributeRefusal}
-use Rattle.catalog.specs.Plans.{IsTemplatePlan}
-use Rattle.catalog_tables.specs.Tables.{Catalogued, Tables}
-use Rattle.catalog.specs.TreePlans.{IsTreePlan, IsTreeRefusal, files_after}
+use Rattle.catalog_laws.specs.alias_tree.Nodes.{Numbered}
+use Rattle.catalog_laws.specs.template_directory.Meant.{IsRefusal}
+use Rattle.catalog_laws.specs.catalog.FilePlans.{IsAttributePlan, IsAttributeRefusal}
+use Rattle.catalog_laws.specs.catalog.Plans.{IsTemplatePlan}
+use Rattle.catalog_laws.specs.catalog_tables.Tables.{Catalogued, Tables}
+use Rattle.catalog_laws.specs.catalog.TreePlans.{IsTreePlan, IsTreeRefusal, files_after}
 use Rattle.group_of.specs.Groups.{HasCells, group_of}
 use Rattle.group_of.specs.Describing.{HaveGroup, IsDescribed}
 

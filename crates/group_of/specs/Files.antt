@@ -14,14 +14,14 @@ use Rattle.asm_base.specs.Records.{Entry}
 use Rattle.asm_base.specs.declared.refusal.Refusal.{Refusal}
 use Rattle.asm_world.specs.Edits as world
 use Rattle.asm_world.specs.Files as bytes
-use Rattle.file_directory.specs.Files.{head_at, with_head}
-use Rattle.catalog.specs.FilePlans.{IsRemovalPlan, IsSizePlan, removed, sized}
-use Rattle.catalog.specs.NameChecks.{IsCheckRefusal}
-use Rattle.catalog.specs.NamePlans.{IsNamePlan, IsNameRefusal, made_file, name_at, named, new_head}
-use Rattle.catalog.specs.Numbers.{IsNextFile}
-use Rattle.catalog.specs.Plans.{AreOwned}
-use Rattle.catalog_tables.specs.Rules.{KeepsRules}
-use Rattle.catalog_tables.specs.Tables.{Catalogued, Tables}
+use Rattle.catalog_laws.specs.file_directory.Files.{head_at, with_head}
+use Rattle.catalog_laws.specs.catalog.FilePlans.{IsRemovalPlan, IsSizePlan, removed, sized}
+use Rattle.catalog_laws.specs.catalog.NameChecks.{IsCheckRefusal}
+use Rattle.catalog_laws.specs.catalog.NamePlans.{IsNamePlan, IsNameRefusal, made_file, name_at, named, new_head}
+use Rattle.catalog_laws.specs.catalog.Numbers.{IsNextFile}
+use Rattle.catalog_laws.specs.catalog.Plans.{AreOwned}
+use Rattle.catalog_laws.specs.catalog_tables.Rules.{KeepsRules}
+use Rattle.catalog_laws.specs.catalog_tables.Tables.{Catalogued, Tables}
 use Rattle.group_of.specs.Groups.{AreCellsButFor, HasCells, file_of_head, group_of}
 use Rattle.group_of.specs.Describing.{HaveGroup, IsDescribed}
 use Rattle.group_of.specs.Edits.{IsRefusedBeside, IsWorldsRefusal}

@@ -6,9 +6,9 @@ use Rattle.asm_group.specs.Shape.{Shape}
 use Rattle.asm_group.specs.Group.{Cell, File, Group}
 use Rattle.asm_group.specs.NewGroup.{templates_by_name}
 use Rattle.asm_formats.specs.Items.{FileHead}
-use Rattle.alias_tree.specs.Trees.{tree_of}
-use Rattle.file_directory.specs.Files as heads
-use Rattle.catalog_tables.specs.Tables.{Tables}
+use Rattle.catalog_laws.specs.alias_tree.Trees.{tree_of}
+use Rattle.catalog_laws.specs.file_directory.Files as heads
+use Rattle.catalog_laws.specs.catalog_tables.Tables.{Tables}
 
 -- the file of a head, with these cells
 abbrev pub file_of_head : FileHead → List Cell → File

@@ -1,6 +1,8 @@
 //! The group that a catalog's tables are, and what plans make of it.
 #![tactic(auto)]
 
+pub use catalog_laws::{FileBy, NewFile, TreeEdit};
+
 mod describing;
 mod edits;
 mod files;

@@ -26,16 +26,16 @@ use Rattle.asm_images.specs.Bridge.{disks_in}
 use Rattle.asm_images.specs.Copies.{IsCurrent, is_disk_in, is_kept}
 use Rattle.asm_images.specs.Kept.{Kept}
 use Rattle.asm_images.specs.Members.{Member as Disk, byte}
-use Rattle.catalog_tables.specs.Tables.{Tables}
-use Rattle.catalog_laws.proofs.HavingItems.{have_items}
-use Rattle.catalog_laws.proofs.ItemLists.{items_say}
-use Rattle.extent_copies.specs.declared.extent.Extent.{Extent}
-use Rattle.extent_copies.specs.Extents.{can_be_read_at, copy_of}
-use Rattle.extent_map.specs.Extents.{absent, chunk_at, extent_at, has_home}
-use Rattle.status_register.specs.Surveys.{disk_in}
-use Rattle.group_engine.specs.Mounts.{IsReady, MountedGroup, Mounts}
-use Rattle.group_engine.proofs.Bytes.{mounted_holds}
-use Rattle.group_engine.proofs.Slots.{member_there}
+use Rattle.record_laws.specs.catalog_tables.Tables.{Tables}
+use Rattle.record_laws.proofs.catalog_laws.HavingItems.{have_items}
+use Rattle.record_laws.proofs.catalog_laws.ItemLists.{items_say}
+use Rattle.record_laws.specs.extent_copies.declared.extent.Extent.{Extent}
+use Rattle.record_laws.specs.extent_copies.Extents.{can_be_read_at, copy_of}
+use Rattle.record_laws.specs.extent_map.Extents.{absent, chunk_at, extent_at, has_home}
+use Rattle.record_laws.specs.status_register.Surveys.{disk_in}
+use Rattle.record_laws.specs.group_engine.Mounts.{IsReady, MountedGroup, Mounts}
+use Rattle.record_laws.proofs.group_engine.Bytes.{mounted_holds}
+use Rattle.record_laws.proofs.group_engine.Slots.{member_there}
 use Rattle.piece_laws.specs.Targets.{AgreesIn}
 use Rattle.piece_laws.proofs.Settling.{listed_byte}
 use Rattle.group_pieces.specs.declared.copies.Place.{Place}

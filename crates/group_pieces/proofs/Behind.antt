@@ -10,9 +10,9 @@ use Rattle.asm_formats.specs.Bytes.{block_size}
 use Rattle.asm_formats.specs.Regions.{region_end, reserved_units}
 use Rattle.asm_images.proofs.UserBytes.{reserved_cover, shape_au}
 use Rattle.asm_formats.specs.Among.{IsAmong}
-use Rattle.catalog_laws.proofs.HavingItems.{have_items}
-use Rattle.catalog_laws.proofs.ItemLists.{items_say}
-use Rattle.group_engine.specs.Mounts.{IsReady, IsWhole, MountedGroup}
+use Rattle.record_laws.proofs.catalog_laws.HavingItems.{have_items}
+use Rattle.record_laws.proofs.catalog_laws.ItemLists.{items_say}
+use Rattle.record_laws.specs.group_engine.Mounts.{IsReady, IsWhole, MountedGroup}
 use Rattle.group_pieces.specs.declared.copies.Place.{Place}
 use Rattle.group_pieces.specs.Bytes.{UserBytes, WritesBytes}
 use Rattle.group_pieces.specs.Copies.{IsSlotOfPlace, PlacesOf}

@@ -7,8 +7,8 @@ use Rattle.asm_formats.specs.Status.{Entry, Status}
 use Rattle.asm_group.specs.declared.Mode.TheVariants.{Offline}
 use Rattle.asm_formats.specs.Among.{IsAmong}
 use Rattle.asm_images.specs.RecordLaws.{bare}
-use Rattle.status_table.specs.Changes.{entries_with_partners, entry_with_offline, entry_with_partners, status_with_offline, status_with_partners}
-use Rattle.group_engine.specs.NextRecords.{KeepsDisks}
+use Rattle.record_laws.specs.status_table.Changes.{entries_with_partners, entry_with_offline, entry_with_partners, status_with_offline, status_with_partners}
+use Rattle.record_laws.specs.group_engine.NextRecords.{KeepsDisks}
 use Rattle.group_pieces.specs.Failing.{AreOffline, entry_failed, status_failed, taken_off}
 
 abbrev Bare : Type 0

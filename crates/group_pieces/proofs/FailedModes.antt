@@ -15,14 +15,14 @@ use Rattle.asm_placement.specs.Copies.{entry_at_home, is_on}
 use Rattle.asm_placement.specs.Modes.{is_dropping, is_forced, mode_is, serves, stays}
 use Rattle.asm_placement.proofs.Chosen.{entry_found}
 use Rattle.asm_placement.specs.Partners.{HasPartners, partner_set, with_partners}
-use Rattle.extent_copies.specs.Extents.{copy_of}
-use Rattle.status_table.specs.Changes.{entries_with_partners, status_with_partners}
+use Rattle.record_laws.specs.extent_copies.Extents.{copy_of}
+use Rattle.record_laws.specs.status_table.Changes.{entries_with_partners, status_with_partners}
 use Rattle.record_laws.specs.Changing.{KeepsDisk, KeepsPlace}
 use Rattle.record_laws.specs.Getting.{ChangesModesAlone}
 use Rattle.record_laws.proofs.Changing.{modes_join, modes_of_each}
 use Rattle.record_laws.proofs.Partners.{table_is_made, table_stays}
-use Rattle.group_engine.specs.Mounts.{MountedGroup}
-use Rattle.group_engine.proofs.Records.{record_parts}
+use Rattle.record_laws.specs.group_engine.Mounts.{MountedGroup}
+use Rattle.record_laws.proofs.group_engine.Records.{record_parts}
 use Rattle.group_pieces.specs.Failing.{AreServing, FailsModes, entry_failed, is_dropping_in, status_failed, taken_off}
 use Rattle.group_pieces.specs.Copies.{HasOnlyFailedPlaces}
 use Rattle.group_pieces.specs.Usable.{extent_of, places_at}

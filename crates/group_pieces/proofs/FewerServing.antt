@@ -11,11 +11,11 @@ use Rattle.asm_formats.specs.Status.{Entry, Status, entry_of}
 use Rattle.asm_placement.specs.Modes.{mode_is, serves}
 use Rattle.asm_placement.specs.Partners.{partner_set, with_partners}
 use Rattle.asm_placement.proofs.Chosen.{entry_among}
-use Rattle.status_register.specs.Holders.{numbered}
-use Rattle.status_table.specs.Changes.{entries_with_partners, status_with_partners}
-use Rattle.group_engine.specs.Commits.{turns_at_most}
-use Rattle.group_engine.specs.Mounts.{MountedGroup}
-use Rattle.group_engine.specs.Pending.{serving_in}
+use Rattle.record_laws.specs.status_register.Holders.{numbered}
+use Rattle.record_laws.specs.status_table.Changes.{entries_with_partners, status_with_partners}
+use Rattle.record_laws.specs.group_engine.Commits.{turns_at_most}
+use Rattle.record_laws.specs.group_engine.Mounts.{MountedGroup}
+use Rattle.record_laws.specs.group_engine.Pending.{serving_in}
 use Rattle.group_pieces.specs.Failing.{AreServing, CostsFaults, FewerServe, entry_failed, status_failed, taken_off}
 use Rattle.group_pieces.proofs.Steps.{on_ok}
 

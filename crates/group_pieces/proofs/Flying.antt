@@ -20,14 +20,14 @@ use Rattle.asm_placement.specs.Layout.{units_of}
 use Rattle.asm_images.specs.Kept.{Kept, IsHeld, header_in}
 use Rattle.asm_images.specs.WriteLaws.{AreApart}
 use Rattle.asm_images.proofs.Held.{same_is_held}
-use Rattle.catalog_tables.specs.Rules.{homes_at}
-use Rattle.catalog_tables.specs.Tables.{AreTables}
-use Rattle.extent_map.specs.Extents.{Chunked, chunk_at}
+use Rattle.record_laws.specs.catalog_tables.Rules.{homes_at}
+use Rattle.record_laws.specs.catalog_tables.Tables.{AreTables}
+use Rattle.record_laws.specs.extent_map.Extents.{Chunked, chunk_at}
 use Rattle.piece_laws.specs.SpareLaws.{IsInRun, IsSpareRun}
 use Rattle.piece_laws.proofs.SpareWriting.{spare_write_keeps}
-use Rattle.group_engine.specs.Own.{IsSameGroup}
-use Rattle.group_engine.specs.declared.flight.Flight.{Flight}
-use Rattle.group_engine.specs.Mounts.{IsReady, IsWhole, MountedGroup, Mounts, slot_at}
+use Rattle.record_laws.specs.group_engine.Own.{IsSameGroup}
+use Rattle.record_laws.specs.group_engine.declared.flight.Flight.{Flight}
+use Rattle.record_laws.specs.group_engine.Mounts.{IsReady, IsWhole, MountedGroup, Mounts, slot_at}
 use Rattle.group_pieces.specs.Marking.{MarksMore}
 use Rattle.group_pieces.proofs.Holding.{copy_low}
 use Rattle.group_pieces.specs.declared.copies.Place.{Place}

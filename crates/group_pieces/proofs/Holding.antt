@@ -21,18 +21,18 @@ use Rattle.asm_formats.specs.Sets.{has_bit}
 use Rattle.asm_placement.specs.Layout.{units_of}
 use Rattle.asm_images.specs.Kept.{Kept, IsHeld}
 use Rattle.asm_images.specs.Spans.{FitsIn}
-use Rattle.catalog.proofs.MovePlans.{all_at, homes_allowed}
-use Rattle.catalog_tables.specs.Rules.{homes_at, marks_of}
-use Rattle.catalog_tables.specs.Tables.{AreTables, Tables}
-use Rattle.extent_map.specs.Extents.{absent, chunk_at, extent_at, has_home}
-use Rattle.extent_map.proofs.FileEnds.{item_at}
+use Rattle.record_laws.proofs.catalog.MovePlans.{all_at, homes_allowed}
+use Rattle.record_laws.specs.catalog_tables.Rules.{homes_at, marks_of}
+use Rattle.record_laws.specs.catalog_tables.Tables.{AreTables, Tables}
+use Rattle.record_laws.specs.extent_map.Extents.{absent, chunk_at, extent_at, has_home}
+use Rattle.record_laws.proofs.extent_map.FileEnds.{item_at}
 use Rattle.piece_laws.specs.Targets.{AreAllUnmarked, HaveBytes, start_of}
 use Rattle.piece_laws.specs.Rewriting.{Rewrites}
 use Rattle.piece_laws.proofs.Rewriting.{put_rewrites}
 use Rattle.piece_laws.proofs.Settling.{freed_shape, settling_knows}
 use Rattle.piece_laws.proofs.Again.{put_again}
 use Rattle.piece_laws.proofs.Writing.{writing_frees}
-use Rattle.group_engine.specs.Mounts.{MountedGroup, Mounts}
+use Rattle.record_laws.specs.group_engine.Mounts.{MountedGroup, Mounts}
 use Rattle.group_pieces.specs.declared.copies.Place.{Place}
 use Rattle.group_pieces.specs.Bytes.{UserBytes, WritesBytes}
 use Rattle.group_pieces.specs.Copies.{HaveBut, PlacesOf}

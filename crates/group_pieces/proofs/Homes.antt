@@ -18,19 +18,19 @@ use Rattle.asm_placement.specs.Tables.{home_of}
 use Rattle.asm_placement.proofs.Membership.{among_split}
 use Rattle.asm_placement.proofs.Starts.{units_some}
 use Rattle.asm_images.proofs.UserBytes.{home_is_placed}
-use Rattle.allocator.specs.UnitMaps.{UnitMap, unused, with_run}
+use Rattle.record_laws.specs.allocator.UnitMaps.{UnitMap, unused, with_run}
 use Rattle.asm_base.proofs.Exact.{bind_some}
-use Rattle.extent_map.specs.Extents.{absent, chunk_at, extent_at, has_home}
+use Rattle.record_laws.specs.extent_map.Extents.{absent, chunk_at, extent_at, has_home}
 use Rattle.asm_base.specs.Chunks.{chunk_cmp}
-use Rattle.extent_map.proofs.Laws.{chunk_total, same_chunk}
-use Rattle.catalog_tables.specs.Items.{AreItemsOf}
-use Rattle.catalog_tables.specs.Placing.{HasUnits, after_homes, disk_units, home_taken, is_run_free, unused_maps}
-use Rattle.catalog_tables.specs.Rules.{are_on_disks, first_wrong, is_on_disks}
-use Rattle.catalog_tables.specs.Tables.{AreTables, Tables}
-use Rattle.catalog_tables.proofs.EntryLaws.{right_at}
-use Rattle.catalog_tables.proofs.HomeUnits.{chunks_are_homes, set_here, set_other, takes, unused_at}
-use Rattle.catalog_laws.proofs.ItemLists.{items_say}
-use Rattle.catalog_tables.proofs.PlacingLaws.{run_is}
+use Rattle.record_laws.proofs.extent_map.Laws.{chunk_total, same_chunk}
+use Rattle.record_laws.specs.catalog_tables.Items.{AreItemsOf}
+use Rattle.record_laws.specs.catalog_tables.Placing.{HasUnits, after_homes, disk_units, home_taken, is_run_free, unused_maps}
+use Rattle.record_laws.specs.catalog_tables.Rules.{are_on_disks, first_wrong, is_on_disks}
+use Rattle.record_laws.specs.catalog_tables.Tables.{AreTables, Tables}
+use Rattle.record_laws.proofs.catalog_tables.EntryLaws.{right_at}
+use Rattle.record_laws.proofs.catalog_tables.HomeUnits.{chunks_are_homes, set_here, set_other, takes, unused_at}
+use Rattle.record_laws.proofs.catalog_laws.ItemLists.{items_say}
+use Rattle.record_laws.proofs.catalog_tables.PlacingLaws.{run_is}
 
 -- ---- on different disks
 

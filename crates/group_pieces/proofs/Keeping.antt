@@ -8,14 +8,14 @@ use Rattle.bay.proofs.Calls.{on_more, started, widened}
 use Rattle.bay.proofs.Images.{changes-same, same-refl}
 use Rattle.asm_formats.specs.Bytes.{block_size}
 use Rattle.asm_formats.specs.Regions.{region_end}
-use Rattle.directory_store.proofs.Storing.{keeps_elsewhere}
-use Rattle.status_register.proofs.Elsewhere as register_proofs
+use Rattle.record_laws.proofs.directory_store.Storing.{keeps_elsewhere}
+use Rattle.record_laws.proofs.status_register.Elsewhere as register_proofs
 use Rattle.asm_group.specs.Group.{Group}
 use Rattle.asm_images.specs.Kept.{Kept}
-use Rattle.group_engine.specs.Mounts.{IsOwn, IsReady, IsWhole, MountedGroup, Mounts}
-use Rattle.group_engine.specs.Own.{KeepsGroup}
-use Rattle.group_engine.proofs.Causes.{same_itself}
-use Rattle.group_engine.proofs.Elsewhere.{mounts_elsewhere, stays_attached}
+use Rattle.record_laws.specs.group_engine.Mounts.{IsOwn, IsReady, IsWhole, MountedGroup, Mounts}
+use Rattle.record_laws.specs.group_engine.Own.{KeepsGroup}
+use Rattle.record_laws.proofs.group_engine.Causes.{same_itself}
+use Rattle.record_laws.proofs.group_engine.Elsewhere.{mounts_elsewhere, stays_attached}
 use Rattle.group_pieces.specs.Bytes.{UserBytes, WritesBytes}
 use Rattle.group_pieces.specs.Reads.{ReadsGroup}
 

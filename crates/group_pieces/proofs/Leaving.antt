@@ -7,11 +7,11 @@ use Rattle.std.proofs.lemmas.Option.{none-some}
 use Rattle.asm_base.specs.declared.kinds.ExtentId.{ExtentId}
 use Rattle.asm_formats.specs.Items.{Home, Homes, chunk_len}
 use Rattle.asm_formats.specs.Sets.{has_bit}
-use Rattle.extent_map.specs.Extents.{absent, chunk_at, extent_at, has_home}
-use Rattle.catalog.specs.ExtentPlans.{MayMark}
-use Rattle.catalog_tables.specs.Rules.{is_mark_of, homes_at}
-use Rattle.catalog_tables.specs.Tables.{Tables}
-use Rattle.group_engine.specs.Mounts.{MountedGroup}
+use Rattle.record_laws.specs.extent_map.Extents.{absent, chunk_at, extent_at, has_home}
+use Rattle.record_laws.specs.catalog.ExtentPlans.{MayMark}
+use Rattle.record_laws.specs.catalog_tables.Rules.{is_mark_of, homes_at}
+use Rattle.record_laws.specs.catalog_tables.Tables.{Tables}
+use Rattle.record_laws.specs.group_engine.Mounts.{MountedGroup}
 use Rattle.group_pieces.specs.Marking.{is_left, left_of, three_bits}
 use Rattle.group_pieces.specs.Usable.{extent_of}
 use Rattle.group_pieces.proofs.Agreeing.{raw_home}

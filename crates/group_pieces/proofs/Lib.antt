@@ -23,3 +23,7 @@ pub mod MarksLead
 pub mod Recording
 pub mod Flying
 pub mod WholePiece
+pub mod catalog
+pub mod catalog_laws
+pub mod group_engine
+pub mod group_of

@@ -10,15 +10,15 @@ use Rattle.std.proofs.lemmas.Nat.Bits.{bit_at-lt, bit_at_and, bit_at_or}
 use Rattle.asm_base.specs.Chunks.{Chunk, chunk_cmp}
 use Rattle.asm_formats.specs.Items.{is_item}
 use Rattle.asm_formats.specs.Sets.{has_bit}
-use Rattle.catalog.specs.ExtentPlans.{marks_changed, marks_or_none, with_marks_changed}
-use Rattle.catalog.proofs.MarkPlans.{are_marks}
-use Rattle.catalog_tables.specs.Rules.{marks_of}
-use Rattle.catalog_tables.specs.Tables.{AreTables, Tables}
-use Rattle.catalog_tables.proofs.EntryLaws.{either, holds_at}
-use Rattle.staleness_directory.specs.Marks.{Marked, item_of, marks_at}
-use Rattle.extent_map.proofs.Laws.{chunk_total, same_chunk}
-use Rattle.extent_map.proofs.Lookups.{key_is, put_here, put_other}
-use Rattle.extent_map.proofs.Numbering.{found_self}
+use Rattle.record_laws.specs.catalog.ExtentPlans.{marks_changed, marks_or_none, with_marks_changed}
+use Rattle.record_laws.proofs.catalog.MarkPlans.{are_marks}
+use Rattle.record_laws.specs.catalog_tables.Rules.{marks_of}
+use Rattle.record_laws.specs.catalog_tables.Tables.{AreTables, Tables}
+use Rattle.record_laws.proofs.catalog_tables.EntryLaws.{either, holds_at}
+use Rattle.record_laws.specs.staleness_directory.Marks.{Marked, item_of, marks_at}
+use Rattle.record_laws.proofs.extent_map.Laws.{chunk_total, same_chunk}
+use Rattle.record_laws.proofs.extent_map.Lookups.{key_is, put_here, put_other}
+use Rattle.record_laws.proofs.extent_map.Numbering.{found_self}
 use Rattle.group_pieces.specs.Marking.{MarksMore}
 
 -- where a chunk has no marks, none is set

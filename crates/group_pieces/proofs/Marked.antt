@@ -9,15 +9,15 @@ use Rattle.std.proofs.lemmas.List.{get_or-set_same}
 use Rattle.asm_base.specs.declared.kinds.ExtentId.{ExtentId}
 use Rattle.asm_formats.specs.Sets.{has_bit}
 use Rattle.asm_base.specs.Chunks.{chunk_cmp}
-use Rattle.extent_map.proofs.Laws.{same_chunk}
-use Rattle.extent_map.proofs.Lookups.{put_here}
-use Rattle.extent_map.proofs.Numbering.{found_self}
-use Rattle.catalog.specs.ExtentPlans.{MayMark, marks_changed, marks_or_none, with_marks_changed}
-use Rattle.catalog_tables.specs.Faults.{IsCatalog}
-use Rattle.catalog_tables.specs.Rules.{marks_of}
-use Rattle.catalog_tables.specs.Tables.{Catalogued, Tables}
-use Rattle.catalog.proofs.MarkPlans.{stands}
-use Rattle.group_engine.specs.Mounts.{MountedGroup}
+use Rattle.record_laws.proofs.extent_map.Laws.{same_chunk}
+use Rattle.record_laws.proofs.extent_map.Lookups.{put_here}
+use Rattle.record_laws.proofs.extent_map.Numbering.{found_self}
+use Rattle.record_laws.specs.catalog.ExtentPlans.{MayMark, marks_changed, marks_or_none, with_marks_changed}
+use Rattle.record_laws.specs.catalog_tables.Faults.{IsCatalog}
+use Rattle.record_laws.specs.catalog_tables.Rules.{marks_of}
+use Rattle.record_laws.specs.catalog_tables.Tables.{Catalogued, Tables}
+use Rattle.record_laws.proofs.catalog.MarkPlans.{stands}
+use Rattle.record_laws.specs.group_engine.Mounts.{MountedGroup}
 use Rattle.group_pieces.specs.Marking.{AreMarked, is_left, left_of}
 use Rattle.group_pieces.specs.Usable.{extent_of}
 use Rattle.group_pieces.proofs.Leaving.{bit_0, bit_1, bit_2, may_mark}

@@ -28,21 +28,21 @@ use Rattle.asm_images.specs.Members.{Member as Disk, all_members, byte}
 use Rattle.asm_images.specs.Spans.{Span, file_with, group_with}
 use Rattle.asm_images.proofs.SpanCells.{cell_is_put, cell_stays, files_are_put, length_stays}
 use Rattle.asm_images.proofs.Spans.{layout_of}
-use Rattle.catalog.specs.ExtentPlans.{with_marks_changed}
-use Rattle.catalog_laws.proofs.HavingItems.{have_items}
-use Rattle.catalog_laws.proofs.ItemLists.{items_say}
-use Rattle.catalog_tables.specs.Items.{AreItemsOf}
-use Rattle.catalog_tables.specs.Rules.{homes_at}
-use Rattle.catalog_tables.specs.Tables.{AreTables, Tables}
-use Rattle.status_register.specs.Surveys.{disk_in}
-use Rattle.group_of.proofs.Extents.{home_by}
+use Rattle.record_laws.specs.catalog.ExtentPlans.{with_marks_changed}
+use Rattle.record_laws.proofs.catalog_laws.HavingItems.{have_items}
+use Rattle.record_laws.proofs.catalog_laws.ItemLists.{items_say}
+use Rattle.record_laws.specs.catalog_tables.Items.{AreItemsOf}
+use Rattle.record_laws.specs.catalog_tables.Rules.{homes_at}
+use Rattle.record_laws.specs.catalog_tables.Tables.{AreTables, Tables}
+use Rattle.record_laws.specs.status_register.Surveys.{disk_in}
+use Rattle.record_laws.proofs.group_of.Extents.{home_by}
 use Rattle.piece_laws.proofs.Again.{put_again}
 use Rattle.piece_laws.proofs.Kept.{kept_as}
 use Rattle.piece_laws.proofs.Settling.{listed_byte}
-use Rattle.group_engine.specs.Becoming.{HoldsIn}
-use Rattle.group_engine.specs.Mounts.{MountedGroup, Mounts, slot_at}
-use Rattle.group_engine.proofs.Bytes.{mounted_holds}
-use Rattle.group_engine.proofs.Slots.{member_seen, member_there}
+use Rattle.record_laws.specs.group_engine.Becoming.{HoldsIn}
+use Rattle.record_laws.specs.group_engine.Mounts.{MountedGroup, Mounts, slot_at}
+use Rattle.record_laws.proofs.group_engine.Bytes.{mounted_holds}
+use Rattle.record_laws.proofs.group_engine.Slots.{member_seen, member_there}
 use Rattle.group_pieces.specs.Copies.{HaveBut}
 use Rattle.group_pieces.specs.Held.{piece_freed, piece_written}
 use Rattle.group_pieces.specs.Marking.{is_left, left_of}

@@ -11,19 +11,19 @@ use Rattle.asm_formats.specs.Items.{Key}
 use Rattle.asm_formats.specs.Status.{Status}
 use Rattle.asm_images.specs.Describing.{DescribesGroup}
 use Rattle.asm_images.specs.Kept.{Kept}
-use Rattle.catalog.specs.ExtentPlans.{with_marks_changed}
-use Rattle.catalog.specs.Plans.{IsPlan}
-use Rattle.catalog_laws.proofs.HavingItems.{have_items}
-use Rattle.catalog_tables.specs.Tables.{AreTables, Tables}
-use Rattle.group_of.specs.Describing.{HaveGroup, KeepsPlaces}
-use Rattle.group_of.specs.Groups.{cells_of}
-use Rattle.group_of.proofs.Describes.{described_has_cells, described_is_of_tables, next_describe}
-use Rattle.group_of.proofs.EditedGroups.{names_are_group}
+use Rattle.record_laws.specs.catalog.ExtentPlans.{with_marks_changed}
+use Rattle.record_laws.specs.catalog.Plans.{IsPlan}
+use Rattle.record_laws.proofs.catalog_laws.HavingItems.{have_items}
+use Rattle.record_laws.specs.catalog_tables.Tables.{AreTables, Tables}
+use Rattle.record_laws.specs.group_of.Describing.{HaveGroup, KeepsPlaces}
+use Rattle.record_laws.specs.group_of.Groups.{cells_of}
+use Rattle.record_laws.proofs.group_of.Describes.{described_has_cells, described_is_of_tables, next_describe}
+use Rattle.record_laws.proofs.group_of.EditedGroups.{names_are_group}
 use Rattle.piece_laws.specs.Rewriting.{Rewrites}
 use Rattle.piece_laws.proofs.Rewriting.{put_rewrites, rewritten_is_described}
 use Rattle.piece_laws.proofs.Again.{put_again}
-use Rattle.group_engine.specs.Commits.{LeadsTo}
-use Rattle.group_engine.specs.Mounts.{MountedGroup, Mounts}
+use Rattle.record_laws.specs.group_engine.Commits.{LeadsTo}
+use Rattle.record_laws.specs.group_engine.Mounts.{MountedGroup, Mounts}
 use Rattle.group_pieces.specs.Copies.{HaveBut}
 use Rattle.group_pieces.specs.Held.{piece_freed, piece_written}
 use Rattle.group_pieces.specs.Marking.{left_of}

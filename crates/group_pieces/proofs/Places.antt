@@ -11,12 +11,12 @@ use Rattle.asm_placement.specs.Layout.{units_of}
 use Rattle.asm_formats.specs.Items.{Home, Homes}
 use Rattle.asm_formats.proofs.Fields.{passes_if_all}
 use Rattle.asm_base.specs.declared.kinds.ExtentId.{ExtentId}
-use Rattle.catalog_tables.specs.Rules.{are_on_disks, are_on_two}
-use Rattle.extent_copies.specs.declared.extent.Extent.{Extent}
-use Rattle.extent_copies.specs.Extents.{can_be_read_at}
-use Rattle.status_register.specs.declared.member.Member.{Member}
-use Rattle.group_engine.specs.declared.attached.Attached.{Attached}
-use Rattle.group_engine.specs.Mounts.{IsOwn, IsReady, IsWhole, MountedGroup, slot_at}
+use Rattle.record_laws.specs.catalog_tables.Rules.{are_on_disks, are_on_two}
+use Rattle.record_laws.specs.extent_copies.declared.extent.Extent.{Extent}
+use Rattle.record_laws.specs.extent_copies.Extents.{can_be_read_at}
+use Rattle.record_laws.specs.status_register.declared.member.Member.{Member}
+use Rattle.record_laws.specs.group_engine.declared.attached.Attached.{Attached}
+use Rattle.record_laws.specs.group_engine.Mounts.{IsOwn, IsReady, IsWhole, MountedGroup, slot_at}
 use Rattle.group_pieces.specs.declared.copies.Place.{Place}
 use Rattle.group_pieces.specs.Copies.{AreCopyPlacesApart, AreUsable, IsSlotOfPlace, IsUsablePiece}
 use Rattle.group_pieces.specs.Usable.{AreNone, FitsExtent, at_home, extent_of, first_disk, in_image, on_disk, on_slot, place_at, places_in, size_at}

@@ -20,21 +20,21 @@ use Rattle.asm_images.specs.Kept.{Kept, IsHeld}
 use Rattle.asm_images.specs.Describing.{extent_size}
 use Rattle.asm_images.specs.Spans.{FitsIn, Span, freed}
 use Rattle.asm_images.proofs.Spans.{piece_keeps, widen_keeps}
-use Rattle.catalog.specs.ExtentPlans.{with_marks_changed}
-use Rattle.catalog.specs.Plans.{IsPlan}
+use Rattle.record_laws.specs.catalog.ExtentPlans.{with_marks_changed}
+use Rattle.record_laws.specs.catalog.Plans.{IsPlan}
 use Rattle.piece_laws.proofs.Again.{put_again}
 use Rattle.record_laws.proofs.Modes.{mounted_has_partners, same_disks_may_be_got}
-use Rattle.group_engine.specs.Commits.{CommitsPlan, StandsIn, turns_at_most}
-use Rattle.group_engine.specs.Mounts.{IsMounted, MountedGroup, Mounts}
-use Rattle.group_engine.specs.Pending.{HasTurns}
-use Rattle.group_engine.specs.Recorded.{MayGet}
+use Rattle.record_laws.specs.group_engine.Commits.{CommitsPlan, StandsIn, turns_at_most}
+use Rattle.record_laws.specs.group_engine.Mounts.{IsMounted, MountedGroup, Mounts}
+use Rattle.record_laws.specs.group_engine.Pending.{HasTurns}
+use Rattle.record_laws.specs.group_engine.Recorded.{MayGet}
 use Rattle.group_pieces.specs.Usable.{FitsExtent, piece_of}
 use Rattle.group_pieces.proofs.Rewritten.{rewritten_shape}
 use Rattle.group_pieces.specs.Failing.{AreServing, FailsModes}
 use Rattle.group_pieces.specs.Held.{FailedHeld, IsWritten, RecordsHeld, piece_freed, piece_written}
 use Rattle.group_pieces.specs.Marking.{left_of}
-use Rattle.group_engine.proofs.Endings.{kept_before}
-use Rattle.group_engine.proofs.Standings.{stands_at_rest}
+use Rattle.record_laws.proofs.group_engine.Endings.{kept_before}
+use Rattle.record_laws.proofs.group_engine.Standings.{stands_at_rest}
 use Rattle.group_pieces.proofs.Holding.{mounted_written}
 use Rattle.group_pieces.proofs.MarksLead.{marks_lead, settled_rewrites}
 use Rattle.group_pieces.proofs.Steps.{on_ok}

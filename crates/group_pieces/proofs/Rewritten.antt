@@ -4,11 +4,11 @@ use Rattle.bay.specs.Image as bay
 use Rattle.bay.specs.Image.{ChangesOnly}
 use Rattle.bay.specs.State.{BayState}
 use Rattle.asm_group.specs.Group.{Group}
-use Rattle.status_register.specs.Elsewhere.{LeavesRegister}
-use Rattle.status_register.proofs.Elsewhere as registers
+use Rattle.record_laws.specs.status_register.Elsewhere.{LeavesRegister}
+use Rattle.record_laws.proofs.status_register.Elsewhere as registers
 use Rattle.piece_laws.specs.Rewriting.{Rewrites}
 use Rattle.piece_laws.proofs.Rewriting.{rewritten_is_described}
-use Rattle.group_engine.specs.Mounts.{MountedGroup, Represents}
+use Rattle.record_laws.specs.group_engine.Mounts.{MountedGroup, Represents}
 use Rattle.group_pieces.specs.Bytes.{UserBytes}
 use Rattle.group_pieces.specs.Held.{BytesMount}
 

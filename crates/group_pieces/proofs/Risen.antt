@@ -8,7 +8,7 @@ use Rattle.bay.specs.Counts.{Rose}
 use Rattle.asm_base.specs.declared.kinds.ExtentId.{ExtentId}
 use Rattle.asm_formats.specs.Sets.{has_bit}
 use Rattle.asm_formats.specs.Among.{IsAmong}
-use Rattle.group_engine.specs.Mounts.{MountedGroup, slot_at}
+use Rattle.record_laws.specs.group_engine.Mounts.{MountedGroup, slot_at}
 use Rattle.group_pieces.specs.declared.copies.Place.{Place}
 use Rattle.group_pieces.specs.Copies.{AllFailed, HasOnlyFailedPlaces}
 use Rattle.group_pieces.specs.Faults.{AreRisen, IsFault}

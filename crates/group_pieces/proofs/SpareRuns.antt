@@ -7,7 +7,7 @@ use Rattle.bay.specs.Moments.{Runs}
 use Rattle.bay.proofs.Images.{changes-within}
 use Rattle.asm_formats.specs.Items.{Home}
 use Rattle.asm_images.proofs.UserBytes.{reserved_cover, shape_au}
-use Rattle.group_engine.specs.Mounts.{IsOwn, IsReady, IsWhole, MountedGroup, slot_at}
+use Rattle.record_laws.specs.group_engine.Mounts.{IsOwn, IsReady, IsWhole, MountedGroup, slot_at}
 use Rattle.group_pieces.specs.declared.copies.Place.{Place}
 use Rattle.group_pieces.specs.Bytes.{UserBytes, WritesBytes}
 use Rattle.group_pieces.specs.Spare.{IsRunAt, IsRunOf}

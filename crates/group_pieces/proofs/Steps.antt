@@ -5,13 +5,13 @@ use Rattle.bay.specs.State.{BayState}
 use Rattle.asm_base.specs.declared.kinds.ExtentId.{ExtentId}
 use Rattle.asm_base.specs.declared.refusal.Refusal.{Refusal}
 use Rattle.asm_base.specs.declared.refusal.Refusal.TheVariants as cause
-use Rattle.group_engine.specs.Commits.{StatusCause}
-use Rattle.group_engine.specs.Making.{IsShut}
-use Rattle.group_engine.specs.Mounts.{IsMounted, MountedGroup, Takes}
-use Rattle.group_engine.specs.Own.{KeepsGroup}
-use Rattle.group_engine.specs.declared.access.Access.{Access}
-use Rattle.group_engine.specs.declared.access.Access.TheVariants as access
-use Rattle.group_engine.proofs.Causes.{nothing_kept}
+use Rattle.record_laws.specs.group_engine.Commits.{StatusCause}
+use Rattle.record_laws.specs.group_engine.Making.{IsShut}
+use Rattle.record_laws.specs.group_engine.Mounts.{IsMounted, MountedGroup, Takes}
+use Rattle.record_laws.specs.group_engine.Own.{KeepsGroup}
+use Rattle.record_laws.specs.group_engine.declared.access.Access.{Access}
+use Rattle.record_laws.specs.group_engine.declared.access.Access.TheVariants as access
+use Rattle.record_laws.proofs.group_engine.Causes.{nothing_kept}
 use Rattle.group_pieces.specs.declared.writing.WriteError.{WriteError}
 use Rattle.group_pieces.specs.declared.writing.WriteError.TheVariants as writes
 use Rattle.group_pieces.specs.Held.{PieceStays}

@@ -25,16 +25,16 @@ use Rattle.asm_images.specs.Spans.{FitsIn}
 use Rattle.asm_images.specs.Steps.{IsOpen}
 use Rattle.asm_images.proofs.Membership.{among_within}
 use Rattle.asm_images.proofs.OneContent.{found_is_held}
-use Rattle.catalog_laws.proofs.ItemLists.{items_say}
-use Rattle.catalog_tables.specs.Items.{SayTables}
-use Rattle.catalog_tables.specs.Rules.{homes_at, marks_of}
-use Rattle.extent_copies.specs.declared.extent.Extent.{Extent}
-use Rattle.status_register.specs.declared.member.Member.{Member}
+use Rattle.record_laws.proofs.catalog_laws.ItemLists.{items_say}
+use Rattle.record_laws.specs.catalog_tables.Items.{SayTables}
+use Rattle.record_laws.specs.catalog_tables.Rules.{homes_at, marks_of}
+use Rattle.record_laws.specs.extent_copies.declared.extent.Extent.{Extent}
+use Rattle.record_laws.specs.status_register.declared.member.Member.{Member}
 use Rattle.piece_laws.specs.Targets.{AreTargets, HasBirth, RangesOf, SaysExtent, Target, start_of}
-use Rattle.group_engine.specs.CommitSteps.{content_of}
-use Rattle.group_engine.specs.Mounts.{IsWhole, MountedGroup, Mounts}
-use Rattle.group_engine.proofs.Calls.{image_of, items, was}
-use Rattle.group_engine.proofs.Images.{is_committing}
+use Rattle.record_laws.specs.group_engine.CommitSteps.{content_of}
+use Rattle.record_laws.specs.group_engine.Mounts.{IsWhole, MountedGroup, Mounts}
+use Rattle.record_laws.proofs.group_engine.Calls.{image_of, items, was}
+use Rattle.record_laws.proofs.group_engine.Images.{is_committing}
 use Rattle.group_pieces.specs.declared.copies.Place.{Place}
 use Rattle.group_pieces.specs.Copies.{PlacesOf}
 use Rattle.group_pieces.specs.Usable.{FitsExtent, extent_of, piece_of, place_at, places_at}

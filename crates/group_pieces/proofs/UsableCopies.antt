@@ -7,10 +7,10 @@ use Rattle.asm_formats.specs.Sets.{has_bit}
 use Rattle.asm_formats.specs.Items.{Home}
 use Rattle.asm_formats.proofs.Fields.{passes_if_all}
 use Rattle.asm_placement.specs.Layout.{units_of}
-use Rattle.extent_copies.specs.declared.extent.Extent.{Extent}
-use Rattle.extent_copies.specs.Extents.{can_be_read_at}
-use Rattle.extent_copies.specs.Usable.{is_usable_at, lies_in}
-use Rattle.group_engine.specs.Mounts.{MountedGroup, slot_at}
+use Rattle.record_laws.specs.extent_copies.declared.extent.Extent.{Extent}
+use Rattle.record_laws.specs.extent_copies.Extents.{can_be_read_at}
+use Rattle.record_laws.specs.extent_copies.Usable.{is_usable_at, lies_in}
+use Rattle.record_laws.specs.group_engine.Mounts.{MountedGroup, slot_at}
 use Rattle.group_pieces.specs.declared.copies.Place.{Place}
 use Rattle.group_pieces.specs.Usable.{FitsExtent, at_home, on_disk, place_at}
 

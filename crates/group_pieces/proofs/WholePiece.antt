@@ -8,12 +8,12 @@ use Rattle.asm_group.specs.Names.{Bytes}
 use Rattle.asm_base.specs.declared.kinds.ExtentId.{ExtentId}
 use Rattle.asm_base.specs.declared.refusal.Refusal.{Refusal}
 use Rattle.asm_images.specs.Kept.{Kept}
-use Rattle.group_of.specs.Describing.{KeepsNames}
-use Rattle.group_engine.specs.declared.flight.Flight.{Flight}
-use Rattle.group_engine.specs.Commits.{StandsIn}
-use Rattle.group_engine.specs.Making.{IsShut}
-use Rattle.group_engine.specs.Mounts.{IsMounted, IsReady, IsWhole, MountedGroup}
-use Rattle.group_engine.proofs.Standings.{stands_at_rest}
+use Rattle.record_laws.specs.group_of.Describing.{KeepsNames}
+use Rattle.record_laws.specs.group_engine.declared.flight.Flight.{Flight}
+use Rattle.record_laws.specs.group_engine.Commits.{StandsIn}
+use Rattle.record_laws.specs.group_engine.Making.{IsShut}
+use Rattle.record_laws.specs.group_engine.Mounts.{IsMounted, IsReady, IsWhole, MountedGroup}
+use Rattle.record_laws.proofs.group_engine.Standings.{stands_at_rest}
 use Rattle.group_pieces.specs.declared.writing.WriteError.{WriteError}
 use Rattle.group_pieces.specs.declared.writing.WriteError.TheVariants as error
 use Rattle.group_pieces.specs.Bytes.{WritesBytes}

@@ -5,7 +5,7 @@ use Rattle.bay.specs.State.{BayState, KeepsAttached}
 use Rattle.bay.specs.Moments.{Runs}
 use Rattle.asm_formats.specs.Bytes.{block_size}
 use Rattle.asm_formats.specs.Regions.{region_end}
-use Rattle.group_engine.specs.Mounts.{IsOwn, IsReady, MountedGroup}
+use Rattle.record_laws.specs.group_engine.Mounts.{IsOwn, IsReady, MountedGroup}
 
 -- a byte of an attached disk behind its directory region
 abbrev pub UserBytes : MountedGroup → ℕ → ℕ → Type 0

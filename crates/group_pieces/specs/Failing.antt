@@ -7,8 +7,8 @@ use Rattle.asm_formats.specs.Among.{IsAmong}
 use Rattle.asm_placement.specs.Modes.{is_dropping, mode_is, serves}
 use Rattle.asm_placement.specs.Partners.{HasPartners}
 use Rattle.record_laws.specs.Getting.{ChangesModesAlone}
-use Rattle.group_engine.specs.Mounts.{MountedGroup}
-use Rattle.group_engine.specs.Pending.{serving_in, turns_with_faults}
+use Rattle.record_laws.specs.group_engine.Mounts.{MountedGroup}
+use Rattle.record_laws.specs.group_engine.Pending.{serving_in, turns_with_faults}
 
 -- the entry Offline, since that second, for so many seconds until the disk is dropped
 abbrev pub taken_off : ℕ → ℕ → Entry → Entry

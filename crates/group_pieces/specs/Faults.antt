@@ -4,7 +4,7 @@ use Rattle.bay.specs.State.{BayState}
 use Rattle.bay.specs.Counts.{Rose}
 use Rattle.asm_base.specs.declared.kinds.ExtentId.{ExtentId}
 use Rattle.asm_formats.specs.Sets.{has_bit}
-use Rattle.group_engine.specs.Mounts.{MountedGroup, slot_at}
+use Rattle.record_laws.specs.group_engine.Mounts.{MountedGroup, slot_at}
 use Rattle.group_pieces.specs.Copies.{AllFailed}
 use Rattle.group_pieces.specs.Usable.{first_disk, places_at}
 

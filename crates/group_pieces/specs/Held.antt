@@ -14,13 +14,13 @@ use Rattle.asm_placement.specs.Layout.{units_of}
 use Rattle.asm_images.specs.Kept.{Kept, IsHeld}
 use Rattle.asm_images.specs.Spans.{freed, settled}
 use Rattle.asm_images.specs.WriteLaws.{AreApart}
-use Rattle.catalog_tables.specs.Rules.{homes_at, marks_of}
+use Rattle.record_laws.specs.catalog_tables.Rules.{homes_at, marks_of}
 use Rattle.piece_laws.specs.Rewriting.{Rewrites}
-use Rattle.group_of.specs.Describing.{KeepsNames}
-use Rattle.group_engine.specs.declared.flight.Flight.{Flight}
-use Rattle.group_engine.specs.Commits.{StandsIn}
-use Rattle.group_engine.specs.Mounts.{IsMounted, MountedGroup, Mounts}
-use Rattle.group_engine.specs.Pending.{HasTurns, turns_with_faults}
+use Rattle.record_laws.specs.group_of.Describing.{KeepsNames}
+use Rattle.record_laws.specs.group_engine.declared.flight.Flight.{Flight}
+use Rattle.record_laws.specs.group_engine.Commits.{StandsIn}
+use Rattle.record_laws.specs.group_engine.Mounts.{IsMounted, MountedGroup, Mounts}
+use Rattle.record_laws.specs.group_engine.Pending.{HasTurns, turns_with_faults}
 use Rattle.group_pieces.specs.declared.writing.WriteError.{WriteError}
 use Rattle.group_pieces.specs.Bytes.{UserBytes, WritesBytes}
 use Rattle.group_pieces.specs.Copies.{HaveBut}

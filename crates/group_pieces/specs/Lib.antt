@@ -10,3 +10,12 @@ pub mod Pieces
 pub mod Failing
 pub mod Written
 pub mod Held
+pub mod asm_images
+pub mod catalog
+pub mod directory_store
+pub mod extent_copies
+pub mod group_engine
+pub mod group_of
+pub mod piece_laws
+pub mod rebalance
+pub mod status_register

@@ -2,11 +2,11 @@
 use Rattle.std.specs.Prelude.{◌≡◌, ℕ, ◌+◌, ◌<◌, Bool, true, false, ◌&&◌, not, if◌then◌else◌, get_or, Option, Some, None, is_some}
 use Rattle.asm_base.specs.declared.kinds.ExtentId.{ExtentId}
 use Rattle.asm_formats.specs.Sets.{has_bit}
-use Rattle.catalog_tables.specs.Rules.{marks_of}
-use Rattle.catalog_tables.specs.Tables.{Tables}
-use Rattle.extent_copies.specs.declared.extent.Extent.{Extent}
-use Rattle.group_of.specs.Describing.{KeepsNames}
-use Rattle.group_engine.specs.Mounts.{MountedGroup}
+use Rattle.record_laws.specs.catalog_tables.Rules.{marks_of}
+use Rattle.record_laws.specs.catalog_tables.Tables.{Tables}
+use Rattle.record_laws.specs.extent_copies.declared.extent.Extent.{Extent}
+use Rattle.record_laws.specs.group_of.Describing.{KeepsNames}
+use Rattle.record_laws.specs.group_engine.Mounts.{MountedGroup}
 use Rattle.group_pieces.specs.declared.copies.Place.{Place}
 use Rattle.group_pieces.specs.Usable.{extent_of, place_at}
 

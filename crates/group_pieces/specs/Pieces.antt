@@ -6,8 +6,8 @@ use Rattle.asm_base.specs.declared.refusal.DiskRef.{DiskRef}
 use Rattle.asm_base.specs.declared.refusal.DiskRef.TheVariants as disk
 use Rattle.asm_base.specs.declared.refusal.Refusal.{Refusal}
 use Rattle.asm_base.specs.declared.refusal.Refusal.TheVariants as cause
-use Rattle.group_engine.specs.Commits.{DismountCause}
-use Rattle.group_engine.specs.Mounts.{MountedGroup}
+use Rattle.record_laws.specs.group_engine.Commits.{DismountCause}
+use Rattle.record_laws.specs.group_engine.Mounts.{MountedGroup}
 use Rattle.group_pieces.specs.declared.writing.WriteError.{WriteError}
 use Rattle.group_pieces.specs.declared.writing.WriteError.TheVariants as writes
 use Rattle.group_pieces.specs.Faults.{IsFault}

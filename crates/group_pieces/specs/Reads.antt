@@ -4,7 +4,7 @@ use Rattle.bay.specs.Image.{Same}
 use Rattle.bay.specs.State.{BayState, KeepsAttached}
 use Rattle.bay.specs.Moments.{Runs}
 use Rattle.asm_base.specs.declared.kinds.ExtentId.{ExtentId}
-use Rattle.group_engine.specs.Mounts.{IsOwn, IsReady, MountedGroup}
+use Rattle.record_laws.specs.group_engine.Mounts.{IsOwn, IsReady, MountedGroup}
 use Rattle.group_pieces.specs.declared.reading.ReadError.{ReadError}
 use Rattle.group_pieces.specs.declared.reading.ReadError.TheVariants as reads
 use Rattle.group_pieces.specs.Faults.{IsFault}

@@ -4,7 +4,7 @@ use Rattle.bay.specs.State.{IsOnSectors}
 use Rattle.asm_formats.specs.Bytes.{block_size}
 use Rattle.asm_formats.specs.Items.{Home}
 use Rattle.asm_formats.specs.Regions.{region_end, reserved_units}
-use Rattle.group_engine.specs.Mounts.{MountedGroup, slot_at}
+use Rattle.record_laws.specs.group_engine.Mounts.{MountedGroup, slot_at}
 use Rattle.group_pieces.specs.declared.copies.Place.{Place}
 use Rattle.group_pieces.specs.Usable.{size_at}
 

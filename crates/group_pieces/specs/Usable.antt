@@ -9,12 +9,12 @@ use Rattle.asm_formats.specs.Among.{IsAmong}
 use Rattle.asm_placement.specs.Layout.{units_of}
 use Rattle.asm_images.specs.Describing.{extent_size}
 use Rattle.asm_images.specs.Spans.{Span}
-use Rattle.extent_map.specs.Extents.{absent, extent_at}
-use Rattle.catalog_tables.specs.Rules.{marks_of}
-use Rattle.extent_copies.specs.declared.extent.Extent.{Extent}
-use Rattle.extent_copies.specs.Extents.{can_be_read_at}
-use Rattle.group_engine.specs.declared.attached.Attached.{Attached}
-use Rattle.group_engine.specs.Mounts.{MountedGroup, slot_at}
+use Rattle.record_laws.specs.extent_map.Extents.{absent, extent_at}
+use Rattle.record_laws.specs.catalog_tables.Rules.{marks_of}
+use Rattle.record_laws.specs.extent_copies.declared.extent.Extent.{Extent}
+use Rattle.record_laws.specs.extent_copies.Extents.{can_be_read_at}
+use Rattle.record_laws.specs.group_engine.declared.attached.Attached.{Attached}
+use Rattle.record_laws.specs.group_engine.Mounts.{MountedGroup, slot_at}
 use Rattle.group_pieces.specs.declared.copies.Place.{Place}
 
 -- n bytes from an inner byte on lie in the extent, on sectors

@@ -5,9 +5,9 @@ use Rattle.bay.specs.Moments.{NowOnly}
 use Rattle.asm_group.specs.Names.{Bytes}
 use Rattle.asm_base.specs.declared.kinds.ExtentId.{ExtentId}
 use Rattle.asm_formats.specs.Items.{Home}
-use Rattle.group_engine.specs.declared.flight.Flight.{Flight}
-use Rattle.group_engine.specs.Mounts.{MountedGroup, slot_at}
-use Rattle.group_engine.specs.Own.{KeepsGroup}
+use Rattle.record_laws.specs.group_engine.declared.flight.Flight.{Flight}
+use Rattle.record_laws.specs.group_engine.Mounts.{MountedGroup, slot_at}
+use Rattle.record_laws.specs.group_engine.Own.{KeepsGroup}
 use Rattle.group_pieces.specs.declared.copies.Place.{Place}
 use Rattle.group_pieces.specs.Bytes.{UserBytes, WritesBytes}
 use Rattle.group_pieces.specs.Copies.{HaveBut, PlacesOf}

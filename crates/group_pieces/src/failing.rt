@@ -2,17 +2,17 @@
 ghost use Rattle.std.specs.Prelude.{◌≡◌, IfOk, OnOk, IsTrue};
 ghost use Rattle.std.specs.List.{list_any};
 ghost use Rattle.asm_formats.specs.Status.{is_status};
-ghost use Rattle.group_engine.specs.Mounts.{IsMounted, Takes};
-ghost use Rattle.group_engine.specs.NextRecords.{KeepsDisks};
-ghost use Rattle.group_engine.specs.Pending.{GoesOn};
+ghost use Rattle.record_laws.specs.group_engine.Mounts.{IsMounted, Takes};
+ghost use Rattle.record_laws.specs.group_engine.NextRecords.{KeepsDisks};
+ghost use Rattle.record_laws.specs.group_engine.Pending.{GoesOn};
 ghost use Rattle.group_pieces.specs.Failing.{AreOffline, CostsFaults, FailsModes, FewerServe, is_dropping_in, status_failed};
 ghost use Rattle.group_pieces.specs.Held.{FailedHeld};
 
 use asm_base::{DiskSet, Mode, NoMemory, Refusal};
 use bay::Bay;
-use group_engine::Mounted;
-use partnership::partners;
-use status_table::{PstEntry, PstRecord, with_offline, with_partners};
+use record_laws::{
+    Mounted, PstEntry, PstRecord, partners_of as partners, with_offline, with_partners,
+};
 use std::alloc::Global;
 
 /// Takes disks Offline since a second, with the repair time of the group's attribute. Refusals: Dismounted; NoMemory.

@@ -1,6 +1,12 @@
 //! The bytes of a mounted group: pieces of extents, read from and written to their copies.
 #![tactic(auto)]
 
+pub use record_laws::{
+    Attached, Catalog, Extent, FileBy, Flight, Mounted, Move, NewFile, Next, TreeEdit, copies_for,
+    items_say_tables, planned_moves_change_one_chunk, same_disks_are_next, serving_groups,
+    tables_have_items, template_for,
+};
+
 mod copies;
 mod failing;
 mod laws;

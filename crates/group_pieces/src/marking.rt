@@ -1,10 +1,10 @@
 // Copies that didn't take what was written are marked stale.
 ghost use Rattle.std.specs.Prelude.{◌≡◌, ◌<◌, ◌≤◌, ◌^◌, IsTrue, OnOk, ℕ};
 ghost use Rattle.asm_group.specs.Shape.{is_shape};
-ghost use Rattle.catalog_tables.specs.Faults.{IsCatalog};
-ghost use Rattle.group_engine.specs.Commits.{KeepsRecord, turns_at_most};
-ghost use Rattle.group_engine.specs.Mounts.{IsMounted, Takes};
-ghost use Rattle.group_engine.specs.Pending.{GoesOn};
+ghost use Rattle.record_laws.specs.catalog_tables.Faults.{IsCatalog};
+ghost use Rattle.record_laws.specs.group_engine.Commits.{KeepsRecord, turns_at_most};
+ghost use Rattle.record_laws.specs.group_engine.Mounts.{IsMounted, Takes};
+ghost use Rattle.record_laws.specs.group_engine.Pending.{GoesOn};
 ghost use Rattle.group_pieces.specs.Held.{RecordsHeld};
 ghost use Rattle.group_pieces.specs.Marking.{AreMarked, MarksMore, bit_if, is_left, left_of, took};
 
@@ -12,8 +12,7 @@ use crate::copies::Place;
 use crate::usable::{extent_of, place};
 use asm_base::{DiskSet, ExtentId, Refusal};
 use bay::Bay;
-use extent_copies::Extent;
-use group_engine::Mounted;
+use record_laws::{Extent, Mounted};
 use std::alloc::Global;
 
 /// Marks the copies of an extent stale that are there and aren't marked, and that didn't take the bytes from an inner byte on, which the

@@ -1,14 +1,14 @@
 // The new copy of a move that is on its way takes what is written, as far as it was copied.
 ghost use Rattle.std.specs.Prelude.{◌≡◌, ◌≤◌, ◌<◌, ◌^◌, length};
-ghost use Rattle.group_engine.specs.Mounts.{IsMounted, Takes};
-ghost use Rattle.group_engine.specs.Own.{KeepsGroup};
+ghost use Rattle.record_laws.specs.group_engine.Mounts.{IsMounted, Takes};
+ghost use Rattle.record_laws.specs.group_engine.Own.{KeepsGroup};
 ghost use Rattle.group_pieces.specs.Bytes.{WritesBytes};
 ghost use Rattle.group_pieces.specs.Written.{FlightBytes, MovedBytes};
 
 use crate::spare::write_moved;
 use asm_base::{DiskSet, ExtentId};
 use bay::{Bay, Fault};
-use group_engine::{Flight, Mounted};
+use record_laws::{Flight, Mounted};
 
 /// Writes to the new copy of the move that is on its way, where it moves the extent. The move is given up where that fails, or where a
 /// disk has failed, since its mode is about to change.

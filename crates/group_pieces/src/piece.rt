@@ -1,9 +1,9 @@
 // A piece of an extent is written to every copy, and what failed is recorded.
 ghost use Rattle.std.specs.Prelude.{◌≡◌, ◌<◌, ◌^◌, IfErr, IfOk, OnErr, OnOk, length};
 ghost use Rattle.bay.specs.Moments.{NowOnly};
-ghost use Rattle.group_engine.specs.Mounts.{IsMounted, Takes};
-ghost use Rattle.group_engine.specs.Own.{KeepsGroup};
-ghost use Rattle.group_engine.specs.Pending.{GoesOn};
+ghost use Rattle.record_laws.specs.group_engine.Mounts.{IsMounted, Takes};
+ghost use Rattle.record_laws.specs.group_engine.Own.{KeepsGroup};
+ghost use Rattle.record_laws.specs.group_engine.Pending.{GoesOn};
 ghost use Rattle.group_pieces.specs.Copies.{HaveBut};
 ghost use Rattle.group_pieces.specs.Failing.{AreOffline, CostsFaults};
 ghost use Rattle.group_pieces.specs.Faults.{AreRisen};
@@ -19,7 +19,7 @@ use crate::moving::follow_move;
 use crate::writing::{WriteError, write_usable};
 use asm_base::{DiskRef, DiskSet, ExtentId, Refusal};
 use bay::Bay;
-use group_engine::Mounted;
+use record_laws::Mounted;
 use std::alloc::Global;
 
 /// Writes and syncs bytes of an extent, from an inner byte on, at its usable copies. A copy that didn't take them is marked stale, and a

@@ -4,8 +4,8 @@ ghost use Rattle.std.specs.Option.{ForSome};
 ghost use Rattle.asm_group.specs.Group.{Group};
 ghost use Rattle.asm_images.specs.Kept.{Kept};
 ghost use Rattle.piece_laws.specs.Targets.{AgreesIn};
-ghost use Rattle.group_engine.specs.Mounts.{IsMounted, Mounts, Takes};
-ghost use Rattle.group_engine.specs.Own.{KeepsGroup};
+ghost use Rattle.record_laws.specs.group_engine.Mounts.{IsMounted, Mounts, Takes};
+ghost use Rattle.record_laws.specs.group_engine.Own.{KeepsGroup};
 ghost use Rattle.group_pieces.specs.Reads.{IsReadCause, ReadsGroup};
 ghost use Rattle.group_pieces.specs.Usable.{AreNone, FitsExtent, piece_of, places_at};
 
@@ -13,7 +13,7 @@ use crate::copies::read_copies;
 use crate::usable::{first_disk, usable_copies};
 use asm_base::ExtentId;
 use bay::{Bay, Fault};
-use group_engine::Mounted;
+use record_laws::Mounted;
 
 /// What a read of a piece answers where it fails.
 #[derive(Clone, Copy, Debug, PartialEq, Eq)]

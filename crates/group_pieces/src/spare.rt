@@ -3,8 +3,8 @@ ghost use Rattle.std.specs.Prelude.{◌≡◌, ◌*◌, ◌+◌, ◌^◌, ◌<�
 ghost use Rattle.bay.specs.Image.{Puts, Range};
 ghost use Rattle.bay.specs.Counts.{Rose};
 ghost use Rattle.bay.specs.Moments.{Ends};
-ghost use Rattle.group_engine.specs.Mounts.{IsMounted, Takes};
-ghost use Rattle.group_engine.specs.Own.{KeepsGroup};
+ghost use Rattle.record_laws.specs.group_engine.Mounts.{IsMounted, Takes};
+ghost use Rattle.record_laws.specs.group_engine.Own.{KeepsGroup};
 ghost use Rattle.group_pieces.specs.Bytes.{WritesBytes};
 ghost use Rattle.group_pieces.specs.Spare.{IsRunAt, IsRunOf, OnDisk};
 ghost use Rattle.group_pieces.specs.Written.{HomeBytes, IsPlaceOfHome};
@@ -12,7 +12,7 @@ ghost use Rattle.group_pieces.specs.Written.{HomeBytes, IsPlaceOfHome};
 use crate::copies::{Place, write_synced};
 use asm_base::{Home, MOST_DISKS};
 use bay::{Bay, Fault};
-use group_engine::Mounted;
+use record_laws::Mounted;
 
 /// Writes and syncs bytes of units of an attached disk, from an inner byte of them on. The inner byte and the length are multiples of
 /// 512 bytes.

@@ -1,15 +1,14 @@
 // Which copies of an extent are usable, and where a piece of it stands on them.
 ghost use Rattle.std.specs.Prelude.{◌≡◌, ◌+◌, ◌*◌, ◌<◌, ◌≤◌, ◌^◌, None, Some, IsTrue, false, get_or, true};
 ghost use Rattle.asm_group.specs.Shape.{is_shape};
-ghost use Rattle.catalog_tables.specs.Faults.{IsCatalog};
-ghost use Rattle.catalog_tables.specs.Rules.{are_on_disks};
+ghost use Rattle.record_laws.specs.catalog_tables.Faults.{IsCatalog};
+ghost use Rattle.record_laws.specs.catalog_tables.Rules.{are_on_disks};
 ghost use Rattle.group_pieces.specs.Usable.{IsLost, at_home, extent_of, first_disk, on_disk, place_at, places_at, places_in};
 
 use crate::copies::Place;
 use asm_base::{DiskSet, ExtentId, Home, Homes, MOST_DISKS};
-use extent_copies::Extent;
-use group_engine::Mounted;
-use striping::units_of;
+use piece_laws::striping_crate::units_of;
+use record_laws::{Extent, Mounted};
 
 /// The extent as the tables have it, with the numbers of three copies.
 pub(crate) fn extent_of(m: &Mounted, x: ExtentId) -> Extent

@@ -1,8 +1,8 @@
 // A piece of an extent is written to its usable copies.
 ghost use Rattle.std.specs.Prelude.{◌≡◌, IfErr, IfOk, length};
 ghost use Rattle.bay.specs.Moments.{NowOnly};
-ghost use Rattle.group_engine.specs.Mounts.{IsMounted, Takes};
-ghost use Rattle.group_engine.specs.Own.{KeepsGroup};
+ghost use Rattle.record_laws.specs.group_engine.Mounts.{IsMounted, Takes};
+ghost use Rattle.record_laws.specs.group_engine.Own.{KeepsGroup};
 ghost use Rattle.group_pieces.specs.Bytes.{WritesBytes};
 ghost use Rattle.group_pieces.specs.Copies.{HaveBut, PlacesOf};
 ghost use Rattle.group_pieces.specs.Failing.{AreServing};
@@ -15,7 +15,7 @@ use crate::copies::{Place, write_copies};
 use crate::usable::{first_disk, usable_copies};
 use asm_base::{DiskSet, ExtentId};
 use bay::Bay;
-use group_engine::Mounted;
+use record_laws::Mounted;
 
 /// What a write of a piece answers where no copy took it.
 #[derive(Clone, Copy, Debug, PartialEq, Eq)]

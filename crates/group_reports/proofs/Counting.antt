@@ -6,10 +6,10 @@ use Rattle.std.proofs.lemmas.List.{drop_more, drop_all, length-append}
 use Rattle.std.proofs.lemmas.List.Sums.{sum_by-append}
 use Rattle.asm_formats.specs.Items.{Homes}
 use Rattle.asm_formats.specs.Status.{Entry}
-use Rattle.extent_map.specs.Extents.{Chunked}
-use Rattle.catalog_tables.specs.Faults.{IsCatalog}
-use Rattle.catalog_tables.specs.Rules.{blocks_used}
-use Rattle.catalog_tables.specs.Tables.{Catalogued}
+use Rattle.catalog_laws.specs.extent_map.Extents.{Chunked}
+use Rattle.catalog_laws.specs.catalog_tables.Faults.{IsCatalog}
+use Rattle.catalog_laws.specs.catalog_tables.Rules.{blocks_used}
+use Rattle.catalog_laws.specs.catalog_tables.Tables.{Catalogued}
 use Rattle.extent_copies.specs.declared.extent.Extent.{Extent}
 use Rattle.group_reports.specs.declared.checking.Checked.{Checked}
 use Rattle.group_reports.specs.Extents.{all_extents, checked_of, chunk_extents, extent_there, extents_from, extents_in, lacks, with_extent}

@@ -13,8 +13,8 @@ use Rattle.asm_formats.specs.Items.{FileHead, is_item}
 use Rattle.asm_base.specs.Records.{Ascend}
 use Rattle.asm_base.specs.declared.path.Path as code
 use Rattle.file_directory.specs.Files.{File, IsLeastFrom, IsTable, head_at, is_before, is_file, item_of}
-use Rattle.catalog_tables.specs.Faults.{IsCatalog}
-use Rattle.catalog_tables.specs.Tables.{Catalogued, Tables}
+use Rattle.catalog_laws.specs.catalog_tables.Faults.{IsCatalog}
+use Rattle.catalog_laws.specs.catalog_tables.Tables.{Catalogued, Tables}
 use Rattle.group_reports.specs.Files.{files_from, found_at, found_of_file, found_of_files}
 
 -- ---- files above a number

@@ -7,7 +7,7 @@ use Rattle.asm_formats.specs.Status.{Entry}
 use Rattle.asm_placement.specs.Space.{total}
 use Rattle.asm_world.specs.Reports.{GroupRow}
 use Rattle.allocator.specs.UnitMaps.{UnitMap}
-use Rattle.partnership.specs.UnitsOf.{AreUnits, AreUnitsOf}
+use Rattle.extent_copies.specs.partnership.UnitsOf.{AreUnits, AreUnitsOf}
 use Rattle.group_reports.specs.Disks.{counted, free_at, free_in, free_units, is_counted, offline_disks, row_by}
 
 free_is : (s : Shape) (items : List Item) (e : Entry) (o : Option UnitMap) → IsSomeAnd o (AreUnits s items e) → free_in o ≡ free_units s items e

@@ -6,3 +6,4 @@ pub mod Paths
 pub mod RowLists
 pub mod Sums
 pub mod Units
+pub mod catalog_tables

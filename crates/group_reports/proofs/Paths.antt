@@ -13,7 +13,7 @@ use Rattle.asm_world.specs.Listings.{has_star}
 use Rattle.alias_tree.specs.Nodes.{node_at}
 use Rattle.alias_tree.specs.Spelling.{names_to}
 use Rattle.alias_tree.proofs.Paths.{all_step, all_stop, last_of, up_of}
-use Rattle.catalog_tables.specs.Tables.{Tables}
+use Rattle.catalog_laws.specs.catalog_tables.Tables.{Tables}
 use Rattle.group_reports.specs.Places.{path_at, path_of_parts}
 
 -- ---- the path of a node

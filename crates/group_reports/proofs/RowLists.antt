@@ -8,7 +8,7 @@ use Rattle.asm_group.specs.Names.{Bytes}
 use Rattle.asmcmd.specs.Texts as texts
 use Rattle.asmcmd.specs.declared.rows.DiskRow.{DiskRow}
 use Rattle.asmcmd.specs.declared.rows.LsRow.{LsRow}
-use Rattle.catalog_tables.specs.Tables.{Catalogued, Tables}
+use Rattle.catalog_laws.specs.catalog_tables.Tables.{Catalogued, Tables}
 use Rattle.group_reports.specs.Disks.{disk_row, disk_rows}
 use Rattle.group_reports.specs.Listing.{row_at, rows_at}
 

@@ -5,7 +5,7 @@ use Rattle.std.proofs.lemmas.List.Sums.{sum_by-cons}
 use Rattle.asm_formats.specs.Items.{FileHead}
 use Rattle.asm_group.specs.Names.{Bytes, Path}
 use Rattle.file_directory.specs.Files.{File}
-use Rattle.catalog_tables.specs.Tables.{Catalogued, Tables}
+use Rattle.catalog_laws.specs.catalog_tables.Tables.{Catalogued, Tables}
 use Rattle.group_reports.specs.declared.taking.Taken.{Taken}
 use Rattle.group_reports.specs.Files.{bytes_below, files_from, if_file_below, mirrored_of, size_of, usage_of}
 use Rattle.group_reports.proofs.FileWalk.{all_from}

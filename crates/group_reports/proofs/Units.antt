@@ -13,11 +13,11 @@ use Rattle.asm_formats.specs.Items.{Home, Homes, Item}
 use Rattle.asm_placement.specs.Layout.{units_of}
 use Rattle.asm_placement.specs.Placed.{Placed, placed, placed_copies, placed_extents}
 use Rattle.asm_base.specs.Records.{Ascend}
-use Rattle.extent_map.specs.Extents.{Chunked, chunks_from}
+use Rattle.catalog_laws.specs.extent_map.Extents.{Chunked, chunks_from}
 use Rattle.asm_base.specs.Chunks.{Chunk, chunk_cmp, is_before}
-use Rattle.catalog_tables.specs.Items.{AreItemsOf}
-use Rattle.catalog_tables.specs.Placing.{homes_of}
-use Rattle.catalog_tables.specs.Tables.{AreTables, Catalogued}
+use Rattle.catalog_laws.specs.catalog_tables.Items.{AreItemsOf}
+use Rattle.catalog_laws.specs.catalog_tables.Placing.{homes_of}
+use Rattle.catalog_laws.specs.catalog_tables.Tables.{AreTables, Catalogued}
 use Rattle.catalog_laws.proofs.ItemLists.{items_say}
 use Rattle.group_reports.specs.Extents.{file_units, file_units_in, units_at, units_of_file}
 

@@ -13,8 +13,8 @@ use Rattle.asm_placement.specs.Space.{total, used_units, user_units}
 use Rattle.asm_world.specs.Below.{GroupBelow}
 use Rattle.asm_world.specs.Reports.{GroupRow, DiskRow}
 use Rattle.allocator.specs.UnitMaps.{UnitMap, total_of, used_of}
-use Rattle.disk_directory.specs.Disks.{info_at}
-use Rattle.catalog_tables.specs.Tables.{Catalogued, Tables}
+use Rattle.catalog_laws.specs.disk_directory.Disks.{info_at}
+use Rattle.catalog_laws.specs.catalog_tables.Tables.{Catalogued, Tables}
 use Rattle.extent_copies.specs.NewFiles.{serving_groups}
 use Rattle.group_reports.specs.Extents.{all_extents, checked_of, file_units, first_lost}
 

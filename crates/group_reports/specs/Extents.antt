@@ -6,11 +6,11 @@ use Rattle.asm_formats.specs.Items.{FileHead, Home, Homes, Item, chunk_len}
 use Rattle.asm_placement.specs.Layout.{units_of}
 use Rattle.asm_placement.specs.Placed.{Placed, placed}
 use Rattle.asm_placement.specs.Copies.{home}
-use Rattle.extent_map.specs.Extents.{Chunked, has_home}
+use Rattle.catalog_laws.specs.extent_map.Extents.{Chunked, has_home}
 use Rattle.file_directory.specs.Files.{head_at}
-use Rattle.catalog_tables.specs.Placing.{homes_of}
-use Rattle.catalog_tables.specs.Rules.{marks_of}
-use Rattle.catalog_tables.specs.Tables.{Catalogued}
+use Rattle.catalog_laws.specs.catalog_tables.Placing.{homes_of}
+use Rattle.catalog_laws.specs.catalog_tables.Rules.{marks_of}
+use Rattle.catalog_laws.specs.catalog_tables.Tables.{Catalogued}
 use Rattle.extent_copies.specs.declared.extent.Extent.{Extent}
 use Rattle.extent_copies.specs.Extents.{copy_of}
 use Rattle.extent_copies.specs.Usable.{all_from, first_passing, is_current_at, is_full_at}

@@ -12,7 +12,7 @@ use Rattle.asm_base.specs.declared.path.Path as code
 use Rattle.asm_world.specs.Listings.{is_match}
 use Rattle.alias_tree.specs.Nodes.{node_at}
 use Rattle.file_directory.specs.Files.{File}
-use Rattle.catalog_tables.specs.Tables.{Catalogued, Tables}
+use Rattle.catalog_laws.specs.catalog_tables.Tables.{Catalogued, Tables}
 use Rattle.group_reports.specs.Extents.{file_units}
 use Rattle.group_reports.specs.Places.{path_below}
 use Rattle.group_reports.specs.declared.taking.Taken.{Taken}

@@ -4,3 +4,8 @@ pub mod Places
 pub mod Files
 pub mod Keyed
 pub mod Listing
+pub mod catalog
+pub mod catalog_tables
+pub mod disk_directory
+pub mod extent_copies
+pub mod extent_map

@@ -16,7 +16,7 @@ use Rattle.asm_world.specs.Reports as reports
 use Rattle.asm_world.specs.Reports.{Listed}
 use Rattle.alias_tree.specs.Nodes.{AreByName, is_under, node_at}
 use Rattle.file_directory.specs.Files.{head_at}
-use Rattle.catalog_tables.specs.Tables.{Tables}
+use Rattle.catalog_laws.specs.catalog_tables.Tables.{Tables}
 use Rattle.asmcmd.specs.Texts.{listed_row}
 use Rattle.asmcmd.specs.declared.rows.LsRow.{LsRow}
 use Rattle.group_reports.specs.Places.{directory_in, is_directory_at, node_named, path_at}

@@ -10,7 +10,7 @@ use Rattle.asm_base.specs.declared.refusal.Refusal.{Refusal}
 use Rattle.asm_base.specs.declared.refusal.Refusal.TheVariants.{NoName, NotDirectory}
 use Rattle.alias_tree.specs.Nodes.{is_directory, node_at, number_of}
 use Rattle.alias_tree.specs.Spelling.{names_to}
-use Rattle.catalog_tables.specs.Tables.{Tables}
+use Rattle.catalog_laws.specs.catalog_tables.Tables.{Tables}
 
 -- ---- nodes
 

@@ -7,7 +7,7 @@ ghost use Rattle.asmcmd.specs.Texts.{attribute_rows};
 
 use asm_base::{List, NoMemory, Text};
 use asmcmd::AttrRow;
-use catalog::Catalog;
+use catalog_laws::Catalog;
 use itoa::Buffer;
 use std::alloc::Global;
 

@@ -9,7 +9,7 @@ ghost use Rattle.group_reports.specs.Extents.{all_extents, checked_of, chunk_ext
 
 use crate::extents::{extent_there, most_chunks};
 use asm_base::{Home, Homes};
-use catalog::Catalog;
+use catalog_laws::Catalog;
 use extent_copies::Extent;
 use status_table::{PstEntry, PstRecord};
 

@@ -4,13 +4,13 @@ ghost use Rattle.std.specs.Prelude.{◌≡◌, ◌≤◌, ◌*◌, ◌^◌, List
 ghost use Rattle.asm_group.specs.Shape.{Shape};
 ghost use Rattle.asm_formats.specs.Items.{Item};
 ghost use Rattle.asm_placement.specs.Space.{total};
-ghost use Rattle.partnership.specs.UnitsOf.{AreUnitsOf};
+ghost use Rattle.extent_copies.specs.partnership.UnitsOf.{AreUnitsOf};
 ghost use Rattle.group_reports.specs.Disks as specs;
 ghost use Rattle.group_reports.specs.Disks.{counted, free_at, free_in, group_row, is_counted, is_offline, offline_disks, row_by};
 
 use allocator::Units;
 use asm_base::Mode;
-use catalog::Catalog;
+use catalog_laws::Catalog;
 use status_table::{PstEntry, PstRecord};
 use std::marker::Model;
 

@@ -6,7 +6,7 @@ ghost use Rattle.group_reports.specs.Disks.{expiring, holds_all, is_due, is_movi
 use crate::checking::first_lost;
 use crate::disks::is_offline;
 use asm_base::{DiskSet, Mode};
-use catalog::Catalog;
+use catalog_laws::Catalog;
 use status_table::{PstEntry, PstRecord};
 
 /// The least Syncing disk.

@@ -1,13 +1,12 @@
 //! An extent of a group's files.
 
 ghost use Rattle.std.specs.Prelude.{◌≡◌, ◌≤◌, IfSome, length};
-ghost use Rattle.catalog_tables.specs.Tables.{AreTables};
+ghost use Rattle.catalog_laws.specs.catalog_tables.Tables.{AreTables};
 ghost use Rattle.group_reports.specs.Extents.{extent_there};
 
 use asm_base::{ExtentId, Homes};
-use catalog::Catalog;
+use catalog_laws::{Catalog, has_home};
 use extent_copies::Extent;
-use extent_map::has_home;
 
 /// The extent of a file with so many copies that has these homes, where it is there.
 pub fn extent_there(

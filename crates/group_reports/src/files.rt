@@ -1,10 +1,10 @@
 //! The files of a group, one after the other.
 
 ghost use Rattle.std.specs.Prelude.{◌≡◌, ◌≤◌, ◌+◌, [], ◌∷◌, IfSome, MatchOption};
-ghost use Rattle.catalog_tables.specs.Faults.{IsCatalog};
+ghost use Rattle.catalog_laws.specs.catalog_tables.Faults.{IsCatalog};
 ghost use Rattle.group_reports.specs.Files.{files_from};
 
-use catalog::Catalog;
+use catalog_laws::Catalog;
 use file_directory::FileHead;
 
 /// The file with the least number from one on, with its head. None where no file has such a number. It takes the logarithm

@@ -1,6 +1,12 @@
 //! What the reports show of a mounted group, by its catalog and its status record.
 #![tactic(auto)]
 
+pub use catalog_laws::Catalog;
+pub use extent_copies::partnership_crate::partners;
+pub use extent_copies::striping_crate::units_of;
+pub use extent_copies::{Extent, serving_groups};
+pub use verb_paths::{clause_path, target};
+
 mod attributes;
 mod checking;
 mod disks;

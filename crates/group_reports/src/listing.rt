@@ -15,7 +15,7 @@ use crate::words::{copies_text, stripe_text};
 use alias_tree::Node;
 use asm_base::{List, Name, NoMemory, NodeKind, Refusal, Text};
 use asmcmd::{LsRow, path_text};
-use catalog::Catalog;
+use catalog_laws::Catalog;
 use file_directory::FileHead;
 use std::alloc::Global;
 use verb_paths::{has_star, is_match};

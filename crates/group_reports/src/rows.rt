@@ -9,10 +9,10 @@ use crate::disks::{free_at, group_totals};
 use crate::words::{copies_text, disk_kind, kind_text, mode_text, stripe_text, yes_or_no};
 use asm_base::{List, Name, NoMemory, Text};
 use asmcmd::{DiskRow, GroupRow, TemplateRow};
-use catalog::Catalog;
+use catalog_laws::Catalog;
+use extent_copies::template_directory_crate::Template;
 use status_table::{PstEntry, PstRecord};
 use std::alloc::Global;
-use template_directory::Template;
 
 /// The row of lsdg of a mounted group of this name.
 pub fn group_row(

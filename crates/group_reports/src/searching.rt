@@ -12,7 +12,7 @@ use crate::files::next_file;
 use crate::places::path_below;
 use asm_base::{Name, NoMemory, Path, folded_byte};
 use asmcmd::path_text;
-use catalog::Catalog;
+use catalog_laws::Catalog;
 use file_directory::FileHead;
 use std::alloc::Global;
 use std::collections::BTreeMap;

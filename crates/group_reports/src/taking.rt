@@ -7,7 +7,7 @@ use crate::files::next_file;
 use crate::places::path_below;
 use crate::usage::file_units;
 use asm_base::{Name, NoMemory};
-use catalog::Catalog;
+use catalog_laws::Catalog;
 use file_directory::FileHead;
 use std::alloc::Global;
 

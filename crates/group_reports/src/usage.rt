@@ -3,14 +3,14 @@
 ghost use Rattle.std.specs.Prelude.{◌≡◌, ◌≤◌, ◌<◌, ◌+◌, ◌^◌, ℕ, List, length};
 ghost use Rattle.asm_formats.specs.Items.{Item};
 ghost use Rattle.asm_placement.specs.Placed.{placed_copies, placed_extents};
-ghost use Rattle.catalog_tables.specs.Items.{AreItemsOf};
-ghost use Rattle.catalog_tables.specs.Tables.{AreTables};
+ghost use Rattle.catalog_laws.specs.catalog_tables.Items.{AreItemsOf};
+ghost use Rattle.catalog_laws.specs.catalog_tables.Tables.{AreTables};
 ghost use Rattle.group_reports.specs.Extents.{file_units, file_units_in, units_at, units_of_file};
 
 use crate::extents::most_chunks;
 use asm_base::{Home, Homes};
-use catalog::Catalog;
-use striping::units_of;
+use catalog_laws::Catalog;
+use extent_copies::striping_crate::units_of;
 
 /// The units of all copies of a file. It goes over the file's chunks, and takes no memory.
 #[tactic(auto, using(crate::proofs::Units::units_by_items))]

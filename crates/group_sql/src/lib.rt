@@ -1,6 +1,8 @@
 //! The statements of the DISKGROUP language, read.
 #![tactic(auto)]
 
+pub use asm_base as asm_base_crate;
+
 mod clauses;
 mod creation;
 mod cutting;

@@ -9,13 +9,13 @@ use Rattle.bay.specs.State.{BayState, AttachesOnly, IsOnSectors, IsSlot, KeepsAt
 use Rattle.bay.specs.Moments.{Runs}
 use Rattle.bay_mem.specs.MemState.{IsQuiet}
 use Rattle.group_engine.specs.Frames.{StaysAttached}
-use Rattle.group_disks.specs.FirstParts.{IsNewlyMounted}
-use Rattle.group_disks.specs.Mounting.{IsMountedBy}
+use Rattle.new_groups.specs.group_disks.FirstParts.{IsNewlyMounted}
+use Rattle.new_groups.specs.group_disks.Mounting.{IsMountedBy}
 use Rattle.group_engine.specs.Making.{closed}
 use Rattle.group_engine.specs.Members.{HasImage, LetsGo}
 use Rattle.group_engine.specs.Mounts.{MountedGroup, Takes}
 use Rattle.group_engine.specs.Own.{KeepsGroup}
-use Rattle.group_pieces.specs.Bytes.{WritesBytes}
+use Rattle.file_extents.specs.group_pieces.Bytes.{WritesBytes}
 use Rattle.status_register.specs.declared.member.Member.{Member}
 use Rattle.group_engine.proofs.Endings.{closed_takes_none}
 use Rattle.group_engine.proofs.Elsewhere.{ready_elsewhere, stays_attached}

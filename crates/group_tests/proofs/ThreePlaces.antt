@@ -2,8 +2,8 @@
 use Rattle.std.proofs.Common.{◌≡◌, ◌≢◌, ⊎_elim, ℕ, ◌+◌, ◌<◌, ◌≤◌, [], ◌∷◌, refl, sym, ap, subst, ◌∙◌, Option, Some, arith}
 use Rattle.std.specs.Prelude.{IsSome, unwrap_or}
 use Rattle.bay.specs.State.{AttachesOnly, BayState, KeepsAttached}
-use Rattle.group_pieces.specs.declared.copies.Place.{Place}
-use Rattle.group_pieces.specs.Copies.{AreCopyPlacesApart, AreUsable, IsUsablePiece}
+use Rattle.file_extents.specs.group_pieces.declared.copies.Place.{Place}
+use Rattle.file_extents.specs.group_pieces.Copies.{AreCopyPlacesApart, AreUsable, IsUsablePiece}
 use Rattle.group_tests.specs.Places.{AreThree, IsPlaceOn, place_on}
 
 usable_on : (s : BayState) (k : ℕ) (p : Place) → s.attached k ≡ Some 4096 → k < 3 → p ≡ place_on k → IsUsablePiece s 512 p

@@ -1,7 +1,7 @@
 -- The places of a piece on three disks of 4,096 bytes.
 use Rattle.std.specs.Prelude.{◌≡◌, ◌+◌, ℕ, Option, Some}
 use Rattle.bay.specs.State.{BayState}
-use Rattle.group_pieces.specs.declared.copies.Place.{Place}
+use Rattle.file_extents.specs.group_pieces.declared.copies.Place.{Place}
 
 -- the disks in the first three slots are attached
 pub record AreThree (s : BayState) : Type 0 where

@@ -1,8 +1,7 @@
 //! What comes of calls.
 
 use asm_base::{DiskRef, Mode, Refusal};
-use relocation::Slice;
-use resync::Resynced;
+use relocation::{Resynced, Slice};
 
 /// What comes of a call.
 #[derive(Clone, Copy, PartialEq, Eq)]

@@ -4,7 +4,7 @@ use Rattle.std.specs.Prelude.{IfOk}
 use Rattle.std.proofs.lemmas.Option.{none-some, same_Some}
 use Rattle.asm_base.specs.declared.refusal.Refusal.{Refusal}
 use Rattle.asm_world.specs.Reply as w
-use Rattle.group_engine.specs.Mounts.{MountedGroup}
+use Rattle.disk_modes.specs.group_engine.Mounts.{MountedGroup}
 use Rattle.relocation.specs.Shortfalls.{EndCause}
 use Rattle.relocation.specs.declared.asking.Slice.{Slice}
 use Rattle.relocation.specs.declared.asking.Slice.TheVariants as slice

@@ -1,2 +1,4 @@
 pub mod Slices
 pub mod Turns
+pub mod group_reports
+pub mod relocation

@@ -8,15 +8,15 @@ use Rattle.asm_base.specs.declared.refusal.Refusal.{Refusal}
 use Rattle.asm_base.specs.declared.refusal.Refusal.TheVariants as cause
 use Rattle.asm_world.specs.Reply as w
 use Rattle.asm_world.specs.Text.{event_text}
-use Rattle.disk_directory.specs.Disks.{info_at}
-use Rattle.group_engine.specs.Mounts.{MountedGroup}
+use Rattle.disk_modes.specs.disk_directory.Disks.{info_at}
+use Rattle.disk_modes.specs.group_engine.Mounts.{MountedGroup}
 use Rattle.group_turns.specs.declared.failure.Failure.{Failure}
 use Rattle.group_turns.specs.declared.failure.Failure.TheVariants as failure
 use Rattle.relocation.specs.Shortfalls.{HasNoDiskFor, HasNoSource}
 use Rattle.relocation.specs.declared.asking.Slice.{Slice}
 use Rattle.relocation.specs.declared.asking.Slice.TheVariants as slice
-use Rattle.resync.specs.declared.slice.Resynced.{Resynced}
-use Rattle.resync.specs.declared.slice.Resynced.TheVariants as sync
+use Rattle.relocation.specs.resync.declared.slice.Resynced.{Resynced}
+use Rattle.relocation.specs.resync.declared.slice.Resynced.TheVariants as sync
 
 abbrev pub name_or : Bytes → Option DiskInfo → Bytes
 name_or name None = name

@@ -6,7 +6,7 @@ use Rattle.asm_world.specs.Reply.{Event, Expired, ExpiryEnds, Moved, Synced}
 use Rattle.asm_world.specs.Run.{Move, Starts, Expires, Answers, Slices, Rests, Stops, Phase, Expiring, Slicing, mounted_groups, slices_of}
 use Rattle.asm_world.specs.Text.{event_text}
 use Rattle.asm_world.specs.World.{SessionEntry}
-use Rattle.group_engine.specs.Mounts.{MountedGroup}
+use Rattle.disk_modes.specs.group_engine.Mounts.{MountedGroup}
 use Rattle.group_turns.specs.declared.taking.Turn.{Turn}
 use Rattle.group_turns.specs.declared.taking.Turn.TheVariants as turn
 use Rattle.group_turns.specs.declared.taking.Turned.{Turned}

@@ -1,17 +1,15 @@
 // Offline disks whose time is up.
 ghost use Rattle.std.specs.Prelude.{◌≡◌};
-ghost use Rattle.group_engine.specs.Members.{LetsGo};
-ghost use Rattle.group_engine.specs.Mounts.{IsMounted, Takes};
+ghost use Rattle.disk_modes.specs.group_engine.Members.{LetsGo};
+ghost use Rattle.disk_modes.specs.group_engine.Mounts.{IsMounted, Takes};
 ghost use Rattle.group_turns.specs.Turns.{BeforeText, IsLineOf, OnEvent, OnIdle, OnWork, IsWork};
 
 use crate::failure::{Failure, failure_of, shown_name};
 use crate::taking::Turned;
 use asm_base::Refusal;
 use bay::Bay;
-use disk_modes::expire;
+use disk_modes::{Mounted, expire, expiring_disk as expiring};
 use event_lines::Event;
-use group_engine::Mounted;
-use group_reports::expiring;
 use line_buffer::LineBuffer;
 use std::alloc::Global;
 

@@ -4,7 +4,7 @@ ghost use Rattle.std.specs.Option.{option_copied};
 ghost use Rattle.group_turns.specs.Slices.{failure_by, failure_of, fault_by, shown_name};
 
 use asm_base::{DiskRef, Name, Refusal};
-use group_engine::Mounted;
+use disk_modes::Mounted;
 
 /// Why an expiry or a slice ended early, with the disk by its number.
 #[derive(Clone, Copy, Debug)]

@@ -2,8 +2,8 @@
 ghost use Rattle.std.specs.Prelude.{◌≡◌, IfOk};
 ghost use Rattle.std.specs.Option.{option_map};
 ghost use Rattle.event_lines.specs.Said.{rebalanced_said, resynced_said};
-ghost use Rattle.group_engine.specs.Members.{LetsGo};
-ghost use Rattle.group_engine.specs.Mounts.{IsMounted, Takes};
+ghost use Rattle.disk_modes.specs.group_engine.Members.{LetsGo};
+ghost use Rattle.disk_modes.specs.group_engine.Mounts.{IsMounted, Takes};
 ghost use Rattle.relocation.specs.Shortfalls.{EndCause};
 ghost use Rattle.group_turns.specs.Slices.{IsMovedLine, failed_rebalance, failed_resync, rebalanced_by, resynced_by};
 ghost use Rattle.group_turns.specs.Turns.{AfterReply, IsLineOf, OnEvent, OnIdle, OnWork, IsWork};
@@ -12,11 +12,10 @@ use crate::failure::{Failure, failure_of, shown_name};
 use crate::taking::Turned;
 use asm_base::Refusal;
 use bay::Bay;
+use disk_modes::Mounted;
 use event_lines::{Event, Rebalanced, Resynced};
-use group_engine::Mounted;
 use line_buffer::LineBuffer;
-use relocation::{Slice, slice};
-use resync::{Resynced as Synced, sync_slice, syncing_disk};
+use relocation::{Resynced as Synced, Slice, slice, sync_slice, syncing_disk};
 use std::alloc::Global;
 
 /// How a slice of a rebalance ended, or the slices of a whole one, with the steps of it and each disk by its name. None for want of

@@ -1,13 +1,13 @@
 // What a group does between two commands, in its turn: expired disks are dropped before a command's text, slices run after its reply.
 ghost use Rattle.std.specs.Prelude.{◌≡◌};
-ghost use Rattle.group_engine.specs.Members.{LetsGo};
-ghost use Rattle.group_engine.specs.Mounts.{IsMounted, Takes};
+ghost use Rattle.disk_modes.specs.group_engine.Members.{LetsGo};
+ghost use Rattle.disk_modes.specs.group_engine.Mounts.{IsMounted, Takes};
 ghost use Rattle.group_turns.specs.Turns.{IsLineOf, OnEvent, OnIdle, OnWork, when_of};
 
 use crate::expiring::drop_expired;
 use crate::slicing::{rebalance_slice, resync_slice};
 use bay::Bay;
-use group_engine::Mounted;
+use disk_modes::Mounted;
 use line_buffer::LineBuffer;
 use std::alloc::Global;
 

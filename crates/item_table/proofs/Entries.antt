@@ -2,7 +2,7 @@
 use Rattle.std.proofs.Common.{◌≡◌, Bool, false, Option, Some, None, sym, ap, ◌∙◌, inl, inr, ◌⊎◌}
 use Rattle.std.proofs.lemmas.Bool.{true≢false}
 use Rattle.std.proofs.lemmas.Option.{none-some}
-use Rattle.asm_formats.specs.Items.{Item, Key, key}
+use Rattle.asm_base.specs.asm_formats.Items.{Item, Key, key}
 use Rattle.asm_base.proofs.Exact.{some_is}
 use Rattle.asm_base.proofs.ItemTables.{AreEntries, IsEntry}
 

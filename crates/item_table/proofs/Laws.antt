@@ -4,8 +4,8 @@ use Rattle.std.specs.Prelude.{IfSome}
 use Rattle.std.specs.Cmp.{IsTotalOrder, Equal-is}
 use Rattle.std.specs.declared.cmp.Ordering.TheVariants.{Equal}
 use Rattle.std.specs.BTreeMap.{is_at}
-use Rattle.asm_formats.specs.Items.{Item, Key, is_item}
-use Rattle.asm_formats.specs.Values.{value}
+use Rattle.asm_base.specs.asm_formats.Items.{Item, Key, is_item}
+use Rattle.asm_base.specs.asm_formats.Values.{value}
 use Rattle.asm_base.specs.Records.{Ascend, Entry, ends_below, of_kinds, read_from}
 use Rattle.asm_base.specs.Tables.{entry_of_record}
 use Rattle.asm_base.proofs.Copying.{copied_more}

@@ -7,8 +7,8 @@ use Rattle.std.specs.BTreeMap.{is_at, insert_entry}
 use Rattle.std.specs.BTreeMap.Range.{entries_between}
 use Rattle.std.specs.Map.{lookup, remove_entry}
 use Rattle.std.specs.Option.{option_map}
-use Rattle.asm_formats.specs.Items.{Item}
-use Rattle.asm_formats.specs.Values.{value}
+use Rattle.asm_base.specs.asm_formats.Items.{Item}
+use Rattle.asm_base.specs.asm_formats.Values.{value}
 use Rattle.asm_base.specs.Records.{Entry, add_item}
 use Rattle.asm_base.specs.Tables.{IsItemTable, entry_of_record, item_record}
 

@@ -3,7 +3,7 @@
 ghost use Rattle.std.specs.Prelude.{◌≡◌, Bool, IfOk, IsTrue, Option};
 ghost use Rattle.std.specs.Option.{option_map};
 ghost use Rattle.std.specs.declared.cmp.Ordering.TheVariants.{Equal};
-ghost use Rattle.asm_formats.specs.Items.{Item, Key as RecordKey};
+ghost use Rattle.asm_base.specs.asm_formats.Items.{Item, Key as RecordKey};
 ghost use Rattle.asm_base.specs.Tables.{entry_of_record};
 ghost use Rattle.asm_base.proofs.ItemTables.{AreEntries, IsEntry};
 

@@ -4,8 +4,8 @@ ghost use Rattle.std.specs.Prelude.{◌≡◌, [], length, map, IfOk, IfSome, Is
 ghost use Rattle.std.specs.Bool.{OnFalse, OnTrue};
 ghost use Rattle.std.specs.BTreeMap.{is_at};
 ghost use Rattle.std.specs.Option.{option_copied};
-ghost use Rattle.asm_formats.specs.Items.{is_item};
-ghost use Rattle.asm_formats.specs.Values.{decoded_item};
+ghost use Rattle.asm_base.specs.asm_formats.Items.{is_item};
+ghost use Rattle.asm_base.specs.asm_formats.Values.{decoded_item};
 ghost use Rattle.asm_base.specs.Records.{ends_below, of_kinds, read_from};
 
 use crate::listed::Listed;

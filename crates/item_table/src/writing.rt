@@ -1,7 +1,7 @@
 //! The records of a table.
 
 ghost use Rattle.std.specs.Prelude.{◌≡◌, ◌++◌, map, IfOk, IsTrue, OnOk};
-ghost use Rattle.asm_formats.specs.Items.{is_item};
+ghost use Rattle.asm_base.specs.asm_formats.Items.{is_item};
 ghost use Rattle.item_table.specs.Tables.{record_of};
 
 use crate::listed::Listed;

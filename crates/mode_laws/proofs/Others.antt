@@ -13,15 +13,15 @@ use Rattle.asm_formats.specs.Status.{Entry, Status, entry_of, is_entry}
 use Rattle.asm_placement.specs.Modes.{is_online, serves}
 use Rattle.asm_placement.proofs.Chosen.{entry_among, entry_found}
 use Rattle.disk_modes.specs.Effects.{entry_forced}
-use Rattle.group_engine.proofs.Records.{record_parts}
-use Rattle.group_engine.specs.Mounts.{MountedGroup}
+use Rattle.group_pieces.proofs.group_engine.Records.{record_parts}
+use Rattle.group_pieces.specs.group_engine.Mounts.{MountedGroup}
 use Rattle.group_mount.specs.Missing.{is_missing}
 use Rattle.group_mount.specs.NextRecord.{IsMarkOf, entry_after, has_number, moded}
 use Rattle.group_mount.proofs.NextRecords.{makes}
 use Rattle.group_mount.specs.declared.finding.Headed.{Headed}
 use Rattle.group_mount.specs.declared.quorum.Quorate.{Quorate}
 use Rattle.group_pieces.specs.Failing.{entry_failed, taken_off}
-use Rattle.group_reports.specs.Disks.{is_due, is_offline, may_go, number_of}
+use Rattle.disk_modes.specs.group_reports.Disks.{is_due, is_offline, may_go, number_of}
 use Rattle.mode_laws.specs.Events.{EntryChange, ModeChange, ModeEvent, by_expiry, by_fault, by_mark, by_missing}
 use Rattle.mode_laws.specs.Others.{FailedServe, ExpiryChanges, ExpiryTakes, FailedAreTaken, FailedChanges, MountChanges, MountFinds, WriteFailed, TakingOverChanges, a_mark, is_away, repair_at}
 use Rattle.mode_laws.specs.Statements.{group_entries}

@@ -6,7 +6,7 @@ use Rattle.asm_group.specs.declared.Mode.TheVariants as mode
 use Rattle.asm_formats.specs.Sets.{has_bit}
 use Rattle.asm_formats.specs.Status.{Entry}
 use Rattle.asm_placement.specs.Modes.{is_dropping, is_forced, is_online}
-use Rattle.group_engine.specs.Mounts.{MountedGroup}
+use Rattle.group_pieces.specs.group_engine.Mounts.{MountedGroup}
 use Rattle.disk_modes.specs.declared.checking.Statement.{Statement}
 use Rattle.disk_modes.specs.declared.checking.Statement.TheVariants as statement
 use Rattle.disk_modes.specs.declared.dropping.DropDisk.{DropDisk}

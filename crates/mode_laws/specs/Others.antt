@@ -5,9 +5,9 @@ use Rattle.asm_formats.specs.Among.{IsAmong}
 use Rattle.asm_formats.specs.Sets.{has_bit}
 use Rattle.asm_formats.specs.Status.{Entry, Status, entry_of, is_status}
 use Rattle.asm_placement.specs.Modes.{serves}
-use Rattle.catalog_tables.specs.MarkedExtents.{IsFirstMarked}
+use Rattle.group_mount.specs.catalog_tables.MarkedExtents.{IsFirstMarked}
 use Rattle.disk_modes.specs.Effects.{DropsExpiredDisk}
-use Rattle.group_engine.specs.Mounts.{MountedGroup}
+use Rattle.group_pieces.specs.group_engine.Mounts.{MountedGroup}
 use Rattle.group_mount.specs.Founds.{FoundDisks}
 use Rattle.group_mount.specs.Missing.{is_missing}
 use Rattle.group_mount.specs.NextRecord.{IsNextRecord, MakesRecord}
@@ -18,7 +18,7 @@ use Rattle.group_mount.specs.declared.quorum.MountOption.TheVariants.{NoForce}
 use Rattle.group_mount.specs.declared.quorum.Quorate.{Quorate}
 use Rattle.group_mount.specs.declared.recovering.Parts.{Parts}
 use Rattle.group_pieces.specs.Failing.{AreOffline, status_failed}
-use Rattle.group_reports.specs.Disks.{is_due}
+use Rattle.disk_modes.specs.group_reports.Disks.{is_due}
 use Rattle.mode_laws.specs.Events.{TakesEffect, ModeChange, ModeEvent, by_expiry, by_fault, by_mark, by_missing}
 use Rattle.mode_laws.specs.Statements.{group_entries}
 

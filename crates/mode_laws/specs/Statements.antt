@@ -4,7 +4,7 @@ use Rattle.std.specs.Option.{option_map}
 use Rattle.asm_formats.specs.Among.{IsAmong}
 use Rattle.asm_formats.specs.Sets.{has_bit}
 use Rattle.asm_formats.specs.Status.{Entry}
-use Rattle.group_engine.specs.Mounts.{MountedGroup}
+use Rattle.group_pieces.specs.group_engine.Mounts.{MountedGroup}
 use Rattle.disk_modes.specs.declared.checking.Statement.{Statement}
 use Rattle.disk_modes.specs.declared.checking.Statement.TheVariants as statement
 use Rattle.disk_modes.specs.declared.dropping.DropDisk.{DropDisk}

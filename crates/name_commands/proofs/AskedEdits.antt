@@ -27,12 +27,12 @@ use Rattle.alias_edits.specs.Edits.{edit_meant, is_edit}
 use Rattle.alias_edits.specs.declared.editing.TreeEdit.{TreeEdit}
 use Rattle.alias_edits.specs.declared.editing.TreeEdit.TheVariants as tree
 use Rattle.template_directory.specs.Meant as templates
-use Rattle.catalog.specs.TreePlans.{keeps_files, makes_node}
-use Rattle.edit_laws.specs.Edits.{edited_by}
-use Rattle.group_disks.specs.Found.{Counts}
-use Rattle.group_files.specs.declared.edit.GroupEdit.{GroupEdit}
-use Rattle.group_files.specs.declared.edit.GroupEdit.TheVariants.{Tree, SetAttribute}
-use Rattle.group_of.specs.Edits.{attribute_meant}
+use Rattle.session.specs.catalog.TreePlans.{keeps_files, makes_node}
+use Rattle.session.specs.edit_laws.Edits.{edited_by}
+use Rattle.session.specs.group_disks.Found.{Counts}
+use Rattle.session.specs.group_files.declared.edit.GroupEdit.{GroupEdit}
+use Rattle.session.specs.group_files.declared.edit.GroupEdit.TheVariants.{Tree, SetAttribute}
+use Rattle.session.specs.group_of.Edits.{attribute_meant}
 use Rattle.world_steps.specs.Steps.{asks_edit, at_led, by_alias, by_clause, by_tree, change_of, is_edit_clause, makes_name}
 use Rattle.world_steps.proofs.Said.{attributes_have_parts, paths_have_parts}
 use Rattle.name_commands.specs.Asking.{AsksAlias, AsksAsRead, AsksAt, AsksChange, AsksForEdit, AsksInVain, wants_record}

@@ -13,16 +13,16 @@ use Rattle.asm_group.specs.TreeEdits as e
 use Rattle.asm_world.specs.Edits as world
 use Rattle.alias_edits.specs.Edits as names
 use Rattle.alias_tree.specs.Trees.{tree_of}
-use Rattle.catalog_tables.specs.Changing.{IsAfter}
-use Rattle.catalog_tables.specs.Tables.{Catalogued, Tables}
-use Rattle.edit_laws.specs.Edits.{edited_by}
-use Rattle.edit_laws.proofs.OfTables.{refusal_is_of_tables}
-use Rattle.group_files.specs.GroupEdits.{IsEditPlan, IsEditRefusedAs}
-use Rattle.group_files.specs.declared.edit.GroupEdit.{GroupEdit}
-use Rattle.group_files.specs.declared.edit.GroupEdit.TheVariants.{Tree, Templates, SetAttribute}
-use Rattle.group_of.specs.Edits.{IsRefusedBeside, IsWorldsRefusal, full, no_memory, refused, with_settings, with_templates, with_tree, worlds}
-use Rattle.group_of.specs.Groups.{group_of}
-use Rattle.group_of.proofs.Refusals.{refuses_too}
+use Rattle.session.specs.catalog_tables.Changing.{IsAfter}
+use Rattle.session.specs.catalog_tables.Tables.{Catalogued, Tables}
+use Rattle.session.specs.edit_laws.Edits.{edited_by}
+use Rattle.session.proofs.edit_laws.OfTables.{refusal_is_of_tables}
+use Rattle.session.specs.group_files.GroupEdits.{IsEditPlan, IsEditRefusedAs}
+use Rattle.session.specs.group_files.declared.edit.GroupEdit.{GroupEdit}
+use Rattle.session.specs.group_files.declared.edit.GroupEdit.TheVariants.{Tree, Templates, SetAttribute}
+use Rattle.session.specs.group_of.Edits.{IsRefusedBeside, IsWorldsRefusal, full, no_memory, refused, with_settings, with_templates, with_tree, worlds}
+use Rattle.session.specs.group_of.Groups.{group_of}
+use Rattle.session.proofs.group_of.Refusals.{refuses_too}
 use Rattle.world_steps.specs.Steps.{tells_disk}
 use Rattle.name_commands.specs.Asking.{wants_record}
 

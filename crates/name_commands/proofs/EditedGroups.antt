@@ -22,29 +22,29 @@ use Rattle.asm_formats.specs.Among.{IsAmong}
 use Rattle.asm_world.specs.Below.{GroupBelow}
 use Rattle.asm_world.specs.Reply.{Reply, Done, Refused}
 use Rattle.asm_world.specs.World.{SessionEntry, SessionState, World, Mounted, DismountedBy, entry_among, groups_of, is_mounted, with_group}
-use Rattle.catalog_tables.specs.Changing.{IsAfter}
-use Rattle.catalog_tables.specs.Tables.{Tables}
-use Rattle.catalog_tables.proofs.AfterLaws.{one_after}
-use Rattle.edit_laws.specs.Edits.{edited_by}
-use Rattle.edit_laws.proofs.OfTables.{edit_is_of_tables}
-use Rattle.group_disks.specs.Found.{counts_of}
-use Rattle.group_engine.specs.Commits.{CommitsChange, StatusCause}
-use Rattle.group_engine.specs.Frames.{StaysAttached}
-use Rattle.group_engine.proofs.Elsewhere.{stays_attached}
-use Rattle.group_engine.specs.Making.{dismounted_by}
-use Rattle.group_engine.specs.Mounts.{IsMounted, MountedGroup}
-use Rattle.group_engine.specs.Own.{KeepsGroup}
-use Rattle.group_engine.specs.declared.access.Access.{Access}
-use Rattle.group_engine.specs.declared.access.Access.TheVariants as access
-use Rattle.group_files.specs.Edits.{Edits, IsCommitted, IsUnplanned}
-use Rattle.group_files.specs.GroupEdits.{IsEditPlan, IsEditRefusal, is_group_edit}
-use Rattle.group_files.specs.declared.edit.GroupEdit.{GroupEdit}
-use Rattle.group_of.specs.Edits.{IsWorldsRefusal, no_memory, refused}
-use Rattle.group_of.specs.Groups.{HasCells, group_of}
-use Rattle.session_claims.specs.Claims.{IsPaired, KeepsWorlds, StandsFor}
-use Rattle.session_claims.specs.Laws.{CommitsEdit, EditsTo, ReplacesGroups}
-use Rattle.session_claims.proofs.Edited.{edits_keep, tearing_keeps}
-use Rattle.session_claims.proofs.Looks.{looks_keep}
+use Rattle.session.specs.catalog_tables.Changing.{IsAfter}
+use Rattle.session.specs.catalog_tables.Tables.{Tables}
+use Rattle.session.proofs.catalog_tables.AfterLaws.{one_after}
+use Rattle.session.specs.edit_laws.Edits.{edited_by}
+use Rattle.session.proofs.edit_laws.OfTables.{edit_is_of_tables}
+use Rattle.session.specs.group_disks.Found.{counts_of}
+use Rattle.session.specs.group_engine.Commits.{CommitsChange, StatusCause}
+use Rattle.session.specs.group_engine.Frames.{StaysAttached}
+use Rattle.session.proofs.group_engine.Elsewhere.{stays_attached}
+use Rattle.session.specs.group_engine.Making.{dismounted_by}
+use Rattle.session.specs.group_engine.Mounts.{IsMounted, MountedGroup}
+use Rattle.session.specs.group_engine.Own.{KeepsGroup}
+use Rattle.session.specs.group_engine.declared.access.Access.{Access}
+use Rattle.session.specs.group_engine.declared.access.Access.TheVariants as access
+use Rattle.session.specs.group_files.Edits.{Edits, IsCommitted, IsUnplanned}
+use Rattle.session.specs.group_files.GroupEdits.{IsEditPlan, IsEditRefusal, is_group_edit}
+use Rattle.session.specs.group_files.declared.edit.GroupEdit.{GroupEdit}
+use Rattle.session.specs.group_of.Edits.{IsWorldsRefusal, no_memory, refused}
+use Rattle.session.specs.group_of.Groups.{HasCells, group_of}
+use Rattle.session.specs.session_claims.Claims.{IsPaired, KeepsWorlds, StandsFor}
+use Rattle.session.specs.session_claims.Laws.{CommitsEdit, EditsTo, ReplacesGroups}
+use Rattle.session.proofs.session_claims.Edited.{edits_keep, tearing_keeps}
+use Rattle.session.proofs.session_claims.Looks.{looks_keep}
 use Rattle.world_steps.specs.Steps.{EditAt, MayAnswer, asks_edit, edited_in, tells_disk, torn_world}
 use Rattle.world_steps.specs.Told.{AreIdsApart}
 use Rattle.world_steps.proofs.Steps.{answers_edits, tells_no_disk}

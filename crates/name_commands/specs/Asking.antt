@@ -13,11 +13,11 @@ use Rattle.asm_world.specs.Edits as e
 use Rattle.asm_world.specs.Paths.{target_from}
 use Rattle.alias_edits.specs.Edits.{edit_meant}
 use Rattle.alias_edits.specs.declared.editing.TreeEdit.{TreeEdit}
-use Rattle.catalog.specs.TreePlans.{makes_node}
-use Rattle.edit_laws.specs.Edits.{edited_by}
-use Rattle.group_files.specs.GroupEdits.{is_group_edit}
-use Rattle.group_files.specs.declared.edit.GroupEdit.{GroupEdit}
-use Rattle.group_files.specs.declared.edit.GroupEdit.TheVariants.{Tree, Templates, SetAttribute}
+use Rattle.session.specs.catalog.TreePlans.{makes_node}
+use Rattle.session.specs.edit_laws.Edits.{edited_by}
+use Rattle.session.specs.group_files.GroupEdits.{is_group_edit}
+use Rattle.session.specs.group_files.declared.edit.GroupEdit.{GroupEdit}
+use Rattle.session.specs.group_files.declared.edit.GroupEdit.TheVariants.{Tree, Templates, SetAttribute}
 use Rattle.world_steps.specs.Steps.{asks_edit, at_led, by_alias, change_of, makes_name}
 use Rattle.name_commands.specs.NameEdits.{edit_at}
 use Rattle.name_commands.specs.declared.names.AtPath.{AtPath}

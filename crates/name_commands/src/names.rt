@@ -7,7 +7,7 @@ ghost use Rattle.asm_world.specs.Language.{command_of};
 ghost use Rattle.asm_world.specs.Paths.{clause_path};
 ghost use Rattle.asm_world.specs.Statement.{Alter, AddDirectory, DropDirectory, RenameDirectory, AddAlias, DropAlias, RenameAlias};
 ghost use Rattle.asm_world.specs.Step.{on_path, on_paths};
-ghost use Rattle.group_files.specs.GroupEdits.{is_group_edit};
+ghost use Rattle.session.specs.group_files.GroupEdits.{is_group_edit};
 ghost use Rattle.session.specs.Desks.{IsAnswered};
 ghost use Rattle.name_commands.specs.Asking.{AsksAlias, AsksAsRead, AsksAt, AsksForEdit, AsksInVain};
 ghost use Rattle.session.specs.Meaning.{meaning};
@@ -17,8 +17,7 @@ ghost use Rattle.session.specs.Sessions.{AreReady};
 use alias_edits::TreeEdit;
 use asm_base::{Name, NoMemory, Path, Refusal, Text};
 use bay::{Bay, Host};
-use group_files::GroupEdit;
-use session::{Answer, Desk, answer_of, no_memory, path_in, path_of_verb, refused};
+use session::{Answer, Desk, GroupEdit, answer_of, no_memory, path_in, path_of_verb, refused};
 use std::alloc::Global;
 use verb_paths::target;
 

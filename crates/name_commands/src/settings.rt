@@ -11,9 +11,8 @@ ghost use Rattle.session.specs.Sessions.{AreReady};
 use crate::names::{edit_named, refused_in};
 use asm_base::{Name, NoMemory, Redundancy, Refusal, Stripe};
 use bay::{Bay, Host};
-use group_files::GroupEdit;
 use group_sql::{Attribute, TemplateWords};
-use session::{Answer, Desk, no_memory};
+use session::{Answer, Desk, GroupEdit, no_memory};
 use template_directory::TemplateEdit;
 
 /// The copies that the words of a template say.

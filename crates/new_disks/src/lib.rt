@@ -2,6 +2,8 @@
 //! memory.
 #![tactic(auto)]
 
+pub use group_sql as group_sql_crate;
+
 mod failure_groups;
 mod rows;
 mod taken;

@@ -12,10 +12,10 @@ use Rattle.asm_group.specs.Names.{Bytes}
 use Rattle.asm_group.specs.Shape.{Shape, is_shape}
 use Rattle.asm_images.proofs.Members.{member_shape}
 use Rattle.asm_formats.specs.Among.{IsAmong}
-use Rattle.catalog_tables.specs.Faults.{IsCatalogOf}
-use Rattle.catalog_tables.specs.Tables.{Catalogued}
-use Rattle.catalog_laws.proofs.ToldRecords.{records_told}
-use Rattle.change_directory.specs.declared.copy.DirCopy.{DirCopy}
+use Rattle.group_disks.specs.catalog_tables.Faults.{IsCatalogOf}
+use Rattle.group_disks.specs.catalog_tables.Tables.{Catalogued}
+use Rattle.group_disks.proofs.catalog_laws.ToldRecords.{records_told}
+use Rattle.directory_store.specs.change_directory.declared.copy.DirCopy.{DirCopy}
 use Rattle.directory_store.specs.Stores.{Keeps, Stored}
 use Rattle.directory_store.proofs.Storing.{keeps_elsewhere}
 use Rattle.disk_images.specs.Looks.{Looks}
@@ -26,15 +26,15 @@ use Rattle.group_disks.proofs.Births.{birth_of}
 use Rattle.group_disks.proofs.Disks.{sizes_are, slots_are}
 use Rattle.group_disks.proofs.Spared.{change_held, looks_held, spares_on, spares_some}
 use Rattle.group_disks.proofs.Staying.{stays_keeps, stays_trans}
-use Rattle.group_engine.specs.Frames.{StaysAttached}
-use Rattle.group_engine.specs.Making.{made}
-use Rattle.group_engine.specs.Mounts.{AreCopiesOf, IsWhole, MountedGroup}
-use Rattle.group_engine.specs.declared.attached.Attached.{Attached}
-use Rattle.group_mount.specs.Verdicts.{IsSlotIn}
-use Rattle.group_mount.specs.Writing.{FrontOf}
-use Rattle.group_mount.specs.declared.finding.Headed.{Headed}
-use Rattle.group_mount.proofs.Fronts.{front_region}
-use Rattle.group_mount.proofs.Searches.{sector_of}
+use Rattle.group_disks.specs.group_engine.Frames.{StaysAttached}
+use Rattle.group_disks.specs.group_engine.Making.{made}
+use Rattle.group_disks.specs.group_engine.Mounts.{AreCopiesOf, IsWhole, MountedGroup}
+use Rattle.group_disks.specs.group_engine.declared.attached.Attached.{Attached}
+use Rattle.group_disks.specs.group_mount.Verdicts.{IsSlotIn}
+use Rattle.group_disks.specs.group_mount.Writing.{FrontOf}
+use Rattle.group_disks.specs.group_mount.declared.finding.Headed.{Headed}
+use Rattle.group_disks.proofs.group_mount.Fronts.{front_region}
+use Rattle.group_disks.proofs.group_mount.Searches.{sector_of}
 use Rattle.status_table.proofs.Allowed.{parts_of}
 use Rattle.status_register.specs.Reaching.{Reaches}
 use Rattle.status_register.specs.Registered.{Registered}

@@ -17,11 +17,11 @@ use Rattle.directory_store.specs.Contents.{ArePutItems}
 use Rattle.disk_images.specs.Looks.{AreLooked, IsLooked}
 use Rattle.disk_images.specs.declared.looking.Looked.{Looked}
 use Rattle.disk_images.specs.declared.looking.Looked.TheVariants.{Absent, Unread, Read}
-use Rattle.group_mount.specs.declared.finding.Headed.{Headed}
+use Rattle.group_disks.specs.group_mount.declared.finding.Headed.{Headed}
 use Rattle.new_groups.specs.Drafts.{HasAgreeingParts, AreDisksApart, AreFree, IsFree, IsRight}
 use Rattle.new_groups.specs.Preparing.{IsPrepared}
 use Rattle.new_groups.specs.Tests.{are_apart, are_fit, has_disk, have_disks, is_apart, is_right, is_there, may_form, shows_size}
-use Rattle.group_mount.specs.Founds.{is_held}
+use Rattle.group_disks.specs.group_mount.Founds.{is_held}
 use Rattle.new_groups.specs.declared.draft.Draft.{Draft}
 use Rattle.new_groups.specs.declared.preparing.Ready.{Ready}
 

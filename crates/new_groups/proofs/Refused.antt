@@ -11,8 +11,8 @@ use Rattle.asm_group.specs.Refusal as r
 use Rattle.asm_base.specs.Refusals.{said}
 use Rattle.asm_base.specs.declared.refusal.Refusal.{Refusal}
 use Rattle.group_disks.specs.Probes.{SaysRefusal}
-use Rattle.group_mount.proofs.Told.{rose_before}
-use Rattle.group_mount.specs.declared.finding.Headed.{Headed}
+use Rattle.group_disks.proofs.group_mount.Told.{rose_before}
+use Rattle.group_disks.specs.group_mount.declared.finding.Headed.{Headed}
 use Rattle.new_groups.specs.Causes.{IsThisRefusal, clash_refusal, first_of, first_refused, groups_refusal}
 use Rattle.new_groups.specs.Drafts.{AreFree}
 use Rattle.new_groups.specs.Forming.{IsFormRefusal}

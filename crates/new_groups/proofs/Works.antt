@@ -10,20 +10,20 @@ use Rattle.asm_base.specs.Records.{Entry}
 use Rattle.asm_formats.specs.Status.{Status, status_spelling}
 use Rattle.asm_group.specs.Refusal as r
 use Rattle.asm_formats.specs.Among.{IsAmong}
-use Rattle.change_directory.specs.declared.copy.DirCopy.{DirCopy}
+use Rattle.directory_store.specs.change_directory.declared.copy.DirCopy.{DirCopy}
 use Rattle.directory_store.specs.Answers.{IsFirstRefusal}
 use Rattle.directory_store.specs.Copies as copies
 use Rattle.directory_store.specs.declared.error.StoreError.{StoreError}
 use Rattle.directory_store.specs.declared.error.StoreError.TheVariants.{Gone}
 use Rattle.gate_slot.specs.Slot.{MayPut, PlaceOf}
 use Rattle.gate_slot.specs.declared.place.Place.{Place}
-use Rattle.disk_forming.specs.Gates.{GatesOf, MayCloseAll}
-use Rattle.disk_forming.specs.Places.{all_gates}
-use Rattle.group_mount.specs.Verdicts.{IsSlotIn}
-use Rattle.group_mount.specs.Writing.{FrontOf}
-use Rattle.group_mount.specs.declared.finding.Headed.{Headed}
-use Rattle.group_mount.proofs.Told.{rose_before}
-use Rattle.group_mount.proofs.Fronts.{claims_change, front_runs, record_changes}
+use Rattle.disk_images.specs.disk_forming.Gates.{GatesOf, MayCloseAll}
+use Rattle.disk_images.specs.disk_forming.Places.{all_gates}
+use Rattle.group_disks.specs.group_mount.Verdicts.{IsSlotIn}
+use Rattle.group_disks.specs.group_mount.Writing.{FrontOf}
+use Rattle.group_disks.specs.group_mount.declared.finding.Headed.{Headed}
+use Rattle.group_disks.proofs.group_mount.Told.{rose_before}
+use Rattle.group_disks.proofs.group_mount.Fronts.{claims_change, front_runs, record_changes}
 use Rattle.status_register.specs.Registered.{AreNumbered}
 use Rattle.status_register.specs.Rows.{PutsRow, RunsInOrder}
 use Rattle.status_register.specs.Slots.{claim_gate, status_gate}

@@ -8,12 +8,12 @@ use Rattle.asm_formats.specs.Sets.{has_bit}
 use Rattle.asm_formats.specs.Status.{Entry, is_status}
 use Rattle.asm_group.specs.Shape.{Shape, is_shape}
 use Rattle.asm_formats.specs.Among.{IsAmong}
-use Rattle.change_directory.specs.declared.copy.DirCopy.{DirCopy}
+use Rattle.directory_store.specs.change_directory.declared.copy.DirCopy.{DirCopy}
 use Rattle.directory_store.specs.Contents.{ArePutItems}
 use Rattle.group_disks.specs.Holding.{IsHeldSlot}
-use Rattle.group_mount.specs.NamedCopies.{copy_of}
-use Rattle.group_mount.specs.Verdicts.{member_of}
-use Rattle.group_mount.specs.declared.finding.Headed.{Headed}
+use Rattle.group_disks.specs.group_mount.NamedCopies.{copy_of}
+use Rattle.group_disks.specs.group_mount.Verdicts.{member_of}
+use Rattle.group_disks.specs.group_mount.declared.finding.Headed.{Headed}
 use Rattle.status_register.specs.Holders.{is_of}
 use Rattle.status_register.specs.declared.member.Member.{Member}
 use Rattle.new_groups.specs.declared.draft.Draft.{Draft}

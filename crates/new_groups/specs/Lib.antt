@@ -5,3 +5,6 @@ pub mod Causes
 pub mod Drafts
 pub mod Forming
 pub mod Preparing
+pub mod disk_directory
+pub mod group_disks
+pub mod group_mount

@@ -3,13 +3,13 @@ ghost use Rattle.std.specs.Prelude.{◌≡◌, [], IfErr, IfOk, IsTrue, Ok, Some
 ghost use Rattle.asm_base.specs.Refusals.{said};
 ghost use Rattle.asm_group.specs.Shape.{is_shape};
 ghost use Rattle.asm_world.specs.Settings.{created_with, creation, with_creation_attribute};
-ghost use Rattle.attribute_values.specs.Creations.{IsNewCreation, creation_meant};
+ghost use Rattle.group_disks.specs.attribute_values.Creations.{IsNewCreation, creation_meant};
 ghost use Rattle.new_groups.specs.Refusing.{IsNotTaken, IsRefusedAs};
 
 use crate::refusals::bad_attribute;
 use asm_base::{GroupKind, NoMemory, Refusal};
-use attribute_values::Creation;
-use group_sql::Attribute;
+use group_disks::Creation;
+use new_disks::group_sql_crate::Attribute;
 use std::alloc::Global;
 
 /// The creation with all its attributes, whose unit must have eight sectors at least. NoMemory is answered, too, where the

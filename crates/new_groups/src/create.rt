@@ -6,7 +6,7 @@ ghost use Rattle.asm_base.specs.Refusals.{said};
 ghost use Rattle.bay.specs.Counts.{last_count};
 ghost use Rattle.group_disks.specs.FirstParts.{IsNewlyMounted};
 ghost use Rattle.group_disks.specs.Holding.{SparesHeld};
-ghost use Rattle.group_engine.specs.Frames.{StaysAttached};
+ghost use Rattle.group_disks.specs.group_engine.Frames.{StaysAttached};
 ghost use Rattle.new_groups.specs.Drafts.{HasAgreeingParts, AreFree, AreLists};
 ghost use Rattle.new_groups.specs.Forming.{IsFormRefusal, Works};
 ghost use Rattle.new_groups.specs.Preparing.{IsCreationRefusal};
@@ -17,7 +17,7 @@ use crate::mounting::mount_formed;
 use crate::preparing::{Ready, prepare};
 use asm_base::{NoMemory, Refusal};
 use bay::Bay;
-use group_engine::Mounted;
+use group_disks::Mounted;
 use std::alloc::Global;
 
 /// Forms and mounts a group that is ready.

@@ -3,10 +3,10 @@ ghost use Rattle.std.specs.Prelude.{IfOk, OnOk};
 ghost use Rattle.directory_store.specs.Contents.{ArePutItems, IsPutItem};
 
 use asm_base::{Change, GroupKind, Key, List, NoMemory, SETTINGS_KEY, TEMPLATES_KEY, Value};
-use disk_directory::{DiskInfo, disk_record};
-use group_mount::Headed;
+use group_disks::{
+    DiskInfo, Headed, Settings, are_allowed, disk_record, settings_value, system, templates_value,
+};
 use std::alloc::Global;
-use template_directory::{Settings, are_allowed, settings_value, system, templates_value};
 
 /// What the directories say of a disk.
 fn info_of(disk: &Headed) -> Result<DiskInfo, NoMemory> {

@@ -1,6 +1,11 @@
 //! New groups of every kind: what a creation is refused for, what its disks become, and how they are formed and mounted.
 #![tactic(auto)]
 
+pub use group_disks::{Headed, mount_group};
+pub use new_disks::group_sql_crate::{NewDisk, NewFailgroup};
+pub use new_disks::{DiskRow, PlannedDisk, is_name_taken};
+pub use partnership::partners;
+
 mod asked;
 mod attributes;
 mod checking;

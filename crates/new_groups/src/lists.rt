@@ -2,15 +2,14 @@
 ghost use Rattle.std.specs.Prelude.{◌≡◌, ◌<◌, ◌++◌, IfOk, OnOk};
 ghost use Rattle.asm_formats.specs.Among.{IsAmong};
 ghost use Rattle.group_disks.specs.Mounting.{by_number, put_disks};
-ghost use Rattle.group_mount.specs.NamedCopies.{copy_of};
-ghost use Rattle.group_mount.specs.Verdicts.{member_of};
-ghost use Rattle.group_mount.specs.declared.finding.Headed.{Headed as Disk};
+ghost use Rattle.group_disks.specs.group_mount.NamedCopies.{copy_of};
+ghost use Rattle.group_disks.specs.group_mount.Verdicts.{member_of};
+ghost use Rattle.group_disks.specs.group_mount.declared.finding.Headed.{Headed as Disk};
 ghost use Rattle.new_groups.specs.Drafts.{copy_list, disk_list, holder_list, member_list};
 
 use asm_base::{DiskSet, NoMemory};
-use change_directory::DirCopy;
-use group_engine::Attached;
-use group_mount::Headed;
+use directory_store::change_directory_crate::DirCopy;
+use group_disks::{Attached, Headed};
 use status_register::Member;
 use std::alloc::Global;
 

@@ -11,8 +11,7 @@ use crate::planned::Terms;
 use asm_base::{NoMemory, Refusal};
 use disk_header::Header;
 use disk_images::Looked;
-use group_disks::{disk_taken, no_disk, write_fault};
-use group_mount::is_held;
+use group_disks::{disk_taken, is_held, no_disk, write_fault};
 use new_disks::PlannedDisk;
 use std::alloc::Global;
 

@@ -21,9 +21,9 @@ use crate::places::{Place, check_all_free, find_places, put_ids};
 use crate::planned::{Planned, planned_disks};
 use crate::sizes::all_units;
 use asm_base::{GroupKind, NoMemory, Refusal, Shape};
-use attribute_values::Creation;
 use bay::Bay;
 use disk_images::{Looked, look_at_images};
+use group_disks::Creation;
 use new_disks::{PlannedDisk, is_name_taken, needed_groups, regular_groups};
 use std::alloc::Global;
 

@@ -3,7 +3,7 @@ use Rattle.std.proofs.Common.{◌≡◌, ℕ, ◌<◌, Bool, true, false, cond, 
 use Rattle.std.specs.Prelude.{is_some}
 use Rattle.std.proofs.lemmas.Bool.{true≢false, eqb-true, eq-eqb}
 use Rattle.asm_formats.specs.Items.{Key}
-use Rattle.asm_base.specs.Records.{is_key, record_at}
+use Rattle.allocator.specs.asm_base.Records.{is_key, record_at}
 use Rattle.page_map.specs.Free.{FreeMap, is_free, IsLeastFree}
 use Rattle.page_map.specs.Tables.{PageTable, IsTable, place_at, SameTable, Adds, Removes, is_page, one_if}
 use Rattle.page_map.proofs.Keys.{one_or_other, same_key, key_itself}

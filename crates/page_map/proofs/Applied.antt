@@ -10,19 +10,19 @@ use Rattle.std.specs.declared.cmp.Ordering.{Ordering}
 use Rattle.std.specs.declared.cmp.Ordering.TheVariants.{Less, Equal, Greater}
 use Rattle.std.proofs.lemmas.Bool.{true≢false, cases_lt, eqb-true, eq-eqb, le-leb, lt-ltb, ne_eqb}
 use Rattle.std.proofs.lemmas.Map.Lookups.{exact_unsigned}
-use Rattle.asm_group.specs.Names.{Bytes}
+use Rattle.asm_formats.specs.asm_group.Names.{Bytes}
 use Rattle.asm_formats.specs.Bytes.{block_size}
 use Rattle.asm_formats.specs.Items.{Key}
 use Rattle.asm_formats.specs.Logs.{image_of}
 use Rattle.asm_formats.specs.Pages.{with_images}
 use Rattle.asm_formats.specs.Status.{ascends_from}
-use Rattle.asm_base.specs.declared.block.Block.{Block}
-use Rattle.asm_base.specs.Records.{Entry, record_at}
+use Rattle.allocator.specs.asm_base.declared.block.Block.{Block}
+use Rattle.allocator.specs.asm_base.Records.{Entry, record_at}
 use Rattle.page_map.specs.Changes.{is_put, is_gone, last_put}
 use Rattle.page_map.specs.Free.{is_free}
 use Rattle.page_map.specs.Tables.{PageTable, IsTable, Shows, place_at, block_of}
 use Rattle.page_map.specs.Applying.{AddsNew, RemovesAll, SetsAll, Blocks, Applies, block_at, page_number}
-use Rattle.asm_base.specs.Blocks.{image_of_page}
+use Rattle.allocator.specs.asm_base.Blocks.{image_of_page}
 use Rattle.page_map.proofs.Keys.{one_or_other}
 use Rattle.page_map.proofs.Changing.{last_put_any, last_put_none, none_else}
 

@@ -4,11 +4,11 @@ use Rattle.std.specs.Prelude.{◌||◌, ◌&&◌, is_some, OnOk, Result, Ok, Err
 use Rattle.std.specs.Map.{lookup}
 use Rattle.std.proofs.lemmas.Bool.{true≢false, eqb-true, eq-eqb}
 use Rattle.std.proofs.lemmas.List.{take_all}
-use Rattle.asm_group.specs.Names.{Bytes}
+use Rattle.asm_formats.specs.asm_group.Names.{Bytes}
 use Rattle.asm_formats.specs.Bytes.{block_size}
 use Rattle.asm_formats.specs.Items.{Key}
-use Rattle.asm_base.specs.declared.block.Block.{Block}
-use Rattle.asm_base.specs.Records.{Entry, is_key, record_at}
+use Rattle.allocator.specs.asm_base.declared.block.Block.{Block}
+use Rattle.allocator.specs.asm_base.Records.{Entry, is_key, record_at}
 use Rattle.page_map.specs.Changes.{is_put, is_gone, last_put}
 use Rattle.page_map.specs.Free.{is_free}
 use Rattle.page_map.specs.Tables.{PageTable, IsTable, place_at, block_of, Adds, Removes, is_page, is_new}

@@ -7,7 +7,7 @@ use Rattle.std.proofs.lemmas.Bool.{true≢false}
 use Rattle.std.proofs.lemmas.Map.Lookups.{exact_unsigned}
 use Rattle.std.specs.Cmp.{nat_cmp_is}
 use Rattle.asm_formats.specs.Items.{Key}
-use Rattle.asm_base.specs.Records.{is_key}
+use Rattle.allocator.specs.asm_base.Records.{is_key}
 
 -- a test answers one or the other
 pub one_or_other : (b : Bool) → (b ≡ true) ⊎ (b ≡ false)

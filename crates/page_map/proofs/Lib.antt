@@ -1,3 +1,4 @@
+pub use Rattle.allocator.proofs as allocator
 pub mod Pages
 pub mod Keys
 pub mod Adding

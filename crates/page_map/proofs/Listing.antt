@@ -6,11 +6,11 @@ use Rattle.std.specs.List.Sorted.{IsStrictlySortedBy}
 use Rattle.std.specs.Ordering.{nat_cmp, is_eq}
 use Rattle.std.specs.declared.cmp.Ordering.TheVariants.{Less}
 use Rattle.std.proofs.lemmas.Bool.{true≢false, eqb-true, eq-eqb, cases_lt}
-use Rattle.asm_group.specs.Names.{Bytes}
+use Rattle.asm_formats.specs.asm_group.Names.{Bytes}
 use Rattle.asm_formats.specs.Bytes.{block_size}
 use Rattle.asm_formats.specs.Items.{Key}
-use Rattle.asm_base.specs.declared.block.Block.{Block}
-use Rattle.asm_base.specs.Records.{is_key, key_cmp, record_at}
+use Rattle.allocator.specs.asm_base.declared.block.Block.{Block}
+use Rattle.allocator.specs.asm_base.Records.{is_key, key_cmp, record_at}
 use Rattle.page_map.specs.Applying.{block_at, page_number}
 use Rattle.page_map.specs.Free.{is_free}
 use Rattle.page_map.specs.Listing.{Lists, ListsBut, key_of_place, shown_by}

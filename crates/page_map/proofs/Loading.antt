@@ -6,7 +6,7 @@ use Rattle.std.specs.Option.{option_map}
 use Rattle.std.proofs.lemmas.Bool.{true≢false, and_parts, leb-true, ltb-true, eq-eqb, eqb-true, ne_eqb, cases_Bool, cases_lt}
 use Rattle.std.proofs.lemmas.Option.{same_Some}
 use Rattle.std.proofs.lemmas.List.{take_more}
-use Rattle.asm_group.specs.Names.{Bytes}
+use Rattle.asm_formats.specs.asm_group.Names.{Bytes}
 use Rattle.asm_formats.specs.Among.{IsAmong}
 use Rattle.asm_formats.specs.Bytes.{block_size}
 use Rattle.asm_formats.specs.Content.{is_page, is_empty_page, page_items}
@@ -18,11 +18,11 @@ use Rattle.asm_formats.specs.Values.{value}
 use Rattle.asm_formats.proofs.Codec.{same_bytes}
 use Rattle.asm_formats.proofs.PageReading.{page_read, record_read}
 use Rattle.asm_formats.proofs.RecordReading.{frame_again, item_frame}
-use Rattle.asm_base.specs.declared.block.Block.{Block}
-use Rattle.asm_base.specs.Frames.{entry_frame}
-use Rattle.asm_base.specs.Records.{Entry, is_key, record_at}
+use Rattle.allocator.specs.asm_base.declared.block.Block.{Block}
+use Rattle.allocator.specs.asm_base.Frames.{entry_frame}
+use Rattle.allocator.specs.asm_base.Records.{Entry, is_key, record_at}
 use Rattle.page_map.specs.Applying.{page_number}
-use Rattle.asm_base.specs.Blocks.{image_of_page}
+use Rattle.allocator.specs.asm_base.Blocks.{image_of_page}
 use Rattle.page_map.specs.Contents.{AreItems, IsItemOf}
 use Rattle.page_map.specs.Free.{is_free}
 use Rattle.page_map.specs.Listing.{shown_by}

@@ -4,7 +4,7 @@ use Rattle.std.specs.Prelude.{is_some, nat_le, nat_lt}
 use Rattle.std.specs.List.{range_with_len}
 use Rattle.std.proofs.lemmas.Bool.{true≢false, and_parts, ltb-true}
 use Rattle.std.proofs.lemmas.List.FromFn.{get_or-map-range_with_len, length-map-range_with_len}
-use Rattle.asm_group.specs.Names.{Bytes}
+use Rattle.asm_formats.specs.asm_group.Names.{Bytes}
 use Rattle.asm_formats.specs.Among.{IsAmong}
 use Rattle.asm_formats.specs.Content.{is_page, page_items, records_in}
 use Rattle.asm_formats.specs.Items.{Item, Key, key, key_rank, is_item}
@@ -15,7 +15,7 @@ use Rattle.asm_formats.proofs.Among.{among_index}
 use Rattle.asm_formats.proofs.PageReading.{zeros_read, record_read}
 use Rattle.asm_formats.proofs.RecordLists.{records_of, pages_have_records}
 use Rattle.asm_formats.proofs.RecordReading.{item_frame}
-use Rattle.asm_base.specs.Records.{record_at}
+use Rattle.allocator.specs.asm_base.Records.{record_at}
 use Rattle.page_map.specs.Free.{is_free}
 use Rattle.page_map.specs.Tables.{PageTable, IsTable, Shows, place_at, block_of}
 use Rattle.page_map.specs.Contents.{IsItemOf, AreItems, AreRecords, ShownIsContent}

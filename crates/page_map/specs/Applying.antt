@@ -6,20 +6,20 @@ use Rattle.std.specs.Option.{option_map}
 use Rattle.std.specs.Map.{lookup}
 use Rattle.std.specs.BTreeMap.{is_at}
 use Rattle.std.specs.Ordering.{nat_cmp}
-use Rattle.asm_group.specs.Names.{Bytes}
+use Rattle.asm_formats.specs.asm_group.Names.{Bytes}
 use Rattle.asm_formats.specs.Bytes.{block_size}
 use Rattle.asm_formats.specs.Items.{Key}
 use Rattle.asm_formats.specs.Logs.{PageImage}
 use Rattle.asm_formats.specs.Pages.{with_images}
 use Rattle.asm_formats.specs.Status.{ascends_from}
-use Rattle.asm_base.specs.declared.block.Block.{Block}
-use Rattle.asm_base.specs.Records.{Entry, is_key, record_at}
+use Rattle.allocator.specs.asm_base.declared.block.Block.{Block}
+use Rattle.allocator.specs.asm_base.Records.{Entry, is_key, record_at}
 use Rattle.page_map.specs.declared.change.PageError.{PageError}
 use Rattle.page_map.specs.declared.change.PageError.TheVariants.{Full, NoMemory}
 use Rattle.page_map.specs.Changes.{is_put, is_gone, last_put, value_after}
 use Rattle.page_map.specs.Free.{is_free}
 use Rattle.page_map.specs.Tables.{PageTable, place_at, block_of, Shows, new_in, room}
-use Rattle.asm_base.specs.Blocks.{image_of_page}
+use Rattle.allocator.specs.asm_base.Blocks.{image_of_page}
 
 -- Each new key of these has a record on one of the least free pages, and the others are as they were.
 pub record AddsNew (old new : PageTable) (put : List Entry) : Type 0 where

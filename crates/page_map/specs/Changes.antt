@@ -1,7 +1,7 @@
 -- What a change does to a map of keys to values.
 use Rattle.std.specs.Prelude.{ℕ, Bool, false, ◌||◌, List, [], ◌∷◌, if◌then◌else◌, Option, Some, None}
 use Rattle.asm_formats.specs.Items.{Key}
-use Rattle.asm_base.specs.Records.{Entry, is_key}
+use Rattle.allocator.specs.asm_base.Records.{Entry, is_key}
 
 -- the key is among these
 abbrev pub is_gone : List Key → Key → Bool

@@ -1,13 +1,13 @@
 -- The content of pages that show a table.
 use Rattle.std.specs.Prelude.{◌≡◌, ℕ, List, map, Some, IsTrue}
 use Rattle.std.specs.List.{range_with_len}
-use Rattle.asm_group.specs.Names.{Bytes}
+use Rattle.asm_formats.specs.asm_group.Names.{Bytes}
 use Rattle.asm_formats.specs.Among.{IsAmong}
 use Rattle.asm_formats.specs.Content.{records_in}
 use Rattle.asm_formats.specs.Items.{Item, Key, key, is_item}
 use Rattle.asm_formats.specs.PageLaws.{are_in_order}
 use Rattle.asm_formats.specs.Values.{value}
-use Rattle.asm_base.specs.Records.{record_at}
+use Rattle.allocator.specs.asm_base.Records.{record_at}
 use Rattle.page_map.specs.Tables.{PageTable, IsTable, Shows}
 
 -- an item of the formats with this key and this value

@@ -1,3 +1,4 @@
+pub use Rattle.allocator.specs as allocator
 pub mod Free
 pub mod Changes
 pub mod Tables

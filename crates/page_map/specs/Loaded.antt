@@ -1,7 +1,7 @@
 -- A page table that is made of the pages of a copy.
 use Rattle.std.specs.Prelude.{◌≡◌, ℕ, ◌<◌, ◌≤◌, false, not, nat_lt, ◌==◌, List, [], ◌∷◌, map, if◌then◌else◌, Option, Some, None, is_some, IsTrue, true, replicate}
 use Rattle.std.specs.List.{list_all}
-use Rattle.asm_group.specs.Names.{Bytes}
+use Rattle.asm_formats.specs.asm_group.Names.{Bytes}
 use Rattle.asm_formats.specs.Among.{IsAmong}
 use Rattle.asm_formats.specs.Bytes.{block_size}
 use Rattle.asm_formats.specs.Content.{is_page, is_empty_page, page_items}
@@ -10,10 +10,10 @@ use Rattle.asm_formats.specs.Pages.{with_images}
 use Rattle.asm_formats.specs.Records.{record_spelling}
 use Rattle.asm_formats.specs.Status.{ascends_from}
 use Rattle.asm_formats.specs.Values.{value}
-use Rattle.asm_base.specs.declared.block.Block.{Block}
-use Rattle.asm_base.specs.Records.{Entry, is_key, record_at}
+use Rattle.allocator.specs.asm_base.declared.block.Block.{Block}
+use Rattle.allocator.specs.asm_base.Records.{Entry, is_key, record_at}
 use Rattle.page_map.specs.Applying.{page_number}
-use Rattle.asm_base.specs.Blocks.{image_of_page}
+use Rattle.allocator.specs.asm_base.Blocks.{image_of_page}
 use Rattle.page_map.specs.Contents.{AreItems}
 use Rattle.page_map.specs.Free.{is_free}
 use Rattle.page_map.specs.Listing.{shown_by}

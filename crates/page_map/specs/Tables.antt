@@ -1,12 +1,12 @@
 -- Which record stands on which page.
 use Rattle.std.specs.Prelude.{◌≡◌, ℕ, ◌+◌, ◌-◌, ◌<◌, Bool, true, false, ◌&&◌, not, nat_le, ◌==◌, List, [], ◌∷◌, length, if◌then◌else◌, replicate, Option, Some, None, is_some}
 use Rattle.std.specs.Map.{lookup}
-use Rattle.asm_group.specs.Names.{Bytes}
+use Rattle.asm_formats.specs.asm_group.Names.{Bytes}
 use Rattle.asm_formats.specs.Bytes.{block_size}
 use Rattle.asm_formats.specs.Items.{Key, operations_kind}
 use Rattle.asm_formats.specs.Records.{frame_spelling}
-use Rattle.asm_base.specs.Records.{Entry, is_key, record_at}
-use Rattle.asm_base.specs.Frames.{entry_frame}
+use Rattle.allocator.specs.asm_base.Records.{Entry, is_key, record_at}
+use Rattle.allocator.specs.asm_base.Frames.{entry_frame}
 use Rattle.page_map.specs.Free.{FreeMap, is_free, IsLeastFree}
 use Rattle.page_map.specs.Changes.{is_put}
 

@@ -1,13 +1,13 @@
 //! The pages of all records.
 
 ghost use Rattle.std.specs.Prelude.{◌≡◌, [], IfOk, OnOk};
-ghost use Rattle.asm_base.specs.Records.{record_at};
+ghost use Rattle.allocator.specs.asm_base.Records.{record_at};
 ghost use Rattle.page_map.specs.Listing.{Lists, ListsBut};
 ghost use Rattle.page_map.specs.Tables.{IsTable, block_of};
 
 use crate::change::{listed, put_block, record_block};
 use crate::table::PageMap;
-use asm_base::{Block, Key, NoMemory};
+use allocator::asm_base_crate::{Block, Key, NoMemory};
 use std::alloc::Global;
 use std::collections::BTreeMap;
 

@@ -2,7 +2,7 @@
 
 ghost use Rattle.std.specs.Prelude.{◌≡◌, ◌<◌, ◌≤◌, ◌+◌, ◌==◌, ◌&&◌, ◌++◌, ◌∷◌, ℕ, true, [], length, map as map_list, IfErr, IfOk, OnErr, OnOk, Some, None, is_some, if◌then◌else◌};
 ghost use Rattle.asm_formats.specs.Items.{Key as FormatKey};
-ghost use Rattle.asm_base.specs.Records.{is_key, record_at};
+ghost use Rattle.allocator.specs.asm_base.Records.{is_key, record_at};
 ghost use Rattle.page_map.specs.Changes.{is_put, is_gone, last_put};
 ghost use Rattle.page_map.specs.Tables.{IsTable, SameTable, is_kept, is_new, new_in, place_at, block_of, room};
 ghost use Rattle.std.specs.List.Sorted.{IsStrictlySortedBy};
@@ -11,7 +11,7 @@ ghost use Rattle.std.specs.Ordering.{nat_cmp};
 ghost use Rattle.page_map.specs.Applying.{AddsNew, RemovesAll, SetsAll, PutOne, PutBlocks, GoneBlocks, Blocks, Applies, IsCause, block_at, page_number};
 
 use crate::table::PageMap;
-use asm_base::{Block, Key, NoMemory, Value, encode_record, record_kind};
+use allocator::asm_base_crate::{Block, Key, NoMemory, Value, encode_record, record_kind};
 use std::alloc::Global;
 use std::collections::BTreeMap;
 

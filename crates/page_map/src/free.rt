@@ -4,7 +4,7 @@ ghost use Rattle.std.specs.Prelude.{◌≡◌, ◌<◌, ◌≤◌, ◌==◌, ℕ
 ghost use Rattle.page_map.specs.Free.{is_free, IsLeastFree};
 
 use allocator::Units;
-use asm_base::NoMemory;
+use allocator::asm_base_crate::NoMemory;
 use std::alloc::Global;
 use std::marker::Model;
 

@@ -1,6 +1,8 @@
 //! The directories of a group: records by key, each on a page of its own, and what a change does to both.
 #![tactic(auto)]
 
+pub use allocator as allocator_crate;
+
 mod all_pages;
 mod change;
 mod free;

@@ -3,11 +3,11 @@
 ghost use Rattle.std.specs.Prelude.{◌≡◌, ◌<◌, ◌≤◌, ◌+◌, ◌==◌, ℕ, true, false, length, IfOk, OnErr, OnOk, Some, None, is_some, if◌then◌else◌};
 ghost use Rattle.std.specs.Option.{option_copied};
 ghost use Rattle.asm_formats.specs.Items.{Key as FormatKey};
-ghost use Rattle.asm_base.specs.Records.{is_key, record_at};
+ghost use Rattle.allocator.specs.asm_base.Records.{is_key, record_at};
 ghost use Rattle.page_map.specs.Tables.{place_at};
 
 use crate::free::FreePages;
-use asm_base::{Key, NoMemory, PENDING_KEY, REBALANCE_KEY, Records, Value};
+use allocator::asm_base_crate::{Key, NoMemory, PENDING_KEY, REBALANCE_KEY, Records, Value};
 use std::alloc::Global;
 use std::collections::BTreeMap;
 use std::collections::btree_map::Iter;
@@ -35,7 +35,7 @@ impl PageMap {
     ghost use Rattle.page_map.specs.Free.{is_free, IsLeastFree};
     ghost use Rattle.std.specs.List.Sorted.{IsStrictlySortedBy};
     ghost use Rattle.std.specs.Prelude.{map};
-    ghost use Rattle.asm_base.specs.Records.{key_cmp};
+    ghost use Rattle.allocator.specs.asm_base.Records.{key_cmp};
     ghost use Rattle.page_map.specs.Listing.{key_of_place};
     ghost use Rattle.page_map.specs.Tables.{IsTable, SameTable, Adds, Removes, room};
     ghost use Rattle.page_map.specs.Loaded.{AddsAt};

@@ -10,7 +10,7 @@ use Rattle.asm_formats.specs.Among.{IsAmong}
 use Rattle.asm_formats.proofs.Among.{among_filter}
 use Rattle.asm_formats.specs.Items.{Homes}
 use Rattle.asm_formats.specs.Status.{Entry, ascends_from}
-use Rattle.asm_base.proofs.Exact.{some_is}
+use Rattle.allocator.proofs.asm_base.Exact.{some_is}
 use Rattle.asm_placement.specs.DiskSets.{numbers}
 use Rattle.asm_placement.specs.Modes.{is_target}
 use Rattle.allocator.specs.UnitMaps.{UnitMap, used_of, total_of, with_run}

@@ -1,3 +1,5 @@
+pub use Rattle.asm_placement.proofs as asm_placement
+pub use Rattle.status_table.proofs as status_table
 pub mod Runs
 pub mod Turns
 pub mod Groups

@@ -8,7 +8,7 @@ use Rattle.std.proofs.lemmas.List.{length-take, take_more_set}
 use Rattle.std.proofs.lemmas.Option.{none-some, slice_get_past, slice_get-get_or}
 use Rattle.asm_formats.specs.Items.{Home, Homes}
 use Rattle.asm_formats.specs.Status.{Entry, ascends_from}
-use Rattle.asm_base.proofs.Exact.{some_is}
+use Rattle.allocator.proofs.asm_base.Exact.{some_is}
 use Rattle.asm_placement.specs.DiskSets.{numbers}
 use Rattle.asm_placement.specs.Layout.{units_of}
 use Rattle.allocator.specs.UnitMaps.{IsFreeRun, UnitMap, with_run}

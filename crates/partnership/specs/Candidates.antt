@@ -2,7 +2,7 @@
 use Rattle.std.specs.Prelude.{ℕ, zero, suc, ◌+◌, ◌-◌, ◌*◌, Bool, true, false, ◌&&◌, ◌||◌, not, List, [], ◌∷◌, length, map, filter, if◌then◌else◌, nat_lt, nat_le, ◌==◌, Option, Some, None}
 use Rattle.std.specs.List.{range_with_len, list_all, list_any, find, cons_option, slice_get}
 use Rattle.std.specs.Option.{is_some, option_and_then, option_map}
-use Rattle.asm_base.specs.Homes.{first_home, second_home, third_home}
+use Rattle.allocator.specs.asm_base.Homes.{first_home, second_home, third_home}
 use Rattle.asm_formats.specs.Sets.{has_bit}
 use Rattle.asm_formats.specs.Status.{Entry, entry_of}
 use Rattle.asm_formats.specs.Items.{Home, Homes}

@@ -1,3 +1,6 @@
+pub use Rattle.asm_placement.specs as asm_placement
+pub use Rattle.status_table.specs as status_table
+pub use Rattle.striping.specs as striping
 pub mod Candidates
 pub mod Rooms
 pub mod Rows

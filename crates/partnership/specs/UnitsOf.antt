@@ -2,7 +2,7 @@
 use Rattle.std.specs.Prelude.{◌≡◌, IsSomeAnd, ℕ, suc, ◌≤◌, ◌<◌, Bool, false, List, [], ◌∷◌, if◌then◌else◌, ◌==◌, Option, Some, None}
 use Rattle.std.specs.List.{AllByRecursion, slice_get}
 use Rattle.std.specs.Option.{is_some}
-use Rattle.asm_group.specs.Shape.{Shape}
+use Rattle.asm_formats.specs.asm_group.Shape.{Shape}
 use Rattle.asm_formats.specs.Regions.{reserved_units}
 use Rattle.asm_formats.specs.Status.{Entry}
 use Rattle.asm_formats.specs.Items.{Item, Home, Homes}

@@ -8,7 +8,7 @@ ghost use Rattle.partnership.specs.Candidates.{candidate, candidate_at, candidat
 ghost use Rattle.partnership.specs.Steps.{with_next};
 
 use allocator::Units;
-use asm_base::{Home, Mode};
+use allocator::asm_base_crate::{Home, Mode};
 use status_table::PstEntry;
 use std::marker::Model;
 

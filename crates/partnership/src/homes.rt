@@ -3,7 +3,7 @@
 ghost use Rattle.std.specs.Prelude.{◌≡◌, ◌+◌, ◌<◌, ◌≤◌, List, length, nat_le};
 ghost use Rattle.std.specs.List.{list_any};
 ghost use Rattle.std.specs.Option.{option_map};
-ghost use Rattle.asm_group.specs.Shape.{Shape};
+ghost use Rattle.asm_formats.specs.asm_group.Shape.{Shape};
 ghost use Rattle.asm_formats.specs.Items.{Item};
 ghost use Rattle.asm_placement.specs.DiskSets.{is_among};
 ghost use Rattle.asm_placement.specs.Choices.{homes_for};
@@ -14,7 +14,7 @@ ghost use Rattle.partnership.specs.UnitsOf.{AreUnitsOf};
 use crate::candidate::{Candidate, home_of, with_next};
 use crate::room::Room;
 use allocator::Units;
-use asm_base::{DiskSet, Home, Homes};
+use allocator::asm_base_crate::{DiskSet, Home, Homes};
 use status_table::PstEntry;
 
 /// Homes for one to three copies of a new extent of n units, or None where there is no space. The first goes to the

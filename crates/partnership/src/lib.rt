@@ -1,6 +1,9 @@
 //! Which disks are partners, where new copies go, and which disks hold the status tables and directory copies.
 #![tactic(auto)]
 
+pub use status_table as status_table_crate;
+pub use striping as striping_crate;
+
 mod candidate;
 mod choice;
 mod disks;

@@ -2,7 +2,7 @@
 
 ghost use Rattle.std.specs.Prelude.{◌≡◌, ℕ, ◌<◌, ◌==◌, List, Some, length};
 ghost use Rattle.std.specs.List.{list_any};
-ghost use Rattle.asm_group.specs.Shape.{Shape};
+ghost use Rattle.asm_formats.specs.asm_group.Shape.{Shape};
 ghost use Rattle.asm_formats.specs.Items.{Item, Homes};
 ghost use Rattle.asm_formats.specs.Status.{entry_of};
 ghost use Rattle.asm_placement.specs.Choices.{replacement, replacement_on};
@@ -12,7 +12,7 @@ ghost use Rattle.partnership.specs.UnitsOf.{AreHomesOf, AreUnitsOf, is_eligible_
 
 use crate::candidate::{Candidate, candidate_on, home_of, is_target, with_next};
 use allocator::Units;
-use asm_base::{DiskSet, Home};
+use allocator::asm_base_crate::{DiskSet, Home};
 use status_table::PstEntry;
 
 /// Whether disk d may take a copy of an extent: it is Online and regular, holds none of its copies, shares no failure

@@ -8,7 +8,7 @@ ghost use Rattle.partnership.specs.Rows.{IsRow, home_used, homes_at, homes_used}
 
 use crate::homes::choose_homes;
 use allocator::Units;
-use asm_base::{Home, Homes};
+use allocator::asm_base_crate::{Home, Homes};
 use status_table::PstEntry;
 use striping::units_of;
 

@@ -1,6 +1,6 @@
 use super::*;
 use allocator::Units;
-use asm_base::{DiskSet, Home, Mode};
+use allocator::asm_base_crate::{DiskSet, Home, Mode};
 use status_table::PstEntry;
 use std::alloc::Global;
 use std::test::*;

@@ -4,9 +4,9 @@ use Rattle.asm_formats.specs.Status.{Status}
 use Rattle.asm_formats.specs.Items.{Item}
 use Rattle.asm_placement.specs.Work.{AreRecords}
 use Rattle.asm_placement.proofs.Falling.{work_falls}
-use Rattle.catalog_tables.specs.Faults.{IsCatalog}
-use Rattle.catalog_tables.specs.Items.{AreItemsOf}
-use Rattle.catalog_tables.specs.Tables.{Catalogued}
+use Rattle.catalog_laws.specs.catalog_tables.Faults.{IsCatalog}
+use Rattle.catalog_laws.specs.catalog_tables.Items.{AreItemsOf}
+use Rattle.catalog_laws.specs.catalog_tables.Tables.{Catalogued}
 use Rattle.catalog_laws.proofs.ItemLists.{items_say}
 use Rattle.catalog_laws.proofs.RegularHomes.{copies_are_regular}
 use Rattle.rebalance.specs.declared.moves.Next.{Next as CodeNext}

@@ -6,10 +6,10 @@ use Rattle.asm_group.specs.Shape.{Shape}
 use Rattle.asm_formats.specs.Status.{Entry}
 use Rattle.asm_formats.specs.Items.{FileHead, Homes}
 use Rattle.asm_placement.specs.Rebalancing.{Next, when}
-use Rattle.extent_map.specs.Extents.{Chunked, has_home}
+use Rattle.catalog_laws.specs.extent_map.Extents.{Chunked, has_home}
 use Rattle.asm_base.specs.Chunks.{Chunk}
-use Rattle.file_directory.specs.Files.{head_at}
-use Rattle.catalog_tables.specs.Tables.{Catalogued, Tables}
+use Rattle.catalog_laws.specs.file_directory.Files.{head_at}
+use Rattle.catalog_laws.specs.catalog_tables.Tables.{Catalogued, Tables}
 use Rattle.extent_copies.specs.declared.extent.Extent.{Extent}
 use Rattle.rebalance.specs.declared.moves.Next.{Next as CodeNext}
 use Rattle.rebalance.specs.declared.search.Asked.TheVariants as asked

@@ -14,15 +14,15 @@ use Rattle.asm_base.specs.Records.{Ascend}
 use Rattle.asm_placement.specs.Layout.{units_of}
 use Rattle.asm_placement.specs.Moves.{without_bit}
 use Rattle.asm_placement.proofs.MovedCopies.{in_chunk}
-use Rattle.extent_map.specs.Extents.{Chunked, absent, chunk_at, chunks_from, has_home, item_of, with_chunk, with_extent, with_homes}
+use Rattle.catalog_laws.specs.extent_map.Extents.{Chunked, absent, chunk_at, chunks_from, has_home, item_of, with_chunk, with_extent, with_homes}
 use Rattle.asm_base.specs.Chunks.{Chunk, chunk_cmp, is_before}
-use Rattle.extent_map.proofs.Laws.{chunk_total, same_chunk}
-use Rattle.extent_map.proofs.Lookups.{put_other, set_other}
-use Rattle.staleness_directory.specs.Marks.{Marked, marks_at}
-use Rattle.catalog.specs.ExtentPlans.{homes_moved, marks_changed, marks_or_none, with_marks_at}
-use Rattle.catalog_tables.specs.Tables.{AreTables, Catalogued}
-use Rattle.catalog_tables.specs.Rules.{marks_of}
-use Rattle.catalog_tables.proofs.TableItems.{below, chunks_exact, each_of, found_is, tail_up}
+use Rattle.catalog_laws.proofs.extent_map.Laws.{chunk_total, same_chunk}
+use Rattle.catalog_laws.proofs.extent_map.Lookups.{put_other, set_other}
+use Rattle.catalog_laws.specs.staleness_directory.Marks.{Marked, marks_at}
+use Rattle.catalog_laws.specs.catalog.ExtentPlans.{homes_moved, marks_changed, marks_or_none, with_marks_at}
+use Rattle.catalog_laws.specs.catalog_tables.Tables.{AreTables, Catalogued}
+use Rattle.catalog_laws.specs.catalog_tables.Rules.{marks_of}
+use Rattle.catalog_laws.proofs.catalog_tables.TableItems.{below, chunks_exact, each_of, found_is, tail_up}
 use Rattle.extent_copies.specs.declared.extent.Extent.{Extent}
 use Rattle.rebalance.specs.declared.stages.Stage.{Stage}
 use Rattle.rebalance.specs.declared.stages.Stage.TheVariants as stage

@@ -9,3 +9,7 @@ pub mod Passing
 pub mod Following
 pub mod Falling
 pub mod Planning
+pub mod catalog
+pub mod catalog_laws
+pub mod catalog_tables
+pub mod extent_map

@@ -13,12 +13,12 @@ use Rattle.asm_formats.specs.Items.{FileHead, Homes}
 use Rattle.asm_base.specs.Records.{Ascend}
 use Rattle.asm_placement.specs.Rebalancing.{Next, when}
 use Rattle.allocator.specs.UnitMaps.{UnitMap}
-use Rattle.extent_map.specs.Extents.{Chunked, chunks_from, has_home}
+use Rattle.catalog_laws.specs.extent_map.Extents.{Chunked, chunks_from, has_home}
 use Rattle.asm_base.specs.Chunks.{Chunk, chunk_cmp, is_before}
-use Rattle.extent_map.proofs.Laws.{chunk_total}
-use Rattle.file_directory.specs.Files.{head_at}
-use Rattle.catalog_tables.specs.Tables.{AreTables, Catalogued, Tables}
-use Rattle.catalog_tables.proofs.TableItems.{among_found, below, chunks_exact, found_is, tail_up}
+use Rattle.catalog_laws.proofs.extent_map.Laws.{chunk_total}
+use Rattle.catalog_laws.specs.file_directory.Files.{head_at}
+use Rattle.catalog_laws.specs.catalog_tables.Tables.{AreTables, Catalogued, Tables}
+use Rattle.catalog_laws.proofs.catalog_tables.TableItems.{among_found, below, chunks_exact, found_is, tail_up}
 use Rattle.extent_copies.specs.declared.extent.Extent.{Extent}
 use Rattle.rebalance.specs.declared.moves.Next.{Next as CodeNext}
 use Rattle.rebalance.specs.declared.stages.Stage.{Stage}

@@ -30,28 +30,28 @@ use Rattle.allocator.specs.UnitMaps.{UnitMap, is_free}
 use Rattle.partnership.specs.Candidates.{is_free_from, lowest}
 use Rattle.partnership.specs.UnitsOf.{AreUnits, AreUnitsOf}
 use Rattle.partnership.proofs.Runs.{lowest_of_disk}
-use Rattle.extent_map.specs.Extents.{Chunked, chunk_at, has_home, item_of}
+use Rattle.catalog_laws.specs.extent_map.Extents.{Chunked, chunk_at, has_home, item_of}
 use Rattle.asm_base.specs.Chunks.{chunk_cmp}
-use Rattle.extent_map.proofs.Laws.{chunk_total}
-use Rattle.file_directory.specs.Files.{head_at}
-use Rattle.catalog.specs.ExtentPlans.{MayMove, home_at, is_copy_of}
-use Rattle.catalog_tables.specs.Faults.{IsCatalog}
-use Rattle.catalog_tables.specs.Items.{AreItemsOf, chunk_copies}
-use Rattle.catalog_tables.specs.Placing.{home_taken}
-use Rattle.catalog_tables.specs.Rules.{AreOnRegular, are_on_disks, are_on_two, is_on_regular, homes_at}
-use Rattle.catalog_tables.specs.Tables.{Catalogued, Tables}
-use Rattle.catalog.proofs.EditLaws.{chunk_right}
-use Rattle.catalog.proofs.ExtentCounts.{few_copies}
+use Rattle.catalog_laws.proofs.extent_map.Laws.{chunk_total}
+use Rattle.catalog_laws.specs.file_directory.Files.{head_at}
+use Rattle.catalog_laws.specs.catalog.ExtentPlans.{MayMove, home_at, is_copy_of}
+use Rattle.catalog_laws.specs.catalog_tables.Faults.{IsCatalog}
+use Rattle.catalog_laws.specs.catalog_tables.Items.{AreItemsOf, chunk_copies}
+use Rattle.catalog_laws.specs.catalog_tables.Placing.{home_taken}
+use Rattle.catalog_laws.specs.catalog_tables.Rules.{AreOnRegular, are_on_disks, are_on_two, is_on_regular, homes_at}
+use Rattle.catalog_laws.specs.catalog_tables.Tables.{Catalogued, Tables}
+use Rattle.catalog_laws.proofs.catalog.EditLaws.{chunk_right}
+use Rattle.catalog_laws.proofs.catalog.ExtentCounts.{few_copies}
 use Rattle.catalog_laws.proofs.ItemLists.{items_say}
-use Rattle.catalog.proofs.MarkPlans.{some_of}
+use Rattle.catalog_laws.proofs.catalog.MarkPlans.{some_of}
 use Rattle.catalog_laws.proofs.MoveItems.{moves_items}
-use Rattle.catalog.proofs.MovePlans.{all_at}
-use Rattle.catalog_tables.proofs.PlacingLaws.{all_in, units_some}
+use Rattle.catalog_laws.proofs.catalog.MovePlans.{all_at}
+use Rattle.catalog_laws.proofs.catalog_tables.PlacingLaws.{all_in, units_some}
 use Rattle.catalog_laws.proofs.RegularHomes.{moving_keeps}
 use Rattle.catalog_laws.proofs.RecopyItems.{clears_items, may_clear}
-use Rattle.catalog_tables.proofs.TableItems.{among_found, chunks_exact, each_of}
+use Rattle.catalog_laws.proofs.catalog_tables.TableItems.{among_found, chunks_exact, each_of}
 use Rattle.catalog_laws.proofs.UnitLaws.{units_are}
-use Rattle.status_table.proofs.Allowed.{entry_fits, parts_of}
+use Rattle.partnership.proofs.status_table.Allowed.{entry_fits, parts_of}
 use Rattle.rebalance.specs.Falling.{MayBePlanned, NextMayBePlanned, PlannedMovesAreRegular, PlannedWorkFalls, planned}
 use Rattle.rebalance.specs.Searching.{IsStatusOf}
 use Rattle.rebalance.proofs.Falling.{records_are}

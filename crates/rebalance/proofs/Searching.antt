@@ -18,19 +18,19 @@ use Rattle.asm_placement.specs.Space.{share}
 use Rattle.asm_placement.proofs.MovedCopies.{in_chunk}
 use Rattle.allocator.specs.UnitMaps.{UnitMap}
 use Rattle.partnership.specs.UnitsOf.{AreUnitsOf}
-use Rattle.extent_map.specs.Extents.{Chunked, chunk_at, has_home, is_blank, item_of}
+use Rattle.catalog_laws.specs.extent_map.Extents.{Chunked, chunk_at, has_home, is_blank, item_of}
 use Rattle.asm_base.specs.Chunks.{chunk_cmp}
-use Rattle.extent_map.proofs.Laws.{chunk_total}
-use Rattle.file_directory.specs.Files.{head_at}
-use Rattle.catalog_tables.specs.Tables.{AreTables, Catalogued, Tables}
-use Rattle.catalog_tables.specs.Items.{AreItemsOf, SayTables, chunk_copies}
-use Rattle.catalog_tables.specs.Faults.{IsCatalog}
-use Rattle.catalog.proofs.ExtentCounts.{few_extents}
+use Rattle.catalog_laws.proofs.extent_map.Laws.{chunk_total}
+use Rattle.catalog_laws.specs.file_directory.Files.{head_at}
+use Rattle.catalog_laws.specs.catalog_tables.Tables.{AreTables, Catalogued, Tables}
+use Rattle.catalog_laws.specs.catalog_tables.Items.{AreItemsOf, SayTables, chunk_copies}
+use Rattle.catalog_laws.specs.catalog_tables.Faults.{IsCatalog}
+use Rattle.catalog_laws.proofs.catalog.ExtentCounts.{few_extents}
 use Rattle.catalog_laws.proofs.ItemLists.{items_say}
-use Rattle.catalog_tables.proofs.PlacingLaws.{units_some}
-use Rattle.catalog_tables.proofs.TableItems.{among_found, chunks_exact, each_of}
+use Rattle.catalog_laws.proofs.catalog_tables.PlacingLaws.{units_some}
+use Rattle.catalog_laws.proofs.catalog_tables.TableItems.{among_found, chunks_exact, each_of}
 use Rattle.catalog_laws.proofs.UnitLaws.{units_are}
-use Rattle.status_table.proofs.Allowed.{parts_of}
+use Rattle.partnership.proofs.status_table.Allowed.{parts_of}
 use Rattle.extent_copies.specs.declared.extent.Extent.{Extent}
 use Rattle.rebalance.specs.declared.moves.Next.{Next as CodeNext}
 use Rattle.rebalance.specs.declared.stages.Stage.{Stage}

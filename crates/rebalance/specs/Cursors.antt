@@ -4,12 +4,12 @@ use Rattle.std.specs.BTreeMap.{is_at}
 use Rattle.std.specs.Option.{option_map}
 use Rattle.asm_formats.specs.Status.{Entry, Status}
 use Rattle.asm_formats.specs.Items.{FileHead, Home, Homes, chunk_len}
-use Rattle.extent_map.specs.Extents.{Chunked, chunk_at}
+use Rattle.catalog_laws.specs.extent_map.Extents.{Chunked, chunk_at}
 use Rattle.asm_base.specs.Chunks.{Chunk, chunk_cmp, is_before}
-use Rattle.file_directory.specs.Files.{head_at}
-use Rattle.staleness_directory.specs.Marks.{marks_at}
-use Rattle.catalog.specs.ExtentPlans.{with_marks_changed, with_move}
-use Rattle.catalog_tables.specs.Tables.{Catalogued, Tables}
+use Rattle.catalog_laws.specs.file_directory.Files.{head_at}
+use Rattle.catalog_laws.specs.staleness_directory.Marks.{marks_at}
+use Rattle.catalog_laws.specs.catalog.ExtentPlans.{with_marks_changed, with_move}
+use Rattle.catalog_laws.specs.catalog_tables.Tables.{Catalogued, Tables}
 use Rattle.rebalance.specs.declared.stages.Stage.{Stage}
 use Rattle.rebalance.specs.declared.stages.Stage.TheVariants as stage
 use Rattle.rebalance.specs.Sums.{Sums, sums_at}

@@ -5,11 +5,11 @@ use Rattle.asm_formats.specs.Items.{Item}
 use Rattle.asm_placement.specs.Moves.{items_after, record_after}
 use Rattle.asm_placement.specs.Rebalancing.{Move, Next, directory, fill, move, next, recopy, shift, tables}
 use Rattle.asm_placement.specs.Work.{IsLess, work}
-use Rattle.catalog.specs.ExtentPlans.{MayMark, MayMove, with_marks_changed, with_move}
-use Rattle.catalog_tables.specs.Faults.{IsCatalog}
-use Rattle.catalog_tables.specs.Items.{AreItemsOf}
-use Rattle.catalog_tables.specs.Rules.{AreOnRegular}
-use Rattle.catalog_tables.specs.Tables.{Catalogued, Tables}
+use Rattle.catalog_laws.specs.catalog.ExtentPlans.{MayMark, MayMove, with_marks_changed, with_move}
+use Rattle.catalog_laws.specs.catalog_tables.Faults.{IsCatalog}
+use Rattle.catalog_laws.specs.catalog_tables.Items.{AreItemsOf}
+use Rattle.catalog_laws.specs.catalog_tables.Rules.{AreOnRegular}
+use Rattle.catalog_laws.specs.catalog_tables.Tables.{Catalogued, Tables}
 use Rattle.rebalance.specs.Searching.{IsStatusOf}
 
 -- Where the next is a move, the work that is left once it is committed is less.

@@ -7,3 +7,11 @@ pub mod Due
 pub mod Finding
 pub mod Cursors
 pub mod Falling
+pub mod allocator
+pub mod catalog
+pub mod catalog_laws
+pub mod catalog_tables
+pub mod extent_copies
+pub mod extent_map
+pub mod file_directory
+pub mod staleness_directory

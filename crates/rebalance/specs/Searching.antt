@@ -7,11 +7,11 @@ use Rattle.asm_formats.specs.Items.{FileHead, Homes, chunk_len}
 use Rattle.asm_placement.specs.Layout.{units_of}
 use Rattle.asm_placement.specs.Rebalancing.{Next, done, next_directory, next_tables, when}
 use Rattle.allocator.specs.UnitMaps.{UnitMap}
-use Rattle.extent_map.specs.Extents.{Chunked, has_home}
-use Rattle.file_directory.specs.Files.{head_at}
-use Rattle.catalog_tables.specs.Tables.{Catalogued, Tables}
-use Rattle.catalog_tables.specs.Rules.{AreOnRegular, marks_of}
-use Rattle.catalog_tables.specs.Placing.{HasUnits}
+use Rattle.catalog_laws.specs.extent_map.Extents.{Chunked, has_home}
+use Rattle.catalog_laws.specs.file_directory.Files.{head_at}
+use Rattle.catalog_laws.specs.catalog_tables.Tables.{Catalogued, Tables}
+use Rattle.catalog_laws.specs.catalog_tables.Rules.{AreOnRegular, marks_of}
+use Rattle.catalog_laws.specs.catalog_tables.Placing.{HasUnits}
 use Rattle.extent_copies.specs.declared.extent.Extent.{Extent}
 use Rattle.rebalance.specs.declared.stages.Stage.{Stage}
 use Rattle.rebalance.specs.declared.stages.Stage.TheVariants as stage

@@ -2,7 +2,7 @@
 
 ghost use Rattle.std.specs.Prelude.{◌≡◌, ◌/◌};
 ghost use Rattle.asm_formats.specs.Status.{Status};
-ghost use Rattle.catalog_tables.specs.Tables.{AreTables, Catalogued};
+ghost use Rattle.catalog_laws.specs.catalog_tables.Tables.{AreTables, Catalogued};
 ghost use Rattle.rebalance.specs.Cursors.{IsCursor, IsFollowed, followed, is_passed, passes_at, place_after, start};
 ghost use Rattle.rebalance.specs.Due.{is_due_in};
 ghost use Rattle.rebalance.specs.Sums.{sums_at};
@@ -10,8 +10,8 @@ ghost use Rattle.rebalance.specs.Sums.{sums_at};
 use crate::search::Search;
 use crate::stages::Stage;
 use asm_base::ExtentId;
-use catalog::Catalog;
-use status_table::PstRecord;
+use catalog_laws::Catalog;
+use partnership::status_table_crate::PstRecord;
 use std::marker::Model;
 
 /// For each stage of the search for the next move the chunk of extents at which it begins, by file and number; none where

@@ -9,9 +9,9 @@ ghost use Rattle.rebalance.specs.Extents.{any_from, has_other_at, has_source_at,
 
 use crate::homes::{entry_at, staying_disk};
 use asm_base::{ExtentId, Home, Homes, Mode};
-use catalog::Catalog;
+use catalog_laws::Catalog;
 use extent_copies::Extent;
-use status_table::PstEntry;
+use partnership::status_table_crate::PstEntry;
 
 /// The extent of a file with so many copies, as a catalog has it.
 pub fn extent_of(catalog: &Catalog, id: ExtentId, copies: u8, homes: &Homes) -> Extent

@@ -9,7 +9,7 @@ ghost use Rattle.rebalance.specs.Extents.{kept_home};
 
 use asm_base::{Home, Homes, Mode};
 use partnership::entry_of;
-use status_table::PstEntry;
+use partnership::status_table_crate::PstEntry;
 use std::marker::Model;
 
 /// The entry of the disk on which a home lies.

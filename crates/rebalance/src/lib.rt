@@ -1,6 +1,13 @@
 //! The next move of a group's rebalance, and what it stands on: the shares of the disks, and what an extent lacks. No call takes memory.
 #![tactic(auto)]
 
+pub use catalog_laws::{
+    Catalog, FileBy, FileHead, NewFile, blocks_are_counted, items_say_tables, tables_have_items,
+};
+pub use extent_copies::{Extent as ExtentCopies, copies_for, serving_groups, template_for};
+pub use partnership::striping_crate::{Layout, extents_for};
+pub use partnership::{entry_of, partners};
+
 mod cursor;
 mod extent;
 mod homes;

@@ -6,9 +6,9 @@ ghost use Rattle.asm_formats.specs.Items.{Item};
 ghost use Rattle.asm_formats.specs.Status.{Entry, entry_of, is_status};
 ghost use Rattle.asm_placement.specs.Rebalancing.{done, next};
 ghost use Rattle.asm_placement.specs.Space.{share};
-ghost use Rattle.catalog_tables.specs.Faults.{IsCatalog};
-ghost use Rattle.catalog_tables.specs.Items.{AreItemsOf};
-ghost use Rattle.catalog_tables.specs.Tables.{AreTables};
+ghost use Rattle.catalog_laws.specs.catalog_tables.Faults.{IsCatalog};
+ghost use Rattle.catalog_laws.specs.catalog_tables.Items.{AreItemsOf};
+ghost use Rattle.catalog_laws.specs.catalog_tables.Tables.{AreTables};
 ghost use Rattle.rebalance.specs.Falling.{Falls};
 ghost use Rattle.rebalance.specs.Moves.{next_meant};
 ghost use Rattle.rebalance.specs.Sums.{sums_at};
@@ -21,8 +21,8 @@ use crate::moves::Next;
 use crate::search::Search;
 use crate::shares::Shares;
 use crate::stages::{Stage, said_by_tables};
-use catalog::Catalog;
-use status_table::PstRecord;
+use catalog_laws::Catalog;
+use partnership::status_table_crate::PstRecord;
 
 /// What the rebalance of a group does next, or how it ends: the first of these that applies, extents by file and index and
 /// copies by number. A stale copy on an Online disk is written anew, where another can be read; a copy that is absent or on

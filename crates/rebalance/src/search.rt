@@ -2,8 +2,8 @@
 
 ghost use Rattle.std.specs.Prelude.{◌≡◌, ◌<◌, ◌≤◌, ◌+◌, ◌^◌, IfSome, length};
 ghost use Rattle.std.specs.Option.{option_map};
-ghost use Rattle.catalog_tables.specs.Faults.{IsCatalog};
-ghost use Rattle.extent_map.specs.Extents.{chunks_from};
+ghost use Rattle.catalog_laws.specs.catalog_tables.Faults.{IsCatalog};
+ghost use Rattle.catalog_laws.specs.extent_map.Extents.{chunks_from};
 ghost use Rattle.rebalance.specs.Due.{first_due_of, is_due_in};
 ghost use Rattle.rebalance.specs.Finding.{IsWhole, found_from, found_in, found_of_extents, found_there, passes};
 ghost use Rattle.rebalance.specs.Moves.{next_meant};
@@ -15,10 +15,9 @@ use crate::moves::Next;
 use crate::shares::Shares;
 use crate::stages::{AskedExtent, Stage};
 use asm_base::{ExtentId, Homes};
-use catalog::Catalog;
+use catalog_laws::{Catalog, has_home};
 use extent_copies::Extent;
-use extent_map::has_home;
-use status_table::{PstEntry, PstRecord};
+use partnership::status_table_crate::{PstEntry, PstRecord};
 
 /// What is asked of an extent at a stage of the search for the next move.
 #[derive(Clone, Copy)]

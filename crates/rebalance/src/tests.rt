@@ -6,8 +6,8 @@ use crate::stages::{Stage, said_by_tables, said_first};
 use allocator::Units;
 use asm_base::{DiskSet, ExtentId, GroupKind, Home, Homes, Mode};
 use extent_copies::Extent;
+use partnership::status_table_crate::{PstEntry, PstRecord, is_status};
 use partnership::{directory_target, status_target};
-use status_table::{PstEntry, PstRecord, is_status};
 use std::alloc::Global;
 use std::test::*;
 

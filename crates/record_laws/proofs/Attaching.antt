@@ -18,7 +18,7 @@ use Rattle.asm_images.specs.Register.{is_enough}
 use Rattle.asm_images.specs.Stands.{Standing}
 use Rattle.asm_images.proofs.Enough.{more_enough}
 use Rattle.asm_images.proofs.Held.{complete_stands}
-use Rattle.catalog_tables.proofs.TableItems.{from_map}
+use Rattle.group_engine.proofs.catalog_tables.TableItems.{from_map}
 use Rattle.status_register.specs.Holders.{attached_to}
 use Rattle.status_register.specs.SurveyLaws.{IsMemberOn, slots_of}
 use Rattle.status_register.specs.Surveys.{disk_in}

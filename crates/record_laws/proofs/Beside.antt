@@ -16,7 +16,7 @@ use Rattle.asm_images.specs.Bridge.{ChangesSlot, disk_bytes}
 use Rattle.asm_images.specs.Kept.{IsHeld, Kept}
 use Rattle.asm_images.proofs.Bridges.{same_disk}
 use Rattle.asm_images.proofs.Held.{bystanders_are_held}
-use Rattle.catalog_tables.proofs.TableItems.{from_map}
+use Rattle.group_engine.proofs.catalog_tables.TableItems.{from_map}
 use Rattle.status_register.specs.Keeping.{EpochStands, HasHistory, ShowsEpoch}
 use Rattle.status_register.specs.SurveyLaws.{IsMemberOn}
 use Rattle.status_register.specs.Surveys.{disk_in, is_there, seen_of, shortfall}

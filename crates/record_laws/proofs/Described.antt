@@ -3,8 +3,8 @@ use Rattle.std.proofs.Common.{sym, subst, ◌∙◌}
 use Rattle.asm_group.specs.Group.{Group}
 use Rattle.asm_formats.specs.Status.{entry_of}
 use Rattle.asm_images.specs.Describing.{DescribesGroup}
-use Rattle.group_of.specs.Groups.{cells_of}
-use Rattle.group_of.proofs.Describes.{describe, described_has_cells, described_is_of_tables}
+use Rattle.group_engine.specs.group_of.Groups.{cells_of}
+use Rattle.group_engine.proofs.group_of.Describes.{describe, described_has_cells, described_is_of_tables}
 use Rattle.record_laws.specs.Describing.{EntriesDescribe, ModesDescribe}
 use Rattle.asm_images.proofs.Bare.{all_info, same_entry, same_places, same_regular}
 

@@ -26,10 +26,10 @@ use Rattle.asm_images.specs.Members.{Member, all_members, is_disk}
 use Rattle.asm_images.proofs.UserBytes.{all_of_list}
 use Rattle.asm_images.specs.Stands.{HasUnits}
 use Rattle.asm_images.proofs.Bridges.{bytes_are_listed}
-use Rattle.catalog_tables.proofs.TableItems.{from_map}
-use Rattle.catalog_tables.specs.Items.{AreItemsOf}
-use Rattle.group_of.proofs.Places.{places}
-use Rattle.group_of.proofs.Says.{infos_are}
+use Rattle.group_engine.proofs.catalog_tables.TableItems.{from_map}
+use Rattle.group_engine.specs.catalog_tables.Items.{AreItemsOf}
+use Rattle.group_engine.proofs.group_of.Places.{places}
+use Rattle.group_engine.proofs.group_of.Says.{infos_are}
 use Rattle.status_register.specs.Surveys.{disk_in}
 use Rattle.status_register.specs.declared.member.Member.{Member as Disk}
 use Rattle.group_engine.specs.declared.attached.Attached.{Attached}

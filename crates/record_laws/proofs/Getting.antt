@@ -17,7 +17,7 @@ use Rattle.asm_images.specs.Members.{Member, all_members, within}
 use Rattle.asm_images.specs.Sound.{IsCovered}
 use Rattle.asm_images.specs.Stands.{HasUnits}
 use Rattle.asm_images.proofs.OneContent.{found_is_held}
-use Rattle.catalog_tables.specs.Items.{AreItemsOf}
+use Rattle.group_engine.specs.catalog_tables.Items.{AreItemsOf}
 use Rattle.status_register.specs.Holders.{numbered}
 use Rattle.group_engine.specs.Mounts.{MountedGroup, Mounts}
 use Rattle.group_engine.specs.Recorded.{IsThere, MayBeWritten, MayGet}

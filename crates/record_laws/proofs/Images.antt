@@ -21,8 +21,8 @@ use Rattle.asm_images.specs.Members.{Member, all_members, within}
 use Rattle.asm_images.specs.Register.{is_enough}
 use Rattle.asm_images.proofs.Enough.{more_enough}
 use Rattle.asm_images.proofs.Membership.{among_within}
-use Rattle.catalog_tables.proofs.TableItems.{from_map}
-use Rattle.directory_store.specs.Copies.{RegionsOf}
+use Rattle.group_engine.proofs.catalog_tables.TableItems.{from_map}
+use Rattle.group_engine.specs.directory_store.Copies.{RegionsOf}
 use Rattle.status_register.specs.Holders.{attached_to, numbered}
 use Rattle.status_register.specs.SurveyLaws.{IsMemberOn, slots_of}
 use Rattle.status_register.specs.Surveys.{disk_in}

@@ -8,7 +8,7 @@ use Rattle.bay.specs.Image as bay
 use Rattle.bay.specs.State.{BayState, IsSound}
 use Rattle.bay.proofs.Calls.{leaves_less, leaves_on}
 use Rattle.asm_group.specs.Group.{Group}
-use Rattle.asm_base.specs.declared.refusal.Refusal.{Refusal}
+use Rattle.group_engine.specs.asm_base.declared.refusal.Refusal.{Refusal}
 use Rattle.asm_formats.specs.Among.{IsAmong}
 use Rattle.asm_formats.specs.Header.{Header}
 use Rattle.asm_formats.specs.Metadata.{header_of}
@@ -21,7 +21,7 @@ use Rattle.asm_images.specs.Bridge.{disk_bytes, disks_in}
 use Rattle.asm_images.specs.Kept.{Kept}
 use Rattle.asm_images.proofs.Bridges.{same_disk}
 use Rattle.asm_images.proofs.Spans.{widen_keeps}
-use Rattle.catalog_tables.proofs.TableItems.{from_map}
+use Rattle.group_engine.proofs.catalog_tables.TableItems.{from_map}
 use Rattle.status_register.specs.declared.member.Member.{Member as Disk}
 use Rattle.group_engine.specs.Commits.{CommitsChange, LeadsTo, StandsIn}
 use Rattle.group_engine.specs.Members.{without_disk}

@@ -12,3 +12,11 @@ pub mod Attaching
 pub mod Holding
 pub mod Beside
 pub mod Leaving
+pub mod catalog
+pub mod catalog_laws
+pub mod catalog_tables
+pub mod directory_store
+pub mod extent_map
+pub mod group_engine
+pub mod group_of
+pub mod status_register

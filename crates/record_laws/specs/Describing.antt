@@ -5,8 +5,8 @@ use Rattle.asm_formats.specs.Status.{Status}
 use Rattle.asm_formats.specs.Items.{Item}
 use Rattle.asm_images.specs.Describing.{DescribesGroup}
 use Rattle.asm_images.specs.RecordLaws.{ChangesModes}
-use Rattle.catalog_tables.specs.Tables.{AreTables, Tables}
-use Rattle.group_of.specs.Describing.{HaveGroup, StandUnder}
+use Rattle.group_engine.specs.catalog_tables.Tables.{AreTables, Tables}
+use Rattle.group_engine.specs.group_of.Describing.{HaveGroup, StandUnder}
 
 -- A group that records describe under a status record is described by them under one with other modes.
 abbrev pub ModesDescribe : Type 0

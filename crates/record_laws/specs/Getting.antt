@@ -12,7 +12,7 @@ use Rattle.asm_placement.specs.Modes.{is_forced}
 use Rattle.asm_placement.specs.Partners.{HasPartners}
 use Rattle.asm_images.specs.Kept.{Kept, header_in}
 use Rattle.asm_images.specs.RecordLaws.{ChangesModes}
-use Rattle.catalog_tables.specs.Rules.{KeepsRules, has_info}
+use Rattle.group_engine.specs.catalog_tables.Rules.{KeepsRules, has_info}
 use Rattle.group_engine.specs.declared.attached.Attached.{Attached}
 use Rattle.group_engine.specs.Mounts.{MountedGroup, Mounts}
 use Rattle.group_engine.specs.NextRecords.{KeepsDisks}

@@ -8,8 +8,8 @@ use Rattle.asm_formats.specs.Header.{Header}
 use Rattle.asm_formats.specs.Status.{Status, entry_of}
 use Rattle.asm_images.specs.Copies.{is_kept}
 use Rattle.asm_images.specs.RecordLaws.{ChangesModes}
-use Rattle.catalog_tables.specs.Tables.{Tables}
-use Rattle.group_of.specs.Describing.{HaveGroup}
+use Rattle.group_engine.specs.catalog_tables.Tables.{Tables}
+use Rattle.group_engine.specs.group_of.Describing.{HaveGroup}
 use Rattle.group_engine.specs.Becoming.{HoldsIn}
 use Rattle.group_engine.specs.Mounts.{MountedGroup}
 use Rattle.record_laws.specs.Getting.{ChangesDisks}

@@ -5,8 +5,8 @@ use Rattle.bay.specs.Image.{Image}
 use Rattle.bay.specs.Moments.{LeavesOnly, NowOnly}
 use Rattle.bay.specs.State.{BayState}
 use Rattle.asm_group.specs.Group.{Group}
-use Rattle.asm_base.specs.Records as records
-use Rattle.asm_base.specs.declared.refusal.Refusal.{Refusal}
+use Rattle.group_engine.specs.asm_base.Records as records
+use Rattle.group_engine.specs.asm_base.declared.refusal.Refusal.{Refusal}
 use Rattle.asm_formats.specs.Among.{IsAmong}
 use Rattle.asm_formats.specs.Items.{Key}
 use Rattle.asm_formats.specs.Sets.{elements}
@@ -15,8 +15,8 @@ use Rattle.asm_placement.specs.Modes.{stays}
 use Rattle.asm_images.specs.Bridge.{disks_in}
 use Rattle.asm_images.specs.Kept.{IsHeld, Kept}
 use Rattle.asm_images.specs.Stands.{Standing}
-use Rattle.catalog.specs.Plans.{IsPlan, with_record}
-use Rattle.catalog_tables.specs.Rules.{KeepsRules}
+use Rattle.group_engine.specs.catalog.Plans.{IsPlan, with_record}
+use Rattle.group_engine.specs.catalog_tables.Rules.{KeepsRules}
 use Rattle.group_engine.specs.Commits.{CommitsPlan}
 use Rattle.group_engine.specs.Members.{without_disk}
 use Rattle.group_engine.specs.Mounts.{IsMounted, IsOwn, MountedGroup, Mounts, slot_at}

@@ -6,3 +6,15 @@ pub mod Attaching
 pub mod Holding
 pub mod Beside
 pub mod Leaving
+pub mod allocator
+pub mod catalog
+pub mod catalog_tables
+pub mod directory_store
+pub mod extent_copies
+pub mod extent_map
+pub mod group_engine
+pub mod group_of
+pub mod rebalance
+pub mod staleness_directory
+pub mod status_register
+pub mod status_table

@@ -12,6 +12,12 @@ ghost use Rattle.record_laws.specs.Holding.{DisksKeepNoMore, LaterRecordHolds, M
 ghost use Rattle.record_laws.specs.Leaving.{LeavingGoesOn, LeavingLetsGo, LeftRecordMayBeGot};
 
 use bay::{Bay, Slots, Step};
+pub use group_engine::{
+    Attached, Catalog, Extent, FileBy, Flight, Mounted, Move, NewFile, Next, TreeEdit, copies_for,
+    items_say_tables, partners as partners_of, planned_moves_change_one_chunk, same_disks_are_next,
+    serving_groups, tables_have_items, template_for,
+};
+pub use status_register::status_table_crate::{PstEntry, PstRecord, with_offline, with_partners};
 
 /// A group that records describe under a status record is described by them under one with other modes, and under one with
 /// other entries, where its tables may stand under these.

@@ -3,9 +3,9 @@ use Rattle.std.proofs.Common.{◌≡◌, ℕ, ◌+◌, ◌-◌, ◌^◌, ◌<◌
 use Rattle.std.specs.List.{flat_map, list_all, AllByRecursion}
 use Rattle.std.specs.Option.{option_map}
 use Rattle.std.proofs.lemmas.Bool.{and_parts, eqb-true, eq-eqb, lt-ltb, ne_eqb}
-use Rattle.asm_group.specs.Names.{Bytes}
-use Rattle.asm_formats.specs.Items.{Homes, chunk_item, is_home, is_homes, is_item}
-use Rattle.asm_formats.specs.Values.{value, decoded_item, item_by, home_fields, homes_at}
+use Rattle.asm_base.specs.asm_group.Names.{Bytes}
+use Rattle.asm_base.specs.asm_formats.Items.{Homes, chunk_item, is_home, is_homes, is_item}
+use Rattle.asm_base.specs.asm_formats.Values.{value, decoded_item, item_by, home_fields, homes_at}
 use Rattle.asm_base.specs.Records.{all_of}
 use Rattle.asm_base.proofs.Exact.{AreFitting, IsExact, repeated_exact}
 use Rattle.record_values.specs.Values.{chunk_reading, extent_reading}

@@ -4,11 +4,11 @@ use Rattle.std.specs.Prelude.{◌&&◌}
 use Rattle.std.specs.Str.{bytes_eq}
 use Rattle.std.specs.Option.{option_map}
 use Rattle.std.proofs.lemmas.Option.{none-some}
-use Rattle.asm_group.specs.Names.{Bytes}
-use Rattle.asm_formats.specs.Bytes.{spelled_by}
-use Rattle.asm_formats.specs.Items.{Item, Key, key, is_same_key, is_item}
-use Rattle.asm_formats.specs.Values.{value, decoded_item, item_by}
-use Rattle.asm_formats.proofs.Bodies.{item_codec}
+use Rattle.asm_base.specs.asm_group.Names.{Bytes}
+use Rattle.asm_base.specs.asm_formats.Bytes.{spelled_by}
+use Rattle.asm_base.specs.asm_formats.Items.{Item, Key, key, is_same_key, is_item}
+use Rattle.asm_base.specs.asm_formats.Values.{value, decoded_item, item_by}
+use Rattle.asm_base.proofs.asm_formats.Bodies.{item_codec}
 use Rattle.asm_base.specs.Readings.{Reading}
 use Rattle.asm_base.specs.Records.{all_of}
 use Rattle.asm_base.proofs.Exact.{IsExact, test_some}

@@ -3,9 +3,9 @@ use Rattle.std.proofs.Common.{◌≡◌, ℕ, ◌^◌, ◌<◌, true, ltb, refl}
 use Rattle.std.specs.Int.{w64}
 use Rattle.std.specs.Option.{option_map}
 use Rattle.std.proofs.lemmas.Bool.{and_parts, ltb-true, lt-ltb}
-use Rattle.asm_group.specs.Names.{Bytes, is_name}
-use Rattle.asm_formats.specs.Items.{DiskInfo, disk_item, is_item}
-use Rattle.asm_formats.specs.Values.{value, decoded_item, item_by, disk_value, disk_info_at}
+use Rattle.asm_base.specs.asm_group.Names.{Bytes, is_name}
+use Rattle.asm_base.specs.asm_formats.Items.{DiskInfo, disk_item, is_item}
+use Rattle.asm_base.specs.asm_formats.Values.{value, decoded_item, item_by, disk_value, disk_info_at}
 use Rattle.asm_base.specs.Parts.{DiskParts, to_disk}
 use Rattle.asm_base.specs.Records.{all_of}
 use Rattle.asm_base.proofs.Exact.{IsExact, both_exact, as_exact, fits_exact}

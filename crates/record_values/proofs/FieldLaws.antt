@@ -4,10 +4,10 @@ use Rattle.std.specs.Int.{w32}
 use Rattle.std.specs.Option.{option_and_then, option_map}
 use Rattle.std.proofs.lemmas.Bool.{and_parts, cases_eq, eqb-true, eq-eqb, leb-true, lt-ltb, ltb-true, ne_eqb, true≢false}
 use Rattle.std.proofs.lemmas.List.{take_at}
-use Rattle.asm_group.specs.Names.{Bytes, is_name, is_part}
-use Rattle.asm_formats.specs.Bytes.{number, name_field}
-use Rattle.asm_formats.specs.Items.{Home, is_home, is_redundancy}
-use Rattle.asm_formats.specs.Values.{home_fields}
+use Rattle.asm_base.specs.asm_group.Names.{Bytes, is_name, is_part}
+use Rattle.asm_base.specs.asm_formats.Bytes.{number, name_field}
+use Rattle.asm_base.specs.asm_formats.Items.{Home, is_home, is_redundancy}
+use Rattle.asm_base.specs.asm_formats.Values.{home_fields}
 use Rattle.asm_base.specs.Parts.{home_of, home_reading}
 use Rattle.asm_base.specs.Readings.{both, byte_reading, number_reading, name_reading, text_reading}
 use Rattle.asm_base.proofs.Exact.{IsBytes, IsExact, Begins, bind_some, test_some, some_is, chosen, both_exact, tested_exact, fits_exact}

@@ -3,9 +3,9 @@ use Rattle.std.proofs.Common.{◌≡◌, ℕ, ◌^◌, ◌<◌, true, ltb, refl,
 use Rattle.std.specs.Int.{w32, w64}
 use Rattle.std.specs.Option.{option_map}
 use Rattle.std.proofs.lemmas.Bool.{and_parts, ltb-true, lt-ltb}
-use Rattle.asm_group.specs.Names.{Bytes, is_part}
-use Rattle.asm_formats.specs.Items.{FileHead, file_item, is_item, is_redundancy}
-use Rattle.asm_formats.specs.Values.{value, decoded_item, item_by, file_value, file_head_at}
+use Rattle.asm_base.specs.asm_group.Names.{Bytes, is_part}
+use Rattle.asm_base.specs.asm_formats.Items.{FileHead, file_item, is_item, is_redundancy}
+use Rattle.asm_base.specs.asm_formats.Values.{value, decoded_item, item_by, file_value, file_head_at}
 use Rattle.asm_base.specs.Records.{all_of}
 use Rattle.asm_base.proofs.Exact.{IsExact, both_exact, as_exact, fits_exact}
 use Rattle.asm_base.proofs.Numbers.{number_exact}

@@ -3,10 +3,10 @@ use Rattle.std.proofs.Common.{◌≡◌, ◌≢◌, ℕ, ◌^◌, ◌<◌, true,
 use Rattle.std.specs.Int.{w16, w32, w64}
 use Rattle.std.specs.Option.{option_map}
 use Rattle.std.proofs.lemmas.Bool.{and_parts, ltb-true, lt-ltb, ne_eqb}
-use Rattle.asm_group.specs.Names.{Bytes}
-use Rattle.asm_formats.specs.Bytes.{number}
-use Rattle.asm_formats.specs.Items.{Pending, pending_item, rebalance_item, is_item}
-use Rattle.asm_formats.specs.Values.{value, decoded_item, item_by, pending_value, pending_at}
+use Rattle.asm_base.specs.asm_group.Names.{Bytes}
+use Rattle.asm_base.specs.asm_formats.Bytes.{number}
+use Rattle.asm_base.specs.asm_formats.Items.{Pending, pending_item, rebalance_item, is_item}
+use Rattle.asm_base.specs.asm_formats.Values.{value, decoded_item, item_by, pending_value, pending_at}
 use Rattle.asm_base.specs.Parts.{PendingParts, to_pending}
 use Rattle.asm_base.specs.Readings.{number_reading}
 use Rattle.asm_base.specs.Records.{all_of}

@@ -3,9 +3,9 @@ use Rattle.std.proofs.Common.{◌≡◌, ℕ, ◌^◌, ◌<◌, ◌≤◌, true,
 use Rattle.std.specs.Int.{w64}
 use Rattle.std.specs.Option.{option_map}
 use Rattle.std.proofs.lemmas.Bool.{and_parts, and_from, leb-true, le-leb, ltb-true, lt-ltb}
-use Rattle.asm_group.specs.Names.{Bytes}
-use Rattle.asm_formats.specs.Items.{Settings, settings_item, is_item, is_text}
-use Rattle.asm_formats.specs.Values.{value, decoded_item, item_by, settings_value, settings_at}
+use Rattle.asm_base.specs.asm_group.Names.{Bytes}
+use Rattle.asm_base.specs.asm_formats.Items.{Settings, settings_item, is_item, is_text}
+use Rattle.asm_base.specs.asm_formats.Values.{value, decoded_item, item_by, settings_value, settings_at}
 use Rattle.asm_base.specs.Parts.{SettingParts, to_settings}
 use Rattle.asm_base.specs.Records.{all_of}
 use Rattle.asm_base.proofs.Exact.{IsBytes, IsExact, both_exact, as_exact, fits_exact}

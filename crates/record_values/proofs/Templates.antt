@@ -4,10 +4,10 @@ use Rattle.std.specs.Prelude.{◌&&◌}
 use Rattle.std.specs.List.{flat_map, list_all, AllByRecursion}
 use Rattle.std.specs.Option.{option_map}
 use Rattle.std.proofs.lemmas.Bool.{and_parts, and_from, leb-true, le-leb}
-use Rattle.asm_group.specs.Names.{Bytes, is_name}
-use Rattle.asm_group.specs.Group.{Template}
-use Rattle.asm_formats.specs.Items.{templates_item, is_item, is_redundancy, is_template, names_ascend}
-use Rattle.asm_formats.specs.Values.{value, decoded_item, item_by, template_fields, templates_at}
+use Rattle.asm_base.specs.asm_group.Names.{Bytes, is_name}
+use Rattle.asm_base.specs.asm_group.Group.{Template}
+use Rattle.asm_base.specs.asm_formats.Items.{templates_item, is_item, is_redundancy, is_template, names_ascend}
+use Rattle.asm_base.specs.asm_formats.Values.{value, decoded_item, item_by, template_fields, templates_at}
 use Rattle.asm_base.specs.Parts.{TemplateParts, to_template}
 use Rattle.asm_base.specs.Records.{all_of}
 use Rattle.asm_base.proofs.Exact.{IsExact, both_exact, as_exact, tested_exact, fits_exact}

@@ -1,10 +1,10 @@
 -- The values of directory records, kind by kind: how each is read, field by field.
 use Rattle.std.specs.Prelude.{ℕ, nat_lt, List}
 use Rattle.std.specs.Int.{w32, w64}
-use Rattle.asm_group.specs.declared.Stripe.{Stripe}
-use Rattle.asm_group.specs.Names.{Bytes, is_name}
-use Rattle.asm_group.specs.Group.{Template}
-use Rattle.asm_formats.specs.Items.{FileHead, Homes, DiskInfo, Pending, Node, Settings, chunk_len, is_redundancy, most_templates, names_ascend}
+use Rattle.asm_base.specs.asm_group.declared.Stripe.{Stripe}
+use Rattle.asm_base.specs.asm_group.Names.{Bytes, is_name}
+use Rattle.asm_base.specs.asm_group.Group.{Template}
+use Rattle.asm_base.specs.asm_formats.Items.{FileHead, Homes, DiskInfo, Pending, Node, Settings, chunk_len, is_redundancy, most_templates, names_ascend}
 use Rattle.asm_base.specs.Readings.{Reading, both, as_a, tested, repeated, counted, byte_reading, flag_reading, number_reading, name_reading, text_reading}
 use Rattle.asm_base.specs.Words.{stripe_reading, node_kind_reading, pending_kind_reading}
 use Rattle.asm_base.specs.Parts.{home_reading, to_disk, to_pending, to_template, to_node, to_settings}

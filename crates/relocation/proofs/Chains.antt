@@ -9,28 +9,28 @@ use Rattle.asm_base.specs.declared.refusal.DiskRef.TheVariants.{Number, Spelt}
 use Rattle.asm_base.specs.declared.refusal.Refusal.{Refusal}
 use Rattle.asm_base.specs.declared.refusal.Refusal.TheVariants as cause
 use Rattle.asm_base.specs.declared.records.Change.{Change}
-use Rattle.catalog.specs.Plans.{IsPlan}
-use Rattle.catalog_tables.specs.Tables.{Catalogued, Tables}
-use Rattle.catalog_tables.proofs.TableItems.{from_map}
+use Rattle.resync.specs.catalog.Plans.{IsPlan}
+use Rattle.resync.specs.catalog_tables.Tables.{Catalogued, Tables}
+use Rattle.resync.proofs.catalog_tables.TableItems.{from_map}
 use Rattle.asm_base.specs.Chunks.{Chunk}
-use Rattle.rebalance.specs.Cursors.{IsSameBut}
-use Rattle.group_engine.specs.Searches.{IsPlanIn}
-use Rattle.status_register.specs.declared.member.Member.{Member}
-use Rattle.group_engine.specs.Commits.{StatusCause}
-use Rattle.group_engine.specs.Copying as engine
-use Rattle.group_engine.specs.Members.{HasFailed, LetsGo, LettingCause}
-use Rattle.group_engine.specs.Making.{IsShut}
-use Rattle.group_engine.specs.Mounts.{IsMounted, IsOwn, IsReady, IsWhole, MountedGroup, Takes, slot_at}
-use Rattle.group_engine.specs.Own.{KeepsGroup}
-use Rattle.group_engine.specs.Pending.{GoesOn}
-use Rattle.group_engine.specs.declared.access.Access.{Access}
-use Rattle.group_engine.specs.declared.access.Access.TheVariants as access
-use Rattle.group_engine.specs.declared.attached.Attached.{Attached}
-use Rattle.group_engine.specs.declared.flight.Flight.{Flight}
-use Rattle.group_engine.proofs.Causes.{nothing_own}
-use Rattle.group_engine.proofs.Members.{cause_lets, keeps_lets, lets_join, letting_on}
-use Rattle.group_pieces.specs.Faults.{RoseOnDisk}
-use Rattle.file_extents.proofs.Chains.{kept}
+use Rattle.resync.specs.rebalance.Cursors.{IsSameBut}
+use Rattle.resync.specs.group_engine.Searches.{IsPlanIn}
+use Rattle.resync.specs.status_register.declared.member.Member.{Member}
+use Rattle.resync.specs.group_engine.Commits.{StatusCause}
+use Rattle.resync.specs.group_engine.Copying as engine
+use Rattle.resync.specs.group_engine.Members.{HasFailed, LetsGo, LettingCause}
+use Rattle.resync.specs.group_engine.Making.{IsShut}
+use Rattle.resync.specs.group_engine.Mounts.{IsMounted, IsOwn, IsReady, IsWhole, MountedGroup, Takes, slot_at}
+use Rattle.resync.specs.group_engine.Own.{KeepsGroup}
+use Rattle.resync.specs.group_engine.Pending.{GoesOn}
+use Rattle.resync.specs.group_engine.declared.access.Access.{Access}
+use Rattle.resync.specs.group_engine.declared.access.Access.TheVariants as access
+use Rattle.resync.specs.group_engine.declared.attached.Attached.{Attached}
+use Rattle.resync.specs.group_engine.declared.flight.Flight.{Flight}
+use Rattle.resync.proofs.group_engine.Causes.{nothing_own}
+use Rattle.resync.proofs.group_engine.Members.{cause_lets, keeps_lets, lets_join, letting_on}
+use Rattle.resync.specs.group_pieces.Faults.{RoseOnDisk}
+use Rattle.resync.proofs.file_extents.Chains.{kept}
 use Rattle.resync.specs.Copying.{CopyCause, refusal_of}
 use Rattle.resync.specs.declared.copying.CopyError.{CopyError}
 use Rattle.resync.specs.declared.copying.CopyError.TheVariants as copies

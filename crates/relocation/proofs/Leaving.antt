@@ -14,14 +14,14 @@ use Rattle.bay.proofs.Images.{changes-within}
 use Rattle.gate_slot.specs.Slot.{GateOf, MayClose}
 use Rattle.gate_slot.specs.declared.place.Place.{Place}
 use Rattle.asm_group.specs.Shape.{Shape, is_dir_blocks, is_sector, is_shape, is_step, is_unit_size}
-use Rattle.catalog_tables.proofs.TableItems.{from_map}
+use Rattle.resync.proofs.catalog_tables.TableItems.{from_map}
 use Rattle.disk_images.specs.Headers.{HasHeaderSlot}
-use Rattle.status_register.specs.declared.member.Member.{Member}
-use Rattle.group_engine.specs.Members.{LetsGo}
-use Rattle.group_engine.specs.Mounts.{IsOwn, IsReady, IsWhole, MountedGroup, Takes, slot_at}
-use Rattle.group_engine.specs.declared.attached.Attached.{Attached}
-use Rattle.group_engine.proofs.Causes.{own_joins, run_less, run_on}
-use Rattle.group_engine.proofs.Elsewhere.{ready_with_own, stays_attached, stays_own}
+use Rattle.resync.specs.status_register.declared.member.Member.{Member}
+use Rattle.resync.specs.group_engine.Members.{LetsGo}
+use Rattle.resync.specs.group_engine.Mounts.{IsOwn, IsReady, IsWhole, MountedGroup, Takes, slot_at}
+use Rattle.resync.specs.group_engine.declared.attached.Attached.{Attached}
+use Rattle.resync.proofs.group_engine.Causes.{own_joins, run_less, run_on}
+use Rattle.resync.proofs.group_engine.Elsewhere.{ready_with_own, stays_attached, stays_own}
 use Rattle.relocation.specs.Endings.{ClosesOn, has_slot}
 
 -- ---- its header's slot

@@ -1,3 +1,4 @@
 pub mod Chains
 pub mod Leaving
 pub mod Shortfalls
+pub mod resync

@@ -26,15 +26,15 @@ use Rattle.asm_placement.proofs.Apart.{some_first}
 use Rattle.asm_placement.proofs.Chosen.{tried_among}
 use Rattle.asm_placement.proofs.Counting.{mapped, said_by, when_said}
 use Rattle.asm_placement.proofs.Membership.{among_filtered, filter_out}
-use Rattle.catalog_tables.specs.Items.{AreItemsOf, ItemsSayTables, SayTables, TablesHaveItems}
-use Rattle.catalog_tables.specs.Changing.{IsAfter}
-use Rattle.catalog_tables.specs.Tables.{AreTables, Tables}
-use Rattle.catalog_tables.proofs.AfterLaws.{one_after}
-use Rattle.group_engine.specs.Commits.{KeepsRecord}
-use Rattle.group_engine.specs.Mounts.{MountedGroup}
-use Rattle.group_engine.specs.Searches.{IsNextMove}
-use Rattle.rebalance.specs.Moves.{next_meant}
-use Rattle.rebalance.specs.declared.moves.Next.TheVariants as code
+use Rattle.resync.specs.catalog_tables.Items.{AreItemsOf, ItemsSayTables, SayTables, TablesHaveItems}
+use Rattle.resync.specs.catalog_tables.Changing.{IsAfter}
+use Rattle.resync.specs.catalog_tables.Tables.{AreTables, Tables}
+use Rattle.resync.proofs.catalog_tables.AfterLaws.{one_after}
+use Rattle.resync.specs.group_engine.Commits.{KeepsRecord}
+use Rattle.resync.specs.group_engine.Mounts.{MountedGroup}
+use Rattle.resync.specs.group_engine.Searches.{IsNextMove}
+use Rattle.resync.specs.rebalance.Moves.{next_meant}
+use Rattle.resync.specs.rebalance.declared.moves.Next.TheVariants as code
 use Rattle.relocation.specs.declared.asking.Asked.{Asked}
 use Rattle.relocation.specs.declared.asking.Asked.TheVariants as asked
 use Rattle.relocation.specs.declared.asking.Slice.{Slice}

@@ -4,9 +4,9 @@ use Rattle.bay.specs.Image.{ChangesOnly}
 use Rattle.bay.specs.Moments.{Runs}
 use Rattle.bay.specs.State.{BayState, IsSlot, KeepsAttached}
 use Rattle.asm_base.specs.declared.refusal.Refusal.{Refusal}
-use Rattle.group_engine.specs.Members.{LetsGo, LettingCause}
-use Rattle.group_engine.specs.Mounts.{IsMounted, MountedGroup, Takes}
-use Rattle.group_engine.specs.declared.attached.Attached.{Attached}
+use Rattle.resync.specs.group_engine.Members.{LetsGo, LettingCause}
+use Rattle.resync.specs.group_engine.Mounts.{IsMounted, MountedGroup, Takes}
+use Rattle.resync.specs.group_engine.declared.attached.Attached.{Attached}
 
 -- the attached disk is in the slot
 abbrev pub has_slot : ℕ → Option Attached → Bool

@@ -1,3 +1,4 @@
 pub mod Slices
 pub mod Endings
 pub mod Shortfalls
+pub mod resync

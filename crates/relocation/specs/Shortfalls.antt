@@ -8,9 +8,9 @@ use Rattle.asm_formats.specs.Status.{Entry}
 use Rattle.asm_placement.specs.Choices.{is_eligible}
 use Rattle.asm_placement.specs.Copies.{Copy, all_copies, can_be_read, units, wants_fill, wants_shift}
 use Rattle.asm_placement.specs.Space.{has_room}
-use Rattle.catalog_tables.specs.Items.{AreItemsOf}
-use Rattle.catalog_tables.specs.Tables.{Tables}
-use Rattle.group_engine.specs.Mounts.{MountedGroup}
+use Rattle.resync.specs.catalog_tables.Items.{AreItemsOf}
+use Rattle.resync.specs.catalog_tables.Tables.{Tables}
+use Rattle.resync.specs.group_engine.Mounts.{MountedGroup}
 use Rattle.relocation.specs.declared.asking.Asked.{Asked}
 use Rattle.relocation.specs.declared.asking.Asked.TheVariants as asked
 use Rattle.relocation.specs.declared.asking.Slice.{Slice}

@@ -5,9 +5,9 @@ use Rattle.asm_base.specs.declared.refusal.DiskRef.{DiskRef}
 use Rattle.asm_base.specs.declared.refusal.DiskRef.TheVariants as disk
 use Rattle.asm_base.specs.declared.refusal.Refusal.{Refusal}
 use Rattle.asm_base.specs.declared.refusal.Refusal.TheVariants as cause
-use Rattle.group_engine.specs.Members.{HasFailed, IsLetDown, LetsGo}
-use Rattle.group_engine.specs.Mounts.{IsMounted, MountedGroup}
-use Rattle.group_pieces.specs.Faults.{RoseOnDisk}
+use Rattle.resync.specs.group_engine.Members.{HasFailed, IsLetDown, LetsGo}
+use Rattle.resync.specs.group_engine.Mounts.{IsMounted, MountedGroup}
+use Rattle.resync.specs.group_pieces.Faults.{RoseOnDisk}
 use Rattle.resync.specs.declared.copying.CopyError.{CopyError}
 use Rattle.resync.specs.declared.copying.CopyError.TheVariants as copies
 

@@ -1,16 +1,15 @@
 // What a slice does next.
 ghost use Rattle.std.specs.Prelude.{◌≡◌, IsTrue};
 ghost use Rattle.asm_group.specs.Shape.{is_shape};
-ghost use Rattle.group_engine.specs.Mounts.{IsMounted, IsWhole, Takes};
-ghost use Rattle.group_engine.specs.Members.{LetsGo};
-ghost use Rattle.group_engine.specs.Searches.{IsNextMove};
+ghost use Rattle.resync.specs.group_engine.Mounts.{IsMounted, IsWhole, Takes};
+ghost use Rattle.resync.specs.group_engine.Members.{LetsGo};
+ghost use Rattle.resync.specs.group_engine.Searches.{IsNextMove};
 ghost use Rattle.relocation.specs.Shortfalls.{EndCause, IsNoEnd, OnEnd};
 
 use crate::fitting::{can_go_on, home_of};
 use asm_base::{DiskSet, ExtentId, Home};
 use bay::Bay;
-use group_engine::{Flight, Mounted};
-use rebalance::{Move, Next};
+use resync::{Flight, Mounted, Move, Next};
 
 /// How a slice of a rebalance ends.
 #[derive(Clone, Copy, Debug, PartialEq, Eq)]

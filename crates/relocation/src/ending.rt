@@ -2,8 +2,8 @@
 ghost use Rattle.std.specs.List.{list_any};
 ghost use Rattle.std.specs.Prelude.{◌≡◌, ◌<◌, OnOk};
 ghost use Rattle.disk_images.specs.Headers.{HasHeaderSlot};
-ghost use Rattle.group_engine.specs.Mounts.{IsMounted, Takes};
-ghost use Rattle.group_engine.specs.Pending.{GoesOn};
+ghost use Rattle.resync.specs.group_engine.Mounts.{IsMounted, Takes};
+ghost use Rattle.resync.specs.group_engine.Pending.{GoesOn};
 ghost use Rattle.relocation.specs.Endings.{ClosesOn, FinishesRebalance, has_slot};
 ghost use Rattle.relocation.specs.Shortfalls.{EndsActive, IsSliceShort};
 
@@ -11,9 +11,7 @@ use crate::asking::Slice;
 use asm_base::{Mode, Refusal};
 use bay::Bay;
 use disk_images::close_header;
-use group_engine::{Attached, Mounted};
-use partnership::entry_of;
-use status_table::PstRecord;
+use resync::{Attached, Mounted, PstRecord, entry_of};
 use std::alloc::Global;
 
 /// Whether a disk leaves once nothing is left to do: it is Dropping or Forced, no holder and none of the next ones, and others have

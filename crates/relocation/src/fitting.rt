@@ -2,13 +2,10 @@
 ghost use Rattle.std.specs.Bool.{OnTrue};
 ghost use Rattle.std.specs.Prelude.{◌<◌, IsTrue};
 ghost use Rattle.asm_group.specs.Shape.{is_shape};
-ghost use Rattle.catalog.specs.ExtentPlans.{MayMark};
+ghost use Rattle.resync.specs.catalog.ExtentPlans.{MayMark};
 
 use asm_base::{ExtentId, Home};
-use catalog::Catalog;
-use group_engine::{Flight, Mounted};
-use group_pieces::is_lost;
-use resync::extent_bytes;
+use resync::{Catalog, Flight, Mounted, extent_bytes, is_lost};
 
 /// The home of a copy of an extent.
 pub(crate) fn home_of(catalog: &Catalog, x: ExtentId, copy: u8) -> Option<Home> {

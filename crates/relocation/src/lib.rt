@@ -3,6 +3,11 @@
 //! emptied disks leave, and the rebalance ends.
 #![tactic(auto)]
 
+pub use resync::{
+    CopyError, Resynced, copy_piece, extent_bytes, piece_buffer, piece_len, refusal_of, sync_slice,
+    syncing_disk,
+};
+
 mod asking;
 mod ending;
 mod fitting;

@@ -1,7 +1,7 @@
 // A slice of a rebalance, and slices to its end.
 ghost use Rattle.std.specs.Prelude.{◌≤◌, IfErr, IfOk, IfSome, OnOk};
-ghost use Rattle.group_engine.specs.Members.{LetsGo};
-ghost use Rattle.group_engine.specs.Mounts.{IsMounted, Takes};
+ghost use Rattle.resync.specs.group_engine.Members.{LetsGo};
+ghost use Rattle.resync.specs.group_engine.Mounts.{IsMounted, Takes};
 ghost use Rattle.relocation.specs.Shortfalls.{EndCause};
 ghost use Rattle.relocation.specs.Slices.{Goes, SliceCause};
 
@@ -10,9 +10,7 @@ use crate::ending::end_with;
 use crate::steps::{add_directory, copy_step, move_tables};
 use asm_base::{NoMemory, Refusal};
 use bay::Bay;
-use catalog_laws::{items_say_tables, tables_have_items};
-use group_engine::{Flight, Mounted};
-use resync::piece_buffer;
+use resync::{Flight, Mounted, items_say_tables, piece_buffer, tables_have_items};
 use std::alloc::Global;
 
 /// Does at most so many steps of the active rebalance, and after the last of them asks for the end again. Gives the number of steps

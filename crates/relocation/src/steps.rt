@@ -1,20 +1,19 @@
 // The steps of a slice.
 ghost use Rattle.std.specs.Prelude.{◌≡◌, ◌/◌, IfErr, IfOk};
-ghost use Rattle.group_engine.specs.Mounts.{IsMounted, Takes};
-ghost use Rattle.group_engine.specs.Own.{KeepsGroup};
-ghost use Rattle.group_engine.specs.Pending.{GoesOn};
-ghost use Rattle.group_engine.specs.Searches.{IsPlanIn};
+ghost use Rattle.resync.specs.group_engine.Mounts.{IsMounted, Takes};
+ghost use Rattle.resync.specs.group_engine.Own.{KeepsGroup};
+ghost use Rattle.resync.specs.group_engine.Pending.{GoesOn};
+ghost use Rattle.resync.specs.group_engine.Searches.{IsPlanIn};
 ghost use Rattle.relocation.specs.Slices.{Goes, HasCopyFault};
 ghost use Rattle.resync.specs.Copying.{refusal_of};
 
 use crate::fitting::is_in_place;
 use asm_base::{Change, DiskSet, ExtentId, Home, Refusal};
 use bay::Bay;
-use catalog::Catalog;
-use group_engine::{Flight, Mounted};
-use rebalance::planned_moves_change_one_chunk;
-use resync::{CopyError, copy_piece, extent_bytes, piece_len, refusal_of};
-use status_table::{PstRecord, with_holders, with_next_holders};
+use resync::{
+    Catalog, CopyError, Flight, Mounted, PstRecord, copy_piece, extent_bytes, piece_len,
+    planned_moves_change_one_chunk, refusal_of, with_holders, with_next_holders,
+};
 use std::alloc::Global;
 
 /// A step of a copy's move: copies its next bytes, and with the last ones commits the move. Refusals: ReadFault, after which the move

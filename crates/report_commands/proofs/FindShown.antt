@@ -16,7 +16,7 @@ use Rattle.asm_world.specs.Paths.{resolved, target_from}
 use Rattle.asm_world.specs.Reply.{Refused}
 use Rattle.asm_world.specs.World.{World, mounted_group}
 use Rattle.catalog_tables.specs.Rules.{KeepsRules}
-use Rattle.group_engine.specs.Mounts.{MountedGroup}
+use Rattle.session.specs.group_engine.Mounts.{MountedGroup}
 use Rattle.report_laws.proofs.Finds.{found_are_worlds}
 use Rattle.report_laws.proofs.VerbPaths.{paths_lead}
 use Rattle.session.specs.Effects.{IsServed, below_with}

@@ -6,7 +6,7 @@ use Rattle.asm_base.specs.declared.refusal.Refusal.{Refusal}
 use Rattle.asm_base.specs.declared.refusal.Refusal.TheVariants as cause
 use Rattle.asm_group.specs.Names.{Bytes, Path}
 use Rattle.asm_world.specs.Paths.{parts_of}
-use Rattle.group_engine.specs.Mounts.{MountedGroup}
+use Rattle.session.specs.group_engine.Mounts.{MountedGroup}
 use Rattle.group_reports.specs.Places.{directory_at}
 use Rattle.report_commands.specs.Going.{IsDirectoryOf, IsGoingCauseBy, IsLedBy}
 use Rattle.session.specs.Naming.{IsGroupOf}

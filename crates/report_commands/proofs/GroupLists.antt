@@ -9,8 +9,8 @@ use Rattle.asm_world.specs.World.{SessionEntry}
 use Rattle.asmcmd.proofs.Shown.{rows_are_lines}
 use Rattle.asmcmd.specs.Texts as texts
 use Rattle.asmcmd.specs.declared.rows.GroupRow.{GroupRow}
-use Rattle.group_engine.specs.Making.{dismounted_by}
-use Rattle.group_engine.specs.Mounts.{MountedGroup}
+use Rattle.session.specs.group_engine.Making.{dismounted_by}
+use Rattle.session.specs.group_engine.Mounts.{MountedGroup}
 use Rattle.group_reports.specs.Disks.{group_row}
 use Rattle.session.specs.declared.entry.Entry.{Entry}
 use Rattle.session.specs.declared.group_name.GroupName.{GroupName}

@@ -19,8 +19,8 @@ use Rattle.asm_world.specs.Listings.{by_folded_text, in_order, is_match}
 use Rattle.asm_world.specs.World.{SessionEntry, entry_among, is_mounted}
 use Rattle.asmcmd.specs.declared.rows.LsRow.{LsRow}
 use Rattle.catalog_tables.specs.Rules.{KeepsRules}
-use Rattle.group_engine.specs.Making.{dismounted_by}
-use Rattle.group_engine.specs.Mounts.{MountedGroup}
+use Rattle.session.specs.group_engine.Making.{dismounted_by}
+use Rattle.session.specs.group_engine.Mounts.{MountedGroup}
 use Rattle.group_reports.specs.Listing.{AreRowsAt, IsDueRefusal, list_refusal}
 use Rattle.report_laws.specs.Lists.{LacksName, matching_name, names_before}
 use Rattle.report_laws.proofs.InOrder.{names_are_inserted}

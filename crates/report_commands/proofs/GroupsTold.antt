@@ -22,11 +22,11 @@ use Rattle.asm_world.specs.Reports.{dismounted_line, group_head, mounted_line}
 use Rattle.asm_world.specs.Step.{Step}
 use Rattle.asm_world.specs.World.{SessionEntry, SessionState, World, Mounted, DismountedBy, entry_in, group_of_entry, groups_of, is_mounted, only_group}
 use Rattle.catalog_tables.specs.Tables.{Tables}
-use Rattle.group_engine.specs.Making.{dismounted_by}
-use Rattle.group_engine.specs.Mounts.{MountedGroup}
-use Rattle.group_of.specs.Groups.{group_of}
+use Rattle.session.specs.group_engine.Making.{dismounted_by}
+use Rattle.session.specs.group_engine.Mounts.{MountedGroup}
+use Rattle.report_laws.specs.group_of.Groups.{group_of}
 use Rattle.group_reports.specs.Disks.{group_row}
-use Rattle.session_claims.specs.Claims.{IsPaired}
+use Rattle.session.specs.session_claims.Claims.{IsPaired}
 use Rattle.world_steps.specs.Told.{AreIdsApart}
 use Rattle.session.specs.Effects.{IsServed, below_with}
 use Rattle.session.specs.Entries.{by_disk, disk_name, state_view}

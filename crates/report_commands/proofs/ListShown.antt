@@ -25,7 +25,7 @@ use Rattle.asm_world.specs.World.{SessionEntry, World, mounted_group}
 use Rattle.asmcmd.proofs.Shown.{rows_are_lines}
 use Rattle.asmcmd.specs.Texts as texts
 use Rattle.asmcmd.specs.declared.rows.LsRow.{LsRow}
-use Rattle.group_engine.specs.Mounts.{MountedGroup}
+use Rattle.session.specs.group_engine.Mounts.{MountedGroup}
 use Rattle.group_reports.specs.Listing.{list_refusal, star}
 use Rattle.report_laws.proofs.InOrder.{all_match_star, groups_are_worlds}
 use Rattle.report_laws.proofs.ListCauses.{lists_are_refused, lists_are_uncaused}

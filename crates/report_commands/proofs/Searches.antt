@@ -20,8 +20,8 @@ use Rattle.asm_world.specs.Step.{Has, IsDismounted, Step}
 use Rattle.asm_world.specs.Waits.{HasLines}
 use Rattle.asm_world.specs.World.{World, mounted_group}
 use Rattle.catalog_tables.specs.Rules.{KeepsRules}
-use Rattle.group_disks.specs.Found.{Counts, counts_of}
-use Rattle.group_engine.specs.Mounts.{MountedGroup}
+use Rattle.session.specs.group_disks.Found.{Counts, counts_of}
+use Rattle.session.specs.group_engine.Mounts.{MountedGroup}
 use Rattle.group_reports.specs.Places.{directory_at}
 use Rattle.report_laws.proofs.Places.{directories_are_worlds, no_directories_are_worlds}
 use Rattle.session.specs.Effects.{IsServed, below_with}

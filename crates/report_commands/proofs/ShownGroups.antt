@@ -16,9 +16,9 @@ use Rattle.asm_world.specs.Reply.{Reply, Refused}
 use Rattle.asm_world.specs.Step.{Has, IsDismounted, Step}
 use Rattle.asm_world.specs.Waits.{HasLines}
 use Rattle.asm_world.specs.World.{SessionEntry, SessionState, World, Mounted, DismountedBy, entry_among, entry_in, groups_of, is_mounted, mounted_group}
-use Rattle.group_disks.specs.Found.{Counts, counts_of}
-use Rattle.group_engine.specs.Mounts.{MountedGroup}
-use Rattle.session_claims.specs.Claims.{IsPaired}
+use Rattle.session.specs.group_disks.Found.{Counts, counts_of}
+use Rattle.session.specs.group_engine.Mounts.{MountedGroup}
+use Rattle.session.specs.session_claims.Claims.{IsPaired}
 use Rattle.world_steps.specs.Told.{AreIdsApart}
 use Rattle.session.specs.Counts.{ReplyCause}
 use Rattle.session.specs.Effects.{IsServed, below_with}

@@ -17,7 +17,7 @@ use Rattle.asm_world.specs.Reply.{Refused}
 use Rattle.asm_world.specs.Step.{Has}
 use Rattle.asm_world.specs.World.{World, entry_in, mounted_group}
 use Rattle.catalog_tables.specs.Rules.{KeepsRules}
-use Rattle.group_engine.specs.Mounts.{MountedGroup}
+use Rattle.session.specs.group_engine.Mounts.{MountedGroup}
 use Rattle.group_reports.specs.Extents.{file_units}
 use Rattle.report_laws.proofs.Usage.{usage_is_worlds}
 use Rattle.report_laws.proofs.VerbPaths.{paths_lead}

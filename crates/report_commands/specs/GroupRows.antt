@@ -7,8 +7,8 @@ use Rattle.asm_world.specs.Reports.{dismounted_line, group_head, mounted_line}
 use Rattle.asm_world.specs.World.{SessionEntry, entry_among}
 use Rattle.asmcmd.specs.Texts as texts
 use Rattle.asmcmd.specs.declared.rows.GroupRow.{GroupRow}
-use Rattle.group_engine.specs.Making.{dismounted_by}
-use Rattle.group_engine.specs.Mounts.{MountedGroup}
+use Rattle.session.specs.group_engine.Making.{dismounted_by}
+use Rattle.session.specs.group_engine.Mounts.{MountedGroup}
 use Rattle.group_reports.specs.Disks.{group_row}
 use Rattle.session.specs.Entries.{state_view}
 use Rattle.session.specs.Sessions.{SessionView}

@@ -11,7 +11,7 @@ use Rattle.asmcmd.specs.Texts as texts
 use Rattle.asmcmd.specs.declared.rows.LsRow.{LsRow}
 use Rattle.catalog_tables.specs.Rules.{KeepsRules}
 use Rattle.group_reports.specs.Listing.{AreRowsAt, list_refusal, star}
-use Rattle.group_engine.specs.Mounts.{MountedGroup}
+use Rattle.session.specs.group_engine.Mounts.{MountedGroup}
 use Rattle.report_laws.specs.Lists.{matching_name}
 use Rattle.session.specs.Listing.{IsInGroup}
 use Rattle.session.specs.Naming.{IsGroupOf, IsOutCause}

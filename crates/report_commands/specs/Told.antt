@@ -7,7 +7,7 @@ use Rattle.asm_world.specs.Reports.{check_line, du_lines}
 use Rattle.asm_world.specs.Statement.{Alter, Check}
 use Rattle.asmcmd.specs.Texts as texts
 use Rattle.catalog_tables.specs.Rules.{KeepsRules}
-use Rattle.group_engine.specs.Mounts.{MountedGroup}
+use Rattle.session.specs.group_engine.Mounts.{MountedGroup}
 use Rattle.group_reports.specs.Disks.{disk_rows}
 use Rattle.group_reports.specs.Extents.{all_extents, checked_of}
 use Rattle.group_reports.specs.Files.{paths_found, usage_of}

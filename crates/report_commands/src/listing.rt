@@ -16,9 +16,8 @@ ghost use Rattle.report_commands.specs.Listed.{AreListLines, AreRowsListed, AreR
 
 use asm_base::{List, Name, NoMemory, Refusal, Text};
 use asmcmd::{LsRow, ls_lines};
-use group_engine::Mounted;
 use group_reports::{directory_row, rows_listed};
-use session::{Entry, GroupName, Session};
+use session::{Entry, GroupName, Mounted, Session};
 use std::alloc::Global;
 use verb_paths::{has_star, is_match, resolve_pattern};
 

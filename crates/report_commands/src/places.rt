@@ -12,9 +12,8 @@ ghost use Rattle.session.specs.Sessions.{AreReady};
 use asm_base::{List, Name, NoMemory, Path, Refusal, Text};
 use asmcmd::path_text;
 use bay::{Bay, Host};
-use group_engine::Mounted;
 use group_reports::directory_at;
-use session::{Answer, Desk, Reply, Session, no_memory, refused};
+use session::{Answer, Desk, Mounted, Reply, Session, no_memory, refused};
 use std::alloc::Global;
 use verb_paths::{parts_in_group, resolve};
 

@@ -10,11 +10,10 @@ ghost use Rattle.report_commands.specs.Told.{AreFoundLines, IsUsageIn, attribute
 
 use asm_base::{List, Name, NoMemory, Path, Refusal, Text};
 use asmcmd::{attribute_lines, check_lines, disk_lines, path_lines, template_lines, usage_lines};
-use group_engine::Mounted;
 use group_reports::{
     attribute_rows, check, directory_at, disk_rows, paths_found, template_rows, usage_below,
 };
-use session::Session;
+use session::{Mounted, Session};
 use std::alloc::Global;
 use verb_paths::target;
 

@@ -36,7 +36,7 @@ use Rattle.file_directory.specs.Files.{File, head_at}
 use Rattle.catalog_tables.specs.Rules as rules
 use Rattle.catalog_tables.specs.Rules.{KeepsRules}
 use Rattle.catalog_tables.specs.Tables.{Tables}
-use Rattle.catalog.proofs.NumberedEntries.{found_passes, passes_each}
+use Rattle.group_of.proofs.catalog.NumberedEntries.{found_passes, passes_each}
 use Rattle.group_of.specs.Groups.{group_of}
 use Rattle.group_of.proofs.HeadedFiles.{head_among}
 use Rattle.group_reports.specs.Files.{found_at, found_of_file, found_of_files, paths_found}

@@ -14,3 +14,5 @@ pub mod Lists
 pub mod ListCauses
 pub mod SameSums
 pub mod Usage
+pub mod catalog
+pub mod group_of

@@ -44,7 +44,7 @@ use Rattle.file_directory.specs.Files.{head_at}
 use Rattle.catalog_tables.specs.Rules as rules
 use Rattle.catalog_tables.specs.Rules.{KeepsRules}
 use Rattle.catalog_tables.specs.Tables.{Tables}
-use Rattle.catalog.proofs.NumberedEntries.{found_passes, passes_each}
+use Rattle.group_of.proofs.catalog.NumberedEntries.{found_passes, passes_each}
 use Rattle.group_of.specs.Groups.{files_by_number, group_of}
 use Rattle.group_of.proofs.HeadedFiles.{file_at, files_are, head_among, head_is}
 use Rattle.group_reports.specs.Listing.{AreRowsAt, AreRowsIn, AreRowsOf, AreRowsUnder, listed, listed_as, node_row, path_to, row_at, rows_at, star, text_of}

@@ -9,7 +9,7 @@ use Rattle.asm_group.specs.NewGroup.{templates_by_name}
 use Rattle.asm_world.specs.Reports as world
 use Rattle.asmcmd.proofs.Shown.{rows_are_lines}
 use Rattle.group_of.specs.Groups.{group_of}
-use Rattle.template_directory.proofs.Listing.{Below, Up, ascends, up_of}
+use Rattle.catalog_tables.proofs.template_directory.Listing.{Below, Up, ascends, up_of}
 use Rattle.report_laws.specs.Rows.{AttributesAreWorlds, TemplatesAreWorlds}
 
 pub attributes_are_worlds : AttributesAreWorlds

@@ -35,7 +35,7 @@ use Rattle.catalog_tables.specs.Rules as rules
 use Rattle.catalog_tables.specs.Rules.{KeepsRules}
 use Rattle.catalog_tables.specs.Tables.{Catalogued, Tables}
 use Rattle.catalog_tables.proofs.TableItems.{among_found, numbers_exact}
-use Rattle.catalog.proofs.NumberedEntries.{found_passes, passes_each}
+use Rattle.group_of.proofs.catalog.NumberedEntries.{found_passes, passes_each}
 use Rattle.group_of.specs.Groups as groups
 use Rattle.group_of.specs.Groups.{HasCells, group_of}
 use Rattle.group_of.proofs.HeadedFiles.{files_are, head_among}

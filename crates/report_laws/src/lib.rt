@@ -8,6 +8,9 @@ ghost use Rattle.report_laws.specs.Places.{DirectoriesAreWorlds, NoDirectoriesAr
 ghost use Rattle.report_laws.specs.Rows.{AttributesAreWorlds, TemplatesAreWorlds};
 ghost use Rattle.report_laws.specs.Usage.{UsageIsWorlds};
 
+pub use group_of::{FileBy, NewFile};
+pub use group_reports::path_to;
+
 /// The path of `cd`, `find`, `du` or `ls` leads somewhere, from whatever place.
 pub fn paths_lead()
     ensures { PathsLead }

@@ -6,13 +6,13 @@ use Rattle.asm_base.specs.declared.kinds.ExtentId.{ExtentId}
 use Rattle.asm_base.specs.declared.refusal.DiskRef.TheVariants.{Number, Spelt}
 use Rattle.asm_base.specs.declared.refusal.Refusal.{Refusal}
 use Rattle.asm_base.specs.declared.refusal.Refusal.TheVariants as cause
-use Rattle.group_engine.specs.Commits.{StatusCause}
-use Rattle.group_engine.specs.Mounts.{IsMounted, MountedGroup}
-use Rattle.group_engine.specs.Own.{KeepsGroup}
-use Rattle.group_engine.proofs.Causes.{dismount_on}
-use Rattle.group_pieces.specs.Reads.{IsReadCause}
-use Rattle.group_pieces.specs.declared.reading.ReadError.{ReadError}
-use Rattle.group_pieces.specs.declared.reading.ReadError.TheVariants as reads
+use Rattle.file_extents.specs.group_engine.Commits.{StatusCause}
+use Rattle.file_extents.specs.group_engine.Mounts.{IsMounted, MountedGroup}
+use Rattle.file_extents.specs.group_engine.Own.{KeepsGroup}
+use Rattle.file_extents.proofs.group_engine.Causes.{dismount_on}
+use Rattle.file_extents.specs.group_pieces.Reads.{IsReadCause}
+use Rattle.file_extents.specs.group_pieces.declared.reading.ReadError.{ReadError}
+use Rattle.file_extents.specs.group_pieces.declared.reading.ReadError.TheVariants as reads
 use Rattle.file_extents.proofs.Chains.{fault_on, rose_on}
 use Rattle.resync.specs.declared.copying.CopyError.{CopyError}
 use Rattle.resync.specs.declared.copying.CopyError.TheVariants as copies

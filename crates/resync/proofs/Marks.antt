@@ -7,13 +7,13 @@ use Rattle.asm_group.specs.declared.Mode.{Mode}
 use Rattle.asm_formats.specs.Items.{Homes}
 use Rattle.asm_formats.specs.Sets.{has_bit}
 use Rattle.asm_formats.specs.Status.{Entry, Status}
-use Rattle.asm_images.specs.RecordLaws.{bare}
-use Rattle.catalog.specs.ExtentPlans.{MayMark}
-use Rattle.catalog_tables.specs.Rules.{are_marks_of, homes_at}
-use Rattle.catalog_tables.specs.Tables.{Tables}
-use Rattle.extent_map.specs.Extents.{chunk_at, extent_at, has_home}
-use Rattle.group_engine.specs.NextRecords.{KeepsDisks}
-use Rattle.status_table.specs.Changes.{entry_with_mode, status_with_mode}
+use Rattle.file_extents.specs.asm_images.RecordLaws.{bare}
+use Rattle.file_extents.specs.catalog.ExtentPlans.{MayMark}
+use Rattle.file_extents.specs.catalog_tables.Rules.{are_marks_of, homes_at}
+use Rattle.file_extents.specs.catalog_tables.Tables.{Tables}
+use Rattle.file_extents.specs.extent_map.Extents.{chunk_at, extent_at, has_home}
+use Rattle.file_extents.specs.group_engine.NextRecords.{KeepsDisks}
+use Rattle.file_extents.specs.status_table.Changes.{entry_with_mode, status_with_mode}
 
 -- ---- marks
 

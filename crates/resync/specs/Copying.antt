@@ -5,10 +5,10 @@ use Rattle.asm_base.specs.declared.refusal.DiskRef.{DiskRef}
 use Rattle.asm_base.specs.declared.refusal.DiskRef.TheVariants as disk
 use Rattle.asm_base.specs.declared.refusal.Refusal.{Refusal}
 use Rattle.asm_base.specs.declared.refusal.Refusal.TheVariants as cause
-use Rattle.group_engine.specs.Mounts.{MountedGroup}
-use Rattle.group_pieces.specs.Faults.{RoseOnDisk}
-use Rattle.group_pieces.specs.declared.reading.ReadError.{ReadError}
-use Rattle.group_pieces.specs.declared.reading.ReadError.TheVariants as reads
+use Rattle.file_extents.specs.group_engine.Mounts.{MountedGroup}
+use Rattle.file_extents.specs.group_pieces.Faults.{RoseOnDisk}
+use Rattle.file_extents.specs.group_pieces.declared.reading.ReadError.{ReadError}
+use Rattle.file_extents.specs.group_pieces.declared.reading.ReadError.TheVariants as reads
 use Rattle.resync.specs.declared.copying.CopyError.{CopyError}
 use Rattle.resync.specs.declared.copying.CopyError.TheVariants as copies
 

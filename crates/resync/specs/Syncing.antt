@@ -8,8 +8,8 @@ use Rattle.asm_base.specs.declared.refusal.Refusal.{Refusal}
 use Rattle.asm_base.specs.declared.refusal.Refusal.TheVariants as cause
 use Rattle.asm_formats.specs.Status.{Entry}
 use Rattle.file_extents.specs.Filling.{FaultOn}
-use Rattle.group_engine.specs.Commits.{DismountCause}
-use Rattle.group_engine.specs.Mounts.{MountedGroup}
+use Rattle.file_extents.specs.group_engine.Commits.{DismountCause}
+use Rattle.file_extents.specs.group_engine.Mounts.{MountedGroup}
 use Rattle.resync.specs.Copying.{FaultCause}
 
 abbrev pub is_syncing : Mode → Bool

@@ -1,18 +1,15 @@
 // A copy of an extent gets its bytes from the usable ones.
 ghost use Rattle.std.specs.Prelude.{◌≡◌, IfErr, IfOk, length, replicate};
-ghost use Rattle.group_engine.specs.Mounts.{IsMounted, Takes};
-ghost use Rattle.group_engine.specs.Own.{KeepsGroup};
-ghost use Rattle.group_pieces.specs.Usable.{FitsExtent};
+ghost use Rattle.file_extents.specs.group_engine.Mounts.{IsMounted, Takes};
+ghost use Rattle.file_extents.specs.group_engine.Own.{KeepsGroup};
+ghost use Rattle.file_extents.specs.group_pieces.Usable.{FitsExtent};
 ghost use Rattle.resync.specs.Copying.{CopyCause, refusal_of, unread};
 
 use crate::runs::{extent_bytes, piece_len};
 use asm_base::{DiskRef, ExtentId, Home, NoMemory, Refusal};
 use bay::{Bay, Fault};
-use file_extents::{LONGEST_PIECE, is_run};
-use group_engine::Mounted;
-use group_pieces::{ReadError, read_piece, write_spare};
+use file_extents::{LONGEST_PIECE, Mounted, ReadError, is_run, read_piece, units_of, write_spare};
 use std::alloc::Global;
-use striping::units_of;
 
 /// Why bytes of an extent aren't copied.
 #[derive(Clone, Copy, Debug, PartialEq, Eq)]

@@ -2,6 +2,11 @@
 //! and clears its mark; nothing else is written to user units.
 #![tactic(auto)]
 
+pub use file_extents::{
+    Attached, Catalog, Flight, Mounted, Move, Next, PstRecord, entry_of, is_lost, items_say_tables,
+    planned_moves_change_one_chunk, tables_have_items, with_holders, with_next_holders,
+};
+
 mod copying;
 mod runs;
 mod searching;

@@ -1,10 +1,9 @@
 // Pieces of extents.
 ghost use Rattle.std.specs.Prelude.{◌≡◌, ◌+◌, ◌^◌, ◌<◌, ◌≤◌, IfSome};
-ghost use Rattle.group_pieces.specs.Usable.{FitsExtent};
+ghost use Rattle.file_extents.specs.group_pieces.Usable.{FitsExtent};
 
 use asm_base::Shape;
-use file_extents::LONGEST_PIECE;
-use striping::units_of;
+use file_extents::{LONGEST_PIECE, units_of};
 
 /// The bytes of a copy of an extent by its index.
 pub fn extent_bytes(shape: Shape, index: u32) -> u64 {

@@ -3,9 +3,7 @@ ghost use Rattle.std.specs.Prelude.{◌≡◌, ◌<◌, IfSome, IsTrue};
 ghost use Rattle.asm_group.specs.Shape.{is_shape};
 
 use asm_base::{ExtentId, Home};
-use catalog::Catalog;
-use group_engine::Mounted;
-use group_pieces::is_lost;
+use file_extents::{Catalog, Mounted, is_lost};
 
 /// Where the search for stale copies goes on, and what it passed over.
 #[derive(Clone, Copy)]

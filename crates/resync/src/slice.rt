@@ -1,18 +1,17 @@
 // A slice of the resync of a disk.
 ghost use Rattle.std.specs.Prelude.{◌≡◌, ◌≤◌, ◌<◌, IfErr, OnOk};
-ghost use Rattle.group_engine.specs.Mounts.{IsMounted, Takes};
-ghost use Rattle.group_engine.specs.Own.{KeepsGroup};
-ghost use Rattle.group_engine.specs.Pending.{GoesOn};
+ghost use Rattle.file_extents.specs.group_engine.Mounts.{IsMounted, Takes};
+ghost use Rattle.file_extents.specs.group_engine.Own.{KeepsGroup};
+ghost use Rattle.file_extents.specs.group_engine.Pending.{GoesOn};
 ghost use Rattle.resync.specs.Syncing.{SyncCause, first_syncing, is_syncing};
 
 use crate::copying::{copy_whole, piece_buffer, refusal_of};
 use crate::searching::{Search, next_stale, stale_copy, start};
 use asm_base::{ExtentId, Mode, NoMemory, Refusal};
 use bay::Bay;
-use group_engine::{Mounted, same_disks_are_next};
-use partnership::entry_of;
-use rebalance::planned_moves_change_one_chunk;
-use status_table::{PstEntry, with_mode};
+use file_extents::{
+    Mounted, PstEntry, entry_of, planned_moves_change_one_chunk, same_disks_are_next, with_mode,
+};
 use std::alloc::Global;
 
 /// The most steps of a slice.

@@ -4,7 +4,7 @@ use asm_base::{
     Block, DiskSet, GroupKind, Key, Mode, Name, NodeKind, PendingKind, Records, Shape, Stripe,
     Value, Writer, put_node_kind, put_pending_kind, put_text, put_u32, put_u64, record_kind,
 };
-use catalog::Catalog;
+use catalog_laws::Catalog;
 use catalog_tables::CatalogError;
 use file_directory::{FileHead, record_of};
 use staleness_directory::{Marks, marks_record};

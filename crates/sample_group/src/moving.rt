@@ -4,14 +4,14 @@ ghost use Rattle.std.specs.Prelude.{◌≡◌, ◌<◌, IfOk, IsTrue, List as It
 ghost use Rattle.std.specs.Bool.{OnTrue};
 ghost use Rattle.asm_formats.specs.Status.{Entry as StatusEntry};
 ghost use Rattle.catalog_tables.specs.Changing.{IsAfter};
-ghost use Rattle.catalog.specs.ExtentPlans.{with_move};
+ghost use Rattle.catalog_laws.specs.catalog.ExtentPlans.{with_move};
 ghost use Rattle.catalog_tables.specs.Placing.{HasUnits};
-ghost use Rattle.catalog.specs.Plans.{IsPlan};
+ghost use Rattle.catalog_laws.specs.catalog.Plans.{IsPlan};
 ghost use Rattle.catalog_tables.specs.Rules.{AreOnRegular, is_on_regular};
 ghost use Rattle.catalog_tables.specs.Tables.{Tables};
 
 use asm_base::{Change, ExtentId, Home, NoMemory};
-use catalog::Catalog;
+use catalog_laws::Catalog;
 use catalog_tables::a_change_leaves_one_set_of_tables;
 use partnership::entry_of;
 use status_table::PstEntry;

@@ -2,7 +2,7 @@
 
 use crate::group::{disks, read};
 use asm_base::Records;
-use catalog::Catalog;
+use catalog_laws::Catalog;
 use std::alloc::Global;
 use std::test::Fail;
 

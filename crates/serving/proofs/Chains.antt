@@ -11,14 +11,14 @@ use Rattle.bay.proofs.Known.{Appends-none, Appends-more}
 use Rattle.asm_group.specs.Names.{Bytes}
 use Rattle.asm_world.specs.Run.{State, Entry, Move, AllMoves, IsMove, end_of, entry_text, text_of, IsPrinted, IsPrintedToCut, output_of, commands_at, answered, times_at, times_of, marks_at, marks_of, refuses, has_refusal}
 use Rattle.asm_world.proofs.Histories.{end_append, rise_calls, rise_joined}
-use Rattle.group_disks.specs.Found.{Counts}
-use Rattle.session.specs.Claims.{outside, held_outside, IsProvedApartIn}
+use Rattle.disk_commands.specs.group_disks.Found.{Counts}
+use Rattle.disk_commands.specs.session.Claims.{outside, held_outside, IsProvedApartIn}
 use Rattle.serving.specs.declared.manner.Manner.{Manner}
-use Rattle.session.specs.Effects.{Past}
+use Rattle.disk_commands.specs.session.Effects.{Past}
 use Rattle.serving.specs.Manners.{AreTold, after_move, after_moves, style_of}
-use Rattle.session.specs.Proved.{IsProved, IsProvedIn, IsProvedOnDisks, is_proved_move, is_proved_move_on_disks}
+use Rattle.disk_commands.specs.session.Proved.{IsProved, IsProvedIn, IsProvedOnDisks, is_proved_move, is_proved_move_on_disks}
 use Rattle.serving.specs.Acts.{Scene, state_of, Acts}
-use Rattle.session_claims.specs.Claims.{StandsFor}
+use Rattle.group_commands.specs.session_claims.Claims.{StandsFor}
 use Rattle.world_steps.specs.Runs.{AllFrom}
 use Rattle.world_steps.proofs.Runs.{joins, premises_join, stays}
 

@@ -8,9 +8,9 @@ use Rattle.asm_base.specs.declared.refusal.Refusal.TheVariants as cause
 use Rattle.asm_world.specs.Reply.{Refused}
 use Rattle.asm_world.specs.Run.{Slicing, slices_of, mounted_groups, phase_after}
 use Rattle.asm_world.specs.World.{World}
-use Rattle.session.specs.declared.reply.Reply.{Reply}
+use Rattle.disk_commands.specs.session.declared.reply.Reply.{Reply}
 use Rattle.serving.specs.Stops.{IsWantOfMemory}
-use Rattle.session.specs.Views.{reply_view}
+use Rattle.disk_commands.specs.session.Views.{reply_view}
 
 pub said_other : (refusal : Refusal) → refusal ≢ cause.NoMemory → said (λ _. []) refusal ≢ r.NoMemory
 unfolding said

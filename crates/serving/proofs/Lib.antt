@@ -7,3 +7,5 @@ pub mod Printed
 pub mod Reading
 pub mod Serving
 pub mod Stories
+pub mod session
+pub mod session_claims

@@ -20,22 +20,22 @@ use Rattle.asm_world.specs.World.{World, SessionEntry, entry_in, is_mounted}
 use Rattle.asm_world.specs.Run.{Phase, Resting, Expiring, Slicing, Starts, Answers, Rests, AnswersAt, next_expiry, next_slice, below_of_entry, expiring_of, due_resync, due_rebalance, DueRebalance, DueResync, slices_of, mounted_groups, phase_after, is_refusal, reply_in, times_of}
 use Rattle.serving.specs.Acts.{scene, state_of, Acts}
 use Rattle.asm_world.specs.Waits.{HasLines}
-use Rattle.group_disks.specs.Found.{Counts, counts_of}
-use Rattle.session.specs.Meaning.{meaning}
-use Rattle.session.specs.Effects.{HasEffect, IsProvedOn, IsServed, anywhere, below_with, on_disks}
-use Rattle.session.specs.Families.{changes_group}
+use Rattle.disk_commands.specs.group_disks.Found.{Counts, counts_of}
+use Rattle.disk_commands.specs.session.Meaning.{meaning}
+use Rattle.disk_commands.specs.session.Effects.{HasEffect, IsProvedOn, IsServed, anywhere, below_with, on_disks}
+use Rattle.disk_commands.specs.session.Families.{changes_group}
 use Rattle.serving.specs.Manners.{after_reply, reply_style}
-use Rattle.session.specs.Desks.{paths_on}
+use Rattle.disk_commands.specs.session.Desks.{paths_on}
 use Rattle.serving.specs.Programs.{scene_of, AnswersOne, RunsOne, TellsEvents}
-use Rattle.session.specs.Sessions.{Roster, roster_of}
+use Rattle.disk_commands.specs.session.Sessions.{Roster, roster_of}
 use Rattle.serving.specs.Stops.{IsReplyOrNoMemory}
-use Rattle.group_turns.specs.Turns.{AfterReply, BeforeText}
+use Rattle.disk_commands.specs.group_turns.Turns.{AfterReply, BeforeText}
 use Rattle.serving.specs.declared.manner.Manner.{Manner}
 use Rattle.serving.specs.declared.program.Program.{Program}
 use Rattle.serving.specs.declared.stop.Stop.{Stop}
 use Rattle.serving.proofs.Chains.{acts-none, acts-one, acts-then, acts-cut, or-false}
-use Rattle.session.proofs.Below.{IsStill, still_below}
-use Rattle.session.proofs.Languages.{short_is_no_change, short_is_proved}
+use Rattle.disk_commands.proofs.session.Below.{IsStill, still_below}
+use Rattle.disk_commands.proofs.session.Languages.{short_is_no_change, short_is_proved}
 use Rattle.serving.proofs.Pieces.{at-paths, at-phase}
 use Rattle.asm_world.proofs.Memory.{no_lines}
 

@@ -1,7 +1,7 @@
 -- The work of CREATE DISK.
 use Rattle.std.proofs.Common.{◌≡◌, ◌∙◌, sym, ℕ, List, Option, Some, None}
 use Rattle.bay.specs.State.{BayState}
-use Rattle.session.specs.OnDisks.{IdlingLeaves, MakingDoes}
+use Rattle.disk_commands.specs.session.OnDisks.{IdlingLeaves, MakingDoes}
 
 pub making : (old new : BayState) → MakingDoes old new
 making old new paths path slot size is attached ends = record {

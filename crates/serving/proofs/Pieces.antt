@@ -15,7 +15,7 @@ use Rattle.asm_world.specs.Run.{Phase, Resting}
 use Rattle.serving.specs.Acts.{Scene, Acts, scene}
 use Rattle.serving.specs.declared.manner.Manner.{Manner}
 use Rattle.serving.specs.Serves.{BeginsFrom}
-use Rattle.session.specs.Sessions.{Roster}
+use Rattle.disk_commands.specs.session.Sessions.{Roster}
 use Rattle.asm_world.specs.Below.{GroupBelow}
 
 -- ---- the commands from a place on

@@ -16,19 +16,19 @@ use Rattle.asm_world.specs.Run.{Move, Phase, Stops, AllMoves, text_of}
 use Rattle.asm_world.specs.Text.{event_text}
 use Rattle.asm_world.specs.World.{World}
 use Rattle.serving.specs.Acts.{Acts, Scene, scene}
-use Rattle.session.specs.Desks.{paths_on}
+use Rattle.disk_commands.specs.session.Desks.{paths_on}
 use Rattle.serving.specs.Manners.{line_in, style_of}
-use Rattle.session.specs.Naming.{CarriesOn}
+use Rattle.disk_commands.specs.session.Naming.{CarriesOn}
 use Rattle.serving.specs.Programs.{TellsTurns, scene_of}
-use Rattle.session.specs.Sessions.{AreReady, Knows, Roster, groups_below, roster_of}
+use Rattle.disk_commands.specs.session.Sessions.{AreReady, Knows, Roster, groups_below, roster_of}
 use Rattle.serving.specs.Stops.{IsOutputStop, StopsByOutput}
-use Rattle.group_turns.specs.Turns.{AfterReply, BeforeText, HasLine, IsTurnMove, TurnMoment, move_at, phase_at}
+use Rattle.disk_commands.specs.group_turns.Turns.{AfterReply, BeforeText, HasLine, IsTurnMove, TurnMoment, move_at, phase_at}
 use Rattle.serving.specs.declared.manner.Manner.{Manner}
 use Rattle.serving.specs.declared.manner.Manner.TheVariants.{InFull, InShort}
 use Rattle.serving.specs.declared.program.Program.{Program}
 use Rattle.serving.specs.declared.stop.Stop.{Stop}
 use Rattle.serving.specs.declared.stop.Stop.TheVariants.{ReadFault, WriteFault, NoMemory, TooLong}
-use Rattle.session.proofs.Knowing.{none_told}
+use Rattle.disk_commands.proofs.session.Knowing.{none_told}
 use Rattle.serving.proofs.Chains.{IsSilent, acts-none, acts-silent, acts-then, none-moves, silent-moves, then-moves}
 
 -- ---- the moves

@@ -6,14 +6,14 @@ use Rattle.bay.specs.Readings.{Readings}
 use Rattle.asm_group.specs.Names.{Bytes}
 use Rattle.asm_world.specs.World.{World}
 use Rattle.asm_world.specs.Run.{State, Phase, Entry, CallsRise, end_of, IsPrinted, IsPrintedToCut, output_of, answered, times_of, marks_of, has_refusal}
-use Rattle.group_disks.specs.Found.{Counts, counts_of}
-use Rattle.session.specs.Claims.{outside, held_outside, IsProvedApartIn}
+use Rattle.disk_commands.specs.group_disks.Found.{Counts, counts_of}
+use Rattle.disk_commands.specs.session.Claims.{outside, held_outside, IsProvedApartIn}
 use Rattle.serving.specs.declared.manner.Manner.{Manner}
-use Rattle.session.specs.Effects.{Past}
+use Rattle.disk_commands.specs.session.Effects.{Past}
 use Rattle.serving.specs.Manners.{AreTold, after_moves}
-use Rattle.session.specs.Proved.{IsProvedIn}
-use Rattle.session.specs.Sessions.{Roster}
-use Rattle.session_claims.specs.Claims.{StandsFor}
+use Rattle.disk_commands.specs.session.Proved.{IsProvedIn}
+use Rattle.disk_commands.specs.session.Sessions.{Roster}
+use Rattle.group_commands.specs.session_claims.Claims.{StandsFor}
 use Rattle.world_steps.specs.Runs.{AllFrom, IsRunFrom}
 use Rattle.asm_world.specs.Below.{GroupBelow}
 

@@ -4,3 +4,8 @@ pub mod Programs
 pub mod Reads
 pub mod Serves
 pub mod Stops
+pub mod group_disks
+pub mod group_engine
+pub mod group_mount
+pub mod session
+pub mod session_claims

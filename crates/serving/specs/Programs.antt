@@ -11,11 +11,11 @@ use Rattle.script.specs.Script.{Place, cut}
 use Rattle.serving.specs.declared.program.Program.{Program}
 use Rattle.serving.specs.declared.stop.Stop.{Stop}
 use Rattle.serving.specs.Acts.{Scene, scene, Acts}
-use Rattle.session.specs.Desks.{paths_on}
+use Rattle.disk_commands.specs.session.Desks.{paths_on}
 use Rattle.serving.specs.Serves.{BeginsFrom, Serves, is_whole}
-use Rattle.session.specs.Sessions.{AreReady, Knows, roster_of}
+use Rattle.disk_commands.specs.session.Sessions.{AreReady, Knows, roster_of}
 use Rattle.serving.specs.Stops.{IsPart, StopsByOutput}
-use Rattle.group_turns.specs.Turns.{TurnMoment, IsTurnMove, phase_at}
+use Rattle.disk_commands.specs.group_turns.Turns.{TurnMoment, IsTurnMove, phase_at}
 use Rattle.asm_world.specs.Below.{GroupBelow}
 
 -- the program with the world that it works on

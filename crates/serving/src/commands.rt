@@ -5,15 +5,15 @@ ghost use Rattle.asm_world.specs.Language.{command_of};
 ghost use Rattle.asmcmd.specs.Verbs.{said as verb_said};
 ghost use Rattle.asm_world.specs.Statement.{Alter};
 ghost use Rattle.group_sql.specs.Said.{statement_said, clause_said};
-ghost use Rattle.session.specs.Desks.{IsAnswered};
-ghost use Rattle.session.specs.Sessions.{AreReady};
+ghost use Rattle.disk_commands.specs.session.Desks.{IsAnswered};
+ghost use Rattle.disk_commands.specs.session.Sessions.{AreReady};
 
 use crate::reader::{Request, read_request};
 use asm_base::Name;
 use asmcmd::{ReadError, Verb};
 use bay::{Bay, Host};
+use disk_commands::{Answer, Desk, no_memory, unreadable};
 use group_sql::{Clause, Statement};
-use session::{Answer, Desk, no_memory, unreadable};
 
 /// Runs a command on the desk.
 pub fn run_text<B: Bay, H: Host>(desk: &mut Desk<B, H>, text: &[u8]) -> Answer

@@ -1,14 +1,14 @@
 // Turns of groups, with a line of each event: expired disks are dropped before a command's text, slices run after its reply.
 ghost use Rattle.std.specs.Prelude.{◌≡◌};
 ghost use Rattle.serving.specs.Programs.{TellsTurns};
-ghost use Rattle.session.specs.Sessions.{AreReady};
-ghost use Rattle.group_turns.specs.Turns.{AfterReply, BeforeText, when_of};
+ghost use Rattle.disk_commands.specs.session.Sessions.{AreReady};
+ghost use Rattle.disk_commands.specs.group_turns.Turns.{AfterReply, BeforeText, when_of};
 
 use crate::manner::tell_event;
 use crate::program::Program;
 use crate::stop::Stop;
 use bay::{Bay, Clock, Fault, Host, Sink};
-use group_turns::{Turn, Turned};
+use disk_commands::{Turn, Turned};
 use line_buffer::LineBuffer;
 
 /// The most disks that a group has, so the most that expire in one.

@@ -1,6 +1,8 @@
 //! A script is read command by command, each is run on the disks, and its reply is printed.
 #![tactic(auto)]
 
+pub use disk_commands::Desk;
+
 mod commands;
 mod events;
 mod laws;

@@ -6,12 +6,12 @@ ghost use Rattle.asm_world.specs.Run.{reply_in};
 ghost use Rattle.asm_world.specs.Text.{reply_text, short_text};
 ghost use Rattle.serving.specs.Manners.{after_reply, line_in, reply_style};
 ghost use Rattle.serving.specs.Stops.{IsReplyOrNoMemory};
-ghost use Rattle.session.specs.Views.{reply_view};
+ghost use Rattle.disk_commands.specs.session.Views.{reply_view};
 
 use crate::printing::print_reply;
 use bay::{Fault, Sink, write_all};
+use disk_commands::Reply;
 use event_lines::Outcome;
-use session::Reply;
 use std::alloc::Global;
 
 /// How the texts of a run are told.

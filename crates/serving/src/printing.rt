@@ -9,11 +9,11 @@ ghost use Rattle.asm_world.specs.Run.{Slicing, phase_after, slices_of, mounted_g
 ghost use Rattle.asm_world.specs.Text.{ended, reply_text};
 ghost use Rattle.asm_world.specs.World.{World};
 ghost use Rattle.serving.specs.Stops.{IsReplyOrNoMemory, IsWantOfMemory};
-ghost use Rattle.session.specs.Views.{reply_view};
+ghost use Rattle.disk_commands.specs.session.Views.{reply_view};
 
 use asm_base::{List, NoMemory, Refusal, Text};
 use bay::{Fault, Sink, write_all};
-use session::Reply;
+use disk_commands::Reply;
 use std::alloc::Global;
 
 /// Prints a reply, or the refusal for want of memory alone where there is none for the text of one.

@@ -3,7 +3,7 @@ ghost use Rattle.std.specs.Prelude.{◌≤◌, length};
 
 use crate::manner::Manner;
 use bay::{Bay, Clock, Host, Sink};
-use session::Desk;
+use disk_commands::Desk;
 
 /// What commands work on, where replies go and how they are told, the time, the marks of the replies, and whether one was a
 /// refusal.

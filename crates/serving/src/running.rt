@@ -2,8 +2,8 @@
 ghost use Rattle.std.specs.Prelude.{◌≡◌, ℕ, ◌<◌, ◌≤◌, false, [], length, map, vec_len, vec_capacity};
 ghost use Rattle.std.specs.String.{string_bytes};
 ghost use Rattle.asm_world.specs.Language.{command_of};
-ghost use Rattle.session.specs.Desks.{copies, paths_on};
-ghost use Rattle.session.specs.Sessions.{AreReady};
+ghost use Rattle.disk_commands.specs.session.Desks.{copies, paths_on};
+ghost use Rattle.disk_commands.specs.session.Sessions.{AreReady};
 ghost use Rattle.serving.specs.Programs.{EachWorld, AnswersOne, RunsOne};
 ghost use Rattle.serving.specs.Stops.{StopsByOutput};
 
@@ -13,7 +13,7 @@ use crate::printing::{is_no_memory, is_refusal};
 use crate::program::Program;
 use crate::stop::Stop;
 use bay::{Bay, Clock, Fault, Host, Sink};
-use session::{Desk, Session};
+use disk_commands::{Desk, Session};
 use std::alloc::Global;
 
 impl<B: Bay, H: Host, K: Sink, C: Clock> Program<B, H, K, C> {

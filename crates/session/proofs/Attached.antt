@@ -12,11 +12,11 @@ use Rattle.asm_base.specs.declared.refusal.Refusal.{Refusal}
 use Rattle.asm_group.specs.Names.{Bytes}
 use Rattle.asm_formats.specs.Among.{IsAmong}
 use Rattle.asm_world.specs.World.{SessionEntry}
-use Rattle.catalog_tables.proofs.TableItems.{from_map}
+use Rattle.group_contents.proofs.catalog_tables.TableItems.{from_map}
 use Rattle.disk_joining.specs.Taking.{IsApart, TakesIn}
-use Rattle.group_disks.specs.Holding.{IsHeldSlot, SameHeld}
-use Rattle.group_engine.specs.Mounts.{IsMounted, IsOwn, IsWhole, MountedGroup, Takes, slot_at}
-use Rattle.group_engine.specs.declared.attached.Attached.{Attached}
+use Rattle.session_claims.specs.group_disks.Holding.{IsHeldSlot, SameHeld}
+use Rattle.group_contents.specs.group_engine.Mounts.{IsMounted, IsOwn, IsWhole, MountedGroup, Takes, slot_at}
+use Rattle.group_contents.specs.group_engine.declared.attached.Attached.{Attached}
 use Rattle.session.specs.declared.entry.Entry.{Entry}
 use Rattle.session.specs.Entries.{entry_view, group_view}
 use Rattle.session.specs.Joining.{JoinsIn, others_of, without_own}

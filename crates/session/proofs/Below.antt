@@ -4,9 +4,9 @@ use Rattle.std.specs.Prelude.{if◌then◌else◌}
 use Rattle.std.proofs.lemmas.Bool.{and_parts, cases_Bool, eq-eqb, eqb-true}
 use Rattle.asm_world.specs.Below.{GroupBelow}
 use Rattle.asm_world.specs.World.{SessionEntry, World, is_mounted}
-use Rattle.group_engine.specs.Mounts.{MountedGroup}
-use Rattle.group_reports.specs.Disks.{disk_rows, group_row}
-use Rattle.group_reports.specs.Extents.{all_extents, checked_of, file_units}
+use Rattle.group_contents.specs.group_engine.Mounts.{MountedGroup}
+use Rattle.group_turns.specs.group_reports.Disks.{disk_rows, group_row}
+use Rattle.group_turns.specs.group_reports.Extents.{all_extents, checked_of, file_units}
 use Rattle.session_claims.specs.Claims.{IsPaired}
 use Rattle.world_steps.specs.Told.{AreIdsApart}
 use Rattle.session.specs.Quiet.{quiet}

@@ -4,14 +4,14 @@ use Rattle.std.specs.Prelude.{if◌then◌else◌}
 use Rattle.bay.specs.State.{BayState}
 use Rattle.asm_group.specs.Names.{Bytes, is_same_name}
 use Rattle.asm_world.specs.World.{SessionEntry}
-use Rattle.catalog_tables.specs.Tables.{Catalogued}
-use Rattle.catalog.specs.declared.new_file.NewFile.{NewFile}
-use Rattle.group_engine.specs.Mounts.{MountedGroup}
-use Rattle.group_engine.specs.Own.{KeepsGroup}
+use Rattle.group_contents.specs.catalog_tables.Tables.{Catalogued}
+use Rattle.group_contents.specs.catalog.declared.new_file.NewFile.{NewFile}
+use Rattle.group_contents.specs.group_engine.Mounts.{MountedGroup}
+use Rattle.group_contents.specs.group_engine.Own.{KeepsGroup}
 use Rattle.group_contents.specs.Creating.{NamesFile}
 use Rattle.asm_formats.specs.Items.{FileHead}
-use Rattle.file_directory.specs.Files.{head_at}
-use Rattle.group_reports.specs.Listing.{path_to}
+use Rattle.group_contents.specs.file_directory.Files.{head_at}
+use Rattle.group_turns.specs.group_reports.Listing.{path_to}
 use Rattle.session.specs.FileLines.{IsNewLine, line_of_head, system_lines}
 use Rattle.session.specs.Listing.{IsInGroup}
 use Rattle.session.specs.Naming.{CarriesOn, IsGroupOf, group_among, key_of, with_group}

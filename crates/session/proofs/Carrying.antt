@@ -4,10 +4,10 @@ use Rattle.std.specs.Prelude.{IfErr, OnOk}
 use Rattle.std.specs.Map.{lookup, set_value}
 use Rattle.bay.specs.State.{BayState}
 use Rattle.asm_group.specs.Names.{Bytes}
-use Rattle.group_engine.specs.Mounts.{IsMounted, MountedGroup}
-use Rattle.group_engine.specs.Members.{LetsGo}
-use Rattle.group_engine.specs.declared.access.Access.{Access}
-use Rattle.group_engine.specs.declared.access.Access.TheVariants as access
+use Rattle.group_contents.specs.group_engine.Mounts.{IsMounted, MountedGroup}
+use Rattle.group_contents.specs.group_engine.Members.{LetsGo}
+use Rattle.group_contents.specs.group_engine.declared.access.Access.{Access}
+use Rattle.group_contents.specs.group_engine.declared.access.Access.TheVariants as access
 use Rattle.session.specs.declared.entry.Entry.{Entry}
 use Rattle.session.specs.Entries.{entry_view, group_view}
 use Rattle.asm_base.specs.declared.refusal.Refusal.{Refusal}

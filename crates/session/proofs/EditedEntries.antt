@@ -9,7 +9,7 @@ use Rattle.std.proofs.lemmas.Map.Keys.{IsDistinct-head, IsDistinct-tail}
 use Rattle.asm_group.specs.Names.{Bytes, folded, is_same_name}
 use Rattle.asm_formats.specs.Among.{IsAmong}
 use Rattle.asm_world.specs.World.{SessionEntry, SessionState, DismountedBy, entry_among, is_mounted}
-use Rattle.group_engine.specs.Mounts.{MountedGroup}
+use Rattle.group_contents.specs.group_engine.Mounts.{MountedGroup}
 use Rattle.session_claims.specs.Claims.{IsPaired}
 use Rattle.session.specs.declared.entry.Entry.{Entry}
 use Rattle.session.specs.declared.group_name.GroupName.{GroupName}

@@ -12,9 +12,9 @@ use Rattle.bay.specs.Counts.{last_count}
 use Rattle.asm_group.specs.Names.{Bytes, is_same_name}
 use Rattle.asm_world.specs.World.{World, SessionEntry, SessionState, entry_among, is_mounted, mounted_entry, without_entry}
 use Rattle.asm_world.specs.Causes.{is_mounted_as, mounted_count}
-use Rattle.group_engine.specs.Making.{dismounted_by}
-use Rattle.group_engine.specs.Mounts.{IsMounted, MountedGroup}
-use Rattle.group_engine.specs.declared.access.Access.{Access}
+use Rattle.group_contents.specs.group_engine.Making.{dismounted_by}
+use Rattle.group_contents.specs.group_engine.Mounts.{IsMounted, MountedGroup}
+use Rattle.group_contents.specs.group_engine.declared.access.Access.{Access}
 use Rattle.session.specs.declared.entry.Entry.{Entry}
 use Rattle.session.specs.declared.group_name.GroupName.{GroupName}
 use Rattle.session.specs.Entries.{AreAlike, by_disk, entry_view, group_view, state_view}

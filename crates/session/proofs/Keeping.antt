@@ -3,9 +3,9 @@ use Rattle.std.proofs.Common.{◌≡◌, ℕ, None, inl, refl, sym, ap, ◌∙�
 use Rattle.std.specs.Prelude.{get_or}
 use Rattle.bay.specs.State.{BayState}
 use Rattle.bay.proofs.Calls.{started}
-use Rattle.group_engine.specs.Mounts.{IsOwn, MountedGroup, Takes}
-use Rattle.group_engine.specs.Own.{KeepsGroup}
-use Rattle.group_engine.specs.Members.{LetsGo}
+use Rattle.group_contents.specs.group_engine.Mounts.{IsOwn, MountedGroup, Takes}
+use Rattle.group_contents.specs.group_engine.Own.{KeepsGroup}
+use Rattle.group_contents.specs.group_engine.Members.{LetsGo}
 
 pub lets_go : (a b : MountedGroup) (s t : BayState) → KeepsGroup a b s t → LetsGo a b s t
 lets_go a b s t keeps = record {

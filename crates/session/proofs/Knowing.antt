@@ -9,12 +9,12 @@ use Rattle.asm_group.specs.Group.{Group}
 use Rattle.asm_group.specs.Names.{Bytes, ByNumber, folded, is_same_name}
 use Rattle.asm_formats.specs.Among.{IsAmong}
 use Rattle.asm_world.specs.World.{SessionEntry, World, entry_among, groups_of, is_mounted, mounted_entry, without_entry}
-use Rattle.catalog_laws.proofs.HavingItems.{have_items}
-use Rattle.group_engine.specs.Mounts.{IsWhole, MountedGroup, Represents}
-use Rattle.group_of.specs.Describing.{IsDescribed}
-use Rattle.group_of.specs.Groups.{cells_of, group_of}
-use Rattle.group_of.proofs.Describes.{described_has_cells}
-use Rattle.group_of.proofs.Leading.{described_is_of_catalog}
+use Rattle.group_contents.proofs.catalog_laws.HavingItems.{have_items}
+use Rattle.group_contents.specs.group_engine.Mounts.{IsWhole, MountedGroup, Represents}
+use Rattle.group_contents.specs.group_of.Describing.{IsDescribed}
+use Rattle.group_contents.specs.group_of.Groups.{cells_of, group_of}
+use Rattle.group_contents.proofs.group_of.Describes.{described_has_cells}
+use Rattle.group_contents.proofs.group_of.Leading.{described_is_of_catalog}
 use Rattle.session_claims.specs.Claims.{IsPaired}
 use Rattle.session_claims.specs.Laws.{ReplacesGroups}
 use Rattle.session.specs.Sessions.{AreToldBy, IsToldBy, without_groups}

@@ -21,3 +21,12 @@ pub mod Spellings
 pub mod Telling
 pub mod Turning
 pub mod Working
+pub mod catalog_laws
+pub mod catalog_tables
+pub mod edit_laws
+pub mod group_disks
+pub mod group_engine
+pub mod group_of
+pub mod group_pieces
+pub mod resync
+pub mod session_claims

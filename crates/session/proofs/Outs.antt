@@ -8,11 +8,11 @@ use Rattle.asm_base.specs.declared.refusal.Refusal.TheVariants as cause
 use Rattle.asm_group.specs.Names.{Bytes}
 use Rattle.asm_group.specs.Refusal as r
 use Rattle.asm_world.specs.World.{SessionEntry, SessionState, entry_among}
-use Rattle.group_engine.specs.Making.{IsShut}
-use Rattle.group_engine.specs.Making.{dismounted_by}
-use Rattle.group_engine.specs.Mounts.{MountedGroup}
-use Rattle.group_engine.specs.declared.access.Access.{Access}
-use Rattle.group_engine.specs.declared.access.Access.TheVariants as access
+use Rattle.group_contents.specs.group_engine.Making.{IsShut}
+use Rattle.group_contents.specs.group_engine.Making.{dismounted_by}
+use Rattle.group_contents.specs.group_engine.Mounts.{MountedGroup}
+use Rattle.group_contents.specs.group_engine.declared.access.Access.{Access}
+use Rattle.group_contents.specs.group_engine.declared.access.Access.TheVariants as access
 use Rattle.session.specs.declared.entry.Entry.{Entry}
 use Rattle.session.specs.Entries.{by_disk, disk_name, entry_view}
 use Rattle.session.specs.Naming.{IsOutCause, in_state, of_entry}

@@ -11,12 +11,12 @@ use Rattle.bay.specs.State.{BayState}
 use Rattle.asm_group.specs.Names.{Bytes, is_same_name}
 use Rattle.asm_formats.specs.Among.{IsAmong}
 use Rattle.asm_world.specs.World.{SessionEntry}
-use Rattle.group_disks.specs.Holding.{IsHeldSlot, SparesHeld}
-use Rattle.group_engine.specs.Frames.{KeepsOwn, SparesDisks}
-use Rattle.group_engine.specs.Mounts.{IsMounted, IsOwn, IsReady, IsWhole, MountedGroup, Takes, slot_at}
-use Rattle.group_engine.specs.Members.{LetsGo}
-use Rattle.group_engine.specs.declared.attached.Attached.{Attached}
-use Rattle.group_engine.proofs.Elsewhere.{ready_with_own}
+use Rattle.session_claims.specs.group_disks.Holding.{IsHeldSlot, SparesHeld}
+use Rattle.group_contents.specs.group_engine.Frames.{KeepsOwn, SparesDisks}
+use Rattle.group_contents.specs.group_engine.Mounts.{IsMounted, IsOwn, IsReady, IsWhole, MountedGroup, Takes, slot_at}
+use Rattle.group_contents.specs.group_engine.Members.{LetsGo}
+use Rattle.group_contents.specs.group_engine.declared.attached.Attached.{Attached}
+use Rattle.group_contents.proofs.group_engine.Elsewhere.{ready_with_own}
 use Rattle.session.specs.Naming.{IsGroupOf, group_among, with_group}
 use Rattle.session.specs.Sessions.{AreGroupsApart, AreReady, AreTwoApart, SessionView, held_by, held_of, slots_in, without_groups}
 

@@ -3,7 +3,7 @@ use Rattle.std.proofs.Common.{◌≡◌, ◌==◌, ℕ, Bool, true, false, ◌+�
 use Rattle.std.specs.Prelude.{if◌then◌else◌}
 use Rattle.std.specs.List.{list_any}
 use Rattle.std.proofs.lemmas.List.{take_more, append-nil}
-use Rattle.group_engine.specs.declared.attached.Attached.{Attached}
+use Rattle.group_contents.specs.group_engine.declared.attached.Attached.{Attached}
 use Rattle.session.specs.Joining.{without_own}
 use Rattle.session.specs.Sessions.{slots_in}
 

@@ -5,8 +5,8 @@ use Rattle.asm_base.specs.Refusals.{said}
 use Rattle.asm_base.specs.declared.refusal.Refusal.{Refusal}
 use Rattle.asm_base.specs.declared.refusal.Refusal.TheVariants as cause
 use Rattle.asm_world.specs.World.{SessionEntry}
-use Rattle.group_engine.specs.Mounts.{MountedGroup}
-use Rattle.group_reports.specs.Places.{directory_at}
+use Rattle.group_contents.specs.group_engine.Mounts.{MountedGroup}
+use Rattle.group_turns.specs.group_reports.Places.{directory_at}
 use Rattle.std.specs.Prelude.{Err}
 use Rattle.session.specs.Listing.{IsPathCause}
 use Rattle.session.specs.Naming.{IsGroupOf, IsOutCause}

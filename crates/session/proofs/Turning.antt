@@ -8,8 +8,8 @@ use Rattle.asm_base.specs.declared.refusal.Refusal.{Refusal}
 use Rattle.asm_base.specs.declared.refusal.Refusal.TheVariants as cause
 use Rattle.asm_group.specs.Names.{Bytes}
 use Rattle.asm_formats.specs.Among.{IsAmong}
-use Rattle.group_engine.specs.Mounts.{IsMounted, IsOwn, MountedGroup, Takes}
-use Rattle.group_engine.specs.Members.{LetsGo}
+use Rattle.group_contents.specs.group_engine.Mounts.{IsMounted, IsOwn, MountedGroup, Takes}
+use Rattle.group_contents.specs.group_engine.Members.{LetsGo}
 use Rattle.session.specs.Entries.{entry_view, group_view}
 use Rattle.session.specs.Naming.{CarriesOn, key_of}
 use Rattle.session.specs.Sessions.{AreGroupsApart, AreReady, AreTwoApart, SessionView}

@@ -5,8 +5,8 @@ use Rattle.std.specs.Map.{lookup, set_value}
 use Rattle.bay.specs.State.{BayState}
 use Rattle.asm_base.specs.declared.refusal.Refusal.{Refusal}
 use Rattle.asm_group.specs.Names.{Bytes}
-use Rattle.group_engine.specs.Mounts.{IsMounted, MountedGroup}
-use Rattle.group_engine.specs.Members.{LetsGo}
+use Rattle.group_contents.specs.group_engine.Mounts.{IsMounted, MountedGroup}
+use Rattle.group_contents.specs.group_engine.Members.{LetsGo}
 use Rattle.session.specs.declared.entry.Entry.{Entry}
 use Rattle.session.specs.Entries.{entry_view, group_view}
 use Rattle.session.specs.Naming.{AreNamesApart, ChangesGroup, IsMountedName, IsGroupOf, IsOutCause, group_among, with_group}

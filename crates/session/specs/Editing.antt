@@ -3,10 +3,10 @@ use Rattle.std.specs.Prelude.{Result}
 use Rattle.asm_base.specs.declared.refusal.Refusal.{Refusal}
 use Rattle.asm_group.specs.Names.{Bytes}
 use Rattle.bay.specs.State.{BayState}
-use Rattle.group_engine.specs.Own.{KeepsGroup}
-use Rattle.group_files.specs.Edits.{Edits}
-use Rattle.group_files.specs.GroupEdits.{IsEditPlan, IsEditRefusal}
-use Rattle.group_files.specs.declared.edit.GroupEdit.{GroupEdit}
+use Rattle.group_contents.specs.group_engine.Own.{KeepsGroup}
+use Rattle.session_claims.specs.group_files.Edits.{Edits}
+use Rattle.session_claims.specs.group_files.GroupEdits.{IsEditPlan, IsEditRefusal}
+use Rattle.session_claims.specs.group_files.declared.edit.GroupEdit.{GroupEdit}
 use Rattle.session.specs.Sessions.{SessionView}
 use Rattle.session.specs.Works.{DoesWork, Doing}
 

@@ -2,11 +2,11 @@
 use Rattle.std.specs.Prelude.{◌≡◌, ℕ, List, [], ◌∷◌, Option, Some, None}
 use Rattle.asm_formats.specs.Items.{FileHead}
 use Rattle.asm_group.specs.Names.{Bytes}
-use Rattle.catalog.specs.declared.new_file.NewFile.{NewFile}
-use Rattle.file_directory.specs.Files.{head_at}
-use Rattle.group_engine.specs.Mounts.{MountedGroup}
+use Rattle.group_contents.specs.catalog.declared.new_file.NewFile.{NewFile}
+use Rattle.group_contents.specs.file_directory.Files.{head_at}
+use Rattle.group_contents.specs.group_engine.Mounts.{MountedGroup}
 use Rattle.group_contents.specs.Creating.{NamesFile}
-use Rattle.group_reports.specs.Listing.{path_to}
+use Rattle.group_turns.specs.group_reports.Listing.{path_to}
 use Rattle.session.specs.Naming.{group_among}
 use Rattle.session.specs.Sessions.{SessionView}
 

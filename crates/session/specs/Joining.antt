@@ -4,7 +4,7 @@ use Rattle.std.specs.List.{list_any}
 use Rattle.asm_base.specs.declared.refusal.Refusal.{Refusal}
 use Rattle.asm_group.specs.Names.{Bytes}
 use Rattle.bay.specs.State.{BayState}
-use Rattle.group_engine.specs.declared.attached.Attached.{Attached}
+use Rattle.group_contents.specs.group_engine.declared.attached.Attached.{Attached}
 use Rattle.session.specs.Naming.{CarriesOn, IsMountedName, IsOutCause}
 use Rattle.session.specs.Sessions.{SessionView, slots_in}
 

@@ -2,8 +2,8 @@
 use Rattle.std.specs.Prelude.{◌≡◌, ◌⊎◌, Err}
 use Rattle.asm_group.specs.Names.{Bytes, Path}
 use Rattle.asm_base.specs.declared.refusal.Refusal.{Refusal}
-use Rattle.group_engine.specs.Mounts.{MountedGroup}
-use Rattle.group_reports.specs.Places.{directory_at}
+use Rattle.group_contents.specs.group_engine.Mounts.{MountedGroup}
+use Rattle.group_turns.specs.group_reports.Places.{directory_at}
 use Rattle.session.specs.Naming.{IsGroupOf, IsOutCause}
 use Rattle.session.specs.Sessions.{SessionView}
 

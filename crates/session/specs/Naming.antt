@@ -7,8 +7,8 @@ use Rattle.asm_formats.specs.Among.{IsAmong}
 use Rattle.asm_base.specs.declared.refusal.Refusal.{Refusal}
 use Rattle.asm_world.specs.World.{SessionEntry, SessionState, Mounted, DismountedBy, entry_among}
 use Rattle.bay.specs.State.{BayState}
-use Rattle.group_engine.specs.Mounts.{IsMounted, MountedGroup}
-use Rattle.group_engine.specs.Members.{LetsGo}
+use Rattle.group_contents.specs.group_engine.Mounts.{IsMounted, MountedGroup}
+use Rattle.group_contents.specs.group_engine.Members.{LetsGo}
 use Rattle.session.specs.Effects.{Past}
 use Rattle.session.specs.Sessions.{AreReady, SessionView}
 

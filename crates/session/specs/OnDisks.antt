@@ -6,13 +6,13 @@ use Rattle.bay.specs.Image.{Image, Makes}
 use Rattle.bay.specs.Moments.{Ends}
 use Rattle.bay.specs.State.{BayState}
 use Rattle.asm_group.specs.Names.{Bytes}
-use Rattle.asm_images.specs.Kept.{IsMemberIn}
+use Rattle.group_contents.specs.asm_images.Kept.{IsMemberIn}
 use Rattle.asm_world.specs.Below.{GroupBelow}
 use Rattle.asm_world.specs.Command.{Command, Said}
 use Rattle.asm_world.specs.Reply.{Reply, Done, Refused}
 use Rattle.asm_world.specs.Statement.{CreateDisk, DropGroup}
 use Rattle.asm_world.specs.World.{SessionEntry, World, entry_in}
-use Rattle.group_disks.specs.Found.{Counts, IsSlotOfPath, counts_of}
+use Rattle.session_claims.specs.group_disks.Found.{Counts, IsSlotOfPath, counts_of}
 
 pub data DiskWork : Type 0 where
   NoWork : DiskWork

@@ -6,7 +6,7 @@ use Rattle.asm_base.specs.declared.refusal.Refusal.{Refusal}
 use Rattle.asm_group.specs.Names.{Bytes, is_same_name}
 use Rattle.asm_group.specs.Refusal as r
 use Rattle.asm_world.specs.World.{SessionEntry, SessionState, entry_among}
-use Rattle.group_engine.specs.Mounts.{MountedGroup}
+use Rattle.group_contents.specs.group_engine.Mounts.{MountedGroup}
 use Rattle.session.specs.Entries.{disk_name, state_view}
 use Rattle.session.specs.Naming.{AreNamesApart, CarriesOn, ChangesGroup, IsMountedName, IsGroupOf, IsOutCause, with_group}
 use Rattle.session.specs.Sessions.{SessionView}

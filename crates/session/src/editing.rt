@@ -9,8 +9,8 @@ use crate::naming::GroupWork;
 use crate::session::Session;
 use asm_base::{Name, Refusal};
 use bay::Bay;
-use group_engine::Mounted;
-use group_files::{GroupEdit, edit_group};
+use group_contents::Mounted;
+use session_claims::{GroupEdit, edit_group};
 use std::alloc::Global;
 
 /// A group's names or settings are edited.

@@ -1,8 +1,8 @@
 // A group of the session.
 ghost use Rattle.std.specs.Prelude.{◌≡◌, is_none};
-ghost use Rattle.group_engine.specs.Making.{dismounted_by};
+ghost use Rattle.group_contents.specs.group_engine.Making.{dismounted_by};
 
-use group_engine::Mounted;
+use group_contents::Mounted;
 
 /// A group by its id, mounted or as it was dismounted by the failure of a disk.
 #[derive(Drop)]

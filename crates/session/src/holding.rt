@@ -4,9 +4,8 @@ ghost use Rattle.session.specs.Sessions.{held_by, slots_in, taken_by, taken_of};
 
 use crate::session::Session;
 use asm_base::NoMemory;
-use group_engine::Attached;
-use new_groups::{Known, Taken};
-use status_table::{PstEntry, PstRecord};
+use disk_joining::{Known, PstEntry, PstRecord, Taken};
+use group_contents::Attached;
 use std::alloc::Global;
 
 pub fn put_slot(slots: &mut Vec<u32>, slot: u32) -> Result<(), NoMemory>

@@ -2,8 +2,8 @@
 ghost use Rattle.std.specs.Prelude.{◌≡◌, ◌⊎◌, ◌≤◌, ◌++◌, ◌∷◌, ◌==◌, [], length, IfErr, IfOk, OnOk};
 ghost use Rattle.std.specs.List.{list_any};
 ghost use Rattle.disk_joining.specs.Taking.{IsApart, TakesIn};
-ghost use Rattle.group_engine.specs.Making.{IsShut};
-ghost use Rattle.group_engine.specs.Mounts.{IsMounted, Takes};
+ghost use Rattle.group_contents.specs.group_engine.Making.{IsShut};
+ghost use Rattle.group_contents.specs.group_engine.Mounts.{IsMounted, Takes};
 ghost use Rattle.session.specs.Joining.{JoinsIn, others_of, without_own};
 ghost use Rattle.session.specs.Sessions.{AreReady, held_by};
 
@@ -13,8 +13,8 @@ use crate::session::Session;
 use crate::spelling::spelt;
 use asm_base::{DiskSet, Name, NoMemory, Refusal};
 use bay::Bay;
-use group_engine::{Attached, Mounted};
-use new_groups::Known;
+use disk_joining::Known;
+use group_contents::{Attached, Mounted};
 use std::alloc::Global;
 
 /// Images that are attached to one group.

@@ -2,9 +2,9 @@
 ghost use Rattle.std.specs.Prelude.{◌≡◌, ◌⊎◌, true, IfErr, IfOk, OnOk};
 ghost use Rattle.asm_world.specs.Causes.{is_mounted_as};
 ghost use Rattle.asm_world.specs.World.{entry_among};
-ghost use Rattle.group_engine.specs.Making.{IsShut};
-ghost use Rattle.group_engine.specs.Mounts.{IsMounted, Takes};
-ghost use Rattle.group_engine.specs.Members.{LetsGo};
+ghost use Rattle.group_contents.specs.group_engine.Making.{IsShut};
+ghost use Rattle.group_contents.specs.group_engine.Mounts.{IsMounted, Takes};
+ghost use Rattle.group_contents.specs.group_engine.Members.{LetsGo};
 ghost use Rattle.session.specs.Naming.{IsGroupOf, IsOutCause};
 ghost use Rattle.session.specs.Sessions.{AreReady};
 ghost use Rattle.session.specs.Works.{Doing, WorksOn};
@@ -14,7 +14,7 @@ use crate::session::Session;
 use crate::spelling::spelt;
 use asm_base::{Name, Refusal};
 use bay::Bay;
-use group_engine::Mounted;
+use group_contents::Mounted;
 use std::alloc::Global;
 
 /// What is done to one group. Disks of it may leave.

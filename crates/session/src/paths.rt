@@ -5,8 +5,8 @@ ghost use Rattle.asm_world.specs.Paths.{clause_path};
 ghost use Rattle.session.specs.Leading.{IsLedTo, IsNoTarget};
 
 use asm_base::{Name, NoMemory, Path, Refusal};
+use group_turns::{clause_path, target};
 use std::alloc::Global;
-use verb_paths::{clause_path, target};
 
 /// The path of a clause in the group that the statement names. None where it isn't a path of that group.
 pub fn path_in(alloc: Global, group: &Name, path: &[u8]) -> Result<Option<Path>, NoMemory>

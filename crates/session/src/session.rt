@@ -4,7 +4,7 @@ ghost use Rattle.indexmap.specs.IndexMap.{insert_entry};
 ghost use Rattle.bay.specs.Counts.{last_count};
 ghost use Rattle.asm_world.specs.Causes.{mounted_count, is_mounted_as};
 ghost use Rattle.asm_world.specs.World.{World, entry_among, mounted_entry, without_entry};
-ghost use Rattle.group_engine.specs.Mounts.{IsMounted};
+ghost use Rattle.group_contents.specs.group_engine.Mounts.{IsMounted};
 ghost use Rattle.session.specs.Entries.{AreAlike, entry_view, group_view};
 ghost use Rattle.session.specs.Naming.{AreNamesApart};
 ghost use Rattle.session.specs.Sessions.{AreGiven, given_after, entries_of, groups_of, without_groups};
@@ -12,7 +12,7 @@ ghost use Rattle.session.specs.Sessions.{AreGiven, given_after, entries_of, grou
 use crate::entry::Entry;
 use crate::group_name::{GroupName, SoughtName};
 use asm_base::{List, Name, NoMemory};
-use group_engine::Mounted;
+use group_contents::Mounted;
 use indexmap::IndexMap;
 use std::alloc::Global;
 use std::hash::Hash;

@@ -5,7 +5,7 @@ ghost use Rattle.asm_group.specs.Refusal.{NoMemory as WantOfMemory};
 ghost use Rattle.session.specs.Entries.{disk_name};
 
 use asm_base::{DiskRef, NoMemory, Refusal, Text};
-use group_engine::Mounted;
+use group_contents::Mounted;
 use std::alloc::Global;
 
 /// A disk by its name, as the group's tables have it.

@@ -15,14 +15,14 @@ use Rattle.asm_world.specs.Command.{Command}
 use Rattle.asm_world.specs.World.{SessionEntry, World, groups_of, is_mounted}
 use Rattle.edit_laws.specs.Edits.{EditCall, IsHeldOver, edited_by}
 use Rattle.edit_laws.proofs.Leading.{edit_is_held}
-use Rattle.group_mount.specs.Mounting.{Allows}
+use Rattle.group_disks.specs.group_mount.Mounting.{Allows}
 use Rattle.group_disks.proofs.BroughtMounts.{still_later}
-use Rattle.group_engine.specs.Commits.{IsIdle, IsIdleBut, StatusCause}
-use Rattle.group_engine.specs.Frames.{StaysAttached}
-use Rattle.group_engine.specs.Mounts.{IsMounted, MountedGroup}
-use Rattle.group_engine.proofs.Causes.{not_mounted}
-use Rattle.group_engine.proofs.Elsewhere.{stays_attached}
-use Rattle.group_files.specs.declared.edit.GroupEdit.{GroupEdit}
+use Rattle.group_disks.specs.group_engine.Commits.{IsIdle, IsIdleBut, StatusCause}
+use Rattle.group_disks.specs.group_engine.Frames.{StaysAttached}
+use Rattle.group_disks.specs.group_engine.Mounts.{IsMounted, MountedGroup}
+use Rattle.group_disks.proofs.group_engine.Causes.{not_mounted}
+use Rattle.group_disks.proofs.group_engine.Elsewhere.{stays_attached}
+use Rattle.edit_laws.specs.group_files.declared.edit.GroupEdit.{GroupEdit}
 use Rattle.session_claims.specs.Claims.{IsMountedAs, IsPaired, KeepsWorlds, StandsFor}
 use Rattle.session_claims.specs.Laws.{CommitsEdit, EditKeeps, EditsTo, MountsGoOn, RefusalKeeps, ReplacesGroups, TearingKeeps}
 use Rattle.session_claims.proofs.Carried.{allows_then, replaced, work_keeps}

@@ -17,11 +17,11 @@ use Rattle.asm_images.specs.Sound.{SoundBy}
 use Rattle.asm_world.specs.World.{SessionEntry, World, has_mounted}
 use Rattle.group_disks.specs.Creating.{HasMember}
 use Rattle.group_disks.specs.Mounting.{WasQuorate}
-use Rattle.group_engine.specs.Mounts.{MountedGroup}
-use Rattle.group_engine.proofs.Slots.{member_there}
-use Rattle.group_engine.proofs.Standings.{there_by}
-use Rattle.group_mount.specs.declared.quorum.MountOption.{MountOption}
-use Rattle.status_register.specs.Surveys.{disk_in}
+use Rattle.group_disks.specs.group_engine.Mounts.{MountedGroup}
+use Rattle.group_disks.proofs.group_engine.Slots.{member_there}
+use Rattle.group_disks.proofs.group_engine.Standings.{there_by}
+use Rattle.group_disks.specs.group_mount.declared.quorum.MountOption.{MountOption}
+use Rattle.group_disks.specs.status_register.Surveys.{disk_in}
 use Rattle.session_claims.specs.Claims.{IsPaired, StandsFor}
 use Rattle.session_claims.specs.Found.{FoundIsKnown, FoundIsMember, FoundIsUnmounted, HasNamed, HaveNames, IsNameFree}
 use Rattle.group_disks.proofs.FoundIds.{IsNamedIn, taken_is_named}

@@ -18,11 +18,11 @@ use Rattle.asm_world.specs.Between.{also, groups_between, with_span_free}
 use Rattle.asm_world.specs.Command.{Command}
 use Rattle.asm_world.specs.World.{World, groups_of}
 use Rattle.group_disks.specs.Creating.{HasMember}
-use Rattle.group_mount.specs.Mounting.{Allows}
+use Rattle.group_disks.specs.group_mount.Mounting.{Allows}
 use Rattle.group_disks.proofs.Outsiders.{widened}
-use Rattle.group_engine.specs.Mounts.{MountedGroup}
-use Rattle.group_engine.proofs.Slots.{member_seen, member_there}
-use Rattle.status_register.specs.Surveys.{disk_in}
+use Rattle.group_disks.specs.group_engine.Mounts.{MountedGroup}
+use Rattle.group_disks.proofs.group_engine.Slots.{member_seen, member_there}
+use Rattle.group_disks.specs.status_register.Surveys.{disk_in}
 use Rattle.session_claims.specs.Claims.{IsMountedAs, IsSoundBy, IsStanding}
 
 pub same_allows : (id : ℕ) (groups : List Group) (x y : Image) → Same x y → Allows id groups x → Allows id groups y

@@ -10,3 +10,5 @@ pub mod Written
 pub mod Created
 pub mod FoundMembers
 pub mod Mounted
+pub mod edit_laws
+pub mod group_disks

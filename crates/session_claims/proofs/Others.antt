@@ -6,11 +6,11 @@ use Rattle.bay.specs.State.{BayState, IsSound}
 use Rattle.asm_world.specs.World.{SessionEntry, World, groups_of, has_mounted, is_mounted}
 use Rattle.edit_laws.proofs.Spared.{spared_is_sound}
 use Rattle.group_disks.specs.Creating.{HasMember}
-use Rattle.group_engine.specs.Frames.{StaysAttached}
-use Rattle.group_engine.specs.Mounts.{MountedGroup}
-use Rattle.group_engine.proofs.Elsewhere.{mounts_elsewhere, spared_is_held}
-use Rattle.group_mount.specs.Mounting.{Allows}
-use Rattle.group_mount.specs.Recovered.{ChangesMembers}
+use Rattle.group_disks.specs.group_engine.Frames.{StaysAttached}
+use Rattle.group_disks.specs.group_engine.Mounts.{MountedGroup}
+use Rattle.group_disks.proofs.group_engine.Elsewhere.{mounts_elsewhere, spared_is_held}
+use Rattle.group_disks.specs.group_mount.Mounting.{Allows}
+use Rattle.group_disks.specs.group_mount.Recovered.{ChangesMembers}
 use Rattle.session_claims.specs.Claims.{HoldsMembers, IsMountedAs, IsPaired, IsStanding, StandsFor}
 use Rattle.session_claims.proofs.Images.{all_stand}
 use Rattle.session_claims.proofs.Members.{changed_keeps, changed_spares, still_held, was_member}

@@ -12,9 +12,9 @@ use Rattle.asm_world.specs.Between.{groups_between}
 use Rattle.asm_world.specs.Command.{Command}
 use Rattle.asm_world.specs.World.{SessionEntry, World, groups_of, has_mounted, is_mounted}
 use Rattle.group_disks.specs.Creating.{HasMember}
-use Rattle.group_mount.specs.Mounting.{Allows}
-use Rattle.group_engine.specs.Mounts.{MountedGroup, Mounts}
-use Rattle.group_engine.specs.Pending.{OutlastsFaults}
+use Rattle.group_disks.specs.group_mount.Mounting.{Allows}
+use Rattle.group_disks.specs.group_engine.Mounts.{MountedGroup, Mounts}
+use Rattle.group_disks.specs.group_engine.Pending.{OutlastsFaults}
 use Rattle.world_steps.specs.Told.{AreIdsApart}
 
 -- ---- a group and its entry

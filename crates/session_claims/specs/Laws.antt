@@ -14,16 +14,16 @@ use Rattle.edit_laws.specs.Edits.{edited_by}
 use Rattle.group_disks.specs.Creating.{HasCreated}
 use Rattle.group_disks.specs.FirstParts.{MountsNew}
 use Rattle.group_disks.specs.Leaving.{IsMountedOn}
-use Rattle.group_engine.specs.Commits.{StandsIn}
-use Rattle.group_engine.specs.Frames.{StaysAttached}
-use Rattle.group_engine.specs.Mounts.{IsMounted, MountedGroup, Mounts}
-use Rattle.group_engine.specs.Own.{KeepsGroup}
-use Rattle.group_engine.specs.Pending.{OutlastsFaults}
-use Rattle.group_files.specs.Edits.{IsCommitted}
-use Rattle.group_files.specs.GroupEdits.{IsEditPlan}
-use Rattle.group_files.specs.declared.edit.GroupEdit.{GroupEdit}
-use Rattle.group_mount.specs.Mounting.{Allows}
-use Rattle.group_mount.specs.Recovered.{ChangesMembers}
+use Rattle.group_disks.specs.group_engine.Commits.{StandsIn}
+use Rattle.group_disks.specs.group_engine.Frames.{StaysAttached}
+use Rattle.group_disks.specs.group_engine.Mounts.{IsMounted, MountedGroup, Mounts}
+use Rattle.group_disks.specs.group_engine.Own.{KeepsGroup}
+use Rattle.group_disks.specs.group_engine.Pending.{OutlastsFaults}
+use Rattle.edit_laws.specs.group_files.Edits.{IsCommitted}
+use Rattle.edit_laws.specs.group_files.GroupEdits.{IsEditPlan}
+use Rattle.edit_laws.specs.group_files.declared.edit.GroupEdit.{GroupEdit}
+use Rattle.group_disks.specs.group_mount.Mounting.{Allows}
+use Rattle.group_disks.specs.group_mount.Recovered.{ChangesMembers}
 use Rattle.session_claims.specs.Claims.{IsPaired, KeepsWorlds, StandsFor}
 use Rattle.world_steps.specs.Told.{AreIdsApart}
 

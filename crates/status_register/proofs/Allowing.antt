@@ -2,12 +2,12 @@
 use Rattle.std.proofs.Common.{◌≡◌, ◌∙◌, ⊎_elim, ℕ, ◌++◌, Bool, true, false, cond, List, [], ◌∷◌, refl, sym, ap, subst, Option, Some, None, Result, Ok, Err, IfOk, IsTrue, ◌==◌}
 use Rattle.std.specs.Option.{option_or}
 use Rattle.std.proofs.lemmas.Bool.{and_parts, cond_both, eqb-true}
-use Rattle.asm_group.specs.Names.{Bytes}
+use Rattle.asm_formats.specs.asm_group.Names.{Bytes}
 use Rattle.asm_formats.proofs.Codec.{spelled}
 use Rattle.asm_formats.specs.Bytes.{spelled_by}
 use Rattle.asm_formats.specs.Status.{Status, is_status, is_status_1, status_spelling, status_spelling_1, status_at, status_at_1, decoded_status}
 use Rattle.asm_formats.specs.Among.{IsAmong}
-use Rattle.asm_placement.proofs.Membership.{among_split}
+use Rattle.asm_images.proofs.asm_placement.Membership.{among_split}
 use Rattle.asm_images.specs.Members.{of_group}
 use Rattle.asm_images.specs.Register.{greatest}
 use Rattle.asm_images.proofs.History.{greatest_is}

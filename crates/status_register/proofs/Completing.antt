@@ -3,7 +3,7 @@ use Rattle.std.proofs.Common.{◌≡◌, ◌⊎◌, inl, inr, ⊎_elim, ℕ, ◌
 use Rattle.std.proofs.lemmas.Option.{same_Some}
 use Rattle.bay.specs.Image as bay
 use Rattle.asm_formats.specs.Among.{IsAmong}
-use Rattle.asm_placement.proofs.Membership.{flat_map_among}
+use Rattle.asm_images.proofs.asm_placement.Membership.{flat_map_among}
 use Rattle.asm_formats.specs.Metadata.{Metadata}
 use Rattle.asm_formats.specs.Status.{Status, is_status, status_spelling}
 use Rattle.asm_formats.specs.Following.{rank}

@@ -7,7 +7,7 @@ use Rattle.std.proofs.lemmas.Bool.{cond_both, cond-true, cases_lt, eqb-true, eq-
 use Rattle.std.proofs.lemmas.Option.{same_Some, none-some}
 use Rattle.bay.specs.State.{BayState}
 use Rattle.asm_formats.specs.Among.{IsAmong}
-use Rattle.asm_placement.proofs.Membership.{among_left, among_right, among_split, among_filter, filter_out, among_filtered, among_flat_map, flat_map_among}
+use Rattle.asm_images.proofs.asm_placement.Membership.{among_left, among_right, among_split, among_filter, filter_out, among_filtered, among_flat_map, flat_map_among}
 use Rattle.asm_formats.specs.Sets.{has_bit, elements}
 use Rattle.asm_formats.specs.Status.{Status, Entry, entry_of}
 use Rattle.asm_formats.specs.Following.{Holder, holder_of, disks_of}

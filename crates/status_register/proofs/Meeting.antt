@@ -7,7 +7,7 @@ use Rattle.std.proofs.lemmas.Option.{none-some}
 use Rattle.std.proofs.lemmas.List.{get_or-map, length-map}
 use Rattle.bay.specs.Image as bay
 use Rattle.asm_formats.specs.Among.{IsAmong}
-use Rattle.asm_placement.proofs.Membership.{among_filtered, among_left, among_right, filter_out, among_flat_map, flat_map_among}
+use Rattle.asm_images.proofs.asm_placement.Membership.{among_filtered, among_left, among_right, filter_out, among_flat_map, flat_map_among}
 use Rattle.asm_formats.specs.Metadata.{Metadata, metadata}
 use Rattle.asm_formats.specs.Claim.{Claim}
 use Rattle.asm_formats.specs.Status.{Status, is_status}

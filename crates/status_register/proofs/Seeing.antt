@@ -6,7 +6,7 @@ use Rattle.std.proofs.lemmas.Bool.{cases_eq, cond-true, eqb-true, eq-eqb}
 use Rattle.bay.specs.Image as bay
 use Rattle.bay.specs.Image.{Range, ChangesOnly, Same}
 use Rattle.asm_formats.specs.Among.{IsAmong}
-use Rattle.asm_placement.proofs.Membership.{among_left, among_right, filter_out, flat_map_among}
+use Rattle.asm_images.proofs.asm_placement.Membership.{among_left, among_right, filter_out, flat_map_among}
 use Rattle.asm_formats.specs.Claim.{Claim, is_claim, claim_spelling}
 use Rattle.asm_formats.specs.Metadata.{Metadata, metadata}
 use Rattle.asm_formats.specs.Status.{Status, is_status, status_spelling, decoded_status}

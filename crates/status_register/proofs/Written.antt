@@ -8,7 +8,7 @@ use Rattle.bay.specs.State.{BayState, IsSound, KeepsAttached}
 use Rattle.bay.specs.Moments.{Runs, Ends, NowOnly, LeavesOnly}
 use Rattle.bay.proofs.Calls.{leaves_only, leaves_less, now_of}
 use Rattle.asm_formats.specs.Among.{IsAmong}
-use Rattle.asm_placement.proofs.Membership.{among_left, among_right}
+use Rattle.asm_images.proofs.asm_placement.Membership.{among_left, among_right}
 use Rattle.asm_formats.specs.Claim.{is_claim, claim_spelling}
 use Rattle.asm_formats.specs.Status.{Status, is_status, status_spelling}
 use Rattle.asm_formats.specs.Following.{Holder, sets, rank, Follows, FollowsSets}

@@ -15,3 +15,4 @@ pub mod Writes
 pub mod Keeping
 pub mod Reaching
 pub mod Elsewhere
+pub mod status_table

@@ -12,9 +12,9 @@ ghost use Rattle.status_register.specs.Slots.{ShowBoth};
 ghost use Rattle.bay.specs.Told.{Told};
 
 use crate::places::{SlotPair, place_at};
-use asm_base::{BLOCK, Block};
 use bay::{Bay, Fault};
 use gate_slot::is_open;
+use status_table::asm_base_crate::{BLOCK, Block};
 use status_table::{Claim, PstRecord, decode, decode_claim};
 
 /// The block behind the gate in a block, or None where the gate is shut.

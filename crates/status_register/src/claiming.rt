@@ -13,8 +13,8 @@ use crate::losses::first_failed;
 use crate::places::SlotPair;
 use crate::storing::put_on_all;
 use crate::{Dead, Member};
-use asm_base::Block;
 use bay::Bay;
+use status_table::asm_base_crate::Block;
 use status_table::{Claim, encode_claim};
 
 /// Claims the epoch of a group's first record on its members, whose slots are closed, past faults: each of them must take the

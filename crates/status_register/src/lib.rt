@@ -1,6 +1,8 @@
 //! One status record of a disk group, kept by majorities of the disks that hold it. No call takes memory.
 #![tactic(auto)]
 
+pub use status_table as status_table_crate;
+
 mod bodies;
 mod claiming;
 mod error;

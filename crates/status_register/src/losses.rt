@@ -9,7 +9,7 @@ ghost use Rattle.status_register.specs.Writes.{IsFailed, IsLost, IsLostOf, is_on
 
 use crate::Member;
 use crate::majorities::lacking;
-use asm_base::DiskSet;
+use status_table::asm_base_crate::DiskSet;
 use status_table::{PstEntry, PstRecord};
 
 /// Whether one of these is the member.

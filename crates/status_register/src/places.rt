@@ -3,8 +3,8 @@ ghost use Rattle.std.specs.Prelude.{◌≡◌, ◌≤◌};
 ghost use Rattle.status_register.specs.Places.{place_at};
 ghost use Rattle.status_register.specs.Slots.{first_gate, second_gate};
 
-use asm_base::{BLOCK, FIRST_CLAIM, FIRST_STATUS, SECOND_CLAIM, SECOND_STATUS};
 use gate_slot::Place;
+use status_table::asm_base_crate::{BLOCK, FIRST_CLAIM, FIRST_STATUS, SECOND_CLAIM, SECOND_STATUS};
 
 /// The pairs of slots of a disk.
 #[derive(Clone, Copy, Debug, PartialEq, Eq)]

@@ -26,8 +26,8 @@ use crate::places::SlotPair;
 use crate::storing::put_on_all;
 use crate::writing::{renumbered, write_first, write_record};
 use crate::{Dead, Member, SurveyError};
-use asm_base::{Block, DiskSet};
 use bay::Bay;
+use status_table::asm_base_crate::{Block, DiskSet};
 use status_table::{Claim, PstEntry, PstRecord, encode_claim};
 use std::marker::Model;
 

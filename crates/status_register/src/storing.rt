@@ -14,9 +14,9 @@ use crate::Member;
 use crate::gates::next_gate;
 use crate::members::MemberList;
 use crate::places::{SlotPair, place_at};
-use asm_base::Block;
 use bay::{Bay, Fault};
 use gate_slot::put;
+use status_table::asm_base_crate::Block;
 
 /// Puts a body into the slot behind a gate.
 fn fill_slot<B: Bay>(

@@ -14,8 +14,8 @@ use crate::losses::{failed_set, first_failed, lost_disk};
 use crate::places::SlotPair;
 use crate::storing::put_on_all;
 use crate::{Dead, Member};
-use asm_base::{Block, DiskSet};
 use bay::Bay;
+use status_table::asm_base_crate::{Block, DiskSet};
 use status_table::{PstRecord, encode};
 
 /// The record under another number.

@@ -3,8 +3,8 @@ use Rattle.std.proofs.Common.{◌≡◌, ℕ, zero, suc, ◌+◌, ◌^◌, ◌<�
 use Rattle.std.specs.List.{list_all}
 use Rattle.std.proofs.lemmas.Bool.{and_parts, and_from, cond_both}
 use Rattle.std.proofs.lemmas.List.{take_more_set}
-use Rattle.asm_group.specs.declared.Mode.{Mode}
-use Rattle.asm_group.specs.declared.Mode.TheVariants.{Offline}
+use Rattle.asm_formats.specs.asm_group.declared.Mode.{Mode}
+use Rattle.asm_formats.specs.asm_group.declared.Mode.TheVariants.{Offline}
 use Rattle.asm_formats.specs.Sets.{elements, has_bit}
 use Rattle.asm_formats.specs.Status.{Entry, Status, is_entry, is_status, entry_of, has_entry, have_entries, ascends_from}
 use Rattle.asm_formats.specs.Following.{sets_of, disks_of, sets, Holder, Follows, FollowsSets}

@@ -4,8 +4,8 @@ use Rattle.std.specs.Int.{w32, w64}
 use Rattle.std.specs.List.{AllByRecursion}
 use Rattle.std.specs.Option.{option_or}
 use Rattle.std.proofs.lemmas.Option.{none-some}
-use Rattle.asm_group.specs.declared.Mode.{Mode}
-use Rattle.asm_group.specs.declared.Mode.TheVariants.{Online, Offline, Syncing, Dropping, Forced}
+use Rattle.asm_formats.specs.asm_group.declared.Mode.{Mode}
+use Rattle.asm_formats.specs.asm_group.declared.Mode.TheVariants.{Online, Offline, Syncing, Dropping, Forced}
 use Rattle.asm_formats.specs.Bytes.{number, whole_block}
 use Rattle.asm_formats.specs.Codes.{mode_code}
 use Rattle.asm_formats.specs.Status.{Entry, Status, entry_fields, front_fields, tail_fields, status_spelling, status_spelling_1, is_status, decoded_status}

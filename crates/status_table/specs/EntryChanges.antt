@@ -1,6 +1,6 @@
 -- How the code changes entries, one after another.
 use Rattle.std.specs.Prelude.{ℕ, ◌==◌, nat_lt, if◌then◌else◌}
-use Rattle.asm_group.specs.declared.Mode.TheVariants.{Offline}
+use Rattle.asm_formats.specs.asm_group.declared.Mode.TheVariants.{Offline}
 use Rattle.asm_formats.specs.Status.{Entry}
 use Rattle.status_table.specs.declared.entries.EntryChange.{EntryChange}
 use Rattle.status_table.specs.declared.entries.EntryChange.TheVariants.{InMode, OfflineFor, WithUnits, WithRepair}

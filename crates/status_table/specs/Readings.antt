@@ -1,7 +1,7 @@
 -- The reading of a status record, field by field, and the fields of both versions.
 use Rattle.std.specs.Prelude.{ℕ, Bool, List, [], ◌∷◌, ◌++◌, length, flat_map, codes, Option, Some, None}
 use Rattle.std.specs.Int.{w32, w64}
-use Rattle.asm_group.specs.declared.Mode.{Mode}
+use Rattle.asm_formats.specs.asm_group.declared.Mode.{Mode}
 use Rattle.asm_formats.specs.Bytes.{number}
 use Rattle.asm_formats.specs.Codes.{flag}
 use Rattle.asm_formats.specs.Claim.{Claim}

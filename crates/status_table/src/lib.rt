@@ -2,6 +2,8 @@
 //! their spellings in a block. No call takes memory.
 #![tactic(auto)]
 
+pub use asm_base as asm_base_crate;
+
 mod changes;
 mod claim;
 mod entries;

@@ -2,8 +2,8 @@
 use Rattle.std.proofs.Common.{◌≡◌, ℕ, ◌+◌, ◌-◌, ◌*◌, ◌/◌, ◌%◌, ◌<◌, ◌≤◌, min, sym, ap, ◌∙◌, arith}
 use Rattle.std.proofs.lemmas.Nat.{div-add-mod', mod_below, div-mul-add, mod-mul-add, div_below}
 use Rattle.std.proofs.Math.Nat.{mul-le-mul_right}
-use Rattle.asm_group.specs.declared.Stripe.{Stripe}
-use Rattle.asm_group.specs.declared.Stripe.TheVariants.{Coarse, Fine}
+use Rattle.asm_base.specs.asm_group.declared.Stripe.{Stripe}
+use Rattle.asm_base.specs.asm_group.declared.Stripe.TheVariants.{Coarse, Fine}
 use Rattle.asm_base.specs.declared.kinds.Span.{Span}
 use Rattle.striping.specs.declared.layout.Layout.{Layout}
 use Rattle.asm_placement.specs.Layout.{units_of, extent_len, chunk_of, file_byte}

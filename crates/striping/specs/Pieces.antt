@@ -1,7 +1,7 @@
 -- The pieces of a span, by the definitions of layouts.
 use Rattle.std.specs.Prelude.{ℕ, ◌+◌, ◌-◌, ◌%◌, ◌<◌, ◌≤◌}
-use Rattle.asm_group.specs.declared.Stripe.{Stripe}
-use Rattle.asm_group.specs.declared.Stripe.TheVariants.{Coarse, Fine}
+use Rattle.asm_base.specs.asm_group.declared.Stripe.{Stripe}
+use Rattle.asm_base.specs.asm_group.declared.Stripe.TheVariants.{Coarse, Fine}
 use Rattle.asm_base.specs.declared.kinds.Span.{Span}
 use Rattle.asm_placement.specs.Layout as placement
 use Rattle.asm_placement.specs.Layout.{extent_len, chunk_of}

@@ -1,6 +1,8 @@
 //! The templates of a group and its settings, as the group's directory holds them.
 #![tactic(auto)]
 
+pub use asm_base as asm_base_crate;
+
 mod changing;
 mod editing;
 mod reading;

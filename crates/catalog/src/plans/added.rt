@@ -3,14 +3,14 @@
 ghost use Rattle.std.specs.Prelude.{◌≡◌, ◌≤◌, ◌+◌, ◌++◌, [], IfErr, IfOk, OnOk, length, map, true};
 ghost use Rattle.std.specs.List.{All};
 ghost use Rattle.asm_formats.specs.Items.{disk_item, is_item};
-ghost use Rattle.disk_directory.specs.Disks.{Disk, record_of};
+ghost use Rattle.catalog_units.specs.disk_directory.Disks.{Disk, record_of};
 ghost use Rattle.catalog.specs.Plans.{IsAddRefusal, IsPlan, MayAdd, with_records};
-ghost use Rattle.catalog_tables.specs.Rules.{blocks_used};
+ghost use Rattle.catalog_units.specs.catalog_tables.Rules.{blocks_used};
 
 use crate::catalog::Catalog;
 use crate::plans::making::no_memory;
 use asm_base::{Change, Key, List, NoMemory, Refusal, Value};
-use disk_directory::{DiskInfo, disk_record};
+use catalog_units::disk_directory_crate::{DiskInfo, disk_record};
 use std::alloc::Global;
 
 impl Catalog {

@@ -11,9 +11,9 @@ ghost use Rattle.catalog.specs.Plans.{IsPlan};
 use crate::catalog::Catalog;
 use crate::plans::making::{no_memory, one_put};
 use asm_base::{Change, Key, Name, NoMemory, Refusal, SETTINGS_KEY, Text, Value};
+use attribute_values::template_directory_crate::{Settings, settings_value};
 use attribute_values::with_attribute;
 use std::alloc::Global;
-use template_directory::{Settings, settings_value};
 
 impl Catalog {
     /// The change by which an attribute that may be set at any time has another value. It is refused as BadAttribute where

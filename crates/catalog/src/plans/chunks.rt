@@ -3,8 +3,8 @@
 ghost use Rattle.std.specs.Prelude.{◌≡◌, ◌≤◌, ◌<◌, ◌+◌, ◌^◌, ◌∷◌, [], length, true, IfErr, IfOk, is_some};
 ghost use Rattle.std.specs.List.{list_all};
 ghost use Rattle.asm_base.specs.declared.refusal.Refusal.TheVariants.{NoMemory as WithoutMemory};
-ghost use Rattle.extent_map.specs.Extents.{chunk_at, chunk_or_blank, count_in, record_of};
-ghost use Rattle.staleness_directory.specs.Marks.{record_of as marks_entry};
+ghost use Rattle.catalog_units.specs.extent_map.Extents.{chunk_at, chunk_or_blank, count_in, record_of};
+ghost use Rattle.catalog_units.specs.staleness_directory.Marks.{record_of as marks_entry};
 ghost use Rattle.catalog.specs.ExtentPlans.{HasChunkRoom, IsChunkRefusal, MayAppend, are_small, homes_appended, is_small, marks_appended, marks_behind, with_appended};
 ghost use Rattle.catalog.specs.Plans.{IsPlan};
 
@@ -12,8 +12,8 @@ use crate::catalog::Catalog;
 use crate::plans::making::{no_memory, two_put};
 use crate::plans::moves::unit_fits;
 use asm_base::{Change, Home, Homes, NoMemory, Refusal};
-use extent_map::chunk_record;
-use staleness_directory::{Marks, marks_record};
+use catalog_units::extent_map_crate::chunk_record;
+use catalog_units::staleness_directory_crate::{Marks, marks_record};
 use std::alloc::Global;
 
 impl Catalog {

@@ -2,16 +2,16 @@
 
 ghost use Rattle.std.specs.Prelude.{◌≡◌, ◌≤◌, ◌<◌, ◌+◌, ◌^◌, IfErr, IfOk};
 ghost use Rattle.asm_base.specs.declared.refusal.Refusal.TheVariants.{NoMemory as WithoutMemory};
-ghost use Rattle.extent_map.specs.Extents.{chunk_or_blank, cut_to, record_of};
-ghost use Rattle.staleness_directory.specs.Marks.{marks_to, record_of as marks_entry};
+ghost use Rattle.catalog_units.specs.extent_map.Extents.{chunk_or_blank, cut_to, record_of};
+ghost use Rattle.catalog_units.specs.staleness_directory.Marks.{marks_to, record_of as marks_entry};
 ghost use Rattle.catalog.specs.ExtentPlans.{MayCut, marks_or_none, with_cut};
 ghost use Rattle.catalog.specs.Plans.{IsPlan};
 
 use crate::catalog::Catalog;
 use crate::plans::making::{no_memory, two_gone, two_put};
 use asm_base::{Change, Key, NoMemory, Refusal, Value, record_kind};
-use extent_map::chunk_record;
-use staleness_directory::marks_record;
+use catalog_units::extent_map_crate::chunk_record;
+use catalog_units::staleness_directory_crate::marks_record;
 use std::alloc::Global;
 
 impl Catalog {

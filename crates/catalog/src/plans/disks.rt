@@ -4,14 +4,14 @@ ghost use Rattle.std.specs.Prelude.{◌≡◌, ◌<◌, ◌+◌, IfErr, IfOk, No
 ghost use Rattle.std.specs.Bool.{OnFalse, OnTrue};
 ghost use Rattle.std.specs.Option.{option_copied};
 ghost use Rattle.asm_formats.specs.Items.{DiskInfo as FormatInfo, disk_item, is_item};
-ghost use Rattle.disk_directory.specs.Disks.{info_at, with_info, without_disk};
+ghost use Rattle.catalog_units.specs.disk_directory.Disks.{info_at, with_info, without_disk};
 ghost use Rattle.catalog.specs.Plans.{IsDiskRefusal, IsPlan, LacksBlock, may_be_record, with_record};
-ghost use Rattle.catalog_tables.specs.Rules.{blocks_used};
+ghost use Rattle.catalog_units.specs.catalog_tables.Rules.{blocks_used};
 
 use crate::catalog::Catalog;
 use crate::plans::making::{no_memory, one_gone, one_put};
 use asm_base::{Change, NoMemory, Refusal};
-use disk_directory::{DiskInfo, disk_key, disk_record};
+use catalog_units::disk_directory_crate::{DiskInfo, disk_key, disk_record};
 use std::alloc::Global;
 
 impl Catalog {

@@ -3,20 +3,20 @@
 ghost use Rattle.std.specs.Prelude.{◌≡◌, ◌<◌, ◌∷◌, [], IfErr, IfOk, IsTrue, Some, None, if◌then◌else◌, ◌==◌};
 ghost use Rattle.asm_group.specs.declared.PendingKind.TheVariants.{Shrink};
 ghost use Rattle.asm_group.specs.Shape.{is_shape};
-ghost use Rattle.file_directory.specs.Files.{head_at, is_file};
+ghost use Rattle.catalog_units.specs.file_directory.Files.{head_at, is_file};
 ghost use Rattle.asm_base.specs.declared.refusal.Refusal.TheVariants.{NoMemory as WithoutMemory};
-ghost use Rattle.catalog_tables.specs.Faults.{IsCatalog, file_key, node_key};
+ghost use Rattle.catalog_units.specs.catalog_tables.Faults.{IsCatalog, file_key, node_key};
 ghost use Rattle.catalog.specs.FilePlans.{HasSoMany, IsRemovalPlan, IsSizePlan, MayGrow, removal_of, with_size};
 
 use crate::catalog::Catalog;
 use crate::plans::making::{no_memory, one_put, two_put};
 use crate::plans::operations::fits;
 use asm_base::{Change, Key, List, NoMemory, PENDING_KEY, Refusal, Shape, Value};
-use catalog_tables::{file_key, node_key};
-use file_directory::{FileHead, record_of};
-use operations_directory::{Pending, PendingKind, pending_record};
+use catalog_units::catalog_tables_crate::{file_key, node_key};
+use catalog_units::file_directory_crate::{FileHead, record_of};
+use catalog_units::operations_directory_crate::{Pending, PendingKind, pending_record};
+use catalog_units::striping_crate::{Layout, extents_for};
 use std::alloc::Global;
-use striping::{Layout, extents_for};
 
 impl Catalog {
     /// The change by which a file has another size, in bytes. To a greater size it ends the pending operation, and to a

@@ -2,7 +2,7 @@
 
 ghost use Rattle.std.specs.Prelude.{◌≡◌, ◌∷◌, [], IfErr, IfOk, IsTrue};
 ghost use Rattle.asm_group.specs.Shape.{is_shape};
-ghost use Rattle.catalog_tables.specs.Faults.{IsCatalog};
+ghost use Rattle.catalog_units.specs.catalog_tables.Faults.{IsCatalog};
 ghost use Rattle.asm_base.specs.declared.refusal.Refusal.TheVariants.{NoMemory as WithoutMemory};
 
 use crate::catalog::Catalog;

@@ -2,14 +2,14 @@
 
 ghost use Rattle.std.specs.Prelude.{◌≡◌, ◌/◌, ◌%◌, ◌∷◌, [], IfErr, IfOk, slice_set};
 ghost use Rattle.asm_base.specs.declared.refusal.Refusal.TheVariants.{NoMemory as WithoutMemory};
-ghost use Rattle.staleness_directory.specs.Marks.{record_of};
+ghost use Rattle.catalog_units.specs.staleness_directory.Marks.{record_of};
 ghost use Rattle.catalog.specs.ExtentPlans.{MayMark, marks_changed, marks_or_none, with_marks_changed};
 ghost use Rattle.catalog.specs.Plans.{IsPlan};
 
 use crate::catalog::Catalog;
 use crate::plans::making::{no_memory, one_put};
 use asm_base::{Change, ExtentId, Key, NoMemory, Refusal, Value};
-use staleness_directory::{Marks, marks_record};
+use catalog_units::staleness_directory_crate::{Marks, marks_record};
 use std::alloc::Global;
 
 impl Catalog {

@@ -4,7 +4,7 @@ ghost use Rattle.std.specs.Prelude.{◌≡◌, ◌<◌, ◌/◌, ◌%◌, ◌^�
 ghost use Rattle.asm_formats.specs.Sets.{has_bit};
 ghost use Rattle.asm_base.specs.declared.refusal.Refusal.TheVariants.{NoMemory as WithoutMemory};
 ghost use Rattle.asm_placement.specs.Moves.{without_bit};
-ghost use Rattle.extent_map.specs.Extents.{chunk_or_blank, record_of};
+ghost use Rattle.catalog_units.specs.extent_map.Extents.{chunk_or_blank, record_of};
 ghost use Rattle.catalog.specs.ExtentPlans.{MayMove, with_move};
 ghost use Rattle.catalog.specs.Plans.{IsPlan};
 
@@ -12,7 +12,7 @@ use crate::catalog::Catalog;
 use crate::moving::with_home;
 use crate::plans::making::{no_memory, one_put, two_put};
 use asm_base::{Change, ExtentId, Home, Key, NoMemory, Refusal, Value};
-use extent_map::{Chunk, chunk_record};
+use catalog_units::extent_map_crate::{Chunk, chunk_record};
 use std::alloc::Global;
 
 impl Catalog {

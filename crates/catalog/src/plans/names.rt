@@ -8,11 +8,11 @@ ghost use Rattle.asm_base.specs.Tables.{item_record};
 ghost use Rattle.asm_group.specs.Refusal.{NoMemory as OutOfMemory};
 ghost use Rattle.alias_edits.specs.Edits.{IsRefusal, are_parts};
 ghost use Rattle.alias_edits.specs.Filing.{IsFiling, filed, nodes_missing, with_nodes};
-ghost use Rattle.alias_tree.specs.Nodes.{IsTable, Numbered, node_at, record_of as node_entry};
-ghost use Rattle.alias_tree.specs.Trees.{tree_of};
-ghost use Rattle.file_directory.specs.Files.{record_of as file_entry};
+ghost use Rattle.alias_edits.specs.alias_tree.Nodes.{IsTable, Numbered, node_at, record_of as node_entry};
+ghost use Rattle.alias_edits.specs.alias_tree.Trees.{tree_of};
+ghost use Rattle.catalog_units.specs.file_directory.Files.{record_of as file_entry};
 ghost use Rattle.catalog.specs.NamePlans.{AreNewNodes, HasParts, IsFileBeingMade, IsNamePlan, IsNameRefusal, made_file, name_at, name_meant, new_head, settings_next, system_path};
-ghost use Rattle.catalog_tables.specs.Rules.{blocks_used};
+ghost use Rattle.catalog_units.specs.catalog_tables.Rules.{blocks_used};
 
 use crate::catalog::Catalog;
 use crate::new_file::NewFile;
@@ -20,12 +20,12 @@ use crate::plans::attributes::settings_record;
 use crate::plans::making::no_memory;
 use crate::plans::system_path::{NameParts, new_name, system_path};
 use crate::plans::tree::refusal_of;
+use alias_edits::alias_tree_crate::{Node, node_record};
 use alias_edits::{TreeError, plan_file};
-use alias_tree::{Node, node_record};
 use asm_base::{Change, Key, List, Name, NoMemory, PENDING_KEY, Path, Refusal, Stripe, Value};
-use file_directory::{FileHead, record_of};
+use attribute_values::template_directory_crate::Settings;
+use catalog_units::file_directory_crate::{FileHead, record_of};
 use std::alloc::Global;
-use template_directory::Settings;
 
 impl Catalog {
     /// The change by which the file that is being made has its head and its system name, and the directories that are

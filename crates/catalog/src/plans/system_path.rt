@@ -3,7 +3,7 @@
 ghost use Rattle.std.specs.Prelude.{◌≡◌, ◌<◌, ◌^◌, ◌++◌, ◌∷◌, IfNone, IfOk, IfSome, None, OnOk, Some, codes, true};
 ghost use Rattle.std.specs.Fmt.{decimal};
 ghost use Rattle.asm_group.specs.Names.{is_part, is_same_name};
-ghost use Rattle.asm_world.specs.Files.{file_name, new_path};
+ghost use Rattle.attribute_values.specs.asm_world.Files.{file_name, new_path};
 ghost use Rattle.catalog.specs.NamePlans.{HasParts, name_at, name_meant};
 
 use asm_base::{List, Name, NoMemory, Path};

@@ -5,14 +5,14 @@ ghost use Rattle.asm_group.specs.NewGroup.{templates_by_name};
 ghost use Rattle.asm_group.specs.TemplateEdits.{templates_edited};
 ghost use Rattle.asm_formats.specs.Items.{is_item, templates_item};
 ghost use Rattle.asm_base.specs.Tables.{item_record};
-ghost use Rattle.template_directory.specs.Meant.{IsRefusal, edit_meant, is_edit};
+ghost use Rattle.attribute_values.specs.template_directory.Meant.{IsRefusal, edit_meant, is_edit};
 ghost use Rattle.catalog.specs.Plans.{IsPlan, IsTemplatePlan};
 
 use crate::catalog::Catalog;
 use crate::plans::making::{no_memory, one_put};
 use asm_base::{Change, Key, NoMemory, Refusal, TEMPLATES_KEY, Value};
+use attribute_values::template_directory_crate::{Template, TemplateEdit, templates_value};
 use std::alloc::Global;
-use template_directory::{Template, TemplateEdit, templates_value};
 
 impl Catalog {
     /// The change that an edit of the templates is. It is refused as TemplateTable::edit refuses it. The name is one of the

@@ -6,20 +6,20 @@ ghost use Rattle.asm_group.specs.declared.NodeKind.TheVariants.{Alias};
 ghost use Rattle.asm_base.specs.Refusals.{said};
 ghost use Rattle.asm_base.specs.declared.refusal.Refusal.TheVariants.{DirectoryFull, NoMemory as WithoutMemory};
 ghost use Rattle.alias_edits.specs.Edits.{ChangesNodes, IsChange, IsRefusal, cause_said, edit_meant, is_edit, nodes_after};
-ghost use Rattle.alias_tree.specs.Nodes.{IsTable, node_at, with_node, without_node};
-ghost use Rattle.alias_tree.specs.Trees.{tree_of};
-ghost use Rattle.file_directory.specs.Files.{head_at};
+ghost use Rattle.alias_edits.specs.alias_tree.Nodes.{IsTable, node_at, with_node, without_node};
+ghost use Rattle.alias_edits.specs.alias_tree.Trees.{tree_of};
+ghost use Rattle.catalog_units.specs.file_directory.Files.{head_at};
 ghost use Rattle.catalog.specs.Plans.{IsPlan};
-ghost use Rattle.catalog_tables.specs.Rules.{blocks_used};
+ghost use Rattle.catalog_units.specs.catalog_tables.Rules.{blocks_used};
 ghost use Rattle.catalog.specs.TreePlans.{IsTreeFull, IsNewAlias, IsTreePlan, IsTreeRefusal, KeepsName, MayChange, MayGo, MayPutNode, aliased_head, heads_after, heads_with, heads_without, keeps_files, with_alias};
 
 use crate::catalog::Catalog;
 use crate::plans::making::{no_memory, one_gone, one_put, two_put};
+use alias_edits::alias_tree_crate::{Node, node_record};
 use alias_edits::{TreeChange, TreeEdit, TreeError, plan};
-use alias_tree::{Node, node_record};
 use asm_base::{Change, Key, NoMemory, NodeKind, Refusal, Value};
-use catalog_tables::node_key;
-use file_directory::{FileHead, record_of};
+use catalog_units::catalog_tables_crate::node_key;
+use catalog_units::file_directory_crate::{FileHead, record_of};
 use std::alloc::Global;
 
 impl Catalog {

@@ -4,17 +4,17 @@ ghost use Rattle.std.specs.Prelude.{◌≡◌, ◌≤◌, IfSome};
 ghost use Rattle.std.specs.Bool.{OnTrue};
 ghost use Rattle.asm_formats.specs.Regions.{reserved_units};
 ghost use Rattle.group_engine.specs.Mounts.{Takes};
-ghost use Rattle.group_pieces.specs.Spare.{IsRunOf};
-ghost use Rattle.group_pieces.specs.Usable.{FitsExtent};
+ghost use Rattle.file_extents.specs.group_pieces.Spare.{IsRunOf};
+ghost use Rattle.file_extents.specs.group_pieces.Usable.{FitsExtent};
 
 use crate::answers::{Answer, refused};
 use crate::disks::all_of;
 use crate::steps::Piece;
 use asm_base::{DiskSet, ExtentId, Home, Shape};
 use bay::{Bay, Fault};
+use file_extents::{ReadError, WriteError, read_piece, write_piece, write_spare, write_usable};
 use group_engine::Mounted;
-use group_pieces::{ReadError, WriteError, read_piece, write_piece, write_spare, write_usable};
-use resync::{CopyError, copy_piece};
+use relocation::{CopyError, copy_piece};
 use std::alloc::Global;
 use striping::units_of;
 

@@ -6,8 +6,7 @@ use crate::answers::{Answer, refused};
 use asm_base::Refusal;
 use bay::Bay;
 use group_engine::Mounted;
-use relocation::{Slice, run_to_end, slice};
-use resync::{Resynced, sync_slice};
+use relocation::{Resynced, Slice, run_to_end, slice, sync_slice};
 use std::alloc::Global;
 
 fn synced(ended: Result<Resynced, Refusal>) -> Answer {

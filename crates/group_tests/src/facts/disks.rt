@@ -3,9 +3,10 @@
 use super::fact::Fact;
 use crate::answers::alone;
 use crate::spelt::read_name;
-use disk_modes::{GroupSort, disk_named, disks_in_group, offline_set, serving_disks};
+use disk_modes::{
+    GroupSort, disk_named, disks_in_group, expiring_disk as expiring, offline_set, serving_disks,
+};
 use group_engine::{Attached, Mounted};
-use group_reports::expiring;
 use std::alloc::Global;
 
 /// The slot and the size of a disk's image, where it is attached.

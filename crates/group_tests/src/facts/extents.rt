@@ -7,10 +7,10 @@ use crate::spelt::read_name;
 use crate::steps::Unit;
 use asm_base::{DiskSet, ExtentId, Name};
 use catalog::Catalog;
+use disk_modes::first_lost;
 use extent_copies::{Extent, template_for};
+use file_extents::is_lost;
 use group_engine::Mounted;
-use group_pieces::is_lost;
-use group_reports::first_lost;
 use status_table::PstEntry;
 use std::alloc::Global;
 

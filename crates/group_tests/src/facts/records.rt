@@ -2,10 +2,10 @@
 
 use super::fact::Fact;
 use asm_base::Mode;
+use disk_modes::syncing;
 use extent_copies::serving_groups;
 use group_engine::Mounted;
-use group_reports::syncing;
-use resync::syncing_disk;
+use relocation::syncing_disk;
 use status_table::PstEntry;
 
 /// The entry of a disk among these.

@@ -8,12 +8,12 @@ use asmcmd::{
     template_lines, usage_lines,
 };
 use catalog::Catalog;
-use group_engine::Mounted;
-use group_reports::{
+use disk_modes::{
     attribute_rows, check, directory_at, directory_row, disk_name, disk_rows, dismounted_row,
     group_row, group_totals, is_directory, path_at, path_to, paths_found, row_at, rows_listed,
     rows_under, template_rows, usage_below,
 };
+use group_engine::Mounted;
 use status_table::PstRecord;
 use std::alloc::Global;
 

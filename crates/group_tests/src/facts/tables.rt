@@ -3,8 +3,8 @@
 use super::fact::Fact;
 use super::reports::is_directory_at;
 use crate::spelt::read_path;
+use disk_modes::{file_units, is_moving};
 use group_engine::Mounted;
-use group_reports::{file_units, is_moving};
 use std::alloc::Global;
 
 fn has_dir(alloc: Global, m: &Mounted, at: &[u8]) -> Option<bool> {

@@ -4,7 +4,7 @@ use crate::answers::{Answer, refused};
 use crate::steps::Wrong;
 use asm_base::{GroupKind, Shape};
 use extent_copies::copies_for;
-use resync::{CopyError, extent_bytes, piece_buffer, piece_len, refusal_of};
+use relocation::{CopyError, extent_bytes, piece_buffer, piece_len, refusal_of};
 use std::alloc::Global;
 
 /// The kind of a group, the copies of a template, the failure groups that serve, and the copies of a new file.

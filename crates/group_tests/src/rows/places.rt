@@ -11,7 +11,7 @@ use crate::disks::{all_of, set_fails};
 use crate::steps::Wrong;
 use bay::{Bay, Fault};
 use bay_mem::MemBay;
-use group_pieces::{Place, read_copies, write_copies};
+use file_extents::{Place, read_copies, write_copies};
 use std::alloc::Global;
 
 /// What is done with the copies on the slots of a set.

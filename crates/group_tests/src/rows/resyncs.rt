@@ -7,7 +7,7 @@ use crate::steps::{Next, Statement, Step, Wrong};
 use crate::trials::{Then, play};
 use asm_base::{ExtentId, Mode};
 use group_mount::MountOption;
-use resync::Resynced;
+use relocation::Resynced;
 use std::alloc::Global;
 
 /// Disk 3 doesn't take the bytes of extent 1.

@@ -3,9 +3,9 @@
 use asm_base::{Name, Refusal};
 use bay::Bay;
 use bay_mem::MemBay;
-use group_disks::{create_disk, create_group, drop_group, mount_group};
-use group_engine::Mounted;
-use group_mount::{Found, MountError, MountOption};
+use group_disks::{
+    Found, MountError, MountOption, Mounted, create_disk, create_group, drop_group, mount_group,
+};
 use std::alloc::Global;
 
 /// The bytes of an image of 25 units.

@@ -2,10 +2,10 @@ use Rattle.std.proofs.Common.{◌∙◌, sym, inr, ap, map}
 use Rattle.std.proofs.lemmas.List.{length-map}
 use Rattle.std.specs.String.{string_bytes}
 use Rattle.asm_world.specs.Generator.{generated_script}
-use Rattle.session.specs.Quiet.{quiet}
-use Rattle.session.specs.Sessions.{Knows}
-use Rattle.session.proofs.Below.{first_below}
-use Rattle.session.proofs.Knowing.{first_told}
+use Rattle.serving.specs.session.Quiet.{quiet}
+use Rattle.serving.specs.session.Sessions.{Knows}
+use Rattle.serving.proofs.session.Below.{first_below}
+use Rattle.serving.proofs.session.Knowing.{first_told}
 use Rattle.asm_run.proofs.Reporting.{first_roster, generated-none, generated-of}
 use Rattle.asm_run.proofs.Wording.{not_read_fault, not_usage}
 use Rattle.asm_run.proofs.generating.generate.Goals as goal

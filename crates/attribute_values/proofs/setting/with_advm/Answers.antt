@@ -1,6 +1,6 @@
 use Rattle.std.proofs.Common.{◌≡◌, true, sym, ◌∙◌, arith}
 use Rattle.asm_world.specs.Settings.{is_version}
-use Rattle.asm_base.proofs.Tables.{bytes_are}
+use Rattle.template_directory.proofs.asm_base.Tables.{bytes_are}
 use Rattle.attribute_values.proofs.SettingLaws.{allowed_with, asm_stays, new_text, rdbms_stays, repair_stays}
 use Rattle.attribute_values.proofs.setting.with_advm.Goals as goal
 

@@ -1,7 +1,7 @@
 use Rattle.std.proofs.Common.{◌≡◌}
 use Rattle.std.specs.Prelude.{flat_map}
 use Rattle.std.specs.List.{range_with_len, slice_get}
-use Rattle.catalog_tables.specs.Placing.{changed_map, disk_units}
+use Rattle.catalog_units.specs.catalog_tables.Placing.{changed_map, disk_units}
 use Rattle.catalog.proofs.disk_units.changed_maps.Given as goal
 
 abbrev pub invariant-loop-number : goal.invariant-loop-number

@@ -1,5 +1,5 @@
 use Rattle.std.proofs.Common.{◌≡◌}
-use Rattle.catalog_tables.specs.Placing.{put_maps}
+use Rattle.catalog_units.specs.catalog_tables.Placing.{put_maps}
 use Rattle.catalog.proofs.disk_units.put_maps.Given as goal
 
 abbrev pub invariant-loop-number : goal.invariant-loop-number

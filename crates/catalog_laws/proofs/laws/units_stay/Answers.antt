@@ -1,4 +1,4 @@
-use Rattle.catalog_tables.proofs.SameUnits.{units_same}
+use Rattle.catalog.proofs.catalog_tables.SameUnits.{units_same}
 use Rattle.catalog_laws.proofs.laws.units_stay.Goals as goal
 
 pub returns : goal.returns

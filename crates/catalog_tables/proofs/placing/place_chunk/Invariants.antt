@@ -1,5 +1,5 @@
 use Rattle.std.proofs.Common.{◌≡◌, ◌+◌, drop}
-use Rattle.asm_placement.specs.Placed.{placed_extents}
+use Rattle.partnership.specs.asm_placement.Placed.{placed_extents}
 use Rattle.catalog_tables.specs.Placing.{after_homes}
 use Rattle.catalog_tables.proofs.placing.place_chunk.Given as goal
 

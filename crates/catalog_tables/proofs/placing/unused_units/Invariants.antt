@@ -1,7 +1,7 @@
 use Rattle.std.proofs.Common.{◌≡◌, map}
 use Rattle.std.specs.List.{range_with_len}
 use Rattle.asm_formats.specs.Regions.{reserved_units}
-use Rattle.allocator.specs.UnitMaps.{unused}
+use Rattle.page_map.specs.allocator.UnitMaps.{unused}
 use Rattle.catalog_tables.specs.Placing.{disk_units}
 use Rattle.catalog_tables.proofs.placing.unused_units.Given as goal
 

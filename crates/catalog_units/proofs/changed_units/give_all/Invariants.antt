@@ -1,5 +1,5 @@
 use Rattle.std.proofs.Common.{◌≡◌, List, Some, take}
-use Rattle.allocator.specs.UnitMaps.{UnitMap}
+use Rattle.catalog_tables.specs.allocator.UnitMaps.{UnitMap}
 use Rattle.catalog_units.specs.Giving.{AreUnitsOfKept, keys_of, stays}
 use Rattle.catalog_tables.specs.Placing.{after_chunks}
 use Rattle.catalog_units.proofs.changed_units.give_all.Given as goal

@@ -1,5 +1,5 @@
 use Rattle.std.proofs.Common.{◌≡◌, false, take}
-use Rattle.page_map.specs.Changes.{is_gone}
+use Rattle.catalog_tables.specs.page_map.Changes.{is_gone}
 use Rattle.catalog_units.specs.Giving.{keys_of}
 use Rattle.catalog_units.proofs.changed_units.is_earlier.Given as goal
 

@@ -1,6 +1,6 @@
 use Rattle.std.proofs.Common.{◌≡◌, ◌+◌, drop, List, Some}
-use Rattle.asm_placement.specs.Placed.{placed_extents}
-use Rattle.allocator.specs.UnitMaps.{UnitMap}
+use Rattle.catalog_tables.specs.asm_placement.Placed.{placed_extents}
+use Rattle.catalog_tables.specs.allocator.UnitMaps.{UnitMap}
 use Rattle.catalog_tables.specs.Placing.{after_homes}
 use Rattle.catalog_units.proofs.giving.give_chunk.Given as goal
 

@@ -1,6 +1,6 @@
 use Rattle.std.proofs.Common.{◌≡◌, false}
-use Rattle.asm_group.specs.Names.{folded}
-use Rattle.asm_formats.specs.Items.{precedes}
+use Rattle.asm_base.specs.asm_group.Names.{folded}
+use Rattle.asm_base.specs.asm_formats.Items.{precedes}
 use Rattle.directory_page.proofs.Ascending.{after_back}
 use Rattle.directory_page.proofs.templates.pass_each.Goals as goal
 

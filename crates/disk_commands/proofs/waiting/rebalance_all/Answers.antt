@@ -2,7 +2,7 @@ use Rattle.std.proofs.Common.{◌≡◌, ◌⊎◌, [], Some}
 use Rattle.asm_base.specs.Refusals.{said}
 use Rattle.asm_base.specs.declared.refusal.Refusal.{Refusal}
 use Rattle.asm_base.specs.declared.refusal.Refusal.TheVariants as cause
-use Rattle.resync.proofs.Chains.{on_err}
+use Rattle.session.proofs.resync.Chains.{on_err}
 use Rattle.disk_commands.specs.Waits.{WaitCause}
 use Rattle.disk_commands.proofs.Waits.{refused_so, waited_so}
 use Rattle.disk_commands.proofs.waiting.rebalance_all.Goals as goal

@@ -1,4 +1,4 @@
-use Rattle.group_engine.proofs.Causes.{calls_keep}
+use Rattle.session.proofs.group_engine.Causes.{calls_keep}
 use Rattle.session.proofs.Keeping.{keeps_none, takes_next}
 use Rattle.disk_commands.proofs.waiting.sync_to_end.Goals as goal
 

@@ -1,4 +1,4 @@
-use Rattle.group_engine.specs.Own.{KeepsGroup}
+use Rattle.session.specs.group_engine.Own.{KeepsGroup}
 use Rattle.disk_commands.proofs.waiting.sync_to_end.Given as goal
 
 abbrev pub invariant-loop : goal.invariant-loop

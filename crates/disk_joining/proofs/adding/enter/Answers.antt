@@ -1,4 +1,4 @@
-use Rattle.group_engine.proofs.Endings.{goes_on}
+use Rattle.file_extents.proofs.group_engine.Endings.{goes_on}
 use Rattle.disk_joining.proofs.Takings.{goes_takes}
 use Rattle.disk_joining.proofs.adding.enter.Goals as goal
 

@@ -2,7 +2,7 @@ use Rattle.std.proofs.Common.{sym, subst, Err, Result}
 use Rattle.std.specs.Prelude.{OnOk}
 use Rattle.asm_base.specs.declared.refusal.Refusal.{Refusal}
 use Rattle.file_extents.specs.Closing.{or_shut}
-use Rattle.group_engine.specs.Mounts.{MountedGroup}
+use Rattle.file_extents.specs.group_engine.Mounts.{MountedGroup}
 use Rattle.disk_joining.specs.Joiners.{AreEntered, JoinStep, ShowHeaders}
 use Rattle.disk_joining.proofs.Adds.{goes_may, joins_goes, joins_on, joins_shut, shut_entries}
 use Rattle.disk_joining.proofs.Takings.{goes_takes, keeps_taken, nothing_taken}

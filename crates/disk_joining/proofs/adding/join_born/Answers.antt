@@ -1,6 +1,6 @@
 use Rattle.std.proofs.Common.{Err, List, sym, subst}
-use Rattle.disk_directory.specs.Disks.{Disk}
-use Rattle.catalog.specs.Plans.{MayAdd}
+use Rattle.new_groups.specs.disk_directory.Disks.{Disk}
+use Rattle.file_extents.specs.catalog.Plans.{MayAdd}
 use Rattle.disk_joining.proofs.Adds.{goes_joiners, joins_goes, joins_on}
 use Rattle.disk_joining.proofs.Takings.{goes_takes, keeps_taken, nothing_taken}
 use Rattle.disk_joining.proofs.adding.join_born.Goals as goal

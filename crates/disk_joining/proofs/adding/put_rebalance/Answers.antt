@@ -1,6 +1,6 @@
 use Rattle.std.proofs.Common.{subst}
-use Rattle.catalog.specs.Plans.{IsPlan}
-use Rattle.catalog_tables.specs.Tables.{Catalogued, Tables}
+use Rattle.file_extents.specs.catalog.Plans.{IsPlan}
+use Rattle.file_extents.specs.catalog_tables.Tables.{Catalogued, Tables}
 use Rattle.disk_joining.proofs.Takings.{nothing_goes}
 use Rattle.disk_joining.proofs.adding.put_rebalance.Goals as goal
 

@@ -1,6 +1,6 @@
 use Rattle.std.proofs.Common.{sym, subst}
-use Rattle.catalog.specs.Plans.{IsPlan, MayAdd}
-use Rattle.catalog_tables.specs.Tables.{Catalogued, Tables}
+use Rattle.file_extents.specs.catalog.Plans.{IsPlan, MayAdd}
+use Rattle.file_extents.specs.catalog_tables.Tables.{Catalogued, Tables}
 use Rattle.disk_joining.proofs.Takings.{nothing_goes}
 use Rattle.disk_joining.proofs.adding.put_records.Goals as goal
 

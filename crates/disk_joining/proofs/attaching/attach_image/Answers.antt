@@ -1,6 +1,6 @@
 use Rattle.std.proofs.Common.{◌≡◌, ◌∙◌, ap, sym, subst}
-use Rattle.group_engine.specs.Members.{HasImage, with_disk}
-use Rattle.group_engine.specs.Mounts.{MountedGroup, Takes}
+use Rattle.file_extents.specs.group_engine.Members.{HasImage, with_disk}
+use Rattle.file_extents.specs.group_engine.Mounts.{MountedGroup, Takes}
 use Rattle.status_register.specs.declared.member.Member.{Member}
 use Rattle.disk_joining.specs.Attaching.{member_of}
 use Rattle.disk_joining.specs.Taking.{TakesIn}

@@ -1,6 +1,6 @@
 use Rattle.std.proofs.Common.{Err}
-use Rattle.group_engine.proofs.Causes.{calls_keep, nothing_kept}
-use Rattle.group_engine.proofs.Endings.{goes_on}
+use Rattle.file_extents.proofs.group_engine.Causes.{calls_keep, nothing_kept}
+use Rattle.file_extents.proofs.group_engine.Endings.{goes_on}
 use Rattle.disk_joining.proofs.returning.drop_records.Goals as goal
 
 pub loop-disk-init : goal.loop-disk-init

@@ -1,6 +1,6 @@
 use Rattle.std.proofs.Common.{inl, inr, sym, ap, subst, ◌∙◌}
 use Rattle.asm_group.specs.Shape.{Shape}
-use Rattle.catalog_tables.specs.Tables.{Catalogued}
+use Rattle.file_extents.specs.catalog_tables.Tables.{Catalogued}
 use Rattle.new_groups.specs.Forming.{AreLong}
 use Rattle.disk_joining.proofs.Joiners.{joiners_long, works_taken}
 use Rattle.disk_joining.proofs.Onlines.{recorded}

@@ -1,4 +1,4 @@
-use Rattle.group_engine.proofs.Endings.{goes_on}
+use Rattle.record_laws.proofs.group_engine.Endings.{goes_on}
 use Rattle.disk_modes.proofs.Effects.{made_behind}
 use Rattle.disk_modes.proofs.Getting.{may_behind}
 use Rattle.disk_modes.proofs.Held.{held_behind}

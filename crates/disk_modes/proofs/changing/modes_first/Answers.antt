@@ -1,5 +1,5 @@
 use Rattle.std.proofs.Common.{Some}
-use Rattle.group_engine.proofs.Endings.{goes_on}
+use Rattle.record_laws.proofs.group_engine.Endings.{goes_on}
 use Rattle.disk_modes.specs.Effects.{PutsBoth, PutsRebalance}
 use Rattle.disk_modes.proofs.Effects.{modes_then_rebalance, on_ok}
 use Rattle.disk_modes.proofs.Held.{held_on, turn_more, turns_before}

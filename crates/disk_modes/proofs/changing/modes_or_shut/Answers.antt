@@ -1,8 +1,8 @@
 use Rattle.std.proofs.Common.{Err, sym, subst}
 use Rattle.asm_base.specs.declared.refusal.Refusal.TheVariants as cause
-use Rattle.group_engine.specs.Mounts.{MountedGroup}
-use Rattle.group_engine.specs.Pending.{GoesOn}
-use Rattle.group_engine.proofs.Endings.{keeps_closed}
+use Rattle.record_laws.specs.group_engine.Mounts.{MountedGroup}
+use Rattle.record_laws.specs.group_engine.Pending.{GoesOn}
+use Rattle.record_laws.proofs.group_engine.Endings.{keeps_closed}
 use Rattle.disk_modes.specs.Stops.{StaysHeld}
 use Rattle.disk_modes.proofs.Held.{held_closed}
 use Rattle.disk_modes.proofs.changing.modes_or_shut.Goals as goal

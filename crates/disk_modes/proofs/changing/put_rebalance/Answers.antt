@@ -1,6 +1,6 @@
 use Rattle.std.proofs.Common.{subst}
-use Rattle.catalog.specs.Plans.{IsPlan}
-use Rattle.catalog_tables.specs.Tables.{Catalogued, Tables}
+use Rattle.group_reports.specs.catalog.Plans.{IsPlan}
+use Rattle.group_reports.specs.catalog_tables.Tables.{Catalogued, Tables}
 use Rattle.asm_base.specs.declared.refusal.Refusal.TheVariants as cause
 use Rattle.disk_modes.proofs.Effects.{rebalance_put}
 use Rattle.disk_modes.proofs.Held.{rebalance_held, rebalance_short}

@@ -1,4 +1,4 @@
-use Rattle.group_engine.proofs.Endings.{goes_on}
+use Rattle.record_laws.proofs.group_engine.Endings.{goes_on}
 use Rattle.disk_modes.specs.Effects.{PutsBoth, PutsModes}
 use Rattle.disk_modes.proofs.Effects.{on_ok, rebalance_then_modes}
 use Rattle.disk_modes.proofs.Getting.{put_behind}

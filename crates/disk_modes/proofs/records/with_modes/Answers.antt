@@ -1,6 +1,6 @@
 use Rattle.std.proofs.Common.{◌<◌, ◌≤◌, List, get_or, length, ap, sym, subst, ◌∙◌, IsTrue}
 use Rattle.asm_formats.specs.Status.{Entry, Status, is_status}
-use Rattle.group_engine.proofs.Records.{record_parts}
+use Rattle.record_laws.proofs.group_engine.Records.{record_parts}
 use Rattle.disk_modes.specs.declared.records.Becomes.{Becomes}
 use Rattle.disk_modes.specs.Records.{status_as}
 use Rattle.disk_modes.proofs.Entries.{all_so_far, none_so_far, one_more}

@@ -1,6 +1,6 @@
 use Rattle.std.proofs.Common.{IsTrue}
 use Rattle.asm_formats.specs.Status.{is_status}
-use Rattle.group_engine.specs.NextRecords.{KeepsDisks}
+use Rattle.record_laws.specs.group_engine.NextRecords.{KeepsDisks}
 use Rattle.disk_modes.proofs.Entries.{IsSoFar}
 use Rattle.disk_modes.proofs.records.with_modes.Given as goal
 

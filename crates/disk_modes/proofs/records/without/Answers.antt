@@ -1,5 +1,5 @@
 use Rattle.std.proofs.Common.{◌∙◌, ◌+◌, ℕ, refl, sym, subst}
-use Rattle.group_engine.proofs.Sets.{IsFront, none_gone, all_gone, stays, goes}
+use Rattle.record_laws.proofs.group_engine.Sets.{IsFront, none_gone, all_gone, stays, goes}
 use Rattle.disk_modes.proofs.records.without.Goals as goal
 use Rattle.disk_modes.proofs.records.without.Goals.{then-has, else-has}
 

@@ -1,4 +1,4 @@
-use Rattle.group_engine.proofs.Sets.{IsFront}
+use Rattle.record_laws.proofs.group_engine.Sets.{IsFront}
 use Rattle.disk_modes.proofs.records.without.Given as goal
 
 abbrev pub invariant-loop-disk : goal.invariant-loop-disk

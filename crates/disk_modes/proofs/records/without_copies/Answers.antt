@@ -1,8 +1,8 @@
 use Rattle.std.proofs.Common.{◌≡◌, ℕ, true, refl, sym, ap, subst}
 use Rattle.asm_formats.specs.Status.{Status, have_entries}
-use Rattle.group_engine.specs.Dropping.{IsWithout}
-use Rattle.group_engine.proofs.Records.{record_parts}
-use Rattle.group_engine.proofs.Sets.{bit_element, is_less, left_have_entries}
+use Rattle.record_laws.specs.group_engine.Dropping.{IsWithout}
+use Rattle.record_laws.proofs.group_engine.Records.{record_parts}
+use Rattle.record_laws.proofs.group_engine.Sets.{bit_element, is_less, left_have_entries}
 use Rattle.disk_modes.specs.Records.{HasFewer}
 use Rattle.disk_modes.proofs.records.without_copies.Goals as goal
 

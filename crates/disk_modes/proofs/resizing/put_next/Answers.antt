@@ -1,4 +1,4 @@
-use Rattle.group_engine.proofs.Endings.{on_true}
+use Rattle.record_laws.proofs.group_engine.Endings.{on_true}
 use Rattle.disk_modes.proofs.Getting.{record_held}
 use Rattle.disk_modes.proofs.Held.{held_here}
 use Rattle.disk_modes.proofs.Resized.{units_put}

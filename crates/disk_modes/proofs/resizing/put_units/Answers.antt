@@ -1,7 +1,7 @@
 use Rattle.std.proofs.Common.{◌≡◌, false, List, sym, subst, ◌∙◌, IsTrue}
 use Rattle.std.specs.List.{list_any}
 use Rattle.asm_formats.specs.Status.{Entry, Status, is_status}
-use Rattle.group_engine.proofs.Endings.{goes_begin}
+use Rattle.record_laws.proofs.group_engine.Endings.{goes_begin}
 use Rattle.disk_modes.specs.Sizes.{is_other}
 use Rattle.disk_modes.proofs.Held.{held_here}
 use Rattle.disk_modes.proofs.Reasons.{of_record}

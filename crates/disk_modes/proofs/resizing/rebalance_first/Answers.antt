@@ -1,4 +1,4 @@
-use Rattle.group_engine.proofs.Endings.{goes_on}
+use Rattle.record_laws.proofs.group_engine.Endings.{goes_on}
 use Rattle.disk_modes.specs.Sizes.{PutsUnits, ResizesDisks}
 use Rattle.disk_modes.proofs.Effects.{on_ok}
 use Rattle.disk_modes.proofs.Held.{fewer_turns, held_on, turns_behind}

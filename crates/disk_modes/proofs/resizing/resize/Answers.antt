@@ -1,4 +1,4 @@
-use Rattle.group_engine.proofs.Endings.{goes_on}
+use Rattle.record_laws.proofs.group_engine.Endings.{goes_on}
 use Rattle.disk_modes.proofs.Held.{held_behind}
 use Rattle.disk_modes.proofs.Resized.{resized_behind}
 use Rattle.disk_modes.proofs.Sized.{same_fit}

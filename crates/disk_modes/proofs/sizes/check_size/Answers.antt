@@ -1,5 +1,5 @@
 use Rattle.std.proofs.Common.{ap, ◌∙◌}
-use Rattle.catalog_tables.specs.Tables.{Catalogued}
+use Rattle.group_reports.specs.catalog_tables.Tables.{Catalogued}
 use Rattle.disk_modes.proofs.Sized.{large_enough}
 use Rattle.disk_modes.proofs.sizes.check_size.Goals as goal
 

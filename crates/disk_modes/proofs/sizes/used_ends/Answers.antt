@@ -1,5 +1,5 @@
 use Rattle.std.proofs.Common.{List, subst, ◌∙◌}
-use Rattle.extent_map.specs.Extents.{Chunked}
+use Rattle.group_reports.specs.extent_map.Extents.{Chunked}
 use Rattle.disk_modes.proofs.Ends.{HasWalked, all_walked, none_walked, one_walked}
 use Rattle.disk_modes.proofs.sizes.used_ends.Goals as goal
 

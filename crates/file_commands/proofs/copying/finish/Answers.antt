@@ -1,7 +1,7 @@
 use Rattle.std.specs.Prelude.{IfErr, IfOk}
 use Rattle.std.proofs.lemmas.Result.{IfOk-weaker}
-use Rattle.group_engine.specs.Commits.{StatusCause}
-use Rattle.group_contents.specs.Creating.{NamesFile}
+use Rattle.session.specs.group_engine.Commits.{StatusCause}
+use Rattle.session.specs.group_contents.Creating.{NamesFile}
 use Rattle.session.proofs.Calls.{new_line}
 use Rattle.file_commands.proofs.HostCauses.{err_out, status_none, work_none}
 use Rattle.file_commands.proofs.copying.finish.Goals as goal

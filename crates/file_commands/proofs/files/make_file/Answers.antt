@@ -1,7 +1,7 @@
 use Rattle.std.specs.Prelude.{IfOk}
 use Rattle.std.proofs.lemmas.Result.{IfOk-weaker}
-use Rattle.group_engine.specs.Mounts.{MountedGroup}
-use Rattle.group_contents.specs.Creating.{NamesFile}
+use Rattle.session.specs.group_engine.Mounts.{MountedGroup}
+use Rattle.session.specs.group_contents.Creating.{NamesFile}
 use Rattle.session.proofs.Calls.{new_line}
 use Rattle.file_commands.proofs.files.make_file.Goals as goal
 

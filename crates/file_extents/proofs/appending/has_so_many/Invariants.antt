@@ -1,5 +1,5 @@
 use Rattle.std.proofs.Common.{◌≡◌, ℕ, ◌+◌, ◌*◌, ◌<◌, true}
-use Rattle.extent_map.specs.Extents.{has_extent}
+use Rattle.catalog_tables.specs.extent_map.Extents.{has_extent}
 use Rattle.file_extents.proofs.appending.has_so_many.Given as goal
 
 abbrev pub invariant-loop-place : goal.invariant-loop-place

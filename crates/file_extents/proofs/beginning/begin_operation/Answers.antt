@@ -1,8 +1,8 @@
 use Rattle.std.proofs.Common.{subst, ◌∙◌, ap}
-use Rattle.catalog.specs.Plans.{IsPlan}
+use Rattle.group_pieces.specs.catalog.Plans.{IsPlan}
 use Rattle.catalog_tables.specs.Tables.{Catalogued, Tables}
 use Rattle.asm_formats.specs.Items.{Pending}
-use Rattle.group_engine.proofs.Endings.{goes_on, on_true}
+use Rattle.group_pieces.proofs.group_engine.Endings.{goes_on, on_true}
 use Rattle.file_extents.specs.Beginning.{begun}
 use Rattle.file_extents.proofs.Begins.{begins}
 use Rattle.file_extents.proofs.Chains.{given_mounted, given_up, goes_short, takes_on}

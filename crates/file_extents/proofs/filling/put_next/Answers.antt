@@ -1,7 +1,7 @@
 use Rattle.std.proofs.Common.{sym, subst, ℕ}
 use Rattle.std.proofs.lemmas.Result.{err_from_is_err_and}
-use Rattle.group_engine.proofs.Causes.{calls_keep}
-use Rattle.group_engine.proofs.Endings.{goes_on}
+use Rattle.group_pieces.proofs.group_engine.Causes.{calls_keep}
+use Rattle.group_pieces.proofs.group_engine.Endings.{goes_on}
 use Rattle.file_extents.specs.Filling.{FailsMore}
 use Rattle.file_extents.proofs.Chains.{fails_before, fails_none, given_back, kept, shut_cause, status_put, status_puts, takes_on}
 use Rattle.file_extents.proofs.filling.put_next.Goals as goal

@@ -1,5 +1,5 @@
 use Rattle.std.proofs.lemmas.Result.{err_from_is_err_and}
-use Rattle.group_engine.proofs.Causes.{calls_keep}
+use Rattle.group_pieces.proofs.group_engine.Causes.{calls_keep}
 use Rattle.file_extents.proofs.Chains.{fails_none, fails_on, kept, put_on, takes_on}
 use Rattle.file_extents.proofs.filling.put_zeros.Goals as goal
 

@@ -1,5 +1,5 @@
-use Rattle.group_engine.specs.Mounts.{IsMounted}
-use Rattle.group_engine.specs.Own.{KeepsGroup}
+use Rattle.group_pieces.specs.group_engine.Mounts.{IsMounted}
+use Rattle.group_pieces.specs.group_engine.Own.{KeepsGroup}
 use Rattle.file_extents.specs.Filling.{FailsMore}
 use Rattle.file_extents.proofs.filling.put_zeros.Given as goal
 

@@ -1,5 +1,5 @@
 use Rattle.std.proofs.Common.{refl, ◌∙◌, arith}
-use Rattle.group_engine.proofs.Causes.{calls_keep}
+use Rattle.group_pieces.proofs.group_engine.Causes.{calls_keep}
 use Rattle.file_extents.proofs.Chains.{fails_none, fails_on, kept, takes_on}
 use Rattle.file_extents.proofs.filling.write_pieces.Goals as goal
 

@@ -1,5 +1,5 @@
 use Rattle.std.proofs.Common.{◌≡◌, ◌-◌, ◌≤◌, length}
-use Rattle.group_engine.specs.Own.{KeepsGroup}
+use Rattle.group_pieces.specs.group_engine.Own.{KeepsGroup}
 use Rattle.file_extents.specs.Filling.{FailsMore}
 use Rattle.file_extents.proofs.filling.write_pieces.Given as goal
 

@@ -1,4 +1,4 @@
-use Rattle.group_engine.proofs.Causes.{calls_keep}
+use Rattle.group_pieces.proofs.group_engine.Causes.{calls_keep}
 use Rattle.file_extents.proofs.Chains.{fails_on, takes_on}
 use Rattle.file_extents.proofs.sparing.fill_copies.Goals as goal
 

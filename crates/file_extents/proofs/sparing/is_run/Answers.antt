@@ -2,7 +2,7 @@ use Rattle.std.proofs.Common.{rules, ◌≡◌, ◌∙◌, sym, ap, arith}
 use Rattle.asm_formats.specs.Items.{Home}
 use Rattle.asm_formats.specs.Regions.{reserved_units}
 use Rattle.catalog_tables.specs.Tables.{Catalogued}
-use Rattle.group_engine.specs.Mounts.{slot_at}
+use Rattle.group_pieces.specs.group_engine.Mounts.{slot_at}
 use Rattle.group_pieces.specs.Usable.{size_at}
 use Rattle.file_extents.proofs.sparing.is_run.Goals as goal
 

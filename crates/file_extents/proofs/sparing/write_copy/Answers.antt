@@ -1,4 +1,4 @@
-use Rattle.group_engine.proofs.Endings.{on_true}
+use Rattle.group_pieces.proofs.group_engine.Endings.{on_true}
 use Rattle.file_extents.proofs.Chains.{kept}
 use Rattle.file_extents.proofs.sparing.write_copy.Goals as goal
 

@@ -3,7 +3,7 @@ use Rattle.asm_base.specs.Refusals.{said}
 use Rattle.asm_world.specs.Command.{Said}
 use Rattle.asm_world.specs.Statement.{Alter, Dismount}
 use Rattle.asm_world.specs.World.{SessionEntry, entry_in, without_entry}
-use Rattle.group_engine.specs.Mounts.{MountedGroup}
+use Rattle.session.specs.group_engine.Mounts.{MountedGroup}
 use Rattle.session.specs.Meaning.{meaning}
 use Rattle.session.specs.Sessions.{AreToldBy, groups_below, without_groups}
 use Rattle.session.proofs.Languages.{meaning_is}

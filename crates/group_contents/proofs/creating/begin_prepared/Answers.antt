@@ -1,5 +1,5 @@
 use Rattle.std.proofs.Common.{inr}
-use Rattle.group_engine.proofs.Causes.{calls_keep}
+use Rattle.file_extents.proofs.group_engine.Causes.{calls_keep}
 use Rattle.file_extents.proofs.Chains.{takes_on}
 use Rattle.group_contents.proofs.Steps.{homes_next}
 use Rattle.group_contents.proofs.creating.begin_prepared.Goals as goal

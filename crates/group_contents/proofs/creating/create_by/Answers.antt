@@ -1,4 +1,4 @@
-use Rattle.group_engine.proofs.Causes.{calls_keep}
+use Rattle.file_extents.proofs.group_engine.Causes.{calls_keep}
 use Rattle.file_extents.proofs.Chains.{takes_on}
 use Rattle.group_contents.proofs.Steps.{begin_creates, create_next}
 use Rattle.group_contents.proofs.creating.create_by.Goals as goal

@@ -1,4 +1,4 @@
-use Rattle.group_engine.specs.Mounts.{MountedGroup}
+use Rattle.file_extents.specs.group_engine.Mounts.{MountedGroup}
 use Rattle.file_extents.proofs.Chains.{or_shut_goes}
 use Rattle.group_contents.specs.Creating.{NamesFile}
 use Rattle.group_contents.proofs.Steps.{or_shut_ok}

@@ -1,7 +1,7 @@
 use Rattle.std.proofs.Common.{◌≡◌, ◌∙◌, refl, subst, sym}
-use Rattle.catalog.specs.NamePlans.{IsFileBeingMade, IsNamePlan, made_file}
-use Rattle.catalog_tables.specs.Tables.{Catalogued}
-use Rattle.group_engine.proofs.Endings.{on_true}
+use Rattle.file_extents.specs.catalog.NamePlans.{IsFileBeingMade, IsNamePlan, made_file}
+use Rattle.file_extents.specs.catalog_tables.Tables.{Catalogued}
+use Rattle.file_extents.proofs.group_engine.Endings.{on_true}
 use Rattle.file_extents.proofs.Chains.{goes_short, kept}
 use Rattle.group_contents.proofs.Steps.{names}
 use Rattle.group_contents.proofs.creating.name_new.Goals as goal

@@ -1,6 +1,6 @@
 use Rattle.std.proofs.Common.{ap, ◌∙◌}
 use Rattle.asm_group.specs.Shape.{Shape}
-use Rattle.catalog_tables.specs.Tables.{Catalogued}
+use Rattle.file_extents.specs.catalog_tables.Tables.{Catalogued}
 use Rattle.file_extents.proofs.Chains.{kept}
 use Rattle.group_contents.proofs.Chains.{shut_reads}
 use Rattle.group_contents.proofs.Shown.{none_read, stays_itself}

@@ -1,6 +1,6 @@
 use Rattle.std.proofs.Common.{subst}
-use Rattle.group_pieces.specs.Reads.{IsReadCause}
-use Rattle.group_pieces.specs.declared.reading.ReadError.{ReadError}
+use Rattle.file_extents.specs.group_pieces.Reads.{IsReadCause}
+use Rattle.file_extents.specs.group_pieces.declared.reading.ReadError.{ReadError}
 use Rattle.group_contents.proofs.Lost.{lost_at}
 use Rattle.group_contents.proofs.reading.read_one.Goals as goal
 

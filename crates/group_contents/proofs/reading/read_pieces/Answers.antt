@@ -3,10 +3,10 @@ use Rattle.std.proofs.lemmas.Grind.{common_steps}
 use Rattle.std.proofs.lemmas.List.{length-drop, length-take-le}
 use borrow.Rule.Slice.PartMut.{post_of}
 use Rattle.asm_group.specs.Names.{Bytes}
-use Rattle.catalog_tables.specs.Tables.{Catalogued}
-use Rattle.group_engine.proofs.Causes.{calls_keep}
-use Rattle.group_pieces.specs.Usable.{piece_of}
-use Rattle.group_pieces.proofs.Keeping.{no_reads}
+use Rattle.file_extents.specs.catalog_tables.Tables.{Catalogued}
+use Rattle.file_extents.proofs.group_engine.Causes.{calls_keep}
+use Rattle.file_extents.specs.group_pieces.Usable.{piece_of}
+use Rattle.file_extents.proofs.group_pieces.Keeping.{no_reads}
 use Rattle.file_extents.proofs.Chains.{kept, takes_on}
 use Rattle.group_contents.proofs.Chains.{read_on}
 use Rattle.group_contents.specs.Reading.{WhereMounted}

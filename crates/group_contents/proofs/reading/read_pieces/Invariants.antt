@@ -1,6 +1,6 @@
 use Rattle.std.proofs.Common.{◌≡◌, ◌+◌, ◌-◌, ◌≤◌, length}
-use Rattle.group_engine.specs.Own.{KeepsGroup}
-use Rattle.group_pieces.specs.Reads.{ReadsGroup}
+use Rattle.file_extents.specs.group_engine.Own.{KeepsGroup}
+use Rattle.file_extents.specs.group_pieces.Reads.{ReadsGroup}
 use Rattle.group_contents.specs.Reading.{KeepsMounted, WhereMounted}
 use Rattle.group_contents.proofs.Shown.{ShowsFirst}
 use Rattle.group_contents.proofs.reading.read_pieces.Given as goal

@@ -1,10 +1,10 @@
 use Rattle.std.proofs.Common.{inl, inr, subst, ◌⊎◌}
 use Rattle.asm_group.specs.TreeEdits as e
 use Rattle.asm_base.specs.declared.refusal.Refusal.{Refusal}
-use Rattle.catalog.specs.Plans.{IsPlan}
-use Rattle.catalog_tables.specs.Tables.{Catalogued, Tables}
-use Rattle.catalog.specs.TreePlans.{IsTreePlan, IsTreeRefusal}
-use Rattle.group_engine.specs.Commits.{StatusCause}
+use Rattle.file_extents.specs.catalog.Plans.{IsPlan}
+use Rattle.file_extents.specs.catalog_tables.Tables.{Catalogued, Tables}
+use Rattle.file_extents.specs.catalog.TreePlans.{IsTreePlan, IsTreeRefusal}
+use Rattle.file_extents.specs.group_engine.Commits.{StatusCause}
 use Rattle.file_extents.proofs.Chains.{kept}
 use Rattle.group_contents.proofs.Steps.{drops, on_err}
 use Rattle.group_contents.proofs.removing.remove_directory.Goals as goal

@@ -1,4 +1,4 @@
-use Rattle.group_engine.proofs.Causes.{calls_keep}
+use Rattle.file_extents.proofs.group_engine.Causes.{calls_keep}
 use Rattle.group_contents.proofs.Steps.{ok_with, status_next}
 use Rattle.group_contents.proofs.removing.remove_number.Goals as goal
 

@@ -1,8 +1,8 @@
 use Rattle.std.proofs.Common.{ap, subst}
-use Rattle.catalog.specs.FilePlans.{IsRemovalPlan}
-use Rattle.catalog_tables.specs.Tables.{Catalogued}
-use Rattle.group_engine.specs.Mounts.{MountedGroup}
-use Rattle.group_engine.proofs.Endings.{goes_on, on_true}
+use Rattle.file_extents.specs.catalog.FilePlans.{IsRemovalPlan}
+use Rattle.file_extents.specs.catalog_tables.Tables.{Catalogued}
+use Rattle.file_extents.specs.group_engine.Mounts.{MountedGroup}
+use Rattle.file_extents.proofs.group_engine.Endings.{goes_on, on_true}
 use Rattle.file_extents.proofs.Chains.{given_mounted, given_up, goes_short, takes_on}
 use Rattle.group_contents.proofs.Steps.{removal_plan, removes}
 use Rattle.group_contents.proofs.removing.unname.Goals as goal

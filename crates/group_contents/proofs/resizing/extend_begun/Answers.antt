@@ -1,6 +1,6 @@
 use Rattle.std.proofs.Common.{subst}
 use Rattle.asm_base.specs.declared.refusal.Refusal.{Refusal}
-use Rattle.group_engine.proofs.Causes.{calls_keep}
+use Rattle.file_extents.proofs.group_engine.Causes.{calls_keep}
 use Rattle.file_extents.proofs.Chains.{takes_on}
 use Rattle.group_contents.specs.Files.{WriteCause}
 use Rattle.group_contents.proofs.Steps.{fault_given_back, or_shut_keeps, or_shut_writes, shut_later, later_next}

@@ -1,4 +1,4 @@
-use Rattle.group_engine.proofs.Causes.{calls_keep}
+use Rattle.file_extents.proofs.group_engine.Causes.{calls_keep}
 use Rattle.file_extents.proofs.Chains.{takes_on}
 use Rattle.group_contents.proofs.Steps.{homes_given_back, homes_lacked}
 use Rattle.group_contents.proofs.resizing.give_back_more.Goals as goal

@@ -1,4 +1,4 @@
-use Rattle.group_engine.proofs.Causes.{calls_keep}
+use Rattle.file_extents.proofs.group_engine.Causes.{calls_keep}
 use Rattle.file_extents.proofs.Chains.{takes_on}
 use Rattle.group_contents.proofs.Steps.{lacks_later, writes_later}
 use Rattle.group_contents.proofs.resizing.place_more.Goals as goal

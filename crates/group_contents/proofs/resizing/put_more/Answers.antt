@@ -1,5 +1,5 @@
 use Rattle.std.proofs.Common.{ℕ, subst}
-use Rattle.group_engine.proofs.Causes.{calls_keep}
+use Rattle.file_extents.proofs.group_engine.Causes.{calls_keep}
 use Rattle.file_extents.specs.Filling.{PutCause}
 use Rattle.file_extents.proofs.Chains.{takes_on}
 use Rattle.group_contents.proofs.Chains.{puts_write}

@@ -1,11 +1,11 @@
 use Rattle.std.proofs.Common.{refl, subst, true, ◌≡◌}
-use Rattle.catalog.specs.FilePlans.{IsSizePlan}
-use Rattle.catalog_tables.specs.Tables.{Catalogued}
-use Rattle.group_engine.proofs.Endings.{on_true}
+use Rattle.file_extents.specs.catalog.FilePlans.{IsSizePlan}
+use Rattle.file_extents.specs.catalog_tables.Tables.{Catalogued}
+use Rattle.file_extents.proofs.group_engine.Endings.{on_true}
 use Rattle.file_extents.proofs.Chains.{goes_short, kept}
 use Rattle.group_contents.proofs.Steps.{size_plan, sizes}
 use Rattle.group_contents.proofs.resizing.set_size.Goals as goal
-use Rattle.catalog.specs.FilePlans.{is_on_file}
+use Rattle.file_extents.specs.catalog.FilePlans.{is_on_file}
 
 pub returns-then-not-may_size-clause-goes : goal.returns-then-not-may_size-clause-goes
 returns-then-not-may_size-clause-goes g c = goes_short (kept c.args.m.now (g.B.Bay.state c.args.bay.now) c.requires.takes)

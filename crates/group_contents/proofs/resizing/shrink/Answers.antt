@@ -1,4 +1,4 @@
-use Rattle.group_engine.proofs.Causes.{calls_keep, cause_on}
+use Rattle.file_extents.proofs.group_engine.Causes.{calls_keep, cause_on}
 use Rattle.file_extents.proofs.Chains.{given_mounted, given_up, takes_on}
 use Rattle.group_contents.proofs.Steps.{size_cut, status_next}
 use Rattle.group_contents.proofs.resizing.shrink.Goals as goal

@@ -1,4 +1,4 @@
-use Rattle.group_engine.proofs.Causes.{calls_keep}
+use Rattle.file_extents.proofs.group_engine.Causes.{calls_keep}
 use Rattle.file_extents.proofs.Chains.{given_mounted, given_up, takes_on}
 use Rattle.group_contents.proofs.Chains.{write_on}
 use Rattle.group_contents.proofs.Steps.{size_set, status_write_next}

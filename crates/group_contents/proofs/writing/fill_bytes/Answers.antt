@@ -2,7 +2,7 @@ use Rattle.std.proofs.Common.{◌≡◌, ℕ, ◌+◌, ◌-◌, ◌≤◌, lengt
 use Rattle.std.proofs.lemmas.Grind.{common_steps}
 use Rattle.std.proofs.lemmas.List.{length-take-le}
 use Rattle.asm_group.specs.Shape.{Shape}
-use Rattle.group_engine.proofs.Causes.{calls_keep}
+use Rattle.file_extents.proofs.group_engine.Causes.{calls_keep}
 use Rattle.file_extents.specs.Filling.{FailsMore}
 use Rattle.asm_base.specs.declared.refusal.Refusal.TheVariants as cause
 use Rattle.file_extents.specs.Pieces.{IsOfShape}

@@ -1,6 +1,6 @@
 use Rattle.std.proofs.Common.{◌≡◌, ℕ, ◌+◌, ◌-◌, ◌≤◌, Ok, length, replicate}
-use Rattle.group_engine.specs.Mounts.{IsMounted}
-use Rattle.group_engine.specs.Own.{KeepsGroup}
+use Rattle.file_extents.specs.group_engine.Mounts.{IsMounted}
+use Rattle.file_extents.specs.group_engine.Own.{KeepsGroup}
 use Rattle.file_extents.specs.Filling.{FailsMore}
 use Rattle.group_contents.specs.Writing.{IsLayoutOf, WritesSpan}
 use Rattle.group_contents.proofs.writing.fill_bytes.Given as goal

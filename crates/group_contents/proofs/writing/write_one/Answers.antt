@@ -1,8 +1,8 @@
 use Rattle.std.proofs.Common.{Err, subst}
 use Rattle.asm_base.specs.declared.refusal.Refusal.{Refusal}
 use Rattle.asm_base.specs.declared.refusal.Refusal.TheVariants as cause
-use Rattle.group_pieces.specs.Held.{PieceStays}
-use Rattle.group_pieces.specs.Pieces.{WritePieceCause}
+use Rattle.file_extents.specs.group_pieces.Held.{PieceStays}
+use Rattle.file_extents.specs.group_pieces.Pieces.{WritePieceCause}
 use Rattle.group_contents.proofs.Chains.{fault_puts, fills_put, more_failed, piece_fails}
 use Rattle.group_contents.proofs.Written.{piece_gives, piece_refuses, piece_stays}
 use Rattle.group_contents.proofs.writing.write_one.Goals as goal

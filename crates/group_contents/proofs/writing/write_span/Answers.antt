@@ -1,7 +1,7 @@
 use Rattle.std.proofs.Common.{ℕ, ap, subst, ◌∙◌}
 use Rattle.asm_group.specs.Shape.{Shape}
 use Rattle.asm_base.specs.declared.refusal.Refusal.TheVariants as cause
-use Rattle.catalog_tables.specs.Tables.{Catalogued}
+use Rattle.file_extents.specs.catalog_tables.Tables.{Catalogued}
 use Rattle.file_extents.specs.Filling.{PutCause}
 use Rattle.file_extents.proofs.Chains.{kept}
 use Rattle.group_contents.proofs.Chains.{puts_write}

@@ -1,8 +1,8 @@
 use Rattle.std.proofs.Common.{◌≡◌, false, true, sym, subst, ◌∙◌}
 use Rattle.std.proofs.lemmas.Result.{err_from_is_err_and}
 use Rattle.asm_formats.specs.Status.{Status}
-use Rattle.catalog.specs.Plans.{IsPlan}
-use Rattle.catalog_tables.specs.Tables.{Catalogued, Tables}
+use Rattle.group_mount.specs.catalog.Plans.{IsPlan}
+use Rattle.group_mount.specs.catalog_tables.Tables.{Catalogued, Tables}
 use Rattle.group_engine.proofs.Endings.{ends_begin, ends_planned}
 use Rattle.group_disks.specs.Clearing.{is_left_over}
 use Rattle.group_disks.proofs.LeftOver.{drop_surplus, dropped_if, ends_refused, left_gone, left_none, without_record}

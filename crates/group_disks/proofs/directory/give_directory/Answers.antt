@@ -3,7 +3,7 @@ use Rattle.std.proofs.lemmas.Grind.{common_steps}
 use Rattle.bay.proofs.Calls.{started, leaves_begin}
 use Rattle.bay.proofs.Images.{changes-same, same-refl}
 use Rattle.change_directory.specs.StoreLaws.{RegionOf}
-use Rattle.directory_store.specs.Contents.{ArePutItems}
+use Rattle.group_mount.specs.directory_store.Contents.{ArePutItems}
 use Rattle.group_disks.specs.Stages.{first_copy}
 use Rattle.group_disks.proofs.FirstCopy.{shaped, sized_now, none_now}
 use Rattle.group_disks.proofs.FirstStore.{put_items, only_named, only_apart, only_size, only_shut, only_run, gone_cause, never_full, first_moments, first_now, first_store}

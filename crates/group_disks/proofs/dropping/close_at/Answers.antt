@@ -2,8 +2,8 @@ use Rattle.std.proofs.Common.{rules, sym, ap, subst, ◌∙◌, arith}
 use Rattle.std.proofs.lemmas.Grind.{common_steps}
 use Rattle.std.proofs.lemmas.Option.{none-some}
 use Rattle.asm_group.specs.Shape.{Shape}
-use Rattle.catalog_tables.specs.Tables.{Catalogued}
-use Rattle.disk_images.specs.Headers.{HasHeaderSlot}
+use Rattle.group_mount.specs.catalog_tables.Tables.{Catalogued}
+use Rattle.group_mount.specs.disk_images.Headers.{HasHeaderSlot}
 use Rattle.group_disks.proofs.Drops.{no_runs, one_out, one_runs}
 use Rattle.group_disks.proofs.dropping.close_at.Goals as goal
 

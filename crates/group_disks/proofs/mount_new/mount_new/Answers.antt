@@ -2,7 +2,7 @@ use Rattle.std.proofs.Common.{sym, ap, subst, refl}
 use Rattle.std.specs.Prelude.{IsTrue}
 use Rattle.asm_base.specs.Refusals.{said}
 use Rattle.asm_formats.specs.Status.{Status, is_status}
-use Rattle.catalog_tables.specs.Faults.{IsCatalogOf}
+use Rattle.group_mount.specs.catalog_tables.Faults.{IsCatalogOf}
 use Rattle.group_disks.specs.Planned.{Plan}
 use Rattle.group_disks.proofs.FirstBodies.{status_ok}
 use Rattle.group_disks.proofs.FirstMount.{first_mounted, first_slots, first_whole, is_register, stands}

@@ -1,4 +1,4 @@
-use Rattle.catalog_tables.proofs.FileLaws.{layout_is}
+use Rattle.rebalance.proofs.catalog_tables.FileLaws.{layout_is}
 use Rattle.group_engine.proofs.pending.extents_of.Goals as goal
 
 pub extents_for-requires : goal.extents_for-requires

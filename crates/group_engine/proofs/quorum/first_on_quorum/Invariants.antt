@@ -1,5 +1,5 @@
 use Rattle.std.proofs.Common.{◌≡◌}
-use Rattle.catalog_tables.specs.Rules.{first_wrong, is_regular_chunk}
+use Rattle.rebalance.specs.catalog_tables.Rules.{first_wrong, is_regular_chunk}
 use Rattle.group_engine.proofs.quorum.first_on_quorum.Given as goal
 
 abbrev pub invariant-loop-at : goal.invariant-loop-at

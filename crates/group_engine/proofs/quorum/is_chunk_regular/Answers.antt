@@ -2,9 +2,9 @@ use Rattle.std.proofs.Common.{◌≡◌, ◌∙◌, List, Bool, true, false, ◌
 use Rattle.std.specs.BTreeMap.{is_at}
 use Rattle.std.specs.List.{list_all}
 use Rattle.asm_formats.specs.Items.{Homes}
-use Rattle.extent_map.specs.Extents.{Chunked}
+use Rattle.rebalance.specs.extent_map.Extents.{Chunked}
 use Rattle.asm_base.specs.Chunks.{chunk_cmp}
-use Rattle.catalog_tables.specs.Rules.{are_on_regular, is_regular_chunk}
+use Rattle.rebalance.specs.catalog_tables.Rules.{are_on_regular, is_regular_chunk}
 use Rattle.rebalance.proofs.Following.{due_none, due_some}
 use Rattle.group_engine.proofs.quorum.is_chunk_regular.Goals as goal
 

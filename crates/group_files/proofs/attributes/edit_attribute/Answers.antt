@@ -1,6 +1,6 @@
 use Rattle.std.proofs.Common.{inl, refl, subst}
-use Rattle.catalog.specs.FilePlans.{IsAttributeRefusal}
-use Rattle.catalog_tables.specs.Tables.{Catalogued}
+use Rattle.group_engine.specs.catalog.FilePlans.{IsAttributeRefusal}
+use Rattle.group_engine.specs.catalog_tables.Tables.{Catalogued}
 use Rattle.group_files.proofs.Edits.{none_run}
 use Rattle.group_files.proofs.attributes.edit_attribute.Goals as goal
 

@@ -1,7 +1,7 @@
 use Rattle.std.proofs.Common.{inl, refl, subst}
-use Rattle.alias_edits.specs.Edits.{edit_meant}
-use Rattle.catalog_tables.specs.Tables.{Catalogued}
-use Rattle.catalog.specs.TreePlans.{IsTreeRefusal}
+use Rattle.group_engine.specs.alias_edits.Edits.{edit_meant}
+use Rattle.group_engine.specs.catalog_tables.Tables.{Catalogued}
+use Rattle.group_engine.specs.catalog.TreePlans.{IsTreeRefusal}
 use Rattle.group_files.proofs.Edits.{none_run}
 use Rattle.group_files.proofs.names.edit_tree.Goals as goal
 

@@ -1,5 +1,5 @@
 use Rattle.std.proofs.Common.{inl, refl, subst}
-use Rattle.catalog_tables.specs.Tables.{Catalogued}
+use Rattle.group_engine.specs.catalog_tables.Tables.{Catalogued}
 use Rattle.group_files.specs.Edits.{IsTemplateRefusal}
 use Rattle.template_directory.specs.Meant.{edit_meant}
 use Rattle.group_files.proofs.Edits.{none_run}

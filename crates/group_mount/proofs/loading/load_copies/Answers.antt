@@ -1,6 +1,6 @@
 use Rattle.std.proofs.Common.{◌∙◌, [], List, inl, sym, subst}
 use Rattle.bay.proofs.Calls.{on_more}
-use Rattle.change_directory.specs.declared.copy.DirCopy.{DirCopy}
+use Rattle.directory_store.specs.change_directory.declared.copy.DirCopy.{DirCopy}
 use Rattle.directory_store.specs.Copies.{AreCopiesApart, AreNamedCopies, IsSlotOfCopy}
 use Rattle.directory_store.specs.Loading.{AreDurable as AreSettled, LoadCause}
 use Rattle.directory_store.specs.Reading.{ArePartOf}

@@ -1,6 +1,6 @@
 use Rattle.std.proofs.Common.{List, subst}
 use Rattle.asm_base.specs.Records.{Entry}
-use Rattle.catalog_tables.specs.Faults.{IsAtFault, NamesFault}
+use Rattle.catalog.specs.catalog_tables.Faults.{IsAtFault, NamesFault}
 use Rattle.group_mount.proofs.Quorums.{catalog_refused}
 use Rattle.group_mount.proofs.quorum.catalog_of.Goals as goal
 

@@ -1,5 +1,5 @@
 use Rattle.std.proofs.Common.{rules}
-use Rattle.change_directory.specs.declared.copy.DirCopy.{DirCopy}
+use Rattle.directory_store.specs.change_directory.declared.copy.DirCopy.{DirCopy}
 use Rattle.group_mount.proofs.NextRecords.{first_copy, no_disks, rest_copy}
 use Rattle.group_mount.proofs.record.+disks_of.Goals as goal
 

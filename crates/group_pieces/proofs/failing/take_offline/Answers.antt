@@ -2,9 +2,9 @@ use Rattle.std.proofs.Common.{ℕ, ◌∙◌, ap, subst, sym, IsTrue}
 use Rattle.std.proofs.lemmas.Bool.{true≢false}
 use Rattle.asm_formats.specs.Sets.{has_bit}
 use Rattle.asm_formats.specs.Status.{Status, is_status}
-use Rattle.group_engine.specs.NextRecords.{KeepsDisks}
-use Rattle.group_engine.proofs.Endings.{goes_begin, goes_without}
-use Rattle.group_engine.proofs.NextRecords.{same_disks_are_next}
+use Rattle.record_laws.specs.group_engine.NextRecords.{KeepsDisks}
+use Rattle.record_laws.proofs.group_engine.Endings.{goes_begin, goes_without}
+use Rattle.record_laws.proofs.group_engine.NextRecords.{same_disks_are_next}
 use Rattle.group_pieces.specs.Failing.{AreOffline}
 use Rattle.group_pieces.specs.Failing.{FailsModes, FewerServe}
 use Rattle.group_pieces.proofs.FewerServing.{nothing_costs, offline_costs}

@@ -2,11 +2,11 @@ use Rattle.std.proofs.Common.{◌≡◌, ◌∙◌, List, length, sym, subst, ap
 use Rattle.std.proofs.lemmas.List.{length-map}
 use Rattle.asm_formats.specs.Status.{Entry, Status}
 use Rattle.asm_placement.specs.Partners.{partner_set}
-use Rattle.group_engine.specs.NextRecords.{KeepsDisks}
+use Rattle.record_laws.specs.group_engine.NextRecords.{KeepsDisks}
 use Rattle.group_pieces.specs.Failing.{AreOffline}
 use Rattle.std.specs.List.{list_any}
 use Rattle.asm_placement.specs.Partners.{with_partners}
-use Rattle.status_table.specs.Changes.{entries_with_partners}
+use Rattle.record_laws.specs.status_table.Changes.{entries_with_partners}
 use Rattle.group_pieces.specs.Failing.{FailsModes, FewerServe, is_dropping_in}
 use Rattle.group_pieces.proofs.FailedModes.{fails_modes, fails_partners}
 use Rattle.group_pieces.proofs.FewerServing.{fewer_failed, fewer_partnered}

@@ -1,10 +1,10 @@
 use Rattle.std.proofs.Common.{ℕ, ap, sym, subst, ◌∙◌}
-use Rattle.catalog_tables.proofs.AfterLaws.{one_after}
-use Rattle.catalog.specs.Plans.{IsPlan}
-use Rattle.catalog_tables.specs.Tables.{Catalogued, Tables}
-use Rattle.catalog.specs.ExtentPlans.{MayMark, with_marks_changed}
-use Rattle.group_engine.proofs.Endings.{goes_begin, goes_without}
-use Rattle.group_engine.proofs.KeptRecords.{record_stays}
+use Rattle.record_laws.proofs.catalog_tables.AfterLaws.{one_after}
+use Rattle.record_laws.specs.catalog.Plans.{IsPlan}
+use Rattle.record_laws.specs.catalog_tables.Tables.{Catalogued, Tables}
+use Rattle.record_laws.specs.catalog.ExtentPlans.{MayMark, with_marks_changed}
+use Rattle.record_laws.proofs.group_engine.Endings.{goes_begin, goes_without}
+use Rattle.record_laws.proofs.group_engine.KeptRecords.{record_stays}
 use Rattle.group_pieces.proofs.Leaving.{may_mark}
 use Rattle.group_pieces.specs.Marking.{MarksMore}
 use Rattle.group_pieces.proofs.MarkLookups.{marks_more, marks_same}

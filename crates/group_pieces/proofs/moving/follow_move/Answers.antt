@@ -1,7 +1,7 @@
 use Rattle.std.proofs.Common.{length, subst, sym}
-use Rattle.group_engine.specs.Mounts.{MountedGroup}
-use Rattle.group_engine.specs.Own.{KeepsGroup}
-use Rattle.group_engine.proofs.Causes.{calls_keep, gives_up}
+use Rattle.record_laws.specs.group_engine.Mounts.{MountedGroup}
+use Rattle.record_laws.specs.group_engine.Own.{KeepsGroup}
+use Rattle.record_laws.proofs.group_engine.Causes.{calls_keep, gives_up}
 use Rattle.group_pieces.proofs.Steps.{takes_next}
 use Rattle.group_pieces.proofs.Written.{moved_user, moved_writes, unwritten}
 use Rattle.group_pieces.proofs.moving.follow_move.Goals as goal

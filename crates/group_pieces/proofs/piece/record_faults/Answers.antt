@@ -1,6 +1,6 @@
 use Rattle.std.proofs.Common.{sym, subst, ◌∙◌}
-use Rattle.catalog_tables.specs.Tables.{Tables}
-use Rattle.group_engine.proofs.Endings.{goes_on}
+use Rattle.record_laws.specs.catalog_tables.Tables.{Tables}
+use Rattle.record_laws.proofs.group_engine.Endings.{goes_on}
 use Rattle.group_pieces.specs.Marking.{AreMarked, MarksMore}
 use Rattle.group_pieces.proofs.FewerServing.{costs_on}
 use Rattle.group_pieces.proofs.Recording.{held_on}

@@ -1,10 +1,10 @@
 use Rattle.std.proofs.Common.{subst, sym}
 use Rattle.asm_base.specs.declared.refusal.Refusal.{Refusal}
-use Rattle.group_engine.specs.Commits.{StatusCause}
-use Rattle.group_engine.specs.Mounts.{MountedGroup}
-use Rattle.group_engine.specs.Own.{KeepsGroup}
-use Rattle.group_engine.specs.Mounts.{IsMounted}
-use Rattle.group_engine.proofs.Endings.{closed_takes_none, dismounted_takes_none, keeps_closed}
+use Rattle.record_laws.specs.group_engine.Commits.{StatusCause}
+use Rattle.record_laws.specs.group_engine.Mounts.{MountedGroup}
+use Rattle.record_laws.specs.group_engine.Own.{KeepsGroup}
+use Rattle.record_laws.specs.group_engine.Mounts.{IsMounted}
+use Rattle.record_laws.proofs.group_engine.Endings.{closed_takes_none, dismounted_takes_none, keeps_closed}
 use Rattle.group_pieces.proofs.Recording.{held_refused}
 use Rattle.group_pieces.proofs.piece.settle.Goals as goal
 

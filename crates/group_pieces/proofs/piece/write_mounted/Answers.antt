@@ -1,9 +1,9 @@
 use Rattle.std.proofs.Common.{◌≡◌, length, ap, subst, sym, ◌∙◌, Ok, Err}
-use Rattle.group_engine.specs.Mounts.{MountedGroup}
+use Rattle.record_laws.specs.group_engine.Mounts.{MountedGroup}
 use Rattle.asm_base.specs.declared.refusal.Refusal.{Refusal}
 use Rattle.group_pieces.specs.Marking.{AreMarked, MarksMore, left_of}
 use Rattle.group_pieces.specs.Pieces.{WritePieceCause}
-use Rattle.group_engine.proofs.Causes.{calls_keep, cause_on}
+use Rattle.record_laws.proofs.group_engine.Causes.{calls_keep, cause_on}
 use Rattle.group_pieces.proofs.Risen.{rose_later}
 use Rattle.group_pieces.proofs.Steps.{fault_cause, piece_cause, takes_next, unrecorded_stays}
 use Rattle.group_pieces.proofs.UsableCopies.{short_inner}

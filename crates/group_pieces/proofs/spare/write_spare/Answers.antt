@@ -2,7 +2,7 @@ use Rattle.std.proofs.Common.{◌≡◌, ◌+◌, ◌*◌, ℕ, length, ap, subs
 use Rattle.std.proofs.lemmas.Option.{same_Some}
 use Rattle.bay.specs.Image.{Range}
 use Rattle.asm_formats.specs.Items.{Home}
-use Rattle.group_engine.specs.Mounts.{slot_at}
+use Rattle.record_laws.specs.group_engine.Mounts.{slot_at}
 use Rattle.group_pieces.specs.declared.copies.Place.{Place}
 use Rattle.group_pieces.specs.Bytes.{WritesBytes}
 use Rattle.group_pieces.proofs.Keeping.{writes_keep}

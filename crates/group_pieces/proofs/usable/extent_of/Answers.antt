@@ -1,6 +1,6 @@
 use Rattle.std.proofs.Common.{◌≡◌, None, subst}
-use Rattle.catalog_tables.specs.Rules.{first_wrong, is_on_disks}
-use Rattle.catalog_tables.specs.Tables.{Catalogued}
+use Rattle.record_laws.specs.catalog_tables.Rules.{first_wrong, is_on_disks}
+use Rattle.record_laws.specs.catalog_tables.Tables.{Catalogued}
 use Rattle.group_pieces.proofs.Homes.{homes_apart}
 use Rattle.group_pieces.proofs.usable.extent_of.Goals as goal
 

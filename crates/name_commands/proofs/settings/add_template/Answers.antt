@@ -2,7 +2,7 @@ use Rattle.std.proofs.Common.{refl, sym, ap, ◌∙◌}
 use Rattle.asm_world.specs.Settings.{templates_edited}
 use Rattle.asm_world.specs.Statement.{AddTemplate}
 use Rattle.template_directory.specs.Meant.{is_edit}
-use Rattle.group_files.specs.declared.edit.GroupEdit.TheVariants.{Templates}
+use Rattle.session.specs.group_files.declared.edit.GroupEdit.TheVariants.{Templates}
 use Rattle.world_steps.proofs.Said.{templates_have_names}
 use Rattle.name_commands.proofs.AskedEdits.{settings_asked, words_allowed}
 use Rattle.name_commands.proofs.settings.add_template.Goals as goal

@@ -1,7 +1,7 @@
 use Rattle.std.proofs.Common.{refl}
 use Rattle.asm_world.specs.Statement.{DropTemplate}
 use Rattle.template_directory.specs.declared.editing.TemplateEdit.TheVariants.{Drop}
-use Rattle.group_files.specs.declared.edit.GroupEdit.TheVariants.{Templates}
+use Rattle.session.specs.group_files.declared.edit.GroupEdit.TheVariants.{Templates}
 use Rattle.name_commands.proofs.AskedEdits.{settings_asked}
 use Rattle.name_commands.proofs.settings.drop_template.Goals as goal
 

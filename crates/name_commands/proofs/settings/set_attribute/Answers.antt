@@ -3,7 +3,7 @@ use Rattle.asm_base.specs.Names.{name_of}
 use Rattle.asm_base.specs.Refusals.{said}
 use Rattle.asm_base.specs.declared.refusal.Refusal.TheVariants.{BadAttribute}
 use Rattle.asm_world.specs.Statement as s
-use Rattle.group_files.specs.declared.edit.GroupEdit.TheVariants as edits
+use Rattle.session.specs.group_files.declared.edit.GroupEdit.TheVariants as edits
 use Rattle.name_commands.proofs.AskedEdits.{attribute_read, attribute_unread, settings_asked, settings_vain}
 use Rattle.name_commands.proofs.settings.set_attribute.Goals as goal
 

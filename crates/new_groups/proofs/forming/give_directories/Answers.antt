@@ -1,5 +1,5 @@
 use Rattle.std.proofs.Common.{[], List, sym, subst, ◌∙◌}
-use Rattle.change_directory.specs.declared.copy.DirCopy.{DirCopy}
+use Rattle.directory_store.specs.change_directory.declared.copy.DirCopy.{DirCopy}
 use Rattle.directory_store.specs.Copies as copies
 use Rattle.directory_store.specs.Stores.{HaveOneSize}
 use Rattle.new_groups.proofs.DiskLists.{copies_are_apart, copies_named, one_size}

@@ -1,7 +1,7 @@
 use Rattle.std.proofs.Common.{rules, ap, arith, ◌-◌, ◌<◌, List, length, take, drop, subst, inl, inr, refl}
 use Rattle.asm_formats.specs.Among.{IsAmong}
-use Rattle.group_mount.specs.declared.finding.Headed.{Headed}
-use Rattle.page_map.proofs.Changing.{first_and_rest}
+use Rattle.group_disks.specs.group_mount.declared.finding.Headed.{Headed}
+use Rattle.directory_store.proofs.page_map.Changing.{first_and_rest}
 use Rattle.new_groups.proofs.lists.+put_numbers.Goals as goal
 
 pub bounds-places-first-inside : goal.bounds-places-first-inside

@@ -1,5 +1,5 @@
 use Rattle.std.proofs.Common.{ap, ◌∙◌, List, ℕ, Option}
-use Rattle.asm_base.specs.Records.{Entry, record_at}
+use Rattle.allocator.specs.asm_base.Records.{Entry, record_at}
 use Rattle.page_map.specs.Tables.{block_of}
 use Rattle.page_map.proofs.all_pages.page_block.Goals as goal
 

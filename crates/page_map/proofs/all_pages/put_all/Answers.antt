@@ -1,5 +1,5 @@
 use Rattle.std.proofs.Common.{◌≡◌, List, ◌∷◌, ℕ, cond, eqb, subst, Some}
-use Rattle.asm_group.specs.Names.{Bytes}
+use Rattle.asm_formats.specs.asm_group.Names.{Bytes}
 use Rattle.asm_formats.specs.Items.{Key}
 use Rattle.page_map.specs.Applying.{block_at}
 use Rattle.page_map.specs.Listing.{ListsBut}

@@ -1,5 +1,5 @@
 use Rattle.std.proofs.Common.{rules, ◌≡◌, ◌-◌, List, length, take, drop, None, sym, subst}
-use Rattle.asm_base.specs.Records.{Entry}
+use Rattle.allocator.specs.asm_base.Records.{Entry}
 use Rattle.page_map.specs.Tables.{place_at}
 use Rattle.page_map.specs.Applying.{AddsNew}
 use Rattle.page_map.proofs.Adding.{undone}

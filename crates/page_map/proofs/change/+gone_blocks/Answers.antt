@@ -1,5 +1,5 @@
 use Rattle.std.proofs.Common.{◌-◌, List, length, take, drop, sym, subst}
-use Rattle.asm_group.specs.Names.{Bytes}
+use Rattle.asm_formats.specs.asm_group.Names.{Bytes}
 use Rattle.asm_formats.specs.Items.{Key}
 use Rattle.page_map.specs.Applying.{PutOne, GoneBlocks}
 use Rattle.page_map.proofs.Changing.{first_and_rest, on_ok, gone_more}

@@ -1,7 +1,7 @@
 use Rattle.std.proofs.Common.{rules, ◌≡◌, ◌-◌, List, true, false, length, take, drop, sym, subst}
 use Rattle.std.specs.Prelude.{◌&&◌, is_some}
 use Rattle.std.specs.Map.{lookup}
-use Rattle.asm_base.specs.Records.{Entry, is_key}
+use Rattle.allocator.specs.asm_base.Records.{Entry, is_key}
 use Rattle.page_map.specs.Changes.{is_put}
 use Rattle.page_map.specs.Tables.{is_new}
 use Rattle.page_map.proofs.Changing.{first_and_rest, keys_more, keys_same}

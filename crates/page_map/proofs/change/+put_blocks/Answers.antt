@@ -1,6 +1,6 @@
 use Rattle.std.proofs.Common.{◌-◌, List, length, take, drop, sym, subst}
-use Rattle.asm_group.specs.Names.{Bytes}
-use Rattle.asm_base.specs.Records.{Entry}
+use Rattle.asm_formats.specs.asm_group.Names.{Bytes}
+use Rattle.allocator.specs.asm_base.Records.{Entry}
 use Rattle.page_map.specs.Applying.{PutOne, PutBlocks}
 use Rattle.page_map.proofs.Changing.{first_and_rest, on_ok, put_more}
 use Rattle.page_map.proofs.change.+put_blocks.Goals as goal

@@ -1,7 +1,7 @@
 use Rattle.std.proofs.Common.{rules, ◌∙◌, List, ℕ, Option, Some, cond, refl, sym, ap}
 use Rattle.std.specs.Prelude.{is_some}
 use Rattle.asm_formats.specs.Items.{Key}
-use Rattle.asm_base.specs.Records.{Entry, is_key, record_at}
+use Rattle.allocator.specs.asm_base.Records.{Entry, is_key, record_at}
 use Rattle.page_map.specs.Changes.{is_put, last_put}
 use Rattle.page_map.specs.Tables.{place_at}
 use Rattle.page_map.proofs.Keys.{key_itself}

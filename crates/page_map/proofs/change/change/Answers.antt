@@ -1,5 +1,5 @@
 use Rattle.std.proofs.Common.{List, subst}
-use Rattle.asm_base.specs.Records.{Entry}
+use Rattle.allocator.specs.asm_base.Records.{Entry}
 use Rattle.page_map.specs.Applying.{SetsAll}
 use Rattle.page_map.proofs.Applied.{applied}
 use Rattle.page_map.proofs.change.change.Goals as goal

@@ -1,7 +1,7 @@
 use Rattle.std.proofs.Common.{◌≡◌, ◌+◌, ◌∷◌, [], ◌∙◌, ℕ, take, get_or, List, sym, ap, subst}
 use Rattle.std.proofs.lemmas.List.{take_more, take_all}
 use Rattle.std.proofs.lemmas.Result.{err_from_is_err_and}
-use Rattle.asm_base.specs.declared.block.Block.{Block}
+use Rattle.allocator.specs.asm_base.declared.block.Block.{Block}
 use Rattle.page_map.specs.Loaded.{Holds}
 use Rattle.page_map.proofs.Loading.{holds_more, is_table_of, next_is_free, has_no_table, twin_cause}
 use Rattle.page_map.proofs.loaded.from_pages.Goals as goal

@@ -2,8 +2,8 @@ use Rattle.page_map.proofs.Loading.{reads_some, reads_item}
 use Rattle.std.proofs.Common.{◌≡◌, subst, Option}
 use Rattle.std.specs.Option.{option_map}
 use Rattle.asm_formats.specs.Records.{decoded_frame}
-use Rattle.asm_base.specs.Frames.{entry_frame}
-use Rattle.asm_base.specs.Records.{Entry}
+use Rattle.allocator.specs.asm_base.Frames.{entry_frame}
+use Rattle.allocator.specs.asm_base.Records.{Entry}
 use Rattle.page_map.proofs.loaded.read_page.Goals as goal
 
 pub unreachable-requires : goal.unreachable-requires

@@ -1,7 +1,7 @@
 use Rattle.std.proofs.Common.{◌≡◌, ◌∙◌, List, Bool, true, false, ◌&&◌, is_eq, sym, ap}
 use Rattle.std.specs.BTreeMap.{is_at}
 use Rattle.asm_formats.specs.Items.{Homes}
-use Rattle.extent_map.specs.Extents.{Chunked}
+use Rattle.catalog_laws.specs.extent_map.Extents.{Chunked}
 use Rattle.asm_base.specs.Chunks.{chunk_cmp}
 use Rattle.rebalance.specs.Due.{is_due_in}
 use Rattle.rebalance.proofs.Following.{due_none, due_some}

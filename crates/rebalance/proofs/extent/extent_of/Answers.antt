@@ -1,4 +1,4 @@
-use Rattle.catalog_tables.proofs.PlacingLaws.{units_some}
+use Rattle.catalog_laws.proofs.catalog_tables.PlacingLaws.{units_some}
 use Rattle.rebalance.proofs.extent.extent_of.Goals as goal
 
 pub returns-clause-long : goal.returns-clause-long

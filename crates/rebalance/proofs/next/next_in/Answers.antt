@@ -2,7 +2,7 @@ use Rattle.std.proofs.Common.{◌≡◌, ◌∙◌, List, Option, ap, subst, sym
 use Rattle.std.specs.Option.{option_map, unwrap_or}
 use Rattle.asm_formats.specs.Status.{Entry}
 use Rattle.asm_placement.specs.Rebalancing.{Next, done}
-use Rattle.catalog_tables.specs.Tables.{AreTables, Catalogued}
+use Rattle.catalog_laws.specs.catalog_tables.Tables.{AreTables, Catalogued}
 use Rattle.rebalance.specs.Moves.{next_meant}
 use Rattle.rebalance.specs.Searching.{all_said}
 use Rattle.rebalance.specs.Sums.{Sums}

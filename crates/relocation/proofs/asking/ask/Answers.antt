@@ -1,5 +1,5 @@
 use Rattle.std.proofs.Common.{◌∙◌, sym, subst, None}
-use Rattle.group_engine.specs.Mounts.{MountedGroup}
+use Rattle.resync.specs.group_engine.Mounts.{MountedGroup}
 use Rattle.relocation.specs.Shortfalls.{EndCause, OnEnd}
 use Rattle.relocation.proofs.Chains.{flight_lets, flight_mounted, nothing_lets}
 use Rattle.relocation.proofs.asking.ask.Goals as goal

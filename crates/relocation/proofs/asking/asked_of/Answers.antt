@@ -1,6 +1,6 @@
 use Rattle.std.proofs.Common.{subst}
-use Rattle.group_engine.specs.Searches.{IsNextMove}
-use Rattle.rebalance.specs.declared.moves.Next.{Next}
+use Rattle.resync.specs.group_engine.Searches.{IsNextMove}
+use Rattle.resync.specs.rebalance.declared.moves.Next.{Next}
 use Rattle.relocation.specs.Shortfalls.{EndCause}
 use Rattle.relocation.proofs.Shortfalls.{lost_cause, no_end, space_cause}
 use Rattle.relocation.proofs.asking.asked_of.Goals as goal

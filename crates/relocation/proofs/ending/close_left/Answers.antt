@@ -1,6 +1,6 @@
 use Rattle.std.proofs.Common.{sym, ap, subst, ◌∙◌}
 use Rattle.asm_group.specs.Shape.{Shape}
-use Rattle.catalog_tables.specs.Tables.{Catalogued}
+use Rattle.resync.specs.catalog_tables.Tables.{Catalogued}
 use Rattle.disk_images.specs.Headers.{HasHeaderSlot}
 use Rattle.relocation.proofs.Leaving.{closes, closes_nothing}
 use Rattle.relocation.proofs.ending.close_left.Goals as goal

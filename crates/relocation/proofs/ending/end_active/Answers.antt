@@ -1,7 +1,7 @@
 use Rattle.std.proofs.Common.{subst}
-use Rattle.catalog.specs.Plans.{IsPlan}
-use Rattle.catalog_tables.specs.Tables.{Catalogued, Tables}
-use Rattle.group_engine.proofs.Endings.{goes_without}
+use Rattle.resync.specs.catalog.Plans.{IsPlan}
+use Rattle.resync.specs.catalog_tables.Tables.{Catalogued, Tables}
+use Rattle.resync.proofs.group_engine.Endings.{goes_without}
 use Rattle.relocation.specs.Shortfalls.{without_rebalance}
 use Rattle.relocation.proofs.Shortfalls.{active_ended}
 use Rattle.relocation.proofs.ending.end_active.Goals as goal

@@ -1,6 +1,6 @@
 use Rattle.std.proofs.Common.{subst}
 use Rattle.std.specs.Prelude.{OnOk}
-use Rattle.group_engine.specs.Mounts.{MountedGroup}
+use Rattle.resync.specs.group_engine.Mounts.{MountedGroup}
 use Rattle.relocation.specs.Shortfalls.{EndsActive}
 use Rattle.relocation.proofs.Chains.{commits_end, ends_more, lets_takes}
 use Rattle.relocation.proofs.ending.end_with.Goals as goal

@@ -1,5 +1,5 @@
 use Rattle.std.proofs.Common.{Err}
-use Rattle.group_engine.proofs.Members.{lets_join}
+use Rattle.resync.proofs.group_engine.Members.{lets_join}
 use Rattle.relocation.proofs.Chains.{ends_more, lets_takes, nothing_lets}
 use Rattle.relocation.proofs.ending.take_all_out.Goals as goal
 

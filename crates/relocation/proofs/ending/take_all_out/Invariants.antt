@@ -1,5 +1,5 @@
-use Rattle.group_engine.specs.Members.{LetsGo}
-use Rattle.group_engine.specs.Mounts.{IsMounted}
+use Rattle.resync.specs.group_engine.Members.{LetsGo}
+use Rattle.resync.specs.group_engine.Mounts.{IsMounted}
 use Rattle.relocation.proofs.ending.take_all_out.Given as goal
 
 abbrev pub invariant-loop-disk : goal.invariant-loop-disk

@@ -1,5 +1,5 @@
 use Rattle.std.proofs.Common.{sym}
-use Rattle.group_engine.proofs.Endings.{on_true}
+use Rattle.resync.proofs.group_engine.Endings.{on_true}
 use Rattle.resync.proofs.Marks.{may_clear}
 use Rattle.relocation.proofs.Chains.{on_any}
 use Rattle.relocation.proofs.fitting.is_in_place.Goals as goal

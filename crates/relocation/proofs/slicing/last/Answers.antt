@@ -1,4 +1,4 @@
-use Rattle.group_engine.proofs.Members.{lets_join}
+use Rattle.resync.proofs.group_engine.Members.{lets_join}
 use Rattle.relocation.specs.Slices.{SliceCause}
 use Rattle.resync.proofs.Chains.{on_err}
 use Rattle.relocation.proofs.Chains.{lets_takes, slice_on}

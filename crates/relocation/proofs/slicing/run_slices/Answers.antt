@@ -1,8 +1,8 @@
 use Rattle.std.proofs.Common.{Result, subst}
 use Rattle.std.specs.Prelude.{IfErr, IfOk, OnOk}
 use Rattle.asm_base.specs.declared.refusal.Refusal.{Refusal}
-use Rattle.group_engine.specs.Mounts.{IsMounted}
-use Rattle.group_engine.proofs.Members.{lets_join}
+use Rattle.resync.specs.group_engine.Mounts.{IsMounted}
+use Rattle.resync.proofs.group_engine.Members.{lets_join}
 use Rattle.relocation.specs.Shortfalls.{EndCause}
 use Rattle.relocation.specs.Slices.{SliceCause}
 use Rattle.relocation.specs.declared.asking.Slice.{Slice}

@@ -1,4 +1,4 @@
-use Rattle.group_engine.proofs.Endings.{goes_begin}
+use Rattle.resync.proofs.group_engine.Endings.{goes_begin}
 use Rattle.relocation.proofs.steps.announce.Goals as goal
 
 pub returns-then-bits : goal.returns-then-bits

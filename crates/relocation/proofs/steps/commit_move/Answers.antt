@@ -1,7 +1,7 @@
 use Rattle.std.proofs.Common.{◌/◌, subst}
-use Rattle.catalog_tables.specs.Tables.{Catalogued}
-use Rattle.group_engine.specs.Searches.{IsPlanIn}
-use Rattle.group_engine.proofs.Endings.{goes_without}
+use Rattle.resync.specs.catalog_tables.Tables.{Catalogued}
+use Rattle.resync.specs.group_engine.Searches.{IsPlanIn}
+use Rattle.resync.proofs.group_engine.Endings.{goes_without}
 use Rattle.relocation.proofs.steps.commit_move.Goals as goal
 
 pub commit_extent-requires-clause-plan : goal.commit_extent-requires-clause-plan

@@ -1,4 +1,4 @@
-use Rattle.file_extents.proofs.Chains.{kept}
+use Rattle.resync.proofs.file_extents.Chains.{kept}
 use Rattle.relocation.proofs.Chains.{copy_faults}
 use Rattle.relocation.proofs.steps.copy_from.Goals as goal
 

@@ -1,4 +1,4 @@
-use Rattle.file_extents.proofs.Chains.{kept}
+use Rattle.resync.proofs.file_extents.Chains.{kept}
 use Rattle.relocation.proofs.steps.copy_next.Goals as goal
 
 pub returns-in-None-clause-keeps : goal.returns-in-None-clause-keeps

@@ -1,7 +1,7 @@
 use Rattle.std.proofs.Common.{Some, sym, subst}
 use Rattle.asm_base.specs.declared.refusal.Refusal.{Refusal}
-use Rattle.group_engine.proofs.Members.{keeps_lets, lets_join}
-use Rattle.file_extents.proofs.Chains.{takes_on}
+use Rattle.resync.proofs.group_engine.Members.{keeps_lets, lets_join}
+use Rattle.resync.proofs.file_extents.Chains.{takes_on}
 use Rattle.relocation.specs.Slices.{SliceCause}
 use Rattle.relocation.proofs.Chains.{copy_slices, flight_disks, flight_lets, flight_mounted, goes_more, lets_takes, slice_on}
 use Rattle.relocation.proofs.steps.copy_step.Goals as goal

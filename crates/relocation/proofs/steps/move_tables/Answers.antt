@@ -1,5 +1,5 @@
-use Rattle.group_engine.proofs.Endings.{goes_on}
-use Rattle.file_extents.proofs.Chains.{takes_on}
+use Rattle.resync.proofs.group_engine.Endings.{goes_on}
+use Rattle.resync.proofs.file_extents.Chains.{takes_on}
 use Rattle.relocation.proofs.steps.move_tables.Goals as goal
 
 pub put_record-requires-clause-takes : goal.put_record-requires-clause-takes

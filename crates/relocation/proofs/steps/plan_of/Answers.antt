@@ -1,5 +1,5 @@
 use Rattle.std.proofs.Common.{◌/◌}
-use Rattle.group_engine.proofs.Endings.{on_true}
+use Rattle.resync.proofs.group_engine.Endings.{on_true}
 use Rattle.relocation.proofs.Chains.{planned}
 use Rattle.relocation.proofs.steps.plan_of.Goals as goal
 

@@ -1,4 +1,4 @@
-use Rattle.group_engine.proofs.Endings.{goes_without, on_true}
+use Rattle.resync.proofs.group_engine.Endings.{goes_without, on_true}
 use Rattle.relocation.proofs.steps.put_record.Goals as goal
 
 pub set_status-requires : goal.set_status-requires

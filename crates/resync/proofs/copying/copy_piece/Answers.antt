@@ -1,5 +1,5 @@
 use Rattle.std.proofs.Common.{sym, subst}
-use Rattle.group_engine.proofs.Causes.{calls_keep}
+use Rattle.file_extents.proofs.group_engine.Causes.{calls_keep}
 use Rattle.file_extents.proofs.Chains.{takes_on}
 use Rattle.resync.specs.Copying.{CopyCause}
 use Rattle.resync.specs.declared.copying.CopyError.{CopyError}

@@ -1,5 +1,5 @@
 use Rattle.std.proofs.Common.{arith}
-use Rattle.group_engine.proofs.Causes.{calls_keep}
+use Rattle.file_extents.proofs.group_engine.Causes.{calls_keep}
 use Rattle.file_extents.proofs.Chains.{kept, takes_on}
 use Rattle.resync.proofs.Chains.{copies_on}
 use Rattle.resync.proofs.copying.copy_whole.Goals as goal

@@ -1,5 +1,5 @@
 use Rattle.std.proofs.Common.{◌-◌}
-use Rattle.group_engine.specs.Own.{KeepsGroup}
+use Rattle.file_extents.specs.group_engine.Own.{KeepsGroup}
 use Rattle.resync.proofs.copying.copy_whole.Given as goal
 
 abbrev pub invariant-loop-copied : goal.invariant-loop-copied

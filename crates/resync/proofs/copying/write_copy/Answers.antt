@@ -1,7 +1,7 @@
 use Rattle.std.proofs.Common.{ap, ◌∙◌}
 use Rattle.asm_formats.specs.Items.{Home}
-use Rattle.group_engine.specs.Mounts.{slot_at}
-use Rattle.group_engine.proofs.Endings.{on_true}
+use Rattle.file_extents.specs.group_engine.Mounts.{slot_at}
+use Rattle.file_extents.proofs.group_engine.Endings.{on_true}
 use Rattle.file_extents.proofs.Chains.{kept}
 use Rattle.resync.proofs.copying.write_copy.Goals as goal
 

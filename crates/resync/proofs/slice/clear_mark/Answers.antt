@@ -1,7 +1,7 @@
 use Rattle.std.proofs.Common.{◌/◌, sym, subst}
-use Rattle.catalog_tables.specs.Tables.{Catalogued}
-use Rattle.group_engine.specs.Searches.{IsPlanIn}
-use Rattle.group_engine.proofs.Endings.{goes_without}
+use Rattle.file_extents.specs.catalog_tables.Tables.{Catalogued}
+use Rattle.file_extents.specs.group_engine.Searches.{IsPlanIn}
+use Rattle.file_extents.proofs.group_engine.Endings.{goes_without}
 use Rattle.resync.proofs.Marks.{may_clear}
 use Rattle.resync.proofs.slice.clear_mark.Goals as goal
 

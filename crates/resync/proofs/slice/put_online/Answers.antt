@@ -1,8 +1,8 @@
 use Rattle.std.proofs.Common.{sym, subst, IsTrue}
 use Rattle.asm_formats.specs.Status.{Status, is_status}
-use Rattle.group_engine.specs.NextRecords.{KeepsDisks}
-use Rattle.group_engine.proofs.Endings.{goes_on}
-use Rattle.group_engine.proofs.NextRecords.{same_disks_are_next}
+use Rattle.file_extents.specs.group_engine.NextRecords.{KeepsDisks}
+use Rattle.file_extents.proofs.group_engine.Endings.{goes_on}
+use Rattle.file_extents.proofs.group_engine.NextRecords.{same_disks_are_next}
 use Rattle.file_extents.proofs.Chains.{given_mounted, given_up, takes_on}
 use Rattle.resync.proofs.Marks.{mode_disks}
 use Rattle.resync.proofs.slice.put_online.Goals as goal

@@ -1,7 +1,7 @@
 use Rattle.std.proofs.Common.{subst, sym}
 use Rattle.asm_base.specs.declared.refusal.Refusal.{Refusal}
-use Rattle.group_engine.specs.Commits.{StatusCause}
-use Rattle.group_engine.proofs.Causes.{calls_keep}
+use Rattle.file_extents.specs.group_engine.Commits.{StatusCause}
+use Rattle.file_extents.proofs.group_engine.Causes.{calls_keep}
 use Rattle.file_extents.proofs.Chains.{kept, takes_on}
 use Rattle.resync.specs.Syncing.{SyncCause}
 use Rattle.resync.proofs.Chains.{copy_syncs, on_err, status_syncs, sync_on}

@@ -1,4 +1,4 @@
-use Rattle.group_engine.proofs.Causes.{calls_keep}
+use Rattle.file_extents.proofs.group_engine.Causes.{calls_keep}
 use Rattle.file_extents.proofs.Chains.{kept, takes_on}
 use Rattle.resync.specs.Syncing.{SyncCause}
 use Rattle.resync.proofs.Chains.{on_err, sync_on}

@@ -1,5 +1,5 @@
-use Rattle.group_engine.specs.Mounts.{IsMounted}
-use Rattle.group_engine.specs.Own.{KeepsGroup}
+use Rattle.file_extents.specs.group_engine.Mounts.{IsMounted}
+use Rattle.file_extents.specs.group_engine.Own.{KeepsGroup}
 use Rattle.resync.proofs.slice.sync_from.Given as goal
 
 abbrev pub invariant-loop-done : goal.invariant-loop-done

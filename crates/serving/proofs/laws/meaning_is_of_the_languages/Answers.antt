@@ -1,4 +1,4 @@
-use Rattle.session.proofs.Languages.{of_the_languages}
+use Rattle.disk_commands.proofs.session.Languages.{of_the_languages}
 use Rattle.serving.proofs.laws.meaning_is_of_the_languages.Goals as goal
 
 pub returns : goal.returns

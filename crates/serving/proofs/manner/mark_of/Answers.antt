@@ -1,7 +1,7 @@
 use Rattle.std.proofs.Common.{[], ◌∙◌, ap}
 use Rattle.asm_group.specs.Refusal as r
 use Rattle.asm_world.specs.Text.{short_text}
-use Rattle.session.specs.Views.{reply_view}
+use Rattle.disk_commands.specs.session.Views.{reply_view}
 use Rattle.serving.proofs.manner.mark_of.Goals as goal
 
 pub returns-in-Done : goal.returns-in-Done

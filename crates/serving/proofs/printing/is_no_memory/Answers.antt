@@ -1,5 +1,5 @@
 use Rattle.std.proofs.Common.{[], ap}
-use Rattle.session.specs.Views.{reply_view}
+use Rattle.disk_commands.specs.session.Views.{reply_view}
 use Rattle.serving.proofs.Ending.{by_refusal}
 use Rattle.serving.proofs.printing.is_no_memory.Goals as goal
 

@@ -1,5 +1,5 @@
 use Rattle.std.proofs.Common.{ap}
-use Rattle.asm_formats.specs.Items.{Settings}
+use Rattle.template_directory.specs.asm_formats.Items.{Settings}
 use Rattle.attribute_values.proofs.CreationLaws.{usual_allowed}
 use Rattle.attribute_values.proofs.creation.Creation.usual.Goals as goal
 

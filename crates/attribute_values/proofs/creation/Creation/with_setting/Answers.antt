@@ -1,6 +1,6 @@
 use Rattle.std.proofs.Common.{◌≡◌, true, Option, Some, sym, subst, ◌∙◌}
 use Rattle.std.specs.Prelude.{IfSome}
-use Rattle.asm_formats.specs.Items.{Settings, is_item, settings_item}
+use Rattle.template_directory.specs.asm_formats.Items.{Settings, is_item, settings_item}
 use Rattle.attribute_values.specs.Creations.{creation_meant}
 use Rattle.attribute_values.specs.Edits.{settings_with}
 use Rattle.attribute_values.proofs.CreationLaws.{no_setting, setting_is, still_first}

@@ -1,7 +1,7 @@
 use Rattle.std.proofs.Common.{◌≡◌, subst}
-use Rattle.staleness_directory.specs.Marks.{marks_from}
-use Rattle.catalog_tables.specs.MarkedExtents.{first_marked}
-use Rattle.catalog_tables.specs.Tables.{Catalogued}
+use Rattle.catalog_units.specs.staleness_directory.Marks.{marks_from}
+use Rattle.catalog_units.specs.catalog_tables.MarkedExtents.{first_marked}
+use Rattle.catalog_units.specs.catalog_tables.Tables.{Catalogued}
 use Rattle.catalog.proofs.catalog.Catalog.first_marked.Goals as goal
 
 pub returns : goal.returns

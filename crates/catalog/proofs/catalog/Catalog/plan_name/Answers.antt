@@ -1,5 +1,5 @@
 use Rattle.std.proofs.Common.{ap, List, length, ◌+◌}
-use Rattle.alias_tree.specs.Nodes.{Numbered}
+use Rattle.alias_edits.specs.alias_tree.Nodes.{Numbered}
 use Rattle.catalog.specs.NamePlans.{name_meant}
 use Rattle.catalog.proofs.NewNames.{name_parts}
 use Rattle.catalog.proofs.NamePlans.{lacks_room}

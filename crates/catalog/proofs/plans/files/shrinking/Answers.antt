@@ -1,4 +1,4 @@
-use Rattle.catalog_tables.proofs.FileLaws.{layout_is}
+use Rattle.catalog_units.proofs.catalog_tables.FileLaws.{layout_is}
 use Rattle.catalog.proofs.plans.files.shrinking.Goals as goal
 
 pub extents_for-requires : goal.extents_for-requires

@@ -1,7 +1,7 @@
 use Rattle.std.proofs.Common.{List, sym, ap, ◌∙◌}
 use Rattle.catalog_tables.proofs.FaultLaws.{misplaced_is}
 use Rattle.catalog_tables.specs.Placing.{misplaced}
-use Rattle.allocator.specs.UnitMaps.{UnitMap}
+use Rattle.page_map.specs.allocator.UnitMaps.{UnitMap}
 use Rattle.catalog_tables.proofs.parts.Parts.units.Goals as goal
 
 pub returns-in-Some-clause-fault : goal.returns-in-Some-clause-fault

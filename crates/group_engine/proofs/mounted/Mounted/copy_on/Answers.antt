@@ -1,7 +1,7 @@
 use Rattle.std.proofs.Common.{◌≡◌, ◌∙◌, List, true, refl, sym, ap, subst, arith}
 use Rattle.asm_formats.specs.Status.{Entry, Status}
 use Rattle.asm_formats.specs.Among.{IsAmong}
-use Rattle.change_directory.specs.declared.copy.DirCopy.{DirCopy}
+use Rattle.directory_store.specs.change_directory.declared.copy.DirCopy.{DirCopy}
 use Rattle.status_register.specs.Holders.{is_of}
 use Rattle.group_engine.specs.Copying.{IsOneMore}
 use Rattle.group_engine.specs.Mounts.{MountedGroup}

@@ -1,7 +1,7 @@
 use Rattle.std.proofs.Common.{subst}
-use Rattle.catalog.specs.ExtentPlans.{MayCut, with_cut}
-use Rattle.catalog.specs.Plans.{IsPlan}
-use Rattle.catalog_tables.specs.Tables.{Catalogued}
+use Rattle.rebalance.specs.catalog.ExtentPlans.{MayCut, with_cut}
+use Rattle.rebalance.specs.catalog.Plans.{IsPlan}
+use Rattle.rebalance.specs.catalog_tables.Tables.{Catalogued}
 use Rattle.group_engine.proofs.Cuts.{cut_surplus}
 use Rattle.group_engine.proofs.Endings.{ends_begin, ends_planned, ends_without}
 use Rattle.group_engine.proofs.mounted.Mounted.cut_chunk.Goals as goal

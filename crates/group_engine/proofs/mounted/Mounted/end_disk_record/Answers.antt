@@ -1,6 +1,6 @@
 use Rattle.std.proofs.Common.{None, subst}
-use Rattle.catalog.specs.Plans.{IsPlan, with_record}
-use Rattle.catalog_tables.specs.Tables.{Catalogued}
+use Rattle.rebalance.specs.catalog.Plans.{IsPlan, with_record}
+use Rattle.rebalance.specs.catalog_tables.Tables.{Catalogued}
 use Rattle.group_engine.proofs.Endings.{goes_without}
 use Rattle.group_engine.proofs.mounted.Mounted.end_disk_record.Goals as goal
 

@@ -1,6 +1,6 @@
 use Rattle.std.proofs.Common.{sym, subst, ◌∙◌}
-use Rattle.catalog.specs.Plans.{AreOwned, IsPlan}
-use Rattle.catalog_tables.specs.Tables.{Catalogued}
+use Rattle.rebalance.specs.catalog.Plans.{AreOwned, IsPlan}
+use Rattle.rebalance.specs.catalog_tables.Tables.{Catalogued}
 use Rattle.group_engine.specs.Pending.{without_pending}
 use Rattle.group_engine.proofs.Cuts.{operation_surplus}
 use Rattle.group_engine.proofs.Endings.{ended_if, ends_planned, ends_without, on_true}

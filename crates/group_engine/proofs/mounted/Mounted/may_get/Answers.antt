@@ -1,6 +1,6 @@
 use Rattle.std.proofs.Common.{◌∙◌, List, IsTrue, sym, subst}
 use Rattle.asm_formats.specs.Status.{Entry, is_status}
-use Rattle.catalog_tables.specs.Placing.{HasUnits}
+use Rattle.rebalance.specs.catalog_tables.Placing.{HasUnits}
 use Rattle.group_engine.specs.Mounts.{MountedGroup}
 use Rattle.group_engine.proofs.MayGet.{next_of, on_true_of}
 use Rattle.group_engine.proofs.mounted.Mounted.may_get.Goals as goal

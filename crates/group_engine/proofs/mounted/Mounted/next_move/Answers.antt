@@ -1,6 +1,6 @@
 use Rattle.std.proofs.Common.{sym, subst}
 use Rattle.asm_formats.specs.Status.{Status}
-use Rattle.catalog_tables.specs.Placing.{HasUnits}
+use Rattle.rebalance.specs.catalog_tables.Placing.{HasUnits}
 use Rattle.group_engine.specs.Mounts.{MountedGroup}
 use Rattle.group_engine.proofs.mounted.Mounted.next_move.Goals as goal
 

@@ -4,7 +4,7 @@ use Rattle.directory_store.specs.Stores as stores
 use Rattle.group_engine.specs.Forgetting.{KeepsNamed}
 use Rattle.group_engine.proofs.Commits.{keeps_over_row}
 use Rattle.bay.specs.State.{IsSound}
-use Rattle.catalog_tables.specs.Placing.{HasUnits}
+use Rattle.rebalance.specs.catalog_tables.Placing.{HasUnits}
 use Rattle.asm_base.specs.declared.refusal.Refusal.TheVariants as cause
 use Rattle.status_register.specs.Holders.{HoldSlots, SlotsDiffer}
 use Rattle.group_engine.specs.Dropping.{HasWritten}

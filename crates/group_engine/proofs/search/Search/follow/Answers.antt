@@ -1,6 +1,6 @@
 use Rattle.std.proofs.Common.{◌≡◌, ◌∙◌, ◌/◌, Bool, false, ◌&&◌, List, sym, ap, subst}
 use Rattle.asm_formats.specs.Status.{Entry}
-use Rattle.catalog_tables.specs.Rules.{is_regular_chunk}
+use Rattle.rebalance.specs.catalog_tables.Rules.{is_regular_chunk}
 use Rattle.rebalance.specs.Cursors.{IsFollowed, passes_at}
 use Rattle.group_engine.specs.Searches.{SearchState}
 use Rattle.group_engine.proofs.Searches.{followed_search}

@@ -1,7 +1,7 @@
 use Rattle.std.proofs.Common.{◌≡◌, ◌++◌}
 use Rattle.std.specs.Prelude.{IsTrue}
 use Rattle.std.specs.List.{AllByRecursion}
-use Rattle.asm_formats.specs.Items.{is_item}
+use Rattle.asm_base.specs.asm_formats.Items.{is_item}
 use Rattle.asm_base.specs.Records.{Ascend}
 use Rattle.item_table.specs.Tables.{is_before}
 use Rattle.item_table.proofs.table.KeyTable.copy.Given as goal

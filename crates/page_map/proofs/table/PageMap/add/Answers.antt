@@ -1,5 +1,5 @@
 use Rattle.std.proofs.Common.{◌≡◌, List, None, sym, ap, subst, ◌∙◌}
-use Rattle.asm_base.specs.Records.{Entry, record_at}
+use Rattle.allocator.specs.asm_base.Records.{Entry, record_at}
 use Rattle.page_map.specs.Tables.{PageTable, SameTable, Adds, place_at}
 use Rattle.page_map.proofs.Adding.{added_is_table, same_is_table, free_again}
 use Rattle.page_map.proofs.table.PageMap.add.Goals as goal

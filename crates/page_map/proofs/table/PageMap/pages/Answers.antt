@@ -1,7 +1,7 @@
 use Rattle.std.proofs.Common.{◌≡◌, ℕ, List, [], map, sym, subst}
 use Rattle.std.specs.List.Sorted.{IsStrictlySortedBy}
 use Rattle.std.specs.Ordering.{nat_cmp}
-use Rattle.asm_base.specs.declared.block.Block.{Block}
+use Rattle.allocator.specs.asm_base.declared.block.Block.{Block}
 use Rattle.page_map.specs.Applying.{page_number}
 use Rattle.page_map.specs.Listing.{Lists, ListsBut}
 use Rattle.page_map.proofs.Listing.{lists, if_ok_both}

@@ -1,6 +1,6 @@
 use Rattle.std.proofs.Common.{◌≡◌, List, subst, sym}
 use Rattle.asm_formats.specs.Status.{Entry}
-use Rattle.catalog_tables.specs.Tables.{AreTables, Catalogued}
+use Rattle.catalog_laws.specs.catalog_tables.Tables.{AreTables, Catalogued}
 use Rattle.rebalance.specs.Cursors.{followed}
 use Rattle.rebalance.specs.Sums.{Sums}
 use Rattle.rebalance.proofs.Passing.{along}

@@ -1,4 +1,4 @@
-use Rattle.extent_map.specs.Extents.{chunks_from}
+use Rattle.catalog_laws.specs.extent_map.Extents.{chunks_from}
 use Rattle.rebalance.proofs.Finding.{due_found, due_none}
 use Rattle.rebalance.proofs.search.Search.first_due.Goals as goal
 

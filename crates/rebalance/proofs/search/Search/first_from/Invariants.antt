@@ -1,5 +1,5 @@
 use Rattle.std.proofs.Common.{◌≡◌}
-use Rattle.extent_map.specs.Extents.{chunks_from}
+use Rattle.catalog_laws.specs.extent_map.Extents.{chunks_from}
 use Rattle.rebalance.specs.Finding.{found_from}
 use Rattle.rebalance.proofs.search.Search.first_from.Given as goal
 

@@ -1,5 +1,5 @@
 use Rattle.std.proofs.Common.{rules}
-use Rattle.extent_map.specs.Extents.{chunks_from}
+use Rattle.catalog_laws.specs.extent_map.Extents.{chunks_from}
 use Rattle.rebalance.proofs.Finding.{says_found, says_none}
 use Rattle.rebalance.proofs.search.Search.first_said.Goals as goal
 

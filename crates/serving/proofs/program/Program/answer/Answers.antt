@@ -1,8 +1,8 @@
 use Rattle.std.proofs.Common.{refl, ap, ◌||◌, true, false}
 use Rattle.asm_world.specs.Run.{phase_after, mounted_groups, reply_in}
 use Rattle.serving.specs.Manners.{reply_style}
-use Rattle.session.specs.Views.{reply_view, found_view}
-use Rattle.session.proofs.Below.{still_below}
+use Rattle.disk_commands.specs.session.Views.{reply_view, found_view}
+use Rattle.disk_commands.proofs.session.Below.{still_below}
 use Rattle.serving.proofs.Chains.{acts-cut}
 use Rattle.serving.proofs.Moves.{none_expires, acts-answers, effect-printed, mark-whole, mark-cut, pushed}
 use Rattle.serving.proofs.program.Program.answer.Goals as goal

@@ -1,6 +1,6 @@
 use Rattle.std.proofs.Common.{Ok, Err}
 use Rattle.std.proofs.lemmas.Result.{err_from_is_err_and}
-use Rattle.group_turns.specs.Turns.{BeforeText}
+use Rattle.disk_commands.specs.group_turns.Turns.{BeforeText}
 use Rattle.serving.proofs.Stories.{tells_err, tells_none, tells_then}
 use Rattle.serving.proofs.program.Program.expire_groups.Goals as goal
 

@@ -1,6 +1,6 @@
 use Rattle.std.proofs.Common.{Ok}
 use Rattle.serving.specs.Programs.{TellsTurns}
-use Rattle.group_turns.specs.Turns.{BeforeText}
+use Rattle.disk_commands.specs.group_turns.Turns.{BeforeText}
 use Rattle.serving.proofs.program.Program.expire_groups.Given as goal
 
 abbrev pub invariant-loop-place : goal.invariant-loop-place

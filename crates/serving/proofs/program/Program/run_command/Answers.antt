@@ -1,7 +1,7 @@
 use Rattle.std.proofs.Common.{◌≡◌, refl, ap, arith, inl, []}
 use Rattle.std.proofs.lemmas.Result.{err_from_is_err_and}
 use Rattle.asm_world.specs.Run.{Resting}
-use Rattle.session.specs.Sessions.{Knows, roster_of}
+use Rattle.disk_commands.specs.session.Sessions.{Knows, roster_of}
 use Rattle.serving.proofs.Moves.{acts-unmarked, ends-answering, ends-expiring, ends-slicing}
 use Rattle.serving.proofs.program.Program.run_command.Goals as goal
 

@@ -3,9 +3,9 @@ use Rattle.script.specs.Scanning.{place_of, Stands}
 use Rattle.asm_world.specs.World.{World}
 use Rattle.asm_world.specs.Run.{Resting}
 use Rattle.serving.specs.Acts.{Acts}
-use Rattle.session.specs.Desks.{paths_on}
+use Rattle.disk_commands.specs.session.Desks.{paths_on}
 use Rattle.serving.specs.Programs.{scene_of}
-use Rattle.session.specs.Sessions.{AreReady, Knows}
+use Rattle.disk_commands.specs.session.Sessions.{AreReady, Knows}
 use Rattle.serving.specs.Serves.{limit}
 use Rattle.serving.proofs.Serving.{Taken}
 use Rattle.serving.proofs.program.Program.serve.Given as goal

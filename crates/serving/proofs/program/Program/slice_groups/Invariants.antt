@@ -1,6 +1,6 @@
 use Rattle.std.proofs.Common.{Ok}
 use Rattle.serving.specs.Programs.{TellsTurns}
-use Rattle.group_turns.specs.Turns.{AfterReply}
+use Rattle.disk_commands.specs.group_turns.Turns.{AfterReply}
 use Rattle.serving.proofs.program.Program.slice_groups.Given as goal
 
 abbrev pub invariant-loop-place : goal.invariant-loop-place

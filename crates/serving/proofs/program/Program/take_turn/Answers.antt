@@ -1,6 +1,6 @@
 use Rattle.std.proofs.Common.{◌∙◌, ap, sym, refl, true, Ok, Err}
 use Rattle.serving.specs.Manners.{line_in}
-use Rattle.group_turns.specs.Turns.{when_of}
+use Rattle.disk_commands.specs.group_turns.Turns.{when_of}
 use Rattle.serving.specs.declared.stop.Stop.TheVariants.{WriteFault}
 use Rattle.serving.proofs.Stories.{tells_idle, tells_line, tells_stop}
 use Rattle.serving.proofs.program.Program.take_turn.Goals as goal

@@ -2,8 +2,8 @@ use Rattle.std.proofs.Common.{refl, sym, ap, ◌∙◌}
 use Rattle.std.specs.Prelude.{is_none}
 use Rattle.asm_base.specs.Refusals.{said}
 use Rattle.asm_base.specs.declared.refusal.Refusal.TheVariants.{NoGroup}
-use Rattle.group_engine.specs.Making.{dismounted_by}
-use Rattle.group_engine.specs.declared.access.Access.{Access}
+use Rattle.group_contents.specs.group_engine.Making.{dismounted_by}
+use Rattle.group_contents.specs.group_engine.declared.access.Access.{Access}
 use Rattle.session.proofs.Grouped.{entry_on, group_found, mounted_found, paired}
 use Rattle.session.proofs.Outs.{absent_out, shut_out}
 use Rattle.session.proofs.session.Session.mounted.Goals as goal

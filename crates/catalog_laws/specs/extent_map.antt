@@ -1,0 +1,2 @@
+-- The definitions of `extent_map` that crates above name.
+pub use Rattle.catalog.specs.extent_map.Extents

@@ -1,0 +1,2 @@
+-- The definitions of `staleness_directory` that crates above name.
+pub use Rattle.catalog.specs.staleness_directory.Marks

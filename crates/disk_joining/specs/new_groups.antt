@@ -1,0 +1,2 @@
+-- The definitions of `new_groups` that crates above name.
+pub mod declared

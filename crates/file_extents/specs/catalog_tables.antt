@@ -1,0 +1,5 @@
+-- The definitions of `catalog_tables` that crates above name.
+pub use Rattle.catalog_tables.specs.Changing
+pub use Rattle.catalog_tables.specs.Items
+pub use Rattle.catalog_tables.specs.Rules
+pub use Rattle.catalog_tables.specs.Tables

@@ -1,0 +1,2 @@
+-- The definitions of `session_claims` that crates above name.
+pub use Rattle.session.specs.session_claims.Claims

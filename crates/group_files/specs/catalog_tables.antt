@@ -1,0 +1,3 @@
+-- The definitions of `catalog_tables` that crates above name.
+pub use Rattle.group_engine.specs.catalog_tables.Changing
+pub use Rattle.group_engine.specs.catalog_tables.Tables

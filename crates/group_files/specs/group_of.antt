@@ -1,0 +1,4 @@
+-- The definitions of `group_of` that crates above name.
+pub use Rattle.group_engine.specs.group_of.Describing
+pub use Rattle.group_engine.specs.group_of.Edits
+pub use Rattle.group_engine.specs.group_of.Groups

@@ -1,0 +1,2 @@
+-- The definitions of `catalog` that crates above name.
+pub use Rattle.catalog.specs.Plans

@@ -1,0 +1,2 @@
+-- The definitions of `status_register` that crates above name.
+pub mod declared

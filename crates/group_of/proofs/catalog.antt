@@ -1,0 +1,2 @@
+-- What crates above cite of the proofs of `catalog`.
+pub use Rattle.catalog_laws.proofs.catalog.NumberedEntries

@@ -1,0 +1,2 @@
+-- The definitions of `operations_directory` that crates above name.
+pub use Rattle.catalog_laws.specs.operations_directory.Operations

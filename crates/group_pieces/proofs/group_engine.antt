@@ -1,0 +1,8 @@
+-- What crates above cite of the proofs of `group_engine`.
+pub use Rattle.record_laws.proofs.group_engine.Causes
+pub use Rattle.record_laws.proofs.group_engine.Elsewhere
+pub use Rattle.record_laws.proofs.group_engine.Endings
+pub use Rattle.record_laws.proofs.group_engine.Members
+pub use Rattle.record_laws.proofs.group_engine.NextRecords
+pub use Rattle.record_laws.proofs.group_engine.Records
+pub use Rattle.record_laws.proofs.group_engine.Standings

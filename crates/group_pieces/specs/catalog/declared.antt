@@ -1,0 +1,2 @@
+-- The types of `catalog` that crates above name.
+pub use Rattle.record_laws.specs.catalog.declared.new_file

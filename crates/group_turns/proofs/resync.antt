@@ -1,0 +1,2 @@
+-- What crates above cite of the proofs of `resync`.
+pub use Rattle.relocation.proofs.resync.Chains

@@ -1,0 +1,4 @@
+-- What crates above cite of the proofs of `catalog`.
+pub use Rattle.catalog_laws.proofs.catalog.MarkPlans
+pub use Rattle.catalog_laws.proofs.catalog.MovePlans
+pub use Rattle.catalog_laws.proofs.catalog.NumberedEntries

@@ -1,0 +1,7 @@
+-- What crates above cite of the proofs of `catalog_tables`.
+pub use Rattle.catalog_laws.proofs.catalog_tables.AfterLaws
+pub use Rattle.catalog_laws.proofs.catalog_tables.EntryLaws
+pub use Rattle.catalog_laws.proofs.catalog_tables.FileLaws
+pub use Rattle.catalog_laws.proofs.catalog_tables.HomeUnits
+pub use Rattle.catalog_laws.proofs.catalog_tables.PlacingLaws
+pub use Rattle.catalog_laws.proofs.catalog_tables.TableItems

@@ -1,0 +1,6 @@
+-- What crates above cite of the proofs of `group_of`.
+pub use Rattle.group_engine.proofs.group_of.Describes
+pub use Rattle.group_engine.proofs.group_of.EditedGroups
+pub use Rattle.group_engine.proofs.group_of.Extents
+pub use Rattle.group_engine.proofs.group_of.Leading
+pub use Rattle.group_engine.proofs.group_of.Refusals

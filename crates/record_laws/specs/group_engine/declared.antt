@@ -1,0 +1,4 @@
+-- The types of `group_engine` that crates above name.
+pub use Rattle.group_engine.specs.declared.access
+pub use Rattle.group_engine.specs.declared.attached
+pub use Rattle.group_engine.specs.declared.flight

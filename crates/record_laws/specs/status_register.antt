@@ -1,0 +1,5 @@
+-- The definitions of `status_register` that crates above name.
+pub use Rattle.status_register.specs.Elsewhere
+pub use Rattle.status_register.specs.Holders
+pub use Rattle.status_register.specs.Surveys
+pub mod declared

@@ -1,0 +1,2 @@
+-- What crates above cite of the proofs of `resync`.
+pub use Rattle.resync.proofs.Chains

@@ -1,0 +1,2 @@
+-- The definitions of `resync` that crates above name.
+pub mod declared

@@ -1,0 +1,2 @@
+-- What crates above cite of the proofs of `file_extents`.
+pub use Rattle.file_extents.proofs.Chains

@@ -1,0 +1,2 @@
+-- The types of `rebalance` that crates above name.
+pub use Rattle.file_extents.specs.rebalance.declared.moves

@@ -1,0 +1,2 @@
+-- The definitions of `catalog` that crates above name.
+pub use Rattle.group_contents.specs.catalog.TreePlans

@@ -1,0 +1,3 @@
+-- The types of `group_contents` that crates above name.
+pub use Rattle.group_contents.specs.declared.opening
+pub use Rattle.group_contents.specs.declared.work
