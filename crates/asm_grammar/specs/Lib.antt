@@ -1,4 +1,5 @@
 pub mod Bytes
+pub mod FirstWord
 pub mod Argument
 pub mod Word
 pub mod Syntax

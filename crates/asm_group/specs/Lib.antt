@@ -2,6 +2,7 @@ pub mod Names
 pub mod Shape
 pub mod Group
 pub mod NewGroup
+pub mod Modes
 pub mod Refusal
 pub mod Rows
 pub mod Causes

@@ -2,11 +2,8 @@
 use Rattle.std.specs.Prelude.{Bool, true, false, ◌&&◌, ◌||◌, not, Option, Some, None}
 use Rattle.asm_formats.specs.asm_group.declared.Mode.{Mode}
 use Rattle.asm_formats.specs.asm_group.declared.Mode.TheVariants.{Online, Offline, Syncing, Dropping, Forced}
+pub use Rattle.asm_formats.specs.asm_group.Modes.{is_online, serves}
 use Rattle.asm_formats.specs.Status.{Entry}
-
-abbrev pub is_online : Mode → Bool
-is_online Online = true
-is_online _ = false
 
 abbrev pub is_dropping : Mode → Bool
 is_dropping Dropping = true
@@ -26,13 +23,6 @@ stays Online = true
 stays Offline = true
 stays Syncing = true
 stays _ = false
-
--- disks in these modes serve reads and writes
-abbrev pub serves : Mode → Bool
-serves Online = true
-serves Syncing = true
-serves Dropping = true
-serves _ = false
 
 -- disks that may take new copies: Online and regular
 abbrev pub is_target : Entry → Bool

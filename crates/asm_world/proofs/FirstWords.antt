@@ -17,7 +17,8 @@ use Rattle.asm_grammar.proofs.Tests.{both, one_of, is_true_or_false, or_right, s
 use Rattle.asm_grammar.proofs.Whole.{whole_texts}
 use Rattle.asm_group.specs.Names.{Bytes}
 use Rattle.asm_world.specs.Command.{Unreadable}
-use Rattle.asm_world.specs.FirstWord.{is_first_word_byte, is_keyword, opens_statement, begins_blank, statement_or_none, keyword_front}
+use Rattle.asm_grammar.specs.FirstWord.{is_first_word_byte, is_keyword, opens_statement}
+use Rattle.asm_world.specs.FirstWord.{begins_blank, statement_or_none, keyword_front}
 use Rattle.asm_world.specs.Grammar as g
 use Rattle.asm_world.specs.Language.{command_of, command_from, verb_or_none}
 use Rattle.asm_world.specs.VerbMeaning.{verb_of}
@@ -103,6 +104,7 @@ take_two (suc zero) b c rest h = absurd (omega arith)
 take_two (suc (suc n)) b c rest h = let e : suc (suc n) - 2 ≡ n = omega arith in rw e refl
 
 opening_bytes : (text : List ℕ) → opens_statement text ≡ true → (b c : ℕ) × (rest : List ℕ) × (text ≡ b ∷ c ∷ rest) × Opens b c
+unfolding opens_statement
 opening_bytes text h =
     let word = take_while is_first_word_byte text in
     elim (one_of (is_keyword word (codes "CREATE") || is_keyword word (codes "ALTER")) (is_keyword word (codes "DROP")) h) [
@@ -426,6 +428,7 @@ front_by text h no_create no_alter no_drop =
         ∙ ap (λ n. Err n) (front_at text (codes "ALTER") 5 e refl (λ t. refl))
 
 pub verbs_alone : (text : Bytes) → opens_statement text ≡ false → begins_blank text ≡ false → command_of text ≡ verb_or_none (keyword_front text) (whole v.verb End text)
+unfolding opens_statement
 verbs_alone text h b =
     let word = take_while is_first_word_byte text in
     ap (λ r. command_from r (whole v.verb End text)) (front_by text b

@@ -6,6 +6,7 @@ use Rattle.asm_group.specs.declared.GroupKind.{GroupKind}
 use Rattle.asm_group.specs.declared.GroupKind.TheVariants.{Normal}
 use Rattle.asm_group.specs.declared.Mode.{Mode}
 use Rattle.asm_group.specs.declared.Mode.TheVariants as mode
+use Rattle.asm_group.specs.Modes.{is_offline, is_online, serves}
 use Rattle.asm_group.specs.Names.{Bytes, Path, is_same_name}
 use Rattle.asm_group.specs.Group.{Group}
 use Rattle.asm_group.specs.Refusal as r
@@ -137,20 +138,6 @@ is_of_kind (Some s.Regular) quorum = not quorum
 abbrev pub rows_of_failgroup : List DiskRow → Option s.FailgroupKind → Bytes → List DiskRow
 rows_of_failgroup rows kind name =
     filter_map (λ (row : DiskRow). if is_same_name row.failgroup name && is_of_kind kind row.quorum then Some row else None) rows
-
-abbrev pub is_online : Mode → Bool
-is_online mode.Online = true
-is_online other = false
-
-abbrev pub is_offline : Mode → Bool
-is_offline mode.Offline = true
-is_offline other = false
-
--- Online, Syncing and Dropping disks serve
-abbrev pub serves : Mode → Bool
-serves mode.Offline = false
-serves mode.Forced = false
-serves other = true
 
 abbrev pub can_drop : Bool → Mode → Bool
 can_drop true mode.Forced = false

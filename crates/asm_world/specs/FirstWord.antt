@@ -1,8 +1,7 @@
 -- Which command texts are statements: their first word says it, and the two languages are read apart.
-use Rattle.std.specs.Prelude.{◌≡◌, ◌==◌, ◌||◌, ℕ, max, Bool, true, false, not, [], ◌∷◌, map, take_while, Result, Ok, Err, codes}
-use Rattle.std.specs.Char.{to_ascii_lowercase}
-use Rattle.std.specs.Str.{bytes_eq}
+use Rattle.std.specs.Prelude.{◌≡◌, ℕ, max, Bool, true, false, [], ◌∷◌, map, Result, Ok, Err, codes}
 use Rattle.asm_grammar.specs.Bytes.{is_blank, upper, common}
+use Rattle.asm_grammar.specs.FirstWord.{opens_statement}
 use Rattle.asm_grammar.specs.Reading.{whole}
 use Rattle.asm_grammar.specs.Syntax.{Value}
 use Rattle.asm_grammar.specs.Word.{End}
@@ -12,20 +11,6 @@ use Rattle.asm_world.specs.Grammar as g
 use Rattle.asm_world.specs.Language.{command_of, verb_or_none}
 use Rattle.asm_world.specs.Meaning.{statement_of}
 use Rattle.asm_world.specs.Verbs as v
-
--- the first word ends before a blank and before any of ' ( ) , ; and =
-abbrev pub is_first_word_byte : ℕ → Bool
-is_first_word_byte b = not (is_blank b || (b == 39) || (b == 40) || (b == 41) || (b == 44) || (b == 59) || (b == 61))
-
--- in any case
-abbrev pub is_keyword : Bytes → Bytes → Bool
-is_keyword word keyword = bytes_eq (map to_ascii_lowercase word) (map to_ascii_lowercase keyword)
-
--- the first word is CREATE, ALTER or DROP
-abbrev pub opens_statement : Bytes → Bool
-opens_statement bytes =
-    let word = take_while is_first_word_byte bytes in
-    is_keyword word (codes "CREATE") || is_keyword word (codes "ALTER") || is_keyword word (codes "DROP")
 
 abbrev pub begins_blank : Bytes → Bool
 begins_blank [] = false

@@ -3,7 +3,7 @@ use Rattle.std.specs.Prelude.{ℕ, zero, suc, ◌+◌, ◌-◌, ◌*◌, Bool, t
 use Rattle.std.specs.Option.{option_map}
 use Rattle.std.specs.Str.{bytes_eq}
 use Rattle.asm_grammar.specs.Bytes.{is_digit, upper, run_of, after_run}
-use Rattle.asm_grammar.specs.Word.{digits_of, number_of, size_of}
+use Rattle.asm_grammar.specs.Word.{digits_of, number_of, size_of, when}
 use Rattle.asm_group.specs.declared.GroupKind.{GroupKind}
 use Rattle.asm_group.specs.declared.GroupKind.TheVariants.{Normal}
 use Rattle.asm_group.specs.declared.Stripe.{Stripe}
@@ -88,10 +88,6 @@ is_version_rest (suc n) (b ∷ bytes) = (b == 46) && not (length (run_of is_digi
 -- 11.2 and perhaps further parts, at most 30 bytes
 abbrev pub is_version : Bytes → Bool
 is_version bytes = bytes_eq (take 4 bytes) (codes "11.2") && is_version_rest 30 (drop 4 bytes) && nat_le (length bytes) 30
-
-abbrev pub when : {A : Type 0} → Bool → A → Option A
-when true value = Some value
-when false value = None
 
 -- An attribute that may be set at any time. None where there is no such name or value.
 abbrev pub with_attribute : Attributes → s.Attribute → Option Attributes

@@ -4,7 +4,8 @@ use Rattle.std.specs.List.{filter_map}
 use Rattle.asm_group.specs.Names.{Bytes}
 use Rattle.asm_group.specs.Refusal as r
 use Rattle.asm_world.specs.Below.{Below}
-use Rattle.asm_world.specs.Causes.{rows_in, rows_among, rows_of_failgroup, is_offline}
+use Rattle.asm_group.specs.Modes.{is_offline}
+use Rattle.asm_world.specs.Causes.{rows_in, rows_among, rows_of_failgroup}
 use Rattle.asm_world.specs.Command as c
 use Rattle.asm_world.specs.Reply.{Reply, Done, Refused, Rebalanced, Finished, OutOfSpace, LostExtent, MoveFault, MoveEnds, Resynced, Back, LeftMarked, SyncFault, SyncEnds, Moved, Synced}
 use Rattle.asm_world.specs.Reports.{DiskRow}

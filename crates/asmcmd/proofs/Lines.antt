@@ -16,7 +16,8 @@ use Rattle.asm_grammar.proofs.Lowered.{from_fewer}
 use Rattle.asm_grammar.proofs.Tests.{is_true_or_false}
 use Rattle.asm_group.specs.Names.{Bytes}
 use Rattle.asm_world.specs.Command as c
-use Rattle.asm_world.specs.FirstWord.{opens_statement, begins_blank, keyword_front}
+use Rattle.asm_grammar.specs.FirstWord.{opens_statement}
+use Rattle.asm_world.specs.FirstWord.{begins_blank, keyword_front}
 use Rattle.asm_world.specs.Language.{command_of, verb_or_none}
 use Rattle.asm_world.specs.VerbMeaning.{SaysVerb, verb_of}
 use Rattle.asm_world.specs.Verbs as g

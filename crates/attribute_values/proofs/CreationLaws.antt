@@ -9,7 +9,8 @@ use Rattle.asm_group.specs.NewGroup.{usual_attributes}
 use Rattle.template_directory.specs.asm_formats.Items.{Settings, is_item, settings_item}
 use Rattle.asm_grammar.specs.Word.{number_of, size_of}
 use Rattle.asm_world.specs.Settings as world
-use Rattle.asm_world.specs.Settings.{when, with_attribute, with_creation_attribute, with_shape}
+use Rattle.asm_grammar.specs.Word.{when}
+use Rattle.asm_world.specs.Settings.{with_attribute, with_creation_attribute, with_shape}
 use Rattle.attribute_values.specs.Creations.{AreNew, IsNewCreation, creation_meant, shape_if}
 use Rattle.attribute_values.specs.Edits.{settings_with}
 use Rattle.attribute_values.specs.declared.creation.Creation.{Creation}

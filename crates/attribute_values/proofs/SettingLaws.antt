@@ -8,7 +8,8 @@ use Rattle.asm_group.specs.Names.{Bytes, folded_byte, is_same_name}
 use Rattle.asm_group.specs.Group.{Attributes}
 use Rattle.template_directory.specs.asm_formats.Items.{Settings, is_item, is_text, settings_item}
 use Rattle.template_directory.specs.asm_base.Records.{are_bytes}
-use Rattle.asm_world.specs.Settings.{is_version, is_version_rest, repair_seconds, when}
+use Rattle.asm_grammar.specs.Word.{when}
+use Rattle.asm_world.specs.Settings.{is_version, is_version_rest, repair_seconds}
 use Rattle.attribute_values.specs.Edits.{settings_with}
 
 pub record Allowed (s : Settings) : Type 0 where

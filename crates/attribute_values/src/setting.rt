@@ -4,7 +4,8 @@ ghost use Rattle.std.specs.Prelude.{◌≡◌, IfOk, IfSome, true, if◌then◌e
 ghost use Rattle.std.specs.Option.{option_map};
 ghost use Rattle.asm_group.specs.Names.{is_same_name};
 ghost use Rattle.template_directory.specs.asm_formats.Items.{is_item, settings_item};
-ghost use Rattle.asm_world.specs.Settings.{is_version, repair_seconds, when};
+ghost use Rattle.asm_grammar.specs.Word.{when};
+ghost use Rattle.asm_world.specs.Settings.{is_version, repair_seconds};
 ghost use Rattle.attribute_values.specs.Edits.{settings_with};
 
 use crate::repair::repair_seconds;

@@ -7,7 +7,7 @@ use Rattle.asm_formats.specs.Sets.{has_bit}
 use Rattle.asm_formats.specs.Status.{Entry, Status, entry_of}
 use Rattle.asm_group.specs.declared.Mode.{Mode}
 use Rattle.asm_group.specs.declared.Mode.TheVariants as mode
-use Rattle.asm_world.specs.Causes.{is_offline}
+use Rattle.asm_group.specs.Modes.{is_offline}
 use Rattle.disk_images.specs.declared.looking.Looked.{Looked}
 use Rattle.file_extents.specs.group_engine.Mounts.{MountedGroup}
 use Rattle.disk_joining.specs.Causes.{ImageCause, PassBelow, PassesTest, JoinStateCause, may_return}

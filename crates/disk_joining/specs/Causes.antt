@@ -8,7 +8,7 @@ use Rattle.asm_base.specs.declared.refusal.Refusal.{Refusal}
 use Rattle.asm_base.specs.declared.refusal.Refusal.TheVariants as refusal
 use Rattle.asm_formats.specs.Sets.{has_bit}
 use Rattle.asm_formats.specs.Status.{Entry, entry_of}
-use Rattle.asm_world.specs.Causes.{is_offline}
+use Rattle.asm_group.specs.Modes.{is_offline}
 use Rattle.disk_images.specs.Looks.{AreLooked}
 use Rattle.disk_images.specs.declared.looking.Looked.{Looked}
 use Rattle.file_extents.specs.group_engine.Mounts.{MountedGroup, slot_at}

@@ -2,7 +2,8 @@
 use Rattle.std.specs.Prelude.{ℕ, ◌+◌, ◌-◌, Bool, true, false, ◌&&◌, ◌==◌, not, nat_le, List, [], length, map, filter, find, Option, Some, None, is_none, slice_get}
 use Rattle.std.specs.Option.{is_some, option_map}
 use Rattle.asm_group.specs.declared.Mode.{Mode}
-use Rattle.asm_group.specs.declared.Mode.TheVariants.{Offline, Syncing}
+use Rattle.asm_group.specs.declared.Mode.TheVariants.{Syncing}
+use Rattle.asm_group.specs.Modes.{is_offline}
 use Rattle.asm_group.specs.Names.{Bytes}
 use Rattle.asm_group.specs.Shape.{Shape}
 use Rattle.asm_formats.specs.Sets.{elements, has_bit}
@@ -17,10 +18,6 @@ use Rattle.catalog_laws.specs.disk_directory.Disks.{info_at}
 use Rattle.catalog_laws.specs.catalog_tables.Tables.{Catalogued, Tables}
 use Rattle.extent_copies.specs.NewFiles.{serving_groups}
 use Rattle.group_reports.specs.Extents.{all_extents, checked_of, file_units, first_lost}
-
-abbrev pub is_offline : Mode → Bool
-is_offline Offline = true
-is_offline _ = false
 
 abbrev pub is_syncing : Mode → Bool
 is_syncing Syncing = true

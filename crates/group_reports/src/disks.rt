@@ -6,7 +6,7 @@ ghost use Rattle.asm_formats.specs.Items.{Item};
 ghost use Rattle.asm_placement.specs.Space.{total};
 ghost use Rattle.extent_copies.specs.partnership.UnitsOf.{AreUnitsOf};
 ghost use Rattle.group_reports.specs.Disks as specs;
-ghost use Rattle.group_reports.specs.Disks.{counted, free_at, free_in, group_row, is_counted, is_offline, offline_disks, row_by};
+ghost use Rattle.group_reports.specs.Disks.{counted, free_at, free_in, group_row, is_counted, offline_disks, row_by};
 
 use allocator::Units;
 use asm_base::Mode;

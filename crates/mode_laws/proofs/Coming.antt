@@ -11,7 +11,8 @@ use Rattle.asm_placement.specs.DiskSets.{numbers}
 use Rattle.asm_placement.specs.Modes.{leaves}
 use Rattle.group_pieces.proofs.group_engine.Members.{none_filtered}
 use Rattle.group_pieces.proofs.group_engine.Records.{record_parts}
-use Rattle.disk_modes.specs.group_reports.Disks.{is_offline, is_syncing}
+use Rattle.asm_group.specs.Modes.{is_offline}
+use Rattle.disk_modes.specs.group_reports.Disks.{is_syncing}
 use Rattle.status_table.specs.Changes.{entry_with_mode, inserted, status_with_mode}
 use Rattle.mode_laws.specs.Coming.{Happens, JoiningChanges, LeavingChanges, OnlineChanges, SyncChanges}
 use Rattle.mode_laws.specs.Events.{EntryChange, ModeChange, ModeEvent, by_joining, by_leaving, by_online, by_sync, mode_after, times_after, offline_times}

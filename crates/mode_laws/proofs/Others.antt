@@ -21,7 +21,8 @@ use Rattle.group_mount.proofs.NextRecords.{makes}
 use Rattle.group_mount.specs.declared.finding.Headed.{Headed}
 use Rattle.group_mount.specs.declared.quorum.Quorate.{Quorate}
 use Rattle.group_pieces.specs.Failing.{entry_failed, taken_off}
-use Rattle.disk_modes.specs.group_reports.Disks.{is_due, is_offline, may_go, number_of}
+use Rattle.asm_group.specs.Modes.{is_offline}
+use Rattle.disk_modes.specs.group_reports.Disks.{is_due, may_go, number_of}
 use Rattle.mode_laws.specs.Events.{EntryChange, ModeChange, ModeEvent, by_expiry, by_fault, by_mark, by_missing}
 use Rattle.mode_laws.specs.Others.{FailedServe, ExpiryChanges, ExpiryTakes, FailedAreTaken, FailedChanges, MountChanges, MountFinds, WriteFailed, TakingOverChanges, a_mark, is_away, repair_at}
 use Rattle.mode_laws.specs.Statements.{group_entries}

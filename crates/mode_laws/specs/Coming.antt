@@ -3,7 +3,8 @@ use Rattle.std.specs.Prelude.{◌≡◌, ℕ, true, Some, None, IsTrue}
 use Rattle.asm_group.specs.declared.Mode.TheVariants.{Online, Syncing}
 use Rattle.asm_formats.specs.Status.{Entry, Status, entry_of, is_status}
 use Rattle.asm_placement.specs.Modes.{leaves}
-use Rattle.disk_modes.specs.group_reports.Disks.{is_offline, is_syncing}
+use Rattle.asm_group.specs.Modes.{is_offline}
+use Rattle.disk_modes.specs.group_reports.Disks.{is_syncing}
 use Rattle.status_table.specs.Changes.{status_with_entry, status_with_mode, status_without_entry}
 use Rattle.mode_laws.specs.Events.{ModeChange, ModeEvent, by_joining, by_leaving, by_online, by_sync}
 

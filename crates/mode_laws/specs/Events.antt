@@ -4,7 +4,8 @@ use Rattle.asm_group.specs.declared.Mode.{Mode}
 use Rattle.asm_group.specs.declared.Mode.TheVariants.{Online, Offline, Syncing, Dropping, Forced}
 use Rattle.asm_formats.specs.Status.{Entry, entry_of}
 use Rattle.asm_placement.specs.Modes.{is_dropping, is_forced, is_online, leaves, serves}
-use Rattle.disk_modes.specs.group_reports.Disks.{is_offline, is_syncing}
+use Rattle.asm_group.specs.Modes.{is_offline}
+use Rattle.disk_modes.specs.group_reports.Disks.{is_syncing}
 
 -- What happens to a disk in a call.
 pub data ModeEvent : Type 0 where

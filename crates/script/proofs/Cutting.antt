@@ -9,7 +9,8 @@ use Rattle.std.specs.List.{prefix_len}
 use Rattle.std.specs.Str.{bytes_eq}
 use Rattle.std.specs.Char.{to_ascii_lowercase}
 use Rattle.asm_grammar.specs.Bytes.{is_blank}
-use Rattle.script.specs.Script.{Place, between, comment, line, statement, quoted, place_at, begins_comment, is_word_byte, is_keyword, opens_statement, onto, onto_at, cut}
+use Rattle.asm_grammar.specs.FirstWord.{is_first_word_byte, is_keyword, opens_statement}
+use Rattle.script.specs.Script.{Place, between, comment, line, statement, quoted, place_at, begins_comment, onto, onto_at, cut}
 use Rattle.script.specs.Scanning.{IsOpen, onto_all, Leads, FirstIs, Unended}
 
 -- a test is true or false, with the equation
@@ -32,12 +33,12 @@ front-more p (b ∷ bs) more short = on_test (p b)
     front-goes_on p b (bs ++ more) t ∙ ap suc (front-more p bs more (omega (arith, longer, short))) ∙ sym longer)
     (λ f. front-stops p b (bs ++ more) f ∙ sym (front-stops p b bs f))
 
-pub opens-more : (bs more : List ℕ) → prefix_len is_word_byte bs < length bs → opens_statement (bs ++ more) ≡ opens_statement bs
+pub opens-more : (bs more : List ℕ) → prefix_len is_first_word_byte bs < length bs → opens_statement (bs ++ more) ≡ opens_statement bs
 unfolding opens_statement
 opens-more bs more short =
-    let same : take (prefix_len is_word_byte (bs ++ more)) (bs ++ more) ≡ take (prefix_len is_word_byte bs) bs =
-    ap (λ n. take n (bs ++ more)) (front-more is_word_byte bs more short)
-    ∙ take-append-le (prefix_len is_word_byte bs) bs more (omega arith) in
+    let same : take (prefix_len is_first_word_byte (bs ++ more)) (bs ++ more) ≡ take (prefix_len is_first_word_byte bs) bs =
+    ap (λ n. take n (bs ++ more)) (front-more is_first_word_byte bs more short)
+    ∙ take-append-le (prefix_len is_first_word_byte bs) bs more (omega arith) in
     ap (λ word. is_keyword word (codes "CREATE") || is_keyword word (codes "ALTER") || is_keyword word (codes "DROP")) same
 
 pub front-no_less : (p : ℕ → Bool) (bs more : List ℕ) → prefix_len p bs ≤ prefix_len p (bs ++ more)
@@ -115,40 +116,40 @@ no_keyword : (word keyword : List ℕ) → length keyword < length word → is_k
 no_keyword word keyword l = bytes-differ (map to_ascii_lowercase word) (map to_ascii_lowercase keyword)
     (omega (arith, map-length to_ascii_lowercase word, map-length to_ascii_lowercase keyword))
 
-pub opens-short : (bs : List ℕ) → 6 < prefix_len is_word_byte bs → opens_statement bs ≡ false
+pub opens-short : (bs : List ℕ) → 6 < prefix_len is_first_word_byte bs → opens_statement bs ≡ false
 unfolding opens_statement
 opens-short bs l =
-    let word : List ℕ = take (prefix_len is_word_byte bs) bs in
-    let long : length word ≡ prefix_len is_word_byte bs = length-prefix_len is_word_byte bs in
+    let word : List ℕ = take (prefix_len is_first_word_byte bs) bs in
+    let long : length word ≡ prefix_len is_first_word_byte bs = length-prefix_len is_first_word_byte bs in
     rw (no_keyword word (codes "CREATE") (omega (arith, long)), no_keyword word (codes "ALTER") (omega (arith, long)), no_keyword word (codes "DROP") (omega (arith, long))) refl
 
 short-or-all : (n m : ℕ) → n ≤ m → (n < m) ⊎ (n ≡ m)
 short-or-all n m l = on_test (n == m) (λ e. inr (eqb-true n m e)) (λ e. inl (grind (arith, nat_tests)))
 
 -- the first word has its end among the bytes, or is longer than each keyword
-pub opens-decided : (bs more : List ℕ) → (prefix_len is_word_byte bs < length bs) ⊎ (6 < length bs) → prefix_len is_word_byte bs ≤ length bs →
+pub opens-decided : (bs more : List ℕ) → (prefix_len is_first_word_byte bs < length bs) ⊎ (6 < length bs) → prefix_len is_first_word_byte bs ≤ length bs →
     opens_statement (bs ++ more) ≡ opens_statement bs
 opens-decided bs more (inl short) within = opens-more bs more short
-opens-decided bs more (inr long) within = elim (short-or-all (prefix_len is_word_byte bs) (length bs) within) [
+opens-decided bs more (inr long) within = elim (short-or-all (prefix_len is_first_word_byte bs) (length bs) within) [
   | inl short ↦ opens-more bs more short
-  | inr all ↦ opens-short (bs ++ more) (omega (arith, front-no_less is_word_byte bs more)) ∙ sym (opens-short bs (omega arith))
+  | inr all ↦ opens-short (bs ++ more) (omega (arith, front-no_less is_first_word_byte bs more)) ∙ sym (opens-short bs (omega arith))
 ]
 
-off-word : (b k : ℕ) → is_word_byte k ≡ false → is_word_byte b ≡ true → (b == k) ≡ false
+off-word : (b k : ℕ) → is_first_word_byte k ≡ false → is_first_word_byte b ≡ true → (b == k) ≡ false
 off-word b k off word = on_test (b == k)
-    (λ e. absurd (true≢false (sym word ∙ (ap is_word_byte (eqb-true b k e) ∙ off))))
+    (λ e. absurd (true≢false (sym word ∙ (ap is_first_word_byte (eqb-true b k e) ∙ off))))
     (λ e. e)
 
 lone-byte : (b : ℕ) (more : List ℕ) → (b == 45) ≡ false → begins_comment (b ∷ more) ≡ false
 lone-byte b [] e = refl
 lone-byte b (c ∷ more) e = rw e refl
 
-begins-same : (b : ℕ) (bs more : List ℕ) → (prefix_len is_word_byte (b ∷ bs) < length (b ∷ bs)) ⊎ (6 < length (b ∷ bs)) → begins_comment (b ∷ (bs ++ more)) ≡ begins_comment (b ∷ bs)
+begins-same : (b : ℕ) (bs more : List ℕ) → (prefix_len is_first_word_byte (b ∷ bs) < length (b ∷ bs)) ⊎ (6 < length (b ∷ bs)) → begins_comment (b ∷ (bs ++ more)) ≡ begins_comment (b ∷ bs)
 begins-same b [] more (inr l) = absurd (omega arith)
-begins-same b [] more (inl l) = on_test (is_word_byte b)
-    (λ t. absurd (omega (arith, front-goes_on is_word_byte b [] t)))
+begins-same b [] more (inl l) = on_test (is_first_word_byte b)
+    (λ t. absurd (omega (arith, front-goes_on is_first_word_byte b [] t)))
     (λ f. on_test (b == 45)
-    (λ e. absurd (true≢false (ap is_word_byte (sym (eqb-true b 45 e)) ∙ f)))
+    (λ e. absurd (true≢false (ap is_first_word_byte (sym (eqb-true b 45 e)) ∙ f)))
     (λ e. lone-byte b more e))
 begins-same b (c ∷ bs) more d = refl
 
@@ -163,7 +164,7 @@ onto_at-open statement b commands is = refl
 onto_at-open quoted b commands is = refl
 
 pub command-begins : (b : ℕ) (bs : List ℕ) (place : Place) → is_blank b ≡ false → begins_comment (b ∷ bs) ≡ false
-    → (prefix_len is_word_byte (b ∷ bs) < length (b ∷ bs)) ⊎ (6 < length (b ∷ bs)) → prefix_len is_word_byte (b ∷ bs) ≤ length (b ∷ bs)
+    → (prefix_len is_first_word_byte (b ∷ bs) < length (b ∷ bs)) ⊎ (6 < length (b ∷ bs)) → prefix_len is_first_word_byte (b ∷ bs) ≤ length (b ∷ bs)
     → (if opens_statement (b ∷ bs) then statement else line) ≡ place → IsOpen place → Leads between (b ∷ bs) (b ∷ []) place bs
 unfolding cut onto_all
 command-begins b bs place e f decided within is opened closed more =
@@ -172,34 +173,34 @@ command-begins b bs place e f decided within is opened closed more =
     ∙ ap (λ v. if v then statement else line) (opens-decided (b ∷ bs) more decided within) ∙ is in
     ap (λ p. onto_at p b (cut closed p (bs ++ more))) at ∙ onto_at-open place b (cut closed place (bs ++ more)) opened
 
-word-passes : (p : Place) (b : ℕ) (bs : List ℕ) → (p ≡ statement) ⊎ (p ≡ line) → is_word_byte b ≡ true → (closed : Bool) → cut closed p (b ∷ bs) ≡ onto b (cut closed p bs)
+word-passes : (p : Place) (b : ℕ) (bs : List ℕ) → (p ≡ statement) ⊎ (p ≡ line) → is_first_word_byte b ≡ true → (closed : Bool) → cut closed p (b ∷ bs) ≡ onto b (cut closed p bs)
 unfolding cut
 word-passes p b bs (inl e) t closed = rw e (rw (off-word b 59 refl t, off-word b 39 refl t, cut) refl)
 word-passes p b bs (inr e) t closed = rw e (rw (off-word b 10 refl t, cut) refl)
 
-words-open : (p : Place) (bs : List ℕ) → (p ≡ statement) ⊎ (p ≡ line) → length bs ≤ prefix_len is_word_byte bs → (cut false p bs ≡ []) × (cut true p bs ≡ bs ∷ [])
+words-open : (p : Place) (bs : List ℕ) → (p ≡ statement) ⊎ (p ≡ line) → length bs ≤ prefix_len is_first_word_byte bs → (cut false p bs ≡ []) × (cut true p bs ≡ bs ∷ [])
 unfolding cut
 words-open p [] (inl e) l = rw e (refl, refl)
 words-open p [] (inr e) l = rw e (refl, refl)
-words-open p (b ∷ bs) which l = on_test (is_word_byte b)
-    (λ t. let rest = words-open p bs which (omega (arith, front-goes_on is_word_byte b bs t, l)) in
+words-open p (b ∷ bs) which l = on_test (is_first_word_byte b)
+    (λ t. let rest = words-open p bs which (omega (arith, front-goes_on is_first_word_byte b bs t, l)) in
     let passes : (closed : Bool) → cut closed p (b ∷ bs) ≡ onto b (cut closed p bs) = λ closed. word-passes p b bs which t closed in
     (passes false ∙ ap (onto b) rest.0, passes true ∙ ap (onto b) rest.1))
-    (λ f. absurd (omega (arith, front-stops is_word_byte b bs f)))
+    (λ f. absurd (omega (arith, front-stops is_first_word_byte b bs f)))
 
 waits-at : (b : ℕ) (bs : List ℕ) (place : Place) → place_at (b ∷ bs) ≡ place → (place ≡ statement) ⊎ (place ≡ line) → IsOpen place
-    → prefix_len is_word_byte (b ∷ bs) ≡ length (b ∷ bs) → Unended between (b ∷ bs) 0
+    → prefix_len is_first_word_byte (b ∷ bs) ≡ length (b ∷ bs) → Unended between (b ∷ bs) 0
 unfolding cut
 waits-at b bs place at which opened all =
     let first : (closed : Bool) → cut closed between (b ∷ bs) ≡ onto b (cut closed place bs) =
     λ closed. ap (λ p. onto_at p b (cut closed p bs)) at ∙ onto_at-open place b (cut closed place bs) opened in
-    let long : length bs ≤ prefix_len is_word_byte bs = on_test (is_word_byte b)
-    (λ t. omega (arith, front-goes_on is_word_byte b bs t, all))
-    (λ f. absurd (omega (arith, front-stops is_word_byte b bs f, all))) in
+    let long : length bs ≤ prefix_len is_first_word_byte bs = on_test (is_first_word_byte b)
+    (λ t. omega (arith, front-goes_on is_first_word_byte b bs t, all))
+    (λ f. absurd (omega (arith, front-stops is_first_word_byte b bs f, all))) in
     let rest = words-open place bs which long in
     (first false ∙ ap (onto b) rest.0, first true ∙ ap (onto b) rest.1)
 
-pub word-waits : (b : ℕ) (bs : List ℕ) → is_blank b ≡ false → begins_comment (b ∷ bs) ≡ false → prefix_len is_word_byte (b ∷ bs) ≡ length (b ∷ bs) → Unended between (b ∷ bs) 0
+pub word-waits : (b : ℕ) (bs : List ℕ) → is_blank b ≡ false → begins_comment (b ∷ bs) ≡ false → prefix_len is_first_word_byte (b ∷ bs) ≡ length (b ∷ bs) → Unended between (b ∷ bs) 0
 word-waits b bs e f all = on_test (opens_statement (b ∷ bs))
     (λ o. waits-at b bs statement (place-of-first b bs e f ∙ ap (λ v. if v then statement else line) o) (inl refl) tt all)
     (λ o. waits-at b bs line (place-of-first b bs e f ∙ ap (λ v. if v then statement else line) o) (inr refl) tt all)

@@ -3,7 +3,8 @@ use Rattle.std.proofs.Common.{◌≡◌, ◌≢◌, ◌==◌, ◌<◌, ◌≤◌
 use Rattle.std.proofs.lemmas.Bool.{eqb-true}
 use Rattle.std.specs.List.{prefix_len}
 use Rattle.asm_grammar.specs.Bytes.{is_blank}
-use Rattle.script.specs.Script.{between, comment, line, statement, quoted, begins_comment, is_word_byte, opens_statement}
+use Rattle.asm_grammar.specs.FirstWord.{is_first_word_byte, opens_statement}
+use Rattle.script.specs.Script.{between, comment, line, statement, quoted, begins_comment}
 use Rattle.script.specs.Scanning.{Steps}
 use Rattle.script.specs.declared.cutter.State.TheVariants.{Gap, Comment, Line, Statement, Quote}
 use Rattle.script.specs.declared.cutter.Step.TheVariants.{Skip, Take, EndsBefore, EndsWith, Waits}
@@ -17,21 +18,21 @@ pub gap-comment : (rest : List ℕ) → begins_comment rest ≡ true → Steps b
 gap-comment [] e = tt
 gap-comment (b ∷ bs) e = (tt, tt, comment-begins b bs e)
 
-pub gap-waits : (rest : List ℕ) → is_blank (get_or rest 0 0) ≡ false → begins_comment rest ≡ false → length rest < 7 → prefix_len is_word_byte rest ≡ length rest → Steps between rest Waits
+pub gap-waits : (rest : List ℕ) → is_blank (get_or rest 0 0) ≡ false → begins_comment rest ≡ false → length rest < 7 → prefix_len is_first_word_byte rest ≡ length rest → Steps between rest Waits
 gap-waits [] e f l w = tt
 gap-waits (b ∷ bs) e f l w = (refl, word-waits b bs e f w, omega arith)
 
 abbrev pub Decided : List ℕ → Type 0
-Decided rest = (prefix_len is_word_byte rest < length rest) ⊎ (6 < length rest)
+Decided rest = (prefix_len is_first_word_byte rest < length rest) ⊎ (6 < length rest)
 
-pub shorter : (rest : List ℕ) (n : ℕ) → n ≡ prefix_len is_word_byte rest → n ≤ length rest → n ≢ length rest → Decided rest
+pub shorter : (rest : List ℕ) (n : ℕ) → n ≡ prefix_len is_first_word_byte rest → n ≤ length rest → n ≢ length rest → Decided rest
 shorter rest n e l d = inl (omega arith)
 
-pub gap-statement : (rest : List ℕ) → is_blank (get_or rest 0 0) ≡ false → begins_comment rest ≡ false → Decided rest → prefix_len is_word_byte rest ≤ length rest → opens_statement rest ≡ true → Steps between rest (Take Statement)
+pub gap-statement : (rest : List ℕ) → is_blank (get_or rest 0 0) ≡ false → begins_comment rest ≡ false → Decided rest → prefix_len is_first_word_byte rest ≤ length rest → opens_statement rest ≡ true → Steps between rest (Take Statement)
 gap-statement [] e f d w o = tt
 gap-statement (b ∷ bs) e f d w o = (refl, tt, command-begins b bs statement e f d w (ap (λ v. if v then statement else line) o) tt)
 
-pub gap-line : (rest : List ℕ) → is_blank (get_or rest 0 0) ≡ false → begins_comment rest ≡ false → Decided rest → prefix_len is_word_byte rest ≤ length rest → opens_statement rest ≡ false → Steps between rest (Take Line)
+pub gap-line : (rest : List ℕ) → is_blank (get_or rest 0 0) ≡ false → begins_comment rest ≡ false → Decided rest → prefix_len is_first_word_byte rest ≤ length rest → opens_statement rest ≡ false → Steps between rest (Take Line)
 gap-line [] e f d w o = tt
 gap-line (b ∷ bs) e f d w o = (refl, tt, command-begins b bs line e f d w (ap (λ v. if v then statement else line) o) tt)
 

@@ -1,20 +1,7 @@
 -- How a script is cut into commands.
-use Rattle.std.specs.Prelude.{◌==◌, ◌||◌, ℕ, Bool, true, false, not, if◌then◌else◌, List, [], ◌∷◌, map, take_while, codes, ◌&&◌}
-use Rattle.std.specs.Char.{to_ascii_lowercase}
-use Rattle.std.specs.Str.{bytes_eq}
+use Rattle.std.specs.Prelude.{◌==◌, ℕ, Bool, true, false, if◌then◌else◌, List, [], ◌∷◌, ◌&&◌}
 use Rattle.asm_grammar.specs.Bytes.{is_blank}
-
--- a word ends before a blank and before any of ' ( ) , ; and =
-abbrev pub is_word_byte : ℕ → Bool
-is_word_byte b = not (is_blank b || (b == 39) || (b == 40) || (b == 41) || (b == 44) || (b == 59) || (b == 61))
-
-abbrev pub is_keyword : List ℕ → List ℕ → Bool
-is_keyword word keyword = bytes_eq (map to_ascii_lowercase word) (map to_ascii_lowercase keyword)
-
--- the first word is CREATE, ALTER or DROP, in any case
-unfoldable pub opens_statement : List ℕ → Bool
-opens_statement bytes = let word = take_while is_word_byte bytes in
-    is_keyword word (codes "CREATE") || is_keyword word (codes "ALTER") || is_keyword word (codes "DROP")
+use Rattle.asm_grammar.specs.FirstWord.{opens_statement}
 
 -- the bytes begin with --
 abbrev pub begins_comment : List ℕ → Bool

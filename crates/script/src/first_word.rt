@@ -3,7 +3,8 @@
 ghost use Rattle.std.specs.Prelude.{◌≡◌, ◌≤◌, length};
 ghost use Rattle.std.specs.List.{prefix_len};
 ghost use Rattle.asm_grammar.specs.Bytes.{is_blank};
-ghost use Rattle.script.specs.Script.{begins_comment, is_word_byte, is_keyword, opens_statement};
+ghost use Rattle.asm_grammar.specs.FirstWord.{is_first_word_byte, is_keyword, opens_statement};
+ghost use Rattle.script.specs.Script.{begins_comment};
 
 pub fn begins_comment(bytes: &[u8]) -> bool
     ensures { result ≡ begins_comment bytes.now }
@@ -17,14 +18,14 @@ pub fn is_blank(byte: u8) -> bool
     matches!(byte, b' ' | b'\t' | b'\r' | b'\n')
 }
 
-fn is_word_byte(byte: u8) -> bool
-    ensures { result ≡ is_word_byte byte }
+fn is_first_word_byte(byte: u8) -> bool
+    ensures { result ≡ is_first_word_byte byte }
 {
     !is_blank(byte) && !matches!(byte, b'\'' | b'(' | b')' | b',' | b';' | b'=')
 }
 
 /// Whether the first word is CREATE, ALTER or DROP.
-#[tactic(auto, unfolding(crate::specs::Script::opens_statement))]
+#[tactic(auto, unfolding(asm_grammar::specs::FirstWord::opens_statement))]
 pub fn opens_statement(bytes: &[u8]) -> bool
     ensures { result ≡ opens_statement bytes.now }
 {
@@ -35,10 +36,10 @@ pub fn opens_statement(bytes: &[u8]) -> bool
 /// How many bytes the first word has.
 pub fn word_len(bytes: &[u8]) -> usize
     ensures within { result ≤ length bytes.now }
-    ensures len { result ≡ prefix_len is_word_byte bytes.now }
+    ensures len { result ≡ prefix_len is_first_word_byte bytes.now }
 {
     for (at, byte) in bytes.iter().enumerate() {
-        if !is_word_byte(*byte) {
+        if !is_first_word_byte(*byte) {
             return at;
         }
     }

@@ -82,8 +82,8 @@ module _ (slots id : ℕ) (image : bay.Image) (read : List Member) (are : (m : M
 
   listed_disk : (slot : ℕ) → slot < slots → get_or (metadata_of (disks_in slots image)) slot (metadata []) ≡ disk_in image slot
   listed_disk slot lt =
-      let listed = disks_are_listed slots slot image lt in
-      get_or-map metadata (disks_in slots image) slot [] (metadata []) (omega (arith, lt, listed.0)) ∙ ap metadata listed.1
+      let slots_of_disk = disks_are_listed slots slot image lt in
+      get_or-map metadata (disks_in slots image) slot [] (metadata []) (omega (arith, lt, slots_of_disk.0)) ∙ ap metadata slots_of_disk.1
 
   -- the member of the image that was read
   abbrev There : Member → Type 0

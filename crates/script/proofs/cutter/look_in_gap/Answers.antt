@@ -1,5 +1,5 @@
 use Rattle.std.proofs.Common.{sym, inr, ◌∙◌, arith}
-use Rattle.script.specs.Script.{is_word_byte}
+use Rattle.asm_grammar.specs.FirstWord.{is_first_word_byte}
 use Rattle.script.proofs.Looking.{gap-blank, gap-comment, gap-waits, gap-statement, gap-line, shorter, Decided}
 use Rattle.script.proofs.Cutting.{within-front}
 use Rattle.script.proofs.cutter.look_in_gap.Goals as goal
@@ -20,7 +20,7 @@ returns-then-opens_statement c =
       | else-rest-lt7-via-then-rest-lt7+else-word_len-rest w ↦ shorter _ _ w.word_len.ensures.len w.word_len.ensures.within w.if-word_len-rest.false
       | else-rest-lt7-via-else-rest-lt7 w ↦ inr (omega (arith, w.if-rest-lt7.false))
     ] in
-    gap-statement _ (sym c.if-is_blank.ensures) (sym c.if-begins_comment.ensures) d (within-front is_word_byte _) (sym c.if-opens_statement.ensures)
+    gap-statement _ (sym c.if-is_blank.ensures) (sym c.if-begins_comment.ensures) d (within-front is_first_word_byte _) (sym c.if-opens_statement.ensures)
 
 pub returns-else-opens_statement : goal.returns-else-opens_statement
 returns-else-opens_statement c =
@@ -28,4 +28,4 @@ returns-else-opens_statement c =
       | else-rest-lt7-via-then-rest-lt7+else-word_len-rest w ↦ shorter _ _ w.word_len.ensures.len w.word_len.ensures.within w.if-word_len-rest.false
       | else-rest-lt7-via-else-rest-lt7 w ↦ inr (omega (arith, w.if-rest-lt7.false))
     ] in
-    gap-line _ (sym c.if-is_blank.ensures) (sym c.if-begins_comment.ensures) d (within-front is_word_byte _) (sym c.if-opens_statement.ensures)
+    gap-line _ (sym c.if-is_blank.ensures) (sym c.if-begins_comment.ensures) d (within-front is_first_word_byte _) (sym c.if-opens_statement.ensures)
