@@ -1,4 +1,3 @@
-pub use Rattle.alias_tree.proofs as alias_tree
 pub mod Allowed
 pub mod Growing
 pub mod Done
@@ -10,3 +9,4 @@ pub mod Names
 pub mod PlanLaws
 pub mod Fronts
 pub mod NewNodes
+pub mod alias_tree

@@ -1,3 +1,3 @@
-pub use Rattle.alias_tree.specs as alias_tree
 pub mod Edits
 pub mod Filing
+pub mod alias_tree

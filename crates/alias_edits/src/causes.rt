@@ -10,8 +10,7 @@ ghost use Rattle.asm_formats.specs.Nodes.{entry_of_node, node_kind};
 ghost use Rattle.alias_tree.specs.Trees.{tree_of};
 
 use crate::editing::TreeError;
-use alias_tree::asm_base_crate::{Name, NodeKind, Path};
-use alias_tree::{AliasTree, Node};
+use alias_tree::{AliasTree, Name, Node, NodeKind, Path};
 
 /// The parts of a path but the last.
 pub(crate) fn above(path: &Path) -> &[Name]

@@ -8,8 +8,7 @@ ghost use Rattle.alias_tree.specs.Nodes.{IsTable, number_of, with_node, without_
 ghost use Rattle.alias_tree.specs.Trees.{tree_of};
 
 use crate::causes::{above, file_at};
-use alias_tree::asm_base_crate::{NoMemory, NodeKind, Path};
-use alias_tree::{AliasTree, Node};
+use alias_tree::{AliasTree, NoMemory, Node, NodeKind, Path};
 
 /// Puts a node at a path where none is.
 pub(crate) fn make(

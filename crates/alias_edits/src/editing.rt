@@ -15,8 +15,7 @@ use crate::causes::{
 use crate::changing::{
     add_alias, drop_alias, drop_dir, drop_names, make, rename_alias, rename_dir,
 };
-use alias_tree::AliasTree;
-use alias_tree::asm_base_crate::{Name, NoMemory, NodeKind, Path};
+use alias_tree::{AliasTree, Name, NoMemory, NodeKind, Path};
 
 /// An edit of the tree of names. It heeds the parts of a path alone, not the group's name.
 #[derive(Debug, Drop)]

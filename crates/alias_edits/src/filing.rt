@@ -14,8 +14,7 @@ ghost use Rattle.alias_tree.specs.Trees.{tree_of};
 
 use crate::causes::{above, is_directory};
 use crate::editing::TreeError;
-use alias_tree::asm_base_crate::{Name, NoMemory, NodeKind, Path};
-use alias_tree::{AliasTree, Node};
+use alias_tree::{AliasTree, Name, NoMemory, Node, NodeKind, Path};
 use std::alloc::Global;
 
 /// The directories of a path that are there.

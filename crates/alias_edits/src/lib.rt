@@ -1,7 +1,7 @@
 //! Edits of the tree of names: making, renaming and dropping directories and aliases, and the names of files.
 #![tactic(auto)]
 
-pub use alias_tree as alias_tree_crate;
+pub use alias_tree::{Node, node_record};
 
 mod causes;
 mod changing;

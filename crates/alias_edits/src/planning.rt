@@ -9,8 +9,7 @@ ghost use Rattle.alias_tree.specs.Trees.{tree_of};
 
 use crate::changing::{dropped_alias, dropped_dir, moved_alias, moved_dir, new_alias, new_node};
 use crate::editing::{TreeEdit, TreeError, refusal};
-use alias_tree::asm_base_crate::{NoMemory, NodeKind};
-use alias_tree::{AliasTree, Node};
+use alias_tree::{AliasTree, NoMemory, Node, NodeKind};
 use std::alloc::Global;
 
 /// What an edit changes of the nodes.

@@ -1,4 +1,3 @@
-pub use Rattle.asm_base.proofs as asm_base
 pub mod Readings
 pub mod PlaceLaws
 pub mod IndexLaws
@@ -20,3 +19,4 @@ pub mod FreeNumbers
 pub mod Spelled
 pub mod Lookups
 pub mod FileNodes
+pub mod asm_base

@@ -1,4 +1,3 @@
-pub use Rattle.asm_base.specs as asm_base
 pub mod Nodes
 pub mod Readings
 pub mod Places
@@ -8,3 +7,4 @@ pub mod FileNames
 pub mod Faults
 pub mod Opening
 pub mod Spelling
+pub mod asm_base

@@ -2,7 +2,7 @@
 //! nodes. A name leads to the same node in any case of its letters.
 #![tactic(auto)]
 
-pub use asm_base as asm_base_crate;
+pub use asm_base::{Name, NoMemory, NodeKind, Path};
 
 mod faults;
 mod files;

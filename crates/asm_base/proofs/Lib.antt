@@ -1,4 +1,3 @@
-pub use Rattle.asm_formats.proofs as asm_formats
 pub mod Exact
 pub mod Numbers
 pub mod Sets
@@ -15,3 +14,4 @@ pub mod PathLaws
 pub mod WordLaws
 pub mod Copying
 pub mod Chunks
+pub mod asm_formats

@@ -1,5 +1,3 @@
-pub use Rattle.asm_formats.specs as asm_formats
-pub use Rattle.asm_group.specs as asm_group
 pub mod Readings
 pub mod Cursors
 pub mod Records
@@ -14,3 +12,5 @@ pub mod Words
 pub mod Chunks
 pub mod Parts
 pub mod Blocks
+pub mod asm_formats
+pub mod asm_group

@@ -1,4 +1,3 @@
-pub use Rattle.asm_group.specs as asm_group
 pub mod Bytes
 pub mod Regions
 pub mod Codes
@@ -27,3 +26,4 @@ pub mod PageLaws
 pub mod Among
 pub mod Damage
 pub mod Nodes
+pub mod asm_group

@@ -1,4 +1,3 @@
-pub use Rattle.asm_placement.proofs as asm_placement
 pub mod Membership
 pub mod Codecs
 pub mod Members
@@ -35,3 +34,4 @@ pub mod Enough
 pub mod Held
 pub mod MirroredGroup
 pub mod MirroredRows
+pub mod asm_placement

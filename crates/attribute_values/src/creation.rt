@@ -9,9 +9,8 @@ ghost use Rattle.attribute_values.specs.Creations.{AreNew, IsNewCreation, creati
 use crate::number::{number_of, size_of};
 use crate::setting::{is_same, with_attribute};
 use std::alloc::Global;
-use template_directory::Settings;
-use template_directory::asm_base_crate::{
-    GroupKind, NoMemory, Shape, is_dir_blocks, is_step, is_unit_size,
+use template_directory::{
+    GroupKind, NoMemory, Settings, Shape, is_dir_blocks, is_step, is_unit_size,
 };
 
 /// What a creation gives of a new group: its shape and its settings.

@@ -2,7 +2,9 @@
 //! creation makes of them.
 #![tactic(auto)]
 
-pub use template_directory as template_directory_crate;
+pub use template_directory::{
+    Settings, Template, TemplateEdit, are_allowed, settings_value, system, templates_value,
+};
 
 mod creation;
 mod digits;

@@ -11,8 +11,7 @@ ghost use Rattle.attribute_values.specs.Edits.{settings_with};
 use crate::repair::repair_seconds;
 use crate::version::is_version;
 use std::alloc::Global;
-use template_directory::Settings;
-use template_directory::asm_base_crate::{NoMemory, Text, folded_byte};
+use template_directory::{NoMemory, Settings, Text, folded_byte};
 
 /// The settings in which an attribute that may be set at any time has this value. None where no such attribute has the name,
 /// or it can't have the value.

@@ -1,14 +1,3 @@
-pub use Rattle.alias_edits.proofs as alias_edits
-pub use Rattle.alias_edits.proofs.alias_tree as alias_tree
-pub use Rattle.asm_base.proofs as asm_base
-pub use Rattle.catalog_units.proofs.catalog_tables as catalog_tables
-pub use Rattle.catalog_units.proofs.disk_directory as disk_directory
-pub use Rattle.catalog_units.proofs.extent_map as extent_map
-pub use Rattle.catalog_units.proofs.file_directory as file_directory
-pub use Rattle.catalog_units.proofs.operations_directory as operations_directory
-pub use Rattle.catalog_units.proofs.page_map as page_map
-pub use Rattle.catalog_units.proofs.staleness_directory as staleness_directory
-pub use Rattle.attribute_values.proofs.template_directory as template_directory
 pub mod ExtentCounts
 pub mod StoreLaws
 pub mod PutItems
@@ -39,3 +28,14 @@ pub mod AppendPlans
 pub mod CutPlans
 pub mod DiskUnitLaws
 pub mod ResizedUnits
+pub mod alias_edits
+pub mod alias_tree
+pub mod asm_base
+pub mod catalog_tables
+pub mod disk_directory
+pub mod extent_map
+pub mod file_directory
+pub mod operations_directory
+pub mod page_map
+pub mod staleness_directory
+pub mod template_directory

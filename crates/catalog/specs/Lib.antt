@@ -1,19 +1,3 @@
-pub use Rattle.alias_edits.specs as alias_edits
-pub use Rattle.alias_edits.specs.alias_tree as alias_tree
-pub use Rattle.catalog_units.specs.allocator as allocator
-pub use Rattle.asm_base.specs as asm_base
-pub use Rattle.asm_placement.specs as asm_placement
-pub use Rattle.attribute_values.specs.asm_world as asm_world
-pub use Rattle.attribute_values.specs as attribute_values
-pub use Rattle.catalog_units.specs.catalog_tables as catalog_tables
-pub use Rattle.catalog_units.specs.disk_directory as disk_directory
-pub use Rattle.catalog_units.specs.extent_map as extent_map
-pub use Rattle.catalog_units.specs.file_directory as file_directory
-pub use Rattle.catalog_units.specs.operations_directory as operations_directory
-pub use Rattle.catalog_units.specs.page_map as page_map
-pub use Rattle.catalog_units.specs.partnership as partnership
-pub use Rattle.catalog_units.specs.staleness_directory as staleness_directory
-pub use Rattle.attribute_values.specs.template_directory as template_directory
 pub mod Applying
 pub mod Spares
 pub mod Plans
@@ -23,3 +7,19 @@ pub mod ExtentPlans
 pub mod FilePlans
 pub mod NamePlans
 pub mod NameChecks
+pub mod alias_edits
+pub mod alias_tree
+pub mod allocator
+pub mod asm_base
+pub mod asm_placement
+pub mod asm_world
+pub mod attribute_values
+pub mod catalog_tables
+pub mod disk_directory
+pub mod extent_map
+pub mod file_directory
+pub mod operations_directory
+pub mod page_map
+pub mod partnership
+pub mod staleness_directory
+pub mod template_directory

@@ -8,9 +8,7 @@ ghost use Rattle.catalog_units.specs.catalog_tables.Faults.{IsAtFault, IsCatalog
 
 use crate::spare::Spare;
 use asm_base::{Records, Shape};
-use catalog_units::allocator_crate::Units;
-use catalog_units::catalog_tables_crate::{CatalogError, Parts};
-use catalog_units::status_table_crate::PstRecord;
+use catalog_units::{CatalogError, Parts, PstRecord, Units};
 use std::alloc::Global;
 use std::marker::Model;
 

@@ -9,9 +9,7 @@ ghost use Rattle.catalog_units.specs.catalog_tables.Placing.{HasUnits, HaveSameU
 
 use crate::catalog::Catalog;
 use asm_base::{MOST_DISKS, NoMemory};
-use catalog_units::allocator_crate::Units;
-use catalog_units::catalog_tables_crate::{are_fit, disk_units, have_units};
-use catalog_units::status_table_crate::{PstEntry, PstRecord};
+use catalog_units::{PstEntry, PstRecord, Units, are_fit, disk_units, have_units};
 use std::alloc::Global;
 
 impl Catalog {

@@ -1,13 +1,11 @@
 //! The catalog of a group: its tables, with the units of its disks, as one value, and the plans of its changes.
 #![tactic(auto)]
 
-pub use alias_edits as alias_edits_crate;
-pub use attribute_values as attribute_values_crate;
-pub use attribute_values::template_directory_crate;
-pub use catalog_units::{
-    catalog_tables_crate, disk_directory_crate, extent_map_crate, file_directory_crate,
-    partnership_crate,
+pub use alias_edits::TreeEdit;
+pub use attribute_values::{
+    Creation, Settings, are_allowed, settings_value, system, templates_value,
 };
+pub use catalog_units::{CatalogError, DiskInfo, FileHead, disk_record, has_home, partners};
 
 mod applying;
 mod catalog;

@@ -14,7 +14,7 @@ ghost use Rattle.catalog_units.specs.file_directory.Files.{head_at};
 
 use crate::catalog::Catalog;
 use asm_base::{Name, NoMemory, Path};
-use catalog_units::extent_map_crate::Chunk;
+use catalog_units::Chunk;
 use std::alloc::Global;
 use std::collections::btree_map::{Iter, Range};
 

@@ -8,8 +8,7 @@ ghost use Rattle.catalog_units.specs.catalog_tables.MarkedExtents.{HasNoMarkedHo
 
 use crate::catalog::Catalog;
 use asm_base::{ExtentId, Homes};
-use catalog_units::catalog_tables_crate::has_stale_on;
-use catalog_units::staleness_directory_crate::Marks;
+use catalog_units::{Marks, has_stale_on};
 
 impl Catalog {
     /// The first extent from `least` on, by file and index, that has a stale mark of a copy on a disk. It looks at the

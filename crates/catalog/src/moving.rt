@@ -12,8 +12,7 @@ ghost use Rattle.catalog_units.specs.catalog_tables.Rules.{are_on_disks};
 
 use crate::catalog::Catalog;
 use asm_base::{ExtentId, Home, Homes};
-use catalog_units::allocator_crate::Units;
-use catalog_units::catalog_tables_crate::are_on_disks;
+use catalog_units::{Units, are_on_disks};
 
 impl Catalog {
     /// Whether a copy of an extent may move to a home: the extent is there and may have the copy, its other copies are on

@@ -11,13 +11,10 @@ ghost use Rattle.catalog_units.specs.catalog_tables.Faults.{IsCatalog};
 ghost use Rattle.catalog_units.specs.catalog_tables.Rules.{blocks_used, marks_of};
 
 use crate::catalog::Catalog;
-use alias_edits::alias_tree_crate::Node;
+use alias_edits::Node;
 use asm_base::{ExtentId, Homes, Path, Shape};
-use attribute_values::template_directory_crate::{Settings, Template};
-use catalog_units::allocator_crate::Units;
-use catalog_units::catalog_tables_crate::DiskInfo;
-use catalog_units::file_directory_crate::FileHead;
-use catalog_units::operations_directory_crate::Pending;
+use attribute_values::{Settings, Template};
+use catalog_units::{DiskInfo, FileHead, Pending, Units};
 
 impl Catalog {
     /// The group's shape. Its clause also shows that the rules hold.
@@ -79,7 +76,7 @@ impl Catalog {
     pub fn units_of(&self, index: u32) -> u32
         ensures { result ≡ units_of self.now.shape.step index }
     {
-        catalog_units::striping_crate::units_of(self.shape.step, index as u64)
+        catalog_units::units_of(self.shape.step, index as u64)
     }
 
     /// The units of all disk numbers, those of disk k at place k. Its clause also shows that the rules hold.

@@ -6,7 +6,7 @@ ghost use Rattle.catalog.specs.declared.spare.Spare.TheVariants.{Ready};
 ghost use Rattle.catalog_units.specs.catalog_tables.Tables.{AreTables};
 
 use asm_base::{Change, Key, List, NoMemory, Value};
-use catalog_units::catalog_tables_crate::Parts;
+use catalog_units::Parts;
 use std::alloc::Global;
 
 /// Tables beside those of a catalog, with the change that lies between the two.

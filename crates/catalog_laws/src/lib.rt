@@ -1,10 +1,7 @@
 //! What holds of every catalog: laws of its tables, of its items and of its plans.
 #![tactic(auto)]
 
-pub use catalog::alias_edits_crate::TreeEdit;
-pub use catalog::extent_map_crate::has_home;
-pub use catalog::file_directory_crate::FileHead;
-pub use catalog::{Catalog, FileBy, NewFile};
+pub use catalog::{Catalog, FileBy, FileHead, NewFile, TreeEdit, has_home};
 
 mod laws;
 

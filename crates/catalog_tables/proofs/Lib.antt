@@ -1,11 +1,3 @@
-pub use Rattle.asm_base.proofs as asm_base
-pub use Rattle.disk_directory.proofs as disk_directory
-pub use Rattle.extent_map.proofs as extent_map
-pub use Rattle.file_directory.proofs as file_directory
-pub use Rattle.operations_directory.proofs as operations_directory
-pub use Rattle.page_map.proofs as page_map
-pub use Rattle.staleness_directory.proofs as staleness_directory
-pub use Rattle.template_directory.proofs as template_directory
 pub mod FaultLaws
 pub mod FileLaws
 pub mod HomeUnits
@@ -21,3 +13,11 @@ pub mod NewRecords
 pub mod NumberedLists
 pub mod EntryLaws
 pub mod SameUnits
+pub mod asm_base
+pub mod disk_directory
+pub mod extent_map
+pub mod file_directory
+pub mod operations_directory
+pub mod page_map
+pub mod staleness_directory
+pub mod template_directory

@@ -16,8 +16,8 @@ use crate::placing::{place_in, unused_units};
 use crate::reading::{chunk_key, node_key};
 use asm_base::{Key, SETTINGS_KEY, Shape, record_kind};
 use disk_directory::disk_key;
-use page_map::allocator_crate::Units;
-use partnership::status_table_crate::PstEntry;
+use page_map::Units;
+use partnership::PstEntry;
 use std::alloc::Global;
 
 impl Parts {

@@ -12,8 +12,7 @@ use crate::parts::Parts;
 use asm_base::{Home, Homes};
 use file_directory::FileHead;
 use operations_directory::Pending;
-use partnership::entry_of;
-use partnership::status_table_crate::PstEntry;
+use partnership::{PstEntry, entry_of};
 
 impl Parts {
     /// The first chunk that has no record of stale marks.

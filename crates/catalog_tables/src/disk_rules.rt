@@ -8,7 +8,7 @@ ghost use Rattle.catalog_tables.specs.Rules.{blocks_used, first_unknown, has_inf
 use crate::parts::Parts;
 use asm_base::Shape;
 use disk_directory::DiskInfo;
-use partnership::status_table_crate::PstEntry;
+use partnership::PstEntry;
 
 /// Blocks of a directory copy that are kept for the rebalance and the pending operation.
 const KEPT: u64 = 2;

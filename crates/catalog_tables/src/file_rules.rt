@@ -12,7 +12,7 @@ ghost use Rattle.catalog_tables.specs.Rules.{HasExtents, IsShortFile, LacksExten
 use crate::parts::Parts;
 use asm_base::{Homes, Shape};
 use file_directory::FileHead;
-use partnership::striping_crate::{Layout, extents_for};
+use partnership::{Layout, extents_for};
 
 impl Parts {
     /// The first file of which an extent that it has by its size hasn't all its copies.

@@ -12,9 +12,8 @@ ghost use Rattle.catalog_tables.specs.Placing.{AreFit, IsFit, after_chunks, afte
 
 use asm_base::{Home, Homes, MOST_DISKS, NoMemory, Shape};
 use extent_map::ExtentMap;
-use page_map::allocator_crate::Units;
-use partnership::status_table_crate::PstEntry;
-use partnership::striping_crate::units_of;
+use page_map::Units;
+use partnership::{PstEntry, units_of};
 use std::alloc::Global;
 
 /// Makes the units of the homes of all chunks used. The first chunk that has a home whose units aren't free.

@@ -14,10 +14,7 @@ ghost use Rattle.catalog_units.specs.Giving.{AreUnitsOfKept, IsNewKey, IsOld, ke
 ghost use Rattle.catalog_tables.specs.Placing.{after_chunks};
 
 use crate::giving::{give_at, mark_at};
-use catalog_tables::Parts;
-use catalog_tables::allocator_crate::Units;
-use catalog_tables::asm_base_crate::{Change, Key, Shape, Value, record_kind};
-use catalog_tables::extent_map_crate::ExtentMap;
+use catalog_tables::{Change, ExtentMap, Key, Parts, Shape, Units, Value, record_kind};
 
 /// The key at a place of a change, where the records that are put stand before the keys that go.
 fn key_at(put: &[(Key, Value)], gone: &[Key], place: usize) -> Key

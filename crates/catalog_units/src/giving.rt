@@ -8,11 +8,7 @@ ghost use Rattle.catalog_tables.specs.extent_map.Changing.{AreChunks};
 ghost use Rattle.catalog_units.specs.Giving.{AreUnitsOfKept, but};
 ghost use Rattle.catalog_tables.specs.Placing.{after_homes, home_placed, home_taken};
 
-use catalog_tables::allocator_crate::Units;
-use catalog_tables::asm_base_crate::{Home, Homes};
-use catalog_tables::extent_map_crate::ExtentMap;
-use catalog_tables::place_chunk;
-use catalog_tables::striping_crate::units_of;
+use catalog_tables::{ExtentMap, Home, Homes, Units, place_chunk, units_of};
 
 /// Gives the units of a chunk's homes back, where the chunk is there. Whichever chunks the units are those of, they are
 /// those of the others then.

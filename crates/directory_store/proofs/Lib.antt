@@ -1,4 +1,3 @@
-pub use Rattle.page_map.proofs as page_map
 pub mod CopyLaws
 pub mod Steps
 pub mod Rows
@@ -17,3 +16,4 @@ pub mod Loads
 pub mod Taken
 pub mod LoadCauses
 pub mod Standing
+pub mod page_map

@@ -1,5 +1,3 @@
-pub use Rattle.change_directory.specs as change_directory
-pub use Rattle.page_map.specs as page_map
 pub mod Contents
 pub mod Copies
 pub mod Stores
@@ -12,3 +10,5 @@ pub mod Laws
 pub mod Commits
 pub mod Making
 pub mod Renewals
+pub mod change_directory
+pub mod page_map

@@ -1,7 +1,7 @@
 //! The header of a disk, which makes it a member of a group, and its one spelling in a block.
 #![tactic(auto)]
 
-pub use asm_base as asm_base_crate;
+pub use asm_base::{BLOCK, Block, LEAST_SIZE, NoMemory, Shape};
 
 mod header;
 mod reading;

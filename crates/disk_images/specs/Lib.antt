@@ -1,3 +1,3 @@
-pub use Rattle.disk_forming.specs as disk_forming
 pub mod Looks
 pub mod Headers
+pub mod disk_forming

@@ -12,8 +12,7 @@ ghost use Rattle.disk_images.specs.Headers.{HasHeaderSlot, IsBlank};
 
 use bay::{Bay, Fault};
 use disk_forming::{close_all_gates, header_slot};
-use disk_header::asm_base_crate::{Block, Shape};
-use disk_header::{Header, encode};
+use disk_header::{Block, Header, Shape, encode};
 use gate_slot::{close_gate, put};
 
 /// Closes every gate of a disk, the header's first: before another gate is written no image that a stop may leave has

@@ -1,7 +1,7 @@
 //! What the program's images show, and how a disk gets its open header and loses it, for each shape and sector.
 #![tactic(auto)]
 
-pub use disk_header as disk_header_crate;
+pub use disk_header::{Header, decode, encode};
 
 mod headers;
 mod laws;

@@ -12,8 +12,7 @@ ghost use Rattle.disk_images.specs.Looks.{Looks, IsAllowed, HeaderIs, IsLooked, 
 
 use bay::{Bay, BayError, Fault};
 use disk_forming::header_slot;
-use disk_header::asm_base_crate::{BLOCK, Block, LEAST_SIZE, NoMemory};
-use disk_header::{Header, decode};
+use disk_header::{BLOCK, Block, Header, LEAST_SIZE, NoMemory, decode};
 use gate_slot::is_open;
 use std::alloc::Global;
 

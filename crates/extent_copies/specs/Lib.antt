@@ -1,4 +1,4 @@
-pub use Rattle.partnership.specs as partnership
 pub mod Extents
 pub mod Usable
 pub mod NewFiles
+pub mod partnership

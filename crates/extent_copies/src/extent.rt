@@ -7,8 +7,8 @@ ghost use Rattle.asm_placement.specs.Copies.{is_on};
 ghost use Rattle.extent_copies.specs.Extents.{can_be_read_at, copy_of};
 
 use crate::homes::entry_at;
-use partnership::status_table_crate::PstEntry;
-use template_directory::asm_base_crate::{ExtentId, Home, Homes, Mode};
+use partnership::PstEntry;
+use template_directory::{ExtentId, Home, Homes, Mode};
 
 /// An extent of a file, as a group's tables have it.
 #[derive(Clone, Copy)]

@@ -11,7 +11,7 @@ ghost use Rattle.extent_copies.specs.Usable.{all_from, copies_after, groups_afte
 
 use crate::extent::{Extent, is_online};
 use crate::homes::entry_at;
-use partnership::status_table_crate::PstEntry;
+use partnership::PstEntry;
 
 impl Extent {
     /// Whether the extent is full: each of its copies is current and on an Online disk, and no two lie in one failure group.

@@ -2,9 +2,8 @@
 //! No call takes memory.
 #![tactic(auto)]
 
-pub use partnership as partnership_crate;
-pub use partnership::striping_crate;
-pub use template_directory as template_directory_crate;
+pub use partnership::{partners, units_of};
+pub use template_directory::Template;
 
 mod extent;
 mod fullness;

@@ -13,9 +13,8 @@ ghost use Rattle.template_directory.specs.Tables.{template_named};
 ghost use Rattle.extent_copies.specs.NewFiles.{is_of_group, serving_groups, template_by};
 ghost use Rattle.partnership.specs.Tables.{is_table_disk};
 
-use partnership::status_table_crate::{PstEntry, PstRecord};
-use template_directory::Template;
-use template_directory::asm_base_crate::{GroupKind, Mode, Name};
+use partnership::{PstEntry, PstRecord};
+use template_directory::{GroupKind, Mode, Name, Template};
 
 /// How many copies of each extent a new file has: one in an EXTERNAL group, three in a HIGH one, and in a NORMAL one as
 /// many as its template says, but no more than there are regular failure groups that serve.

@@ -9,8 +9,8 @@ ghost use Rattle.extent_copies.specs.Usable.{copies_after, first_passing, first_
 
 use crate::extent::{Extent, can_be_read};
 use crate::homes::entry_at;
-use partnership::status_table_crate::PstEntry;
-use template_directory::asm_base_crate::{DiskSet, Home, Mode};
+use partnership::PstEntry;
+use template_directory::{DiskSet, Home, Mode};
 
 impl Extent {
     /// Whether the copy is there and not stale, whatever its disk's mode is.

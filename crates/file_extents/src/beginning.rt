@@ -10,7 +10,7 @@ use crate::filling::{Filling, choose_all, open_part};
 use crate::rows::NewExtents;
 use asm_base::Refusal;
 use bay::Bay;
-use catalog_tables::operations_directory_crate::{Pending, PendingKind};
+use catalog_tables::{Pending, PendingKind};
 use group_pieces::Mounted;
 use std::alloc::Global;
 

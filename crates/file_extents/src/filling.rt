@@ -15,7 +15,7 @@ use crate::rows::{ABSENT, CHUNK, MOST_EXTENTS, NewExtents, choose_row_of};
 use crate::sparing::{Filled, are_all_marked, fill_copies};
 use asm_base::{DiskRef, DiskSet, Homes, NoMemory, Refusal, Stripe};
 use bay::Bay;
-use catalog_tables::striping_crate::Layout;
+use catalog_tables::Layout;
 use group_pieces::Mounted;
 use std::alloc::Global;
 

@@ -5,7 +5,7 @@ ghost use Rattle.group_pieces.specs.Usable.{FitsExtent};
 ghost use Rattle.file_extents.specs.Pieces.{IsFirstPiece, IsOfShape};
 
 use asm_base::{ExtentId, Shape, Span, Stripe};
-use catalog_tables::striping_crate::{Layout, next_piece, units_of};
+use catalog_tables::{Layout, next_piece, units_of};
 
 /// The most bytes of a piece.
 pub const LONGEST_PIECE: u64 = 1_048_576;

@@ -2,13 +2,10 @@
 //! there.
 #![tactic(auto)]
 
-pub use catalog_tables::DiskInfo;
-pub use catalog_tables::operations_directory_crate::PendingKind;
-pub use catalog_tables::partnership_crate::entry_of;
-pub use catalog_tables::status_table_crate::{
-    PstEntry, PstRecord, with_holders, with_mode, with_next_holders,
+pub use catalog_tables::{
+    DiskInfo, PendingKind, PstEntry, PstRecord, entry_of, units_of, with_holders, with_mode,
+    with_next_holders,
 };
-pub use catalog_tables::striping_crate::units_of;
 pub use group_pieces::{
     Attached, Catalog, Extent, FileBy, Flight, Mounted, Move, NewFile, Next, Place, ReadError,
     TreeEdit, WriteError, copies_for, is_lost, items_say_tables, planned_moves_change_one_chunk,

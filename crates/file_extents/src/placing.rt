@@ -4,9 +4,7 @@ ghost use Rattle.asm_placement.specs.Placed.{placed_extents};
 ghost use Rattle.catalog_tables.specs.Placing.{after_homes};
 
 use asm_base::{Homes, NoMemory};
-use catalog_tables::allocator_crate::Units;
-use catalog_tables::place_extent;
-use catalog_tables::striping_crate::units_of;
+use catalog_tables::{Units, place_extent, units_of};
 use std::alloc::Global;
 
 /// The unit maps, once more.

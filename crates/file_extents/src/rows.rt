@@ -5,8 +5,7 @@ ghost use Rattle.file_extents.specs.Rows.{ChoiceCause, SpaceCause};
 
 use crate::placing::copy_units;
 use asm_base::{ExtentId, Homes, Refusal};
-use catalog_tables::allocator_crate::Units;
-use catalog_tables::partnership_crate::choose_row;
+use catalog_tables::{Units, choose_row};
 use group_pieces::Mounted;
 use std::alloc::Global;
 

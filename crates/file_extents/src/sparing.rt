@@ -10,7 +10,7 @@ ghost use Rattle.file_extents.specs.Filling.{FailsMore, HasFailedWrite};
 use crate::layout::Piece;
 use asm_base::{BLOCK, DiskSet, Home, Homes, Shape};
 use bay::{Bay, Fault};
-use catalog_tables::striping_crate::units_of;
+use catalog_tables::units_of;
 use group_pieces::{Mounted, write_spare};
 
 /// Units of a disk that hold no bytes of files. None where a unit has no bytes.

@@ -3,7 +3,7 @@ ghost use Rattle.std.specs.Prelude.{◌≡◌};
 ghost use Rattle.std.specs.Bool.{OnTrue};
 ghost use Rattle.group_engine.specs.Trying.{HasEntryBirth, birth_in};
 
-use status_register::status_table_crate::PstEntry;
+use status_register::PstEntry;
 
 /// The birth of a disk by its entry.
 #[tactic(auto, unfolding(asm_formats::specs::Status::entry_of))]

@@ -15,10 +15,8 @@ use crate::mounted::Mounted;
 use crate::search::Search;
 use asm_base::{DiskRef, DiskSet, Refusal};
 use bay::Bay;
-use directory_store::CopyError;
-use directory_store::change_directory_crate::DirCopy;
-use status_register::status_table_crate::with_dirs;
-use status_register::{Dead, Register, is_of_entry};
+use directory_store::{CopyError, DirCopy};
+use status_register::{Dead, Register, is_of_entry, with_dirs};
 use std::alloc::Global;
 
 /// Writes the record that holds with the directory copy of a disk more.

@@ -7,8 +7,7 @@ ghost use Rattle.group_engine.specs.Dropping.{IsWithout, WritesFewer};
 
 use asm_base::DiskSet;
 use bay::Bay;
-use status_register::status_table_crate::with_dirs;
-use status_register::{Dead, Register};
+use status_register::{Dead, Register, with_dirs};
 
 /// A set without the disks of another.
 fn without(all: DiskSet, gone: DiskSet) -> DiskSet

@@ -13,8 +13,7 @@ use crate::mounted::Mounted;
 use crate::search::Search;
 use asm_base::{DiskRef, DiskSet, Refusal};
 use bay::Bay;
-use status_register::status_table_crate::with_gone;
-use status_register::{Dead, Register};
+use status_register::{Dead, Register, with_gone};
 
 /// Writes the record that holds, marked gone.
 fn mark_gone<B: Bay>(bay: &mut B, register: &mut Register) -> Result<DiskSet, Dead>

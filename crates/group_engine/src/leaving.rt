@@ -11,7 +11,7 @@ ghost use Rattle.group_engine.specs.Statuses.{IsNextOf};
 use crate::mounted::Mounted;
 use asm_base::Refusal;
 use bay::Bay;
-use status_register::status_table_crate::{PstRecord, with_dirs, without_entry};
+use status_register::{PstRecord, with_dirs, without_entry};
 use std::alloc::Global;
 
 /// The record without a disk's entry and its directory copy.

@@ -15,8 +15,7 @@ use crate::search::Search;
 use asm_base::{DiskRef, Name, Refusal};
 use directory_store::Store;
 use rebalance::{Catalog, Next};
-use status_register::Register;
-use status_register::status_table_crate::PstRecord;
+use status_register::{PstRecord, Register};
 use std::marker::Model;
 
 /// A mounted group: its tables, the records of its directories on their copies, and its status on its disks. Contracts see it as

@@ -11,9 +11,8 @@ ghost use Rattle.group_engine.specs.Trying.{HasBirthAt, HasDirectoryCopy, IsReco
 use crate::births::{has_birth, has_same_birth};
 use crate::mounted::Mounted;
 use asm_base::DiskSet;
-use directory_store::change_directory_crate::DirCopy;
-use status_register::is_of_entry;
-use status_register::status_table_crate::{PstEntry, PstRecord, is_status};
+use directory_store::DirCopy;
+use status_register::{PstEntry, PstRecord, is_of_entry, is_status};
 
 /// Whether two sets have the same numbers, and each of them the same birth by some entries and by others.
 fn are_same_disks(one: &[PstEntry], set: DiskSet, other: &[PstEntry], other_set: DiskSet) -> bool

@@ -9,7 +9,7 @@ ghost use Rattle.rebalance.specs.Cursors.{passes_at};
 
 use asm_base::{Home, Homes};
 use rebalance::{Catalog, entry_of};
-use status_register::status_table_crate::PstEntry;
+use status_register::PstEntry;
 
 /// Whether no home of the tables lies on a disk of a quorum failure group.
 pub(crate) fn are_all_regular(catalog: &Catalog, disks: &[PstEntry]) -> bool

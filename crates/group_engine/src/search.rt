@@ -9,7 +9,7 @@ ghost use Rattle.group_engine.specs.Searches.{IsNextMove, IsSearchOf, WasSearchO
 use crate::quorum::{are_all_regular, is_chunk_regular};
 use asm_base::ExtentId;
 use rebalance::{Catalog, Cursor, Next, next_move_from};
-use status_register::status_table_crate::PstRecord;
+use status_register::PstRecord;
 use std::marker::Model;
 
 /// Where the search goes on, and whether no home is known to lie on a disk of a quorum failure group, as the search asks.

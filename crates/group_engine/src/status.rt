@@ -17,7 +17,7 @@ use crate::mounted::Mounted;
 use crate::search::Search;
 use asm_base::{DiskRef, Refusal};
 use bay::Bay;
-use status_register::status_table_crate::PstRecord;
+use status_register::PstRecord;
 use std::alloc::Global;
 
 impl Mounted {

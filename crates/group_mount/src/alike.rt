@@ -6,7 +6,7 @@ ghost use Rattle.group_mount.specs.declared.finding.Headed.{Headed as HeadedDisk
 
 use crate::finding::Headed;
 use asm_base::{GroupKind, Shape};
-use disk_images::disk_header_crate::Header;
+use disk_images::Header;
 
 fn is_same_kind(kind: GroupKind, other: GroupKind) -> bool
     ensures { result ≡ is_same_kind kind other }

@@ -10,7 +10,7 @@ use crate::choosing::{has_slot, member_of};
 use crate::finding::Headed;
 use crate::missing::has_units;
 use asm_base::{BLOCK, NoMemory};
-use directory_store::change_directory_crate::DirCopy;
+use directory_store::DirCopy;
 use status_register::{Member, is_of_entry};
 use status_table::PstRecord;
 use std::alloc::Global;

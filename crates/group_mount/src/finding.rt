@@ -5,8 +5,7 @@ ghost use Rattle.group_mount.specs.Finding.{AreAllHeaded, AreThere, headed_in};
 
 use asm_base::NoMemory;
 use bay::Bay;
-use disk_images::disk_header_crate::Header;
-use disk_images::{Looked, look_at};
+use disk_images::{Header, Looked, look_at};
 use std::alloc::Global;
 
 /// An image whose open header was read, with its size in bytes.

@@ -11,9 +11,8 @@ ghost use Rattle.group_mount.specs.NextRecord.{HasStaleDisks, IsMarkOf, IsNextRe
 use crate::missing::is_missing;
 use crate::quorum::Quorate;
 use asm_base::{DiskSet, ExtentId, Mode, NoMemory};
-use catalog::Catalog;
-use catalog::partnership_crate::partners;
-use directory_store::change_directory_crate::DirCopy;
+use catalog::{Catalog, partners};
+use directory_store::DirCopy;
 use status_table::{PstEntry, PstRecord, with_dirs, with_entries, with_partners};
 use std::alloc::Global;
 

@@ -7,7 +7,7 @@ ghost use Rattle.group_pieces.specs.Usable.{IsLost, at_home, extent_of, first_di
 
 use crate::copies::Place;
 use asm_base::{DiskSet, ExtentId, Home, Homes, MOST_DISKS};
-use piece_laws::striping_crate::units_of;
+use piece_laws::units_of;
 use record_laws::{Extent, Mounted};
 
 /// The extent as the tables have it, with the numbers of three copies.

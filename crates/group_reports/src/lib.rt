@@ -2,9 +2,7 @@
 #![tactic(auto)]
 
 pub use catalog_laws::Catalog;
-pub use extent_copies::partnership_crate::partners;
-pub use extent_copies::striping_crate::units_of;
-pub use extent_copies::{Extent, serving_groups};
+pub use extent_copies::{Extent, partners, serving_groups, units_of};
 pub use verb_paths::{clause_path, target};
 
 mod attributes;

@@ -10,7 +10,7 @@ use crate::words::{copies_text, disk_kind, kind_text, mode_text, stripe_text, ye
 use asm_base::{List, Name, NoMemory, Text};
 use asmcmd::{DiskRow, GroupRow, TemplateRow};
 use catalog_laws::Catalog;
-use extent_copies::template_directory_crate::Template;
+use extent_copies::Template;
 use status_table::{PstEntry, PstRecord};
 use std::alloc::Global;
 

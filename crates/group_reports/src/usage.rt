@@ -10,7 +10,7 @@ ghost use Rattle.group_reports.specs.Extents.{file_units, file_units_in, units_a
 use crate::extents::most_chunks;
 use asm_base::{Home, Homes};
 use catalog_laws::Catalog;
-use extent_copies::striping_crate::units_of;
+use extent_copies::units_of;
 
 /// The units of all copies of a file. It goes over the file's chunks, and takes no memory.
 #[tactic(auto, using(crate::proofs::Units::units_by_items))]

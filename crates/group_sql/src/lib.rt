@@ -1,7 +1,7 @@
 //! The statements of the DISKGROUP language, read.
 #![tactic(auto)]
 
-pub use asm_base as asm_base_crate;
+pub use asm_base::{GroupKind, Mode, Name, Text};
 
 mod clauses;
 mod creation;

@@ -9,8 +9,7 @@ ghost use Rattle.group_sql.specs.Said.{maybe_kind_said};
 ghost use Rattle.new_disks.specs.Kinds.{adds_group, is_row_in, regular_names};
 
 use crate::rows::{DiskRow, PlannedDisk};
-use group_sql::FailgroupKind;
-use group_sql::asm_base_crate::{GroupKind, Name};
+use group_sql::{FailgroupKind, GroupKind, Name};
 
 /// How many regular failure groups new disks make, names that differ in case alone being one.
 pub fn regular_groups(disks: &[PlannedDisk]) -> usize

@@ -2,7 +2,7 @@
 //! memory.
 #![tactic(auto)]
 
-pub use group_sql as group_sql_crate;
+pub use group_sql::{Attribute, NewDisk, NewFailgroup};
 
 mod failure_groups;
 mod rows;

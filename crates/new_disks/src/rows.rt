@@ -1,6 +1,6 @@
 //! Disks of a group, and disks that are to join one.
 
-use group_sql::asm_base_crate::{Mode, Name, Text};
+use group_sql::{Mode, Name, Text};
 use std::marker::Model;
 
 /// A disk of a group as reports have it. Contracts see it as the world's row.

@@ -1,7 +1,7 @@
 //! What a creation is asked for, and what is known of the groups of the session.
 
 use asm_base::{GroupKind, List, Name};
-use new_disks::group_sql_crate::{Attribute, NewFailgroup};
+use new_disks::{Attribute, NewFailgroup};
 
 /// What CREATE DISKGROUP says.
 #[derive(Debug, Drop)]

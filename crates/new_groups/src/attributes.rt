@@ -9,7 +9,7 @@ ghost use Rattle.new_groups.specs.Refusing.{IsNotTaken, IsRefusedAs};
 use crate::refusals::bad_attribute;
 use asm_base::{GroupKind, NoMemory, Refusal};
 use group_disks::Creation;
-use new_disks::group_sql_crate::Attribute;
+use new_disks::Attribute;
 use std::alloc::Global;
 
 /// The creation with all its attributes, whose unit must have eight sectors at least. NoMemory is answered, too, where the

@@ -2,8 +2,7 @@
 #![tactic(auto)]
 
 pub use group_disks::{Headed, mount_group};
-pub use new_disks::group_sql_crate::{NewDisk, NewFailgroup};
-pub use new_disks::{DiskRow, PlannedDisk, is_name_taken};
+pub use new_disks::{DiskRow, NewDisk, NewFailgroup, PlannedDisk, is_name_taken};
 pub use partnership::partners;
 
 mod asked;

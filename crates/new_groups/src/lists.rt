@@ -8,7 +8,7 @@ ghost use Rattle.group_disks.specs.group_mount.declared.finding.Headed.{Headed a
 ghost use Rattle.new_groups.specs.Drafts.{copy_list, disk_list, holder_list, member_list};
 
 use asm_base::{DiskSet, NoMemory};
-use directory_store::change_directory_crate::DirCopy;
+use directory_store::DirCopy;
 use group_disks::{Attached, Headed};
 use status_register::Member;
 use std::alloc::Global;

@@ -8,8 +8,7 @@ ghost use Rattle.new_groups.specs.Planning.{disk_count, planned_after, planned_i
 ghost use Rattle.new_groups.specs.Refusing.{IsTooMany};
 
 use asm_base::{Limited, Name, NoMemory, Refusal};
-use new_disks::PlannedDisk;
-use new_disks::group_sql_crate::{NewDisk, NewFailgroup};
+use new_disks::{NewDisk, NewFailgroup, PlannedDisk};
 use std::alloc::Global;
 
 /// The most disks of a group.

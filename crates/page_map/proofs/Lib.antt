@@ -1,4 +1,3 @@
-pub use Rattle.allocator.proofs as allocator
 pub mod Pages
 pub mod Keys
 pub mod Adding
@@ -7,3 +6,4 @@ pub mod Applied
 pub mod Showing
 pub mod Loading
 pub mod Listing
+pub mod allocator

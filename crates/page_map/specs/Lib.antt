@@ -1,4 +1,3 @@
-pub use Rattle.allocator.specs as allocator
 pub mod Free
 pub mod Changes
 pub mod Tables
@@ -6,3 +5,4 @@ pub mod Applying
 pub mod Contents
 pub mod Loaded
 pub mod Listing
+pub mod allocator

@@ -7,7 +7,7 @@ ghost use Rattle.page_map.specs.Tables.{IsTable, block_of};
 
 use crate::change::{listed, put_block, record_block};
 use crate::table::PageMap;
-use allocator::asm_base_crate::{Block, Key, NoMemory};
+use allocator::{Block, Key, NoMemory};
 use std::alloc::Global;
 use std::collections::BTreeMap;
 

@@ -11,7 +11,7 @@ ghost use Rattle.std.specs.Ordering.{nat_cmp};
 ghost use Rattle.page_map.specs.Applying.{AddsNew, RemovesAll, SetsAll, PutOne, PutBlocks, GoneBlocks, Blocks, Applies, IsCause, block_at, page_number};
 
 use crate::table::PageMap;
-use allocator::asm_base_crate::{Block, Key, NoMemory, Value, encode_record, record_kind};
+use allocator::{Block, Key, NoMemory, Value, encode_record, record_kind};
 use std::alloc::Global;
 use std::collections::BTreeMap;
 

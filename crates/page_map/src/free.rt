@@ -3,8 +3,7 @@
 ghost use Rattle.std.specs.Prelude.{◌≡◌, ◌<◌, ◌≤◌, ◌==◌, ℕ, true, false, IfOk, IfNone, IfSome, if◌then◌else◌};
 ghost use Rattle.page_map.specs.Free.{is_free, IsLeastFree};
 
-use allocator::Units;
-use allocator::asm_base_crate::NoMemory;
+use allocator::{NoMemory, Units};
 use std::alloc::Global;
 use std::marker::Model;
 

@@ -1,7 +1,7 @@
 //! The directories of a group: records by key, each on a page of its own, and what a change does to both.
 #![tactic(auto)]
 
-pub use allocator as allocator_crate;
+pub use allocator::Units;
 
 mod all_pages;
 mod change;

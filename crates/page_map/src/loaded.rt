@@ -7,7 +7,7 @@ ghost use Rattle.page_map.specs.Loaded.{AreFilled, HasNoTable, IsTableOf, MakesT
 ghost use Rattle.page_map.specs.declared.loaded.LoadedError.TheVariants.{NoMemory as WithoutMemory};
 
 use crate::table::PageMap;
-use allocator::asm_base_crate::{Block, Key, NoMemory, Value, decode_record};
+use allocator::{Block, Key, NoMemory, Value, decode_record};
 use std::alloc::Global;
 
 /// Why pages aren't the records of a map.

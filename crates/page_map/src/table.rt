@@ -7,7 +7,7 @@ ghost use Rattle.allocator.specs.asm_base.Records.{is_key, record_at};
 ghost use Rattle.page_map.specs.Tables.{place_at};
 
 use crate::free::FreePages;
-use allocator::asm_base_crate::{Key, NoMemory, PENDING_KEY, REBALANCE_KEY, Records, Value};
+use allocator::{Key, NoMemory, PENDING_KEY, REBALANCE_KEY, Records, Value};
 use std::alloc::Global;
 use std::collections::BTreeMap;
 use std::collections::btree_map::Iter;

@@ -1,5 +1,3 @@
-pub use Rattle.asm_placement.proofs as asm_placement
-pub use Rattle.status_table.proofs as status_table
 pub mod Runs
 pub mod Turns
 pub mod Groups
@@ -14,3 +12,5 @@ pub mod Selected
 pub mod FailureGroups
 pub mod Rounds
 pub mod TableSets
+pub mod asm_placement
+pub mod status_table

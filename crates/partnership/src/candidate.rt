@@ -7,8 +7,7 @@ ghost use Rattle.asm_placement.specs.Modes.{is_target};
 ghost use Rattle.partnership.specs.Candidates.{candidate, candidate_at, candidate_from, earlier, home_of, is_before, lowest};
 ghost use Rattle.partnership.specs.Steps.{with_next};
 
-use allocator::Units;
-use allocator::asm_base_crate::{Home, Mode};
+use allocator::{Home, Mode, Units};
 use status_table::PstEntry;
 use std::marker::Model;
 

@@ -7,7 +7,7 @@ ghost use Rattle.partnership.specs.Selections.{AreNumbered, lies_in};
 ghost use Rattle.partnership.specs.Rounds.{none_of, round, with_disk, with_found};
 
 use crate::failure_groups::has_group;
-use allocator::asm_base_crate::DiskSet;
+use allocator::DiskSet;
 use status_table::PstEntry;
 
 /// Disks that were taken, and how many are left to take.

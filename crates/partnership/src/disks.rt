@@ -4,7 +4,7 @@ ghost use Rattle.std.specs.Prelude.{◌≡◌, ◌<◌, ◌≤◌, [], ◌∷◌
 ghost use Rattle.asm_placement.specs.Modes.{is_online, stays};
 ghost use Rattle.partnership.specs.Selections.{is_meant};
 
-use allocator::asm_base_crate::{DiskSet, Mode};
+use allocator::{DiskSet, Mode};
 use status_table::PstEntry;
 use std::marker::Model;
 

@@ -13,8 +13,7 @@ ghost use Rattle.partnership.specs.UnitsOf.{AreUnitsOf};
 
 use crate::candidate::{Candidate, home_of, with_next};
 use crate::room::Room;
-use allocator::Units;
-use allocator::asm_base_crate::{DiskSet, Home, Homes};
+use allocator::{DiskSet, Home, Homes, Units};
 use status_table::PstEntry;
 
 /// Homes for one to three copies of a new extent of n units, or None where there is no space. The first goes to the

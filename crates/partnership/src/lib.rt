@@ -1,8 +1,10 @@
 //! Which disks are partners, where new copies go, and which disks hold the status tables and directory copies.
 #![tactic(auto)]
 
-pub use status_table as status_table_crate;
-pub use striping as striping_crate;
+pub use status_table::{
+    PstEntry, PstRecord, is_status, with_holders, with_mode, with_next_holders,
+};
+pub use striping::{Layout, extents_for, next_piece, units_of};
 
 mod candidate;
 mod choice;

@@ -3,7 +3,7 @@
 ghost use Rattle.std.specs.Prelude.{◌≡◌, ◌∷◌, [], OnOk};
 ghost use Rattle.asm_placement.specs.Partners.{Pair, are_partners, has_partner_in, partner_count};
 
-use allocator::asm_base_crate::NoMemory;
+use allocator::NoMemory;
 use status_table::PstEntry;
 use std::alloc::Global;
 use std::marker::Model;

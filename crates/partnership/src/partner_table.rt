@@ -7,7 +7,7 @@ ghost use Rattle.status_table.specs.Changes.{entries_with_partners};
 ghost use Rattle.partnership.specs.Tables.{is_table_disk, is_wanted, met, partners_from, step};
 
 use crate::pairs::Table;
-use allocator::asm_base_crate::{DiskSet, List, Mode, NoMemory};
+use allocator::{DiskSet, List, Mode, NoMemory};
 use status_table::PstEntry;
 use std::alloc::Global;
 

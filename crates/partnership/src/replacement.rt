@@ -11,8 +11,7 @@ ghost use Rattle.partnership.specs.Steps.{candidate_if};
 ghost use Rattle.partnership.specs.UnitsOf.{AreHomesOf, AreUnitsOf, is_eligible_at};
 
 use crate::candidate::{Candidate, candidate_on, home_of, is_target, with_next};
-use allocator::Units;
-use allocator::asm_base_crate::{DiskSet, Home};
+use allocator::{DiskSet, Home, Units};
 use status_table::PstEntry;
 
 /// Whether disk d may take a copy of an extent: it is Online and regular, holds none of its copies, shares no failure

@@ -7,8 +7,7 @@ ghost use Rattle.partnership.specs.Candidates.{candidates, chosen_homes};
 ghost use Rattle.partnership.specs.Rows.{IsRow, home_used, homes_at, homes_used};
 
 use crate::homes::choose_homes;
-use allocator::Units;
-use allocator::asm_base_crate::{Home, Homes};
+use allocator::{Home, Homes, Units};
 use status_table::PstEntry;
 use striping::units_of;
 

@@ -14,7 +14,7 @@ use crate::choice::{Choice, in_rounds, with_round};
 use crate::disks::{Disks, Which};
 use crate::failure_groups::{group_count, has_group};
 use crate::replacement::entry_of;
-use allocator::asm_base_crate::{DiskSet, GroupKind, Mode};
+use allocator::{DiskSet, GroupKind, Mode};
 use status_table::{PstEntry, PstRecord};
 
 /// The holders of status tables where a group of this kind has these disks: one in an EXTERNAL group; three in a NORMAL

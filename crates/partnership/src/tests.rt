@@ -1,6 +1,5 @@
 use super::*;
-use allocator::Units;
-use allocator::asm_base_crate::{DiskSet, Home, Mode};
+use allocator::{DiskSet, Home, Mode, Units};
 use status_table::PstEntry;
 use std::alloc::Global;
 use std::test::*;

@@ -1,7 +1,7 @@
 //! What writes to the copies of an extent, and reads of one, mean for the group. Each function does nothing; its contract is the law.
 #![tactic(auto)]
 
-pub use striping as striping_crate;
+pub use striping::units_of;
 
 mod files;
 mod pieces;

@@ -11,7 +11,7 @@ use crate::search::Search;
 use crate::stages::Stage;
 use asm_base::ExtentId;
 use catalog_laws::Catalog;
-use partnership::status_table_crate::PstRecord;
+use partnership::PstRecord;
 use std::marker::Model;
 
 /// For each stage of the search for the next move the chunk of extents at which it begins, by file and number; none where

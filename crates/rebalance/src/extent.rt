@@ -11,7 +11,7 @@ use crate::homes::{entry_at, staying_disk};
 use asm_base::{ExtentId, Home, Homes, Mode};
 use catalog_laws::Catalog;
 use extent_copies::Extent;
-use partnership::status_table_crate::PstEntry;
+use partnership::PstEntry;
 
 /// The extent of a file with so many copies, as a catalog has it.
 pub fn extent_of(catalog: &Catalog, id: ExtentId, copies: u8, homes: &Homes) -> Extent

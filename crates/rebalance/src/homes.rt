@@ -8,8 +8,7 @@ ghost use Rattle.partnership.specs.UnitsOf.{held, kept};
 ghost use Rattle.rebalance.specs.Extents.{kept_home};
 
 use asm_base::{Home, Homes, Mode};
-use partnership::entry_of;
-use partnership::status_table_crate::PstEntry;
+use partnership::{PstEntry, entry_of};
 use std::marker::Model;
 
 /// The entry of the disk on which a home lies.

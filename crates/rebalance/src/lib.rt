@@ -5,8 +5,7 @@ pub use catalog_laws::{
     Catalog, FileBy, FileHead, NewFile, blocks_are_counted, items_say_tables, tables_have_items,
 };
 pub use extent_copies::{Extent as ExtentCopies, copies_for, serving_groups, template_for};
-pub use partnership::striping_crate::{Layout, extents_for};
-pub use partnership::{entry_of, partners};
+pub use partnership::{Layout, entry_of, extents_for, partners};
 
 mod cursor;
 mod extent;

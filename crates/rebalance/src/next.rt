@@ -22,7 +22,7 @@ use crate::search::Search;
 use crate::shares::Shares;
 use crate::stages::{Stage, said_by_tables};
 use catalog_laws::Catalog;
-use partnership::status_table_crate::PstRecord;
+use partnership::PstRecord;
 
 /// What the rebalance of a group does next, or how it ends: the first of these that applies, extents by file and index and
 /// copies by number. A stale copy on an Online disk is written anew, where another can be read; a copy that is absent or on

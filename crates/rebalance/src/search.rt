@@ -17,7 +17,7 @@ use crate::stages::{AskedExtent, Stage};
 use asm_base::{ExtentId, Homes};
 use catalog_laws::{Catalog, has_home};
 use extent_copies::Extent;
-use partnership::status_table_crate::{PstEntry, PstRecord};
+use partnership::{PstEntry, PstRecord};
 
 /// What is asked of an extent at a stage of the search for the next move.
 #[derive(Clone, Copy)]

@@ -13,7 +13,7 @@ ghost use Rattle.rebalance.specs.Sums.{below_set, is_above_at, is_below_at, is_b
 
 use allocator::Units;
 use asm_base::{DiskSet, Mode};
-use partnership::status_table_crate::{PstEntry, PstRecord};
+use partnership::{PstEntry, PstRecord};
 use std::marker::Model;
 
 /// The used and the user units of the Online regular disks together. The share of a disk is the part of the used ones

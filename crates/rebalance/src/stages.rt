@@ -20,8 +20,9 @@ use crate::shares::Shares;
 use allocator::Units;
 use asm_base::{GroupKind, Home};
 use extent_copies::Extent;
-use partnership::status_table_crate::{PstEntry, PstRecord};
-use partnership::{choose_copy, choose_copy_on, directory_target, status_target};
+use partnership::{
+    PstEntry, PstRecord, choose_copy, choose_copy_on, directory_target, status_target,
+};
 
 /// The stages of the search in which the extents are asked, in their order. Between `Shift` and `Lost` come the moves of
 /// directory copies and of status tables.

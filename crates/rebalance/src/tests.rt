@@ -6,8 +6,7 @@ use crate::stages::{Stage, said_by_tables, said_first};
 use allocator::Units;
 use asm_base::{DiskSet, ExtentId, GroupKind, Home, Homes, Mode};
 use extent_copies::Extent;
-use partnership::status_table_crate::{PstEntry, PstRecord, is_status};
-use partnership::{directory_target, status_target};
+use partnership::{PstEntry, PstRecord, directory_target, is_status, status_target};
 use std::alloc::Global;
 use std::test::*;
 

@@ -17,7 +17,7 @@ pub use group_engine::{
     items_say_tables, partners as partners_of, planned_moves_change_one_chunk, same_disks_are_next,
     serving_groups, tables_have_items, template_for,
 };
-pub use status_register::status_table_crate::{PstEntry, PstRecord, with_offline, with_partners};
+pub use status_register::{PstEntry, PstRecord, with_offline, with_partners};
 
 /// A group that records describe under a status record is described by them under one with other modes, and under one with
 /// other entries, where its tables may stand under these.

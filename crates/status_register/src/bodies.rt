@@ -14,8 +14,7 @@ ghost use Rattle.bay.specs.Told.{Told};
 use crate::places::{SlotPair, place_at};
 use bay::{Bay, Fault};
 use gate_slot::is_open;
-use status_table::asm_base_crate::{BLOCK, Block};
-use status_table::{Claim, PstRecord, decode, decode_claim};
+use status_table::{BLOCK, Block, Claim, PstRecord, decode, decode_claim};
 
 /// The block behind the gate in a block, or None where the gate is shut.
 fn read_body<B: Bay>(bay: &mut B, slot: u32, gate: u64, sector: u32) -> Result<Option<Block>, Fault>

@@ -14,8 +14,7 @@ use crate::places::SlotPair;
 use crate::storing::put_on_all;
 use crate::{Dead, Member};
 use bay::Bay;
-use status_table::asm_base_crate::Block;
-use status_table::{Claim, encode_claim};
+use status_table::{Block, Claim, encode_claim};
 
 /// Claims the epoch of a group's first record on its members, whose slots are closed, past faults: each of them must take the
 /// claim. `Dead` has the slot of one that failed. At each moment the disks have no record of the group, as before. Once all

@@ -11,8 +11,7 @@ ghost use Rattle.status_register.specs.Slots.{FoundGate, claim_number, next_gate
 use crate::bodies::{claim_in, read_both, record_in};
 use crate::places::SlotPair;
 use bay::{Bay, Fault};
-use status_table::asm_base_crate::Block;
-use status_table::{Claim, PstRecord};
+use status_table::{Block, Claim, PstRecord};
 
 /// The number of a record, by which records are ordered: by epoch, and then by turn.
 pub fn number_of(status: &PstRecord) -> u128

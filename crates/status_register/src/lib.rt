@@ -1,7 +1,10 @@
 //! One status record of a disk group, kept by majorities of the disks that hold it. No call takes memory.
 #![tactic(auto)]
 
-pub use status_table as status_table_crate;
+pub use status_table::{
+    PstEntry, PstRecord, is_status, with_dirs, with_gone, with_offline, with_partners,
+    without_entry,
+};
 
 mod bodies;
 mod claiming;

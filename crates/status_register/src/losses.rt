@@ -9,8 +9,7 @@ ghost use Rattle.status_register.specs.Writes.{IsFailed, IsLost, IsLostOf, is_on
 
 use crate::Member;
 use crate::majorities::lacking;
-use status_table::asm_base_crate::DiskSet;
-use status_table::{PstEntry, PstRecord};
+use status_table::{DiskSet, PstEntry, PstRecord};
 
 /// Whether one of these is the member.
 fn is_one_of(members: &[Member], member: Member) -> bool

@@ -7,8 +7,7 @@ ghost use Rattle.status_register.specs.Surveys.{is_there, missing, seen_of, shor
 ghost use Rattle.status_register.specs.Counting.{of_disk};
 
 use crate::Member;
-use status_table::asm_base_crate::DiskSet;
-use status_table::{PstEntry, PstRecord};
+use status_table::{DiskSet, PstEntry, PstRecord};
 
 /// How many disks of a set are among the members, and how many disks the set has.
 #[derive(Clone, Copy)]

@@ -4,7 +4,7 @@ ghost use Rattle.status_register.specs.Places.{place_at};
 ghost use Rattle.status_register.specs.Slots.{first_gate, second_gate};
 
 use gate_slot::Place;
-use status_table::asm_base_crate::{BLOCK, FIRST_CLAIM, FIRST_STATUS, SECOND_CLAIM, SECOND_STATUS};
+use status_table::{BLOCK, FIRST_CLAIM, FIRST_STATUS, SECOND_CLAIM, SECOND_STATUS};
 
 /// The pairs of slots of a disk.
 #[derive(Clone, Copy, Debug, PartialEq, Eq)]

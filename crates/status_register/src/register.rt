@@ -27,8 +27,7 @@ use crate::storing::put_on_all;
 use crate::writing::{renumbered, write_first, write_record};
 use crate::{Dead, Member, SurveyError};
 use bay::Bay;
-use status_table::asm_base_crate::{Block, DiskSet};
-use status_table::{Claim, PstEntry, PstRecord, encode_claim};
+use status_table::{Block, Claim, DiskSet, PstEntry, PstRecord, encode_claim};
 use std::marker::Model;
 
 /// The record of a group, and the members that it is written to, by the numbers of their disks. Contracts see what it keeps.

@@ -16,7 +16,7 @@ use crate::members::MemberList;
 use crate::places::{SlotPair, place_at};
 use bay::{Bay, Fault};
 use gate_slot::put;
-use status_table::asm_base_crate::Block;
+use status_table::Block;
 
 /// Puts a body into the slot behind a gate.
 fn fill_slot<B: Bay>(

@@ -15,8 +15,7 @@ use crate::places::SlotPair;
 use crate::storing::put_on_all;
 use crate::{Dead, Member};
 use bay::Bay;
-use status_table::asm_base_crate::{Block, DiskSet};
-use status_table::{PstRecord, encode};
+use status_table::{Block, DiskSet, PstRecord, encode};
 
 /// The record under another number.
 #[tactic(auto, unfolding(asm_formats::specs::Status::is_status))]

@@ -2,7 +2,7 @@
 //! their spellings in a block. No call takes memory.
 #![tactic(auto)]
 
-pub use asm_base as asm_base_crate;
+pub use asm_base::{BLOCK, Block, DiskSet, FIRST_CLAIM, FIRST_STATUS, SECOND_CLAIM, SECOND_STATUS};
 
 mod changes;
 mod claim;

@@ -1,7 +1,10 @@
 //! The templates of a group and its settings, as the group's directory holds them.
 #![tactic(auto)]
 
-pub use asm_base as asm_base_crate;
+pub use asm_base::{
+    DiskSet, ExtentId, GroupKind, Home, Homes, Mode, Name, NoMemory, Shape, Text, folded_byte,
+    is_dir_blocks, is_step, is_unit_size,
+};
 
 mod changing;
 mod editing;

@@ -10,7 +10,7 @@ ghost use Rattle.catalog_units.specs.catalog_tables.Rules.{blocks_used};
 use crate::catalog::Catalog;
 use crate::plans::making::no_memory;
 use asm_base::{Change, Key, List, NoMemory, Refusal, Value};
-use catalog_units::disk_directory_crate::{DiskInfo, disk_record};
+use catalog_units::{DiskInfo, disk_record};
 use std::alloc::Global;
 
 impl Catalog {

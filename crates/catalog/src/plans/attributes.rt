@@ -11,8 +11,7 @@ ghost use Rattle.catalog.specs.Plans.{IsPlan};
 use crate::catalog::Catalog;
 use crate::plans::making::{no_memory, one_put};
 use asm_base::{Change, Key, Name, NoMemory, Refusal, SETTINGS_KEY, Text, Value};
-use attribute_values::template_directory_crate::{Settings, settings_value};
-use attribute_values::with_attribute;
+use attribute_values::{Settings, settings_value, with_attribute};
 use std::alloc::Global;
 
 impl Catalog {

@@ -12,8 +12,7 @@ use crate::catalog::Catalog;
 use crate::plans::making::{no_memory, two_put};
 use crate::plans::moves::unit_fits;
 use asm_base::{Change, Home, Homes, NoMemory, Refusal};
-use catalog_units::extent_map_crate::chunk_record;
-use catalog_units::staleness_directory_crate::{Marks, marks_record};
+use catalog_units::{Marks, chunk_record, marks_record};
 use std::alloc::Global;
 
 impl Catalog {

@@ -10,8 +10,7 @@ ghost use Rattle.catalog.specs.Plans.{IsPlan};
 use crate::catalog::Catalog;
 use crate::plans::making::{no_memory, two_gone, two_put};
 use asm_base::{Change, Key, NoMemory, Refusal, Value, record_kind};
-use catalog_units::extent_map_crate::chunk_record;
-use catalog_units::staleness_directory_crate::marks_record;
+use catalog_units::{chunk_record, marks_record};
 use std::alloc::Global;
 
 impl Catalog {

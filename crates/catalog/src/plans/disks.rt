@@ -11,7 +11,7 @@ ghost use Rattle.catalog_units.specs.catalog_tables.Rules.{blocks_used};
 use crate::catalog::Catalog;
 use crate::plans::making::{no_memory, one_gone, one_put};
 use asm_base::{Change, NoMemory, Refusal};
-use catalog_units::disk_directory_crate::{DiskInfo, disk_key, disk_record};
+use catalog_units::{DiskInfo, disk_key, disk_record};
 use std::alloc::Global;
 
 impl Catalog {

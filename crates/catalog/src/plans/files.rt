@@ -12,10 +12,10 @@ use crate::catalog::Catalog;
 use crate::plans::making::{no_memory, one_put, two_put};
 use crate::plans::operations::fits;
 use asm_base::{Change, Key, List, NoMemory, PENDING_KEY, Refusal, Shape, Value};
-use catalog_units::catalog_tables_crate::{file_key, node_key};
-use catalog_units::file_directory_crate::{FileHead, record_of};
-use catalog_units::operations_directory_crate::{Pending, PendingKind, pending_record};
-use catalog_units::striping_crate::{Layout, extents_for};
+use catalog_units::{
+    FileHead, Layout, Pending, PendingKind, extents_for, file_key, node_key, pending_record,
+    record_of,
+};
 use std::alloc::Global;
 
 impl Catalog {

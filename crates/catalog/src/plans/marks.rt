@@ -9,7 +9,7 @@ ghost use Rattle.catalog.specs.Plans.{IsPlan};
 use crate::catalog::Catalog;
 use crate::plans::making::{no_memory, one_put};
 use asm_base::{Change, ExtentId, Key, NoMemory, Refusal, Value};
-use catalog_units::staleness_directory_crate::{Marks, marks_record};
+use catalog_units::{Marks, marks_record};
 use std::alloc::Global;
 
 impl Catalog {

@@ -12,7 +12,7 @@ use crate::catalog::Catalog;
 use crate::moving::with_home;
 use crate::plans::making::{no_memory, one_put, two_put};
 use asm_base::{Change, ExtentId, Home, Key, NoMemory, Refusal, Value};
-use catalog_units::extent_map_crate::{Chunk, chunk_record};
+use catalog_units::{Chunk, chunk_record};
 use std::alloc::Global;
 
 impl Catalog {

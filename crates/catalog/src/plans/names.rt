@@ -20,11 +20,10 @@ use crate::plans::attributes::settings_record;
 use crate::plans::making::no_memory;
 use crate::plans::system_path::{NameParts, new_name, system_path};
 use crate::plans::tree::refusal_of;
-use alias_edits::alias_tree_crate::{Node, node_record};
-use alias_edits::{TreeError, plan_file};
+use alias_edits::{Node, TreeError, node_record, plan_file};
 use asm_base::{Change, Key, List, Name, NoMemory, PENDING_KEY, Path, Refusal, Stripe, Value};
-use attribute_values::template_directory_crate::Settings;
-use catalog_units::file_directory_crate::{FileHead, record_of};
+use attribute_values::Settings;
+use catalog_units::{FileHead, record_of};
 use std::alloc::Global;
 
 impl Catalog {

@@ -8,7 +8,7 @@ ghost use Rattle.catalog.specs.Plans.{AreOwned, IsPlan};
 use crate::catalog::Catalog;
 use crate::plans::making::{no_memory, one_gone, one_put};
 use asm_base::{Change, Key, NoMemory, PENDING_KEY, REBALANCE_KEY, Refusal};
-use catalog_units::operations_directory_crate::{Pending, pending_record, rebalance_record};
+use catalog_units::{Pending, pending_record, rebalance_record};
 use std::alloc::Global;
 
 impl Catalog {

@@ -11,7 +11,7 @@ ghost use Rattle.catalog.specs.Plans.{IsPlan, IsTemplatePlan};
 use crate::catalog::Catalog;
 use crate::plans::making::{no_memory, one_put};
 use asm_base::{Change, Key, NoMemory, Refusal, TEMPLATES_KEY, Value};
-use attribute_values::template_directory_crate::{Template, TemplateEdit, templates_value};
+use attribute_values::{Template, TemplateEdit, templates_value};
 use std::alloc::Global;
 
 impl Catalog {

@@ -15,11 +15,9 @@ ghost use Rattle.catalog.specs.TreePlans.{IsTreeFull, IsNewAlias, IsTreePlan, Is
 
 use crate::catalog::Catalog;
 use crate::plans::making::{no_memory, one_gone, one_put, two_put};
-use alias_edits::alias_tree_crate::{Node, node_record};
-use alias_edits::{TreeChange, TreeEdit, TreeError, plan};
+use alias_edits::{Node, TreeChange, TreeEdit, TreeError, node_record, plan};
 use asm_base::{Change, Key, NoMemory, NodeKind, Refusal, Value};
-use catalog_units::catalog_tables_crate::node_key;
-use catalog_units::file_directory_crate::{FileHead, record_of};
+use catalog_units::{FileHead, node_key, record_of};
 use std::alloc::Global;
 
 impl Catalog {

@@ -1,0 +1,2 @@
+-- The types of `asm_base` that crates above name.
+pub use Rattle.asm_base.specs.declared.block

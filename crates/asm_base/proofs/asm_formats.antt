@@ -1,0 +1,2 @@
+-- What crates above cite of the proofs of `asm_formats`.
+pub use Rattle.asm_formats.proofs.Bodies

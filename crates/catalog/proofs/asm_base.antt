@@ -1,0 +1,3 @@
+-- What crates above cite of the proofs of `asm_base`.
+pub use Rattle.asm_base.proofs.Exact
+pub use Rattle.asm_base.proofs.ItemTables

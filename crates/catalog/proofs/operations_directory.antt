@@ -1,0 +1,2 @@
+-- What crates above cite of the proofs of `operations_directory`.
+pub use Rattle.catalog_units.proofs.operations_directory.Laws

@@ -1,0 +1,3 @@
+-- The definitions of `asm_base` that crates above name.
+pub use Rattle.asm_base.specs.Chunks
+pub use Rattle.asm_base.specs.Records

@@ -1,0 +1,2 @@
+-- What crates above cite of the proofs of `page_map`.
+pub use Rattle.page_map.proofs.Changing

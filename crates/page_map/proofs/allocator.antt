@@ -1,0 +1,2 @@
+-- What crates above cite of the proofs of `allocator`.
+pub use Rattle.allocator.proofs.Maps

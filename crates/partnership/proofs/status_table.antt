@@ -1,0 +1,2 @@
+-- What crates above cite of the proofs of `status_table`.
+pub use Rattle.status_table.proofs.Allowed

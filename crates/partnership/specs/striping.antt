@@ -1,0 +1,3 @@
+-- The definitions of `striping` that crates above name.
+pub use Rattle.striping.specs.Pieces
+pub mod declared
