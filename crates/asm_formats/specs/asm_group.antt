@@ -2,3 +2,4 @@
 pub use Rattle.asm_group.specs.Names
 pub use Rattle.asm_group.specs.Shape
 pub mod declared
+pub use Rattle.asm_group.specs.Modes

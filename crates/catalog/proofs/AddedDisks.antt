@@ -10,18 +10,18 @@ use Rattle.asm_formats.specs.Items.{DiskInfo, Key, disk_item, is_item}
 use Rattle.asm_formats.specs.Values.{value}
 use Rattle.asm_base.specs.Records.{Entry}
 use Rattle.asm_base.specs.declared.refusal.Refusal.TheVariants as cause
-use Rattle.catalog_units.specs.page_map.Changes.{last_put}
-use Rattle.catalog_units.specs.disk_directory.Disks.{Disk, IsTable, info_at, record_of, with_info}
-use Rattle.catalog_units.specs.catalog_tables.Faults.{IsCatalog, disk_key}
+use Rattle.plan_records.specs.page_map.Changes.{last_put}
+use Rattle.plan_records.specs.disk_directory.Disks.{Disk, IsTable, info_at, record_of, with_info}
+use Rattle.plan_records.specs.catalog_tables.Faults.{IsCatalog, disk_key}
 use Rattle.catalog.specs.Plans.{IsAddRefusal, IsPlan, MayAdd, are_new, with_records}
-use Rattle.catalog_units.specs.catalog_tables.Rules.{blocks_used}
-use Rattle.catalog_units.specs.catalog_tables.Tables.{Catalogued, Tables, records_of}
-use Rattle.catalog_units.proofs.disk_directory.DiskLaws.{put_keeps_table}
+use Rattle.plan_records.specs.catalog_tables.Rules.{blocks_used}
+use Rattle.plan_records.specs.catalog_tables.Tables.{Catalogued, Tables, records_of}
+use Rattle.plan_records.proofs.disk_directory.DiskLaws.{put_keeps_table}
 use Rattle.catalog.proofs.DiskPlans.{disk_rules, put_at, with_disks}
-use Rattle.catalog_units.proofs.catalog_tables.NewRecords.{at_most}
-use Rattle.catalog_units.proofs.catalog_tables.NumberedLists.{new_longer}
-use Rattle.catalog_units.proofs.catalog_tables.SetLaws.{disks_set}
-use Rattle.catalog_units.proofs.catalog_tables.TableItems.{each_of, map_among}
+use Rattle.plan_records.proofs.catalog_tables.NewRecords.{at_most}
+use Rattle.plan_records.proofs.catalog_tables.NumberedLists.{new_longer}
+use Rattle.plan_records.proofs.catalog_tables.SetLaws.{disks_set}
+use Rattle.plan_records.proofs.catalog_tables.TableItems.{each_of, map_among}
 
 abbrev AreItems : List Disk → Type 0
 AreItems added = AllByRecursion (λ (x : Disk). is_item (disk_item x.0 x.1) ≡ true) added

@@ -16,33 +16,33 @@ use Rattle.asm_placement.specs.Layout.{units_of}
 use Rattle.asm_placement.specs.Placed.{Placed, placed_copies, placed_extents}
 use Rattle.asm_base.specs.Records.{Entry}
 use Rattle.asm_base.proofs.Exact.{AreFitting, bind_some, some_is}
-use Rattle.catalog_units.specs.allocator.UnitMaps.{UnitMap, with_run}
-use Rattle.catalog_units.specs.file_directory.Files.{head_at}
-use Rattle.catalog_units.specs.extent_map.Extents.{Chunked, absent, chunk_at, chunk_or_blank, count_in, has_home, is_blank, record_of, with_chunk, with_more}
+use Rattle.plan_records.specs.allocator.UnitMaps.{UnitMap, with_run}
+use Rattle.plan_records.specs.file_directory.Files.{head_at}
+use Rattle.plan_records.specs.extent_map.Extents.{Chunked, absent, chunk_at, chunk_or_blank, count_in, has_home, is_blank, record_of, with_chunk, with_more}
 use Rattle.asm_base.specs.Chunks.{Chunk, chunk_cmp}
-use Rattle.catalog_units.proofs.extent_map.ChunkEnds.{base_fits, base_stands, fills_chunks, front, more_long, none_from, two}
-use Rattle.catalog_units.proofs.extent_map.FileEnds.{blank_by, has_at}
-use Rattle.catalog_units.proofs.extent_map.Laws.{chunk_total, same_chunk}
-use Rattle.catalog_units.proofs.extent_map.Lookups.{new_longer, put_here, put_other, there_as_long}
-use Rattle.catalog_units.proofs.extent_map.Numbering.{Stands, found_self}
-use Rattle.catalog_units.proofs.extent_map.Values.{IsHomes}
-use Rattle.catalog_units.specs.staleness_directory.Marks as stale
-use Rattle.catalog_units.specs.staleness_directory.Marks.{Marked, marks_at, with_marks}
-use Rattle.catalog_units.proofs.staleness_directory.Laws as stale_laws
-use Rattle.catalog_units.specs.catalog_tables.Changing.{IsAfter}
+use Rattle.plan_records.proofs.extent_map.ChunkEnds.{base_fits, base_stands, fills_chunks, front, more_long, none_from, two}
+use Rattle.plan_records.proofs.extent_map.FileEnds.{blank_by, has_at}
+use Rattle.plan_records.proofs.extent_map.Laws.{chunk_total, same_chunk}
+use Rattle.plan_records.proofs.extent_map.Lookups.{new_longer, put_here, put_other, there_as_long}
+use Rattle.plan_records.proofs.extent_map.Numbering.{Stands, found_self}
+use Rattle.plan_records.proofs.extent_map.Values.{IsHomes}
+use Rattle.plan_records.specs.staleness_directory.Marks as stale
+use Rattle.plan_records.specs.staleness_directory.Marks.{Marked, marks_at, with_marks}
+use Rattle.plan_records.proofs.staleness_directory.Laws as stale_laws
+use Rattle.plan_records.specs.catalog_tables.Changing.{IsAfter}
 use Rattle.catalog.specs.ExtentPlans.{HasChunkRoom, LacksBlocks, MayAppend, are_small, first_new, homes_appended, is_small, marks_appended, marks_behind, marks_or_none, with_appended}
-use Rattle.catalog_units.specs.catalog_tables.Faults.{IsCatalog}
-use Rattle.catalog_units.specs.catalog_tables.Placing.{HasUnits, after_homes, home_taken, homes_of, unused_maps}
+use Rattle.plan_records.specs.catalog_tables.Faults.{IsCatalog}
+use Rattle.plan_records.specs.catalog_tables.Placing.{HasUnits, after_homes, home_taken, homes_of, unused_maps}
 use Rattle.catalog.specs.Plans.{IsPlan}
-use Rattle.catalog_units.specs.catalog_tables.Rules.{are_marks_of, are_on_disks, are_within, are_within_head, blocks_used, has_chunk, has_copies, is_mark_of}
-use Rattle.catalog_units.specs.catalog_tables.Tables.{AreTables, Catalogued, Tables}
+use Rattle.plan_records.specs.catalog_tables.Rules.{are_marks_of, are_on_disks, are_within, are_within_head, blocks_used, has_chunk, has_copies, is_mark_of}
+use Rattle.plan_records.specs.catalog_tables.Tables.{AreTables, Catalogued, Tables}
 use Rattle.catalog.proofs.EditLaws.{IsEdited, IsRightChunk, after_two, changed, chunk_right, due_by, edited_plan, extent_in, homes_set, marks_set}
-use Rattle.catalog_units.proofs.catalog_tables.NewRecords.{HasRoom, chunk_there, marks_there, two_old_room, two_room}
-use Rattle.catalog_units.proofs.catalog_tables.EntryLaws.{both, either, right_at, three_true}
-use Rattle.catalog_units.proofs.catalog_tables.HomeUnits.{takes}
+use Rattle.plan_records.proofs.catalog_tables.NewRecords.{HasRoom, chunk_there, marks_there, two_old_room, two_room}
+use Rattle.plan_records.proofs.catalog_tables.EntryLaws.{both, either, right_at, three_true}
+use Rattle.plan_records.proofs.catalog_tables.HomeUnits.{takes}
 use Rattle.catalog.proofs.MarkPlans.{Stands as ChunkStands, stands, some_of, zip_at}
 use Rattle.catalog.proofs.MovePlans.{units_long}
-use Rattle.catalog_units.proofs.catalog_tables.PlacingLaws.{no_extents}
+use Rattle.plan_records.proofs.catalog_tables.PlacingLaws.{no_extents}
 use Rattle.catalog.proofs.UnitEdits.{as_many, cut, glue, units_edited, units_new}
 
 -- ---- lists in parts

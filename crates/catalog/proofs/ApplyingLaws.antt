@@ -8,15 +8,15 @@ use Rattle.asm_base.specs.declared.records.Change.{Change}
 use Rattle.asm_formats.specs.Items.{Key}
 use Rattle.asm_formats.specs.Status as status
 use Rattle.asm_group.specs.Shape.{Shape}
-use Rattle.catalog_units.specs.allocator.UnitMaps.{UnitMap}
+use Rattle.plan_records.specs.allocator.UnitMaps.{UnitMap}
 use Rattle.catalog.specs.Applying.{AreDisksReady, IsChangeReady, Leaves, next_maps}
-use Rattle.catalog_units.specs.catalog_tables.Changing.{IsAfter}
-use Rattle.catalog_units.specs.catalog_tables.Placing.{HasUnits, OtherMapsStay, after_chunks, put_maps}
+use Rattle.plan_records.specs.catalog_tables.Changing.{IsAfter}
+use Rattle.plan_records.specs.catalog_tables.Placing.{HasUnits, OtherMapsStay, after_chunks, put_maps}
 use Rattle.catalog.specs.Spares.{IsCatalogWithSpare, IsSpareOf, ready_tables, units_in}
-use Rattle.catalog_units.specs.catalog_tables.Tables.{AreTables, Catalogued, Tables}
+use Rattle.plan_records.specs.catalog_tables.Tables.{AreTables, Catalogued, Tables}
 use Rattle.catalog.specs.declared.spare.Spare.{Spare}
 use Rattle.catalog.specs.declared.spare.Spare.TheVariants.{Absent, Behind, Ready}
-use Rattle.catalog_units.proofs.catalog_tables.AfterLaws.{one_after}
+use Rattle.plan_records.proofs.catalog_tables.AfterLaws.{one_after}
 
 abbrev Units : Type 0
 Units = Option (List (ℕ × UnitMap))

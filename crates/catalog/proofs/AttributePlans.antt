@@ -5,16 +5,16 @@ use Rattle.asm_formats.specs.Items.{Key, Settings, is_item, settings_item}
 use Rattle.asm_formats.specs.Values.{value}
 use Rattle.asm_base.specs.Records.{Entry}
 use Rattle.asm_base.specs.Tables.{item_record}
-use Rattle.attribute_values.specs.Edits.{settings_with}
-use Rattle.attribute_values.specs.template_directory.Tables as templates
-use Rattle.attribute_values.proofs.template_directory.ChangeLaws as template_laws
-use Rattle.catalog_units.specs.catalog_tables.Faults.{IsCatalog, settings_key}
+use Rattle.plan_records.specs.attribute_values.Edits.{settings_with}
+use Rattle.plan_records.specs.template_directory.Tables as templates
+use Rattle.plan_records.proofs.template_directory.ChangeLaws as template_laws
+use Rattle.plan_records.specs.catalog_tables.Faults.{IsCatalog, settings_key}
 use Rattle.catalog.specs.FilePlans.{IsAttributePlan}
 use Rattle.catalog.specs.Plans.{IsPlan}
-use Rattle.catalog_units.specs.catalog_tables.Tables.{Catalogued}
-use Rattle.catalog_units.proofs.catalog_tables.NewRecords.{old_room, settings_there}
+use Rattle.plan_records.specs.catalog_tables.Tables.{Catalogued}
+use Rattle.plan_records.proofs.catalog_tables.NewRecords.{old_room, settings_there}
 use Rattle.catalog.proofs.PlanLaws.{after_put}
-use Rattle.catalog_units.proofs.catalog_tables.SetLaws.{templates_set}
+use Rattle.plan_records.proofs.catalog_tables.SetLaws.{templates_set}
 use Rattle.catalog.proofs.TemplatePlans.{with_templates}
 use Rattle.catalog.proofs.PutItems.{plan_is}
 

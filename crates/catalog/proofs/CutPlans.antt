@@ -13,29 +13,29 @@ use Rattle.asm_formats.specs.Status.{Entry as StatusEntry}
 use Rattle.asm_placement.specs.Placed.{Placed, placed_extents}
 use Rattle.asm_base.specs.Records.{Entry}
 use Rattle.asm_base.proofs.Exact.{some_is}
-use Rattle.catalog_units.specs.allocator.UnitMaps.{UnitMap}
-use Rattle.catalog_units.specs.file_directory.Files.{head_at}
-use Rattle.catalog_units.specs.extent_map.Extents.{Chunked, IsTable, absent, chunk_at, chunk_or_blank, cut_to, has_home, record_of, with_chunk}
+use Rattle.plan_records.specs.allocator.UnitMaps.{UnitMap}
+use Rattle.plan_records.specs.file_directory.Files.{head_at}
+use Rattle.plan_records.specs.extent_map.Extents.{Chunked, IsTable, absent, chunk_at, chunk_or_blank, cut_to, has_home, record_of, with_chunk}
 use Rattle.asm_base.specs.Chunks.{Chunk, chunk_cmp}
-use Rattle.catalog_units.proofs.extent_map.CutChunks.{cuts_chunks}
-use Rattle.catalog_units.proofs.extent_map.Laws.{chunk_total, same_chunk}
-use Rattle.catalog_units.proofs.extent_map.Lookups.{key_is, put_here, put_other, there_as_long}
-use Rattle.catalog_units.proofs.extent_map.Numbering.{found_self}
-use Rattle.catalog_units.proofs.extent_map.Values.{blank_fits}
-use Rattle.catalog_units.specs.staleness_directory.Marks as stale
-use Rattle.catalog_units.specs.staleness_directory.Marks.{Marked, marks_at, marks_to, with_marks}
-use Rattle.catalog_units.proofs.staleness_directory.Laws as stale_laws
-use Rattle.catalog_units.specs.catalog_tables.Changing.{IsAfter}
+use Rattle.plan_records.proofs.extent_map.CutChunks.{cuts_chunks}
+use Rattle.plan_records.proofs.extent_map.Laws.{chunk_total, same_chunk}
+use Rattle.plan_records.proofs.extent_map.Lookups.{key_is, put_here, put_other, there_as_long}
+use Rattle.plan_records.proofs.extent_map.Numbering.{found_self}
+use Rattle.plan_records.proofs.extent_map.Values.{blank_fits}
+use Rattle.plan_records.specs.staleness_directory.Marks as stale
+use Rattle.plan_records.specs.staleness_directory.Marks.{Marked, marks_at, marks_to, with_marks}
+use Rattle.plan_records.proofs.staleness_directory.Laws as stale_laws
+use Rattle.plan_records.specs.catalog_tables.Changing.{IsAfter}
 use Rattle.catalog.specs.ExtentPlans.{IsUndue, MayCut, marks_or_none, with_cut, with_fewer}
-use Rattle.catalog_units.specs.catalog_tables.Faults.{IsCatalog}
-use Rattle.catalog_units.specs.catalog_tables.Placing.{HasUnits, after_homes, homes_of, unused_maps}
+use Rattle.plan_records.specs.catalog_tables.Faults.{IsCatalog}
+use Rattle.plan_records.specs.catalog_tables.Placing.{HasUnits, after_homes, homes_of, unused_maps}
 use Rattle.catalog.specs.Plans.{IsPlan}
-use Rattle.catalog_units.specs.catalog_tables.Rules.{HasExtents, are_marks_of, are_on_disks, are_within, are_within_head, has_copies}
-use Rattle.catalog_units.specs.catalog_tables.Tables.{AreTables, Catalogued, Tables}
+use Rattle.plan_records.specs.catalog_tables.Rules.{HasExtents, are_marks_of, are_on_disks, are_within, are_within_head, has_copies}
+use Rattle.plan_records.specs.catalog_tables.Tables.{AreTables, Catalogued, Tables}
 use Rattle.catalog.proofs.AppendPlans.{all_first, all_joined, all_later, all_same, blank_homes, fits_later, homes_joined, zip_all}
 use Rattle.catalog.proofs.EditLaws.{IsEdited, IsRightChunk, after_two, changed, chunk_right, edited_plan, extent_in, homes_set, marks_set}
-use Rattle.catalog_units.proofs.catalog_tables.NewRecords.{chunk_there, marks_there, two_old_room}
-use Rattle.catalog_units.proofs.catalog_tables.EntryLaws.{both, either, three_true}
+use Rattle.plan_records.proofs.catalog_tables.NewRecords.{chunk_there, marks_there, two_old_room}
+use Rattle.plan_records.proofs.catalog_tables.EntryLaws.{both, either, three_true}
 use Rattle.catalog.proofs.MarkPlans.{Stands, stands, zip_at}
 use Rattle.catalog.proofs.UnitEdits.{cut, units_edited}
 

@@ -9,17 +9,17 @@ use Rattle.asm_formats.specs.Items.{DiskInfo, Key, disk_item, is_item}
 use Rattle.asm_formats.specs.Values.{value}
 use Rattle.asm_base.specs.Records.{Entry}
 use Rattle.asm_base.specs.Tables.{item_record}
-use Rattle.catalog_units.proofs.extent_map.Lookups.{put_here, put_other}
-use Rattle.catalog_units.specs.disk_directory.Disks.{Disk, IsTable, info_at, value_at, with_info, without_disk}
-use Rattle.catalog_units.specs.catalog_tables.Faults.{IsCatalog, disk_key}
+use Rattle.plan_records.proofs.extent_map.Lookups.{put_here, put_other}
+use Rattle.plan_records.specs.disk_directory.Disks.{Disk, IsTable, info_at, value_at, with_info, without_disk}
+use Rattle.plan_records.specs.catalog_tables.Faults.{IsCatalog, disk_key}
 use Rattle.catalog.specs.Plans.{IsPlan, LacksBlock}
-use Rattle.catalog_units.specs.catalog_tables.Rules.{KeepsRules, blocks_used}
-use Rattle.catalog_units.specs.catalog_tables.Tables.{AreTables, Catalogued, Tables}
-use Rattle.catalog_units.proofs.disk_directory.DiskLaws.{put_keeps_table, record_gone, removed_keeps_table}
-use Rattle.catalog_units.proofs.catalog_tables.NewRecords.{no_disk, nothing_room, one_room}
-use Rattle.catalog_units.proofs.catalog_tables.NumberedLists.{either, gone_at, gone_few, new_longer, not_at, number_is, number_itself, there_as_long}
+use Rattle.plan_records.specs.catalog_tables.Rules.{KeepsRules, blocks_used}
+use Rattle.plan_records.specs.catalog_tables.Tables.{AreTables, Catalogued, Tables}
+use Rattle.plan_records.proofs.disk_directory.DiskLaws.{put_keeps_table, record_gone, removed_keeps_table}
+use Rattle.plan_records.proofs.catalog_tables.NewRecords.{no_disk, nothing_room, one_room}
+use Rattle.plan_records.proofs.catalog_tables.NumberedLists.{either, gone_at, gone_few, new_longer, not_at, number_is, number_itself, there_as_long}
 use Rattle.catalog.proofs.PlanLaws.{after_gone, after_put}
-use Rattle.catalog_units.proofs.catalog_tables.SetLaws.{disks_set}
+use Rattle.plan_records.proofs.catalog_tables.SetLaws.{disks_set}
 use Rattle.catalog.proofs.PutItems.{plan_is}
 
 -- ---- what stands at each number then

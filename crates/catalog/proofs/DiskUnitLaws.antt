@@ -5,15 +5,15 @@ use Rattle.std.specs.Bool.{OnFalse, OnTrue}
 use Rattle.std.proofs.lemmas.Bool.{true≢false}
 use Rattle.asm_formats.specs.Status as status
 use Rattle.asm_group.specs.Shape.{Shape}
-use Rattle.catalog_units.specs.allocator.UnitMaps.{UnitMap}
+use Rattle.plan_records.specs.allocator.UnitMaps.{UnitMap}
 use Rattle.catalog.specs.Applying.{AreDisksReady}
-use Rattle.catalog_units.specs.catalog_tables.Placing.{AreFit, HasUnits, HaveSameUnits, OtherMapsStay, changed_maps, have_units, put_maps, resized_maps}
+use Rattle.plan_records.specs.catalog_tables.Placing.{AreFit, HasUnits, HaveSameUnits, OtherMapsStay, changed_maps, have_units, put_maps, resized_maps}
 use Rattle.catalog.specs.Spares.{IsCatalogWithSpare}
-use Rattle.catalog_units.specs.catalog_tables.Tables.{Catalogued, Tables}
+use Rattle.plan_records.specs.catalog_tables.Tables.{Catalogued, Tables}
 use Rattle.catalog.specs.declared.spare.Spare.{Spare}
 use Rattle.catalog.proofs.ApplyingLaws.{made}
-use Rattle.catalog.proofs.ResizedUnits.{all_long, all_whole, changed_are, others_stay, units_are_resized, units_resize}
-use Rattle.catalog_units.proofs.catalog_tables.SameUnits.{as_many, units_same, units_stay}
+use Rattle.plan_records.proofs.catalog_units.ResizedUnits.{all_long, all_whole, changed_are, others_stay, units_are_resized, units_resize}
+use Rattle.plan_records.proofs.catalog_tables.SameUnits.{as_many, units_same, units_stay}
 
 -- what is known of a catalog is known of its fields
 pub covered : (c : Catalogued) (t : Tables) (s : Shape) (ms : List UnitMap) (o : Option Tables) (d : Option (List (ℕ × UnitMap))) (entries given : List status.Entry) → made t s ms o d ≡ c → given ≡ entries → (x : List UnitMap) × HasUnits c.shape entries c.tables x → (x : List UnitMap) × HasUnits s given t x

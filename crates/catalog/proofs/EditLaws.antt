@@ -12,27 +12,27 @@ use Rattle.asm_formats.specs.Items.{FileHead, Homes, Key, chunk_item, marks_item
 use Rattle.asm_formats.specs.Status as status
 use Rattle.asm_formats.specs.Values.{value}
 use Rattle.asm_base.specs.Records.{Entry, is_key}
-use Rattle.catalog_units.specs.allocator.UnitMaps.{UnitMap}
-use Rattle.catalog_units.specs.file_directory.Files.{head_at, is_file}
-use Rattle.catalog_units.specs.extent_map.Changing as extents
-use Rattle.catalog_units.specs.extent_map.Extents.{Chunked, chunk_at, chunk_key, has_home}
+use Rattle.plan_records.specs.allocator.UnitMaps.{UnitMap}
+use Rattle.plan_records.specs.file_directory.Files.{head_at, is_file}
+use Rattle.plan_records.specs.extent_map.Changing as extents
+use Rattle.plan_records.specs.extent_map.Extents.{Chunked, chunk_at, chunk_key, has_home}
 use Rattle.asm_base.specs.Chunks.{Chunk, chunk_cmp}
-use Rattle.catalog_units.specs.extent_map.Extents as extent_map
-use Rattle.catalog_units.proofs.extent_map.Laws.{chunk_total, same_chunk}
-use Rattle.catalog_units.proofs.extent_map.Lookups.{both_ways, key_is}
-use Rattle.catalog_units.specs.staleness_directory.Changing as stale
-use Rattle.catalog_units.specs.staleness_directory.Marks.{Marked, marks_at}
-use Rattle.catalog_units.specs.staleness_directory.Marks as stale_map
-use Rattle.catalog_units.specs.catalog_tables.Changing.{IsAfter, Sets}
-use Rattle.catalog_units.specs.catalog_tables.Faults.{IsCatalog, key_of_marks}
-use Rattle.catalog_units.specs.catalog_tables.Placing.{HasUnits}
+use Rattle.plan_records.specs.extent_map.Extents as extent_map
+use Rattle.plan_records.proofs.extent_map.Laws.{chunk_total, same_chunk}
+use Rattle.plan_records.proofs.extent_map.Lookups.{both_ways, key_is}
+use Rattle.plan_records.specs.staleness_directory.Changing as stale
+use Rattle.plan_records.specs.staleness_directory.Marks.{Marked, marks_at}
+use Rattle.plan_records.specs.staleness_directory.Marks as stale_map
+use Rattle.plan_records.specs.catalog_tables.Changing.{IsAfter, Sets}
+use Rattle.plan_records.specs.catalog_tables.Faults.{IsCatalog, key_of_marks}
+use Rattle.plan_records.specs.catalog_tables.Placing.{HasUnits}
 use Rattle.catalog.specs.Plans.{IsPlan}
 use Rattle.asm_placement.specs.Naming.{is_pending}
-use Rattle.catalog_units.specs.catalog_tables.Rules.{HasExtents, KeepsRules, are_chunk_marks, are_marks_of, are_on_disks, are_within_head, blocks_used, has_chunk, has_copies, has_marks, is_marked_right, is_on_disks, is_owned, keeps_copies}
-use Rattle.catalog_units.specs.catalog_tables.Tables.{AreTables, Catalogued, Tables, records_of}
-use Rattle.catalog_units.proofs.catalog_tables.EntryLaws.{edited, either, holds_all, holds_at, right_at}
-use Rattle.catalog_units.proofs.catalog_tables.NewRecords.{HasRoom}
-use Rattle.catalog_units.proofs.catalog_tables.SetLaws.{extents_set, stale_set}
+use Rattle.plan_records.specs.catalog_tables.Rules.{HasExtents, KeepsRules, are_chunk_marks, are_marks_of, are_on_disks, are_within_head, blocks_used, has_chunk, has_copies, has_marks, is_marked_right, is_on_disks, is_owned, keeps_copies}
+use Rattle.plan_records.specs.catalog_tables.Tables.{AreTables, Catalogued, Tables, records_of}
+use Rattle.plan_records.proofs.catalog_tables.EntryLaws.{edited, either, holds_all, holds_at, right_at}
+use Rattle.plan_records.proofs.catalog_tables.NewRecords.{HasRoom}
+use Rattle.plan_records.proofs.catalog_tables.SetLaws.{extents_set, stale_set}
 use Rattle.catalog.proofs.PutItems.{is_once, plan_is}
 
 -- the tables with these extents and marks

@@ -15,18 +15,18 @@ use Rattle.asm_formats.specs.Regions.{reserved_units}
 use Rattle.asm_formats.specs.Status.{Entry, is_entry}
 use Rattle.asm_placement.specs.Layout.{units_of}
 use Rattle.asm_placement.specs.Placed.{Placed, placed_copies, placed_extents}
-use Rattle.catalog_units.specs.allocator.UnitMaps.{UnitMap, unused, used_of, with_run}
+use Rattle.plan_records.specs.allocator.UnitMaps.{UnitMap, unused, used_of, with_run}
 use Rattle.asm_base.proofs.Exact.{bind_some, some_is}
-use Rattle.catalog_units.specs.file_directory.Files.{File, IsTable, head_at, item_of}
-use Rattle.catalog_units.specs.extent_map.Extents.{Chunked, has_home, has_no_gap, is_behind, is_blank, is_full, opened, stand_first, stands_at}
+use Rattle.plan_records.specs.file_directory.Files.{File, IsTable, head_at, item_of}
+use Rattle.plan_records.specs.extent_map.Extents.{Chunked, has_home, has_no_gap, is_behind, is_blank, is_full, opened, stand_first, stands_at}
 use Rattle.asm_base.specs.Chunks.{Chunk}
-use Rattle.catalog_units.specs.extent_map.Extents as extents
-use Rattle.catalog_units.specs.catalog_tables.Tables.{AreTables, Tables}
-use Rattle.catalog_units.specs.catalog_tables.Placing.{HasUnits, after_chunks, after_homes, disk_units, homes_of, unused_maps}
-use Rattle.catalog_units.proofs.catalog_tables.PlacingLaws.{units_some}
-use Rattle.catalog_units.proofs.catalog_tables.TableItems.{each_of, found_is, numbers_exact}
-use Rattle.catalog_units.proofs.catalog_tables.HomeUnits.{IsTaken, taken_is, takes}
-use Rattle.catalog_units.proofs.catalog_tables.UnusedLaws.{few_found}
+use Rattle.plan_records.specs.extent_map.Extents as extents
+use Rattle.plan_records.specs.catalog_tables.Tables.{AreTables, Tables}
+use Rattle.plan_records.specs.catalog_tables.Placing.{HasUnits, after_chunks, after_homes, disk_units, homes_of, unused_maps}
+use Rattle.plan_records.proofs.catalog_tables.PlacingLaws.{units_some}
+use Rattle.plan_records.proofs.catalog_tables.TableItems.{each_of, found_is, numbers_exact}
+use Rattle.plan_records.proofs.catalog_tables.HomeUnits.{IsTaken, taken_is, takes}
+use Rattle.plan_records.proofs.catalog_tables.UnusedLaws.{few_found}
 
 -- ---- copies
 

@@ -1,3 +1,4 @@
+pub mod catalog_units
 pub mod ExtentCounts
 pub mod StoreLaws
 pub mod PutItems
@@ -13,7 +14,6 @@ pub mod Owners
 pub mod SizePlans
 pub mod RemovalPlans
 pub mod NamePlans
-pub mod NewNames
 pub mod NextFile
 pub mod NameChecks
 pub mod MarkedExtents
@@ -27,7 +27,6 @@ pub mod ReleasePlans
 pub mod AppendPlans
 pub mod CutPlans
 pub mod DiskUnitLaws
-pub mod ResizedUnits
 pub mod alias_edits
 pub mod alias_tree
 pub mod asm_base

@@ -12,22 +12,22 @@ use Rattle.asm_formats.specs.Items.{Homes, Key, is_item, marks_item}
 use Rattle.asm_formats.specs.Sets.{has_bit}
 use Rattle.asm_base.specs.Records.{Entry}
 use Rattle.asm_base.proofs.Exact.{some_is}
-use Rattle.catalog_units.specs.extent_map.Extents.{chunk_at}
+use Rattle.plan_records.specs.extent_map.Extents.{chunk_at}
 use Rattle.asm_base.specs.Chunks.{Chunk, chunk_cmp}
-use Rattle.catalog_units.proofs.extent_map.Laws.{chunk_total, same_chunk}
-use Rattle.catalog_units.proofs.extent_map.Lookups.{put_here, put_other, there_as_long}
-use Rattle.catalog_units.proofs.extent_map.Numbering.{found_self, size_of}
-use Rattle.catalog_units.specs.staleness_directory.Marks.{Marked, item_of, marks_at, record_of, with_marks}
-use Rattle.catalog_units.proofs.staleness_directory.Laws as stale_laws
+use Rattle.plan_records.proofs.extent_map.Laws.{chunk_total, same_chunk}
+use Rattle.plan_records.proofs.extent_map.Lookups.{put_here, put_other, there_as_long}
+use Rattle.plan_records.proofs.extent_map.Numbering.{found_self, size_of}
+use Rattle.plan_records.specs.staleness_directory.Marks.{Marked, item_of, marks_at, record_of, with_marks}
+use Rattle.plan_records.proofs.staleness_directory.Laws as stale_laws
 use Rattle.catalog.specs.ExtentPlans.{MayMark, marks_changed, marks_or_none, with_marks_changed}
-use Rattle.catalog_units.specs.catalog_tables.Changing.{IsAfter}
-use Rattle.catalog_units.specs.catalog_tables.Faults.{IsCatalog}
+use Rattle.plan_records.specs.catalog_tables.Changing.{IsAfter}
+use Rattle.plan_records.specs.catalog_tables.Faults.{IsCatalog}
 use Rattle.catalog.specs.Plans.{IsPlan}
-use Rattle.catalog_units.specs.catalog_tables.Rules.{are_marks_of, is_mark_of, marks_of, homes_at}
-use Rattle.catalog_units.specs.catalog_tables.Tables.{AreTables, Catalogued, Tables}
+use Rattle.plan_records.specs.catalog_tables.Rules.{are_marks_of, is_mark_of, marks_of, homes_at}
+use Rattle.plan_records.specs.catalog_tables.Tables.{AreTables, Catalogued, Tables}
 use Rattle.catalog.proofs.EditLaws.{IsEdited, IsRightChunk, changed, chunk_right, edited_plan, marks_set}
-use Rattle.catalog_units.proofs.catalog_tables.NewRecords.{marks_there, old_room}
-use Rattle.catalog_units.proofs.catalog_tables.EntryLaws.{both, holds_at, three_true}
+use Rattle.plan_records.proofs.catalog_tables.NewRecords.{marks_there, old_room}
+use Rattle.plan_records.proofs.catalog_tables.EntryLaws.{both, holds_at, three_true}
 use Rattle.catalog.proofs.PlanLaws.{after_put}
 
 -- ---- marks of a chunk

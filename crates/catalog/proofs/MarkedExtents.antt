@@ -14,18 +14,18 @@ use Rattle.asm_formats.specs.Items.{Homes}
 use Rattle.asm_formats.specs.Sets.{has_bit}
 use Rattle.asm_base.specs.Records.{Ascend}
 use Rattle.asm_base.proofs.Exact.{some_is}
-use Rattle.catalog_units.specs.extent_map.Extents.{chunk_at}
+use Rattle.plan_records.specs.extent_map.Extents.{chunk_at}
 use Rattle.asm_base.specs.Chunks.{Chunk, chunk_cmp, is_before}
-use Rattle.catalog_units.proofs.extent_map.Ends.{Lower, lower}
-use Rattle.catalog_units.proofs.extent_map.Laws.{chunk_total, same_chunk}
-use Rattle.catalog_units.proofs.extent_map.Numbering.{less_is, size_of}
-use Rattle.catalog_units.specs.staleness_directory.Marks.{Marked, marks_at, marks_from}
-use Rattle.catalog_units.specs.catalog_tables.Rules.{homes_at}
-use Rattle.catalog_units.specs.catalog_tables.Faults.{IsCatalog}
-use Rattle.catalog_units.specs.catalog_tables.MarkedExtents.{HasNoMarkedHome, HasNoneIn, HasNoneMarked, IsFirstIn, IsFirstMarked, IsFirstPlace, IsFrom, any_stale_on, first_marked, has_marked, has_stale_on, is_marked_on}
-use Rattle.catalog_units.specs.catalog_tables.Tables.{AreTables, Catalogued, Tables}
-use Rattle.catalog_units.proofs.catalog_tables.EntryLaws.{both, either}
-use Rattle.catalog_units.proofs.catalog_tables.TableItems.{among_found, below, chunks_exact, found_is}
+use Rattle.plan_records.proofs.extent_map.Ends.{Lower, lower}
+use Rattle.plan_records.proofs.extent_map.Laws.{chunk_total, same_chunk}
+use Rattle.plan_records.proofs.extent_map.Numbering.{less_is, size_of}
+use Rattle.plan_records.specs.staleness_directory.Marks.{Marked, marks_at, marks_from}
+use Rattle.plan_records.specs.catalog_tables.Rules.{homes_at}
+use Rattle.plan_records.specs.catalog_tables.Faults.{IsCatalog}
+use Rattle.plan_records.specs.catalog_tables.MarkedExtents.{HasNoMarkedHome, HasNoneIn, HasNoneMarked, IsFirstIn, IsFirstMarked, IsFirstPlace, IsFrom, any_stale_on, first_marked, has_marked, has_stale_on, is_marked_on}
+use Rattle.plan_records.specs.catalog_tables.Tables.{AreTables, Catalogued, Tables}
+use Rattle.plan_records.proofs.catalog_tables.EntryLaws.{both, either}
+use Rattle.plan_records.proofs.catalog_tables.TableItems.{among_found, below, chunks_exact, found_is}
 
 -- ---- one extent
 

@@ -21,29 +21,29 @@ use Rattle.asm_placement.specs.Layout.{units_of}
 use Rattle.asm_placement.specs.Moves.{without_bit}
 use Rattle.asm_base.specs.Records.{Entry}
 use Rattle.asm_base.proofs.Exact.{some_is}
-use Rattle.catalog_units.specs.allocator.UnitMaps.{UnitMap, unused}
-use Rattle.catalog_units.specs.file_directory.Files.{head_at}
-use Rattle.catalog_units.specs.extent_map.Extents.{Chunked, IsTable, absent, chunk_at, chunk_or_blank, has_home, record_of, with_extent}
+use Rattle.plan_records.specs.allocator.UnitMaps.{UnitMap, unused}
+use Rattle.plan_records.specs.file_directory.Files.{head_at}
+use Rattle.plan_records.specs.extent_map.Extents.{Chunked, IsTable, absent, chunk_at, chunk_or_blank, has_home, record_of, with_extent}
 use Rattle.asm_base.specs.Chunks.{Chunk, chunk_cmp}
-use Rattle.catalog_units.proofs.extent_map.ChunkEnds.{replaces_extents}
-use Rattle.catalog_units.proofs.extent_map.FileEnds.{item_at}
-use Rattle.catalog_units.proofs.extent_map.Laws.{chunk_total, same_chunk}
-use Rattle.catalog_units.proofs.extent_map.Lookups.{put_here, put_other, put_same, set_here, set_other, there_as_long}
-use Rattle.catalog_units.proofs.extent_map.Numbering.{found_self, the_chunk}
-use Rattle.catalog_units.specs.staleness_directory.Marks as stale
-use Rattle.catalog_units.specs.staleness_directory.Marks.{Marked, marks_at, with_marks}
-use Rattle.catalog_units.proofs.staleness_directory.Laws as stale_laws
-use Rattle.catalog_units.specs.catalog_tables.Changing.{IsAfter}
+use Rattle.plan_records.proofs.extent_map.ChunkEnds.{replaces_extents}
+use Rattle.plan_records.proofs.extent_map.FileEnds.{item_at}
+use Rattle.plan_records.proofs.extent_map.Laws.{chunk_total, same_chunk}
+use Rattle.plan_records.proofs.extent_map.Lookups.{put_here, put_other, put_same, set_here, set_other, there_as_long}
+use Rattle.plan_records.proofs.extent_map.Numbering.{found_self, the_chunk}
+use Rattle.plan_records.specs.staleness_directory.Marks as stale
+use Rattle.plan_records.specs.staleness_directory.Marks.{Marked, marks_at, with_marks}
+use Rattle.plan_records.proofs.staleness_directory.Laws as stale_laws
+use Rattle.plan_records.specs.catalog_tables.Changing.{IsAfter}
 use Rattle.catalog.specs.ExtentPlans.{MayMove, homes_moved, is_copy_of, marks_or_none, with_move}
-use Rattle.catalog_units.specs.catalog_tables.Faults.{IsCatalog}
-use Rattle.catalog_units.specs.catalog_tables.Placing.{HasUnits, after_homes, disk_units, home_taken, homes_of, unused_maps}
+use Rattle.plan_records.specs.catalog_tables.Faults.{IsCatalog}
+use Rattle.plan_records.specs.catalog_tables.Placing.{HasUnits, after_homes, disk_units, home_taken, homes_of, unused_maps}
 use Rattle.catalog.specs.Plans.{IsPlan}
-use Rattle.catalog_units.specs.catalog_tables.Rules.{are_marks_of, are_on_disks, are_within, are_within_head, has_copies, is_mark_of, marks_of, homes_at}
-use Rattle.catalog_units.specs.catalog_tables.Tables.{AreTables, Catalogued, Tables}
+use Rattle.plan_records.specs.catalog_tables.Rules.{are_marks_of, are_on_disks, are_within, are_within_head, has_copies, is_mark_of, marks_of, homes_at}
+use Rattle.plan_records.specs.catalog_tables.Tables.{AreTables, Catalogued, Tables}
 use Rattle.catalog.proofs.EditLaws.{IsEdited, IsRightChunk, after_two, changed, chunk_right, due_by, edited_plan, extent_in, homes_set, marks_set}
-use Rattle.catalog_units.proofs.catalog_tables.NewRecords.{chunk_there, marks_there, old_room, two_old_room}
-use Rattle.catalog_units.proofs.catalog_tables.EntryLaws.{both, three_true}
-use Rattle.catalog_units.proofs.catalog_tables.HomeUnits.{chunks_are_homes, takes}
+use Rattle.plan_records.proofs.catalog_tables.NewRecords.{chunk_there, marks_there, old_room, two_old_room}
+use Rattle.plan_records.proofs.catalog_tables.EntryLaws.{both, three_true}
+use Rattle.plan_records.proofs.catalog_tables.HomeUnits.{chunks_are_homes, takes}
 use Rattle.catalog.proofs.MarkPlans.{Stands, marks_small, set_allowed, stands, zip_at}
 use Rattle.catalog.proofs.PlanLaws.{after_put}
 use Rattle.catalog.proofs.UnitEdits.{as_many, moved, units_edited}

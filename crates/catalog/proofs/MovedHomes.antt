@@ -5,12 +5,12 @@ use Rattle.std.specs.Bool.{OnTrue}
 use Rattle.std.specs.List.{slice_get}
 use Rattle.std.specs.Option.{is_some, option_and_then, unwrap_or}
 use Rattle.asm_formats.specs.Items.{Home, Homes}
-use Rattle.catalog_units.specs.allocator.UnitMaps.{IsFreeRun, UnitMap, is_free}
-use Rattle.catalog_units.specs.extent_map.Extents.{chunk_at, extent_at, has_extent, has_home}
-use Rattle.catalog_units.specs.catalog_tables.Rules.{homes_at}
-use Rattle.catalog_units.specs.catalog_tables.Placing.{home_taken}
-use Rattle.catalog_units.specs.catalog_tables.Tables.{Tables}
-use Rattle.catalog_units.proofs.catalog_tables.PlacingLaws.{from_all}
+use Rattle.plan_records.specs.allocator.UnitMaps.{IsFreeRun, UnitMap, is_free}
+use Rattle.plan_records.specs.extent_map.Extents.{chunk_at, extent_at, has_extent, has_home}
+use Rattle.plan_records.specs.catalog_tables.Rules.{homes_at}
+use Rattle.plan_records.specs.catalog_tables.Placing.{home_taken}
+use Rattle.plan_records.specs.catalog_tables.Tables.{Tables}
+use Rattle.plan_records.proofs.catalog_tables.PlacingLaws.{from_all}
 
 pub extent_there : (t : Tables) (f i : ℕ) (hs : Homes) → extent_at t.extents f i ≡ Some hs → (has_extent t.extents f i ≡ true) × (homes_at t f i ≡ hs)
 extent_there t f i hs = by (chunk_at t.extents (f, i / 256)) where

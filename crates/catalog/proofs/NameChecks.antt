@@ -11,16 +11,17 @@ use Rattle.asm_formats.specs.Items.{Settings}
 use Rattle.asm_base.specs.Refusals.{said}
 use Rattle.asm_base.specs.declared.refusal.Refusal.{Refusal}
 use Rattle.asm_base.specs.declared.refusal.Refusal.TheVariants as cause
-use Rattle.attribute_values.specs.asm_world.Files.{NewName, new_path}
-use Rattle.alias_edits.specs.Edits.{IsRefusal, cause_said}
-use Rattle.alias_edits.specs.Filing.{file_causes, filed, nodes_missing, with_file, with_nodes}
-use Rattle.alias_edits.specs.alias_tree.Nodes.{Numbered}
-use Rattle.alias_edits.specs.alias_tree.Trees.{tree_of}
-use Rattle.alias_edits.specs.declared.editing.TreeError.{TreeError}
+use Rattle.plan_records.specs.asm_world.Files.{NewName, new_path}
+use Rattle.plan_records.specs.alias_edits.Edits.{IsRefusal, cause_said}
+use Rattle.plan_records.specs.alias_edits.Filing.{file_causes, filed, nodes_missing, with_file, with_nodes}
+use Rattle.plan_records.specs.alias_tree.Nodes.{Numbered}
+use Rattle.plan_records.specs.alias_tree.Trees.{tree_of}
+use Rattle.plan_records.specs.alias_edits.declared.editing.TreeError.{TreeError}
 use Rattle.catalog.specs.NameChecks.{ChecksAgree, ChecksHold, HoldsStill, IsCheckRefusal, IsNameCheck, IsPathCheck, IsPathRefusal, check_causes}
-use Rattle.catalog.specs.NamePlans.{filed_as, made_file, name_at, path_for, system_path}
+use Rattle.plan_records.specs.NewNames.{name_at}
+use Rattle.catalog.specs.NamePlans.{filed_as, made_file, path_for, system_path}
 use Rattle.catalog.specs.Numbers.{IsNextFile}
-use Rattle.catalog_units.specs.catalog_tables.Tables.{Catalogued, Tables}
+use Rattle.plan_records.specs.catalog_tables.Tables.{Catalogued, Tables}
 
 -- ---- sectors
 

@@ -25,34 +25,36 @@ use Rattle.asm_base.specs.Refusals.{said}
 use Rattle.asm_base.specs.declared.refusal.Refusal.{Refusal}
 use Rattle.asm_base.specs.declared.refusal.Refusal.TheVariants as cause
 use Rattle.asm_base.proofs.Exact.{some_is}
-use Rattle.attribute_values.specs.asm_world.Files.{NewName, new_path, next_incarnation}
-use Rattle.catalog_units.specs.page_map.Changes.{last_put, value_after}
-use Rattle.catalog_units.specs.file_directory.Files.{File, head_at, record_of, with_head}
-use Rattle.catalog_units.proofs.file_directory.Laws.{put_keeps_table}
-use Rattle.catalog_units.specs.extent_map.Extents.{Chunked}
-use Rattle.alias_edits.specs.Filing.{filed, with_nodes}
-use Rattle.alias_edits.specs.declared.editing.TreeError.{TreeError}
-use Rattle.alias_edits.specs.Edits.{IsRefusal, cause_said}
-use Rattle.alias_edits.specs.alias_tree.Nodes as nodes
-use Rattle.alias_edits.specs.alias_tree.Nodes.{Numbered, node_at, with_node}
-use Rattle.alias_edits.specs.alias_tree.Trees.{tree_of}
-use Rattle.alias_edits.proofs.alias_tree.Keeping.{at_with}
-use Rattle.alias_edits.proofs.NewNodes.{with_more}
-use Rattle.alias_edits.proofs.alias_tree.Readings.{number_is_some}
-use Rattle.catalog_units.proofs.operations_directory.ChangeLaws as operation_laws
-use Rattle.attribute_values.proofs.template_directory.ChangeLaws as template_laws
-use Rattle.catalog_units.specs.catalog_tables.Faults.{IsCatalog, file_key, settings_key}
-use Rattle.catalog.specs.NamePlans.{AreNewNodes, HasParts, IsFileBeingMade, IsNamePlan, IsNameRefusal, file_of, is_within_file, made_file, name_at, named, new_head, settings_next, system_path}
+use Rattle.plan_records.specs.asm_world.Files.{NewName, new_path, next_incarnation}
+use Rattle.plan_records.specs.page_map.Changes.{last_put, value_after}
+use Rattle.plan_records.specs.file_directory.Files.{File, head_at, record_of, with_head}
+use Rattle.plan_records.proofs.file_directory.Laws.{put_keeps_table}
+use Rattle.plan_records.specs.extent_map.Extents.{Chunked}
+use Rattle.plan_records.specs.alias_edits.Filing.{filed, with_nodes}
+use Rattle.plan_records.specs.alias_edits.declared.editing.TreeError.{TreeError}
+use Rattle.plan_records.specs.alias_edits.Edits.{IsRefusal, cause_said}
+use Rattle.plan_records.specs.alias_tree.Nodes as nodes
+use Rattle.plan_records.specs.alias_tree.Nodes.{Numbered, node_at, with_node}
+use Rattle.plan_records.specs.alias_tree.Trees.{tree_of}
+use Rattle.plan_records.proofs.alias_tree.Keeping.{at_with}
+use Rattle.plan_records.proofs.alias_edits.NewNodes.{with_more}
+use Rattle.plan_records.proofs.alias_tree.Readings.{number_is_some}
+use Rattle.plan_records.proofs.operations_directory.ChangeLaws as operation_laws
+use Rattle.plan_records.proofs.template_directory.ChangeLaws as template_laws
+use Rattle.plan_records.specs.catalog_tables.Faults.{IsCatalog, file_key, settings_key}
+use Rattle.plan_records.specs.NewNames.{HasParts, name_at}
+use Rattle.plan_records.specs.NextSettings.{settings_next}
+use Rattle.catalog.specs.NamePlans.{AreNewNodes, IsFileBeingMade, IsNamePlan, IsNameRefusal, file_of, is_within_file, made_file, named, new_head, system_path}
 use Rattle.catalog.specs.Plans.{ArePlannedItems, IsPlan}
 use Rattle.asm_placement.specs.Naming.{is_directory, is_named_as, is_pending, names_back}
-use Rattle.catalog_units.specs.catalog_tables.Rules.{HasExtents, KeepsRules, are_within_head, blocks_used, first_wrong, has_names, is_named_back, is_owned, keeps_copies, names_file}
-use Rattle.catalog_units.specs.catalog_tables.Tables.{AreTables, Catalogued, Tables, records_of}
-use Rattle.catalog_units.proofs.catalog_tables.NewRecords.{HasRoom, all_but_last, settings_there}
+use Rattle.plan_records.specs.catalog_tables.Rules.{HasExtents, KeepsRules, are_within_head, blocks_used, first_wrong, has_names, is_named_back, is_owned, keeps_copies, names_file}
+use Rattle.plan_records.specs.catalog_tables.Tables.{AreTables, Catalogued, Tables, records_of}
+use Rattle.plan_records.proofs.catalog_tables.NewRecords.{HasRoom, all_but_last, settings_there}
 use Rattle.catalog.proofs.NumberedEntries.{passes_each, passes_where, put_all}
-use Rattle.catalog_units.proofs.catalog_tables.NumberedLists.{either, number_is, number_itself, put_at, put_few, there_all}
+use Rattle.plan_records.proofs.catalog_tables.NumberedLists.{either, number_is, number_itself, put_at, put_few, there_all}
 use Rattle.catalog.proofs.PlanLaws.{or_false, pending_key}
-use Rattle.catalog_units.proofs.catalog_tables.SetLaws.{operations_set, templates_set}
-use Rattle.catalog_units.proofs.catalog_tables.TableItems.{append_among, each_of, map_among}
+use Rattle.plan_records.proofs.catalog_tables.SetLaws.{operations_set, templates_set}
+use Rattle.plan_records.proofs.catalog_tables.TableItems.{append_among, each_of, map_among}
 use Rattle.catalog.proofs.TreePlans.{Stays, both_true, first_right, has_of, has_stay, head_put, named_dir, named_of, node_put, or_more, or_true}
 
 -- ---- nodes that are put one after the other

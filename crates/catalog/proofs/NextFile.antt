@@ -2,10 +2,10 @@
 use Rattle.std.proofs.Common.{◌≡◌, ◌<◌, ◌≤◌, ◌+◌, ◌^◌, ℕ, zero, suc, Bool, true, false, Option, Some, None, refl, sym, ap, subst, ◌∙◌, arith, inl, inr, ◌⊎◌}
 use Rattle.std.proofs.lemmas.Bool.{eqb-true, ne_eqb, true≢false}
 use Rattle.asm_formats.specs.Items.{Pending}
-use Rattle.catalog_units.specs.file_directory.Files.{IsFreeFrom, is_file}
+use Rattle.plan_records.specs.file_directory.Files.{IsFreeFrom, is_file}
 use Rattle.catalog.specs.Numbers.{IsNextFile, IsUntaken, is_taken}
 use Rattle.asm_placement.specs.Naming.{is_pending}
-use Rattle.catalog_units.specs.catalog_tables.Tables.{Tables}
+use Rattle.plan_records.specs.catalog_tables.Tables.{Tables}
 
 three : (a b : ℕ) → (a < b) ⊎ ((a ≡ b) ⊎ (b < a))
 three zero zero = inr (inl refl)

@@ -9,8 +9,8 @@ use Rattle.std.specs.FinMap.{nat_cmp-IsAntisymmetric}
 use Rattle.std.proofs.lemmas.Option.{none-some}
 use Rattle.asm_formats.specs.Among.{IsAmong}
 use Rattle.asm_base.proofs.Exact.{some_is}
-use Rattle.catalog_units.specs.catalog_tables.Rules.{first_wrong}
-use Rattle.catalog_units.proofs.catalog_tables.NumberedLists.{at, either, number_is}
+use Rattle.plan_records.specs.catalog_tables.Rules.{first_wrong}
+use Rattle.plan_records.proofs.catalog_tables.NumberedLists.{at, either, number_is}
 
 pub number_other : (m n : ℕ) → (m ≡ n → ⊥) → is_at (nat_cmp m) n ≡ false
 number_other m n apart = elim (either (is_at (nat_cmp m) n)) [ inl hit ↦ absurd (apart (number_is m n hit)) | inr miss ↦ miss ]

@@ -3,7 +3,7 @@ use Rattle.std.proofs.Common.{◌≡◌, ℕ, Bool, true, false, eqb, List, Opti
 use Rattle.std.specs.Prelude.{◌||◌}
 use Rattle.std.proofs.lemmas.Bool.{eqb-true}
 use Rattle.asm_formats.specs.Items.{Pending}
-use Rattle.catalog_units.specs.file_directory.Files.{File, is_file}
+use Rattle.plan_records.specs.file_directory.Files.{File, is_file}
 use Rattle.catalog.specs.FilePlans.{is_on_file}
 use Rattle.asm_placement.specs.Naming.{is_pending}
 

@@ -7,15 +7,15 @@ use Rattle.asm_formats.specs.Items.{Key, Pending, is_item, pending_item, rebalan
 use Rattle.asm_formats.specs.Values.{value}
 use Rattle.asm_base.specs.Records.{Entry, is_key}
 use Rattle.asm_base.specs.Tables.{item_record}
-use Rattle.catalog_units.specs.operations_directory.Operations as operations
-use Rattle.catalog_units.proofs.operations_directory.ChangeLaws as operation_laws
-use Rattle.catalog_units.specs.catalog_tables.Changing.{IsAfter, Sets}
-use Rattle.catalog_units.specs.catalog_tables.Faults.{IsCatalog}
+use Rattle.plan_records.specs.operations_directory.Operations as operations
+use Rattle.plan_records.proofs.operations_directory.ChangeLaws as operation_laws
+use Rattle.plan_records.specs.catalog_tables.Changing.{IsAfter, Sets}
+use Rattle.plan_records.specs.catalog_tables.Faults.{IsCatalog}
 use Rattle.catalog.specs.Plans.{AreOwned, IsPlan}
-use Rattle.catalog_units.specs.catalog_tables.Rules.{KeepsRules, lacks_record}
-use Rattle.catalog_units.specs.catalog_tables.Tables.{AreTables, Catalogued, Tables, records_of}
-use Rattle.catalog_units.proofs.catalog_tables.SetLaws.{operations_set}
-use Rattle.catalog_units.proofs.catalog_tables.NewRecords.{nothing_room, old_room}
+use Rattle.plan_records.specs.catalog_tables.Rules.{KeepsRules, lacks_record}
+use Rattle.plan_records.specs.catalog_tables.Tables.{AreTables, Catalogued, Tables, records_of}
+use Rattle.plan_records.proofs.catalog_tables.SetLaws.{operations_set}
+use Rattle.plan_records.proofs.catalog_tables.NewRecords.{nothing_room, old_room}
 use Rattle.catalog.proofs.PutItems.{plan_is}
 
 -- ---- one record that is put or goes

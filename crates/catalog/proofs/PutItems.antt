@@ -10,15 +10,15 @@ use Rattle.asm_formats.specs.Status as status
 use Rattle.asm_formats.specs.Values.{value}
 use Rattle.asm_formats.proofs.Among.{all_among}
 use Rattle.asm_base.specs.Records.{Entry, is_key}
-use Rattle.catalog_units.specs.page_map.Changes.{is_gone, is_put, last_put, value_after}
-use Rattle.catalog_units.specs.allocator.UnitMaps.{UnitMap}
-use Rattle.catalog_units.specs.catalog_tables.Changing.{IsAfter}
-use Rattle.catalog_units.specs.catalog_tables.Placing.{HasUnits}
+use Rattle.plan_records.specs.page_map.Changes.{is_gone, is_put, last_put, value_after}
+use Rattle.plan_records.specs.allocator.UnitMaps.{UnitMap}
+use Rattle.plan_records.specs.catalog_tables.Changing.{IsAfter}
+use Rattle.plan_records.specs.catalog_tables.Placing.{HasUnits}
 use Rattle.catalog.specs.Plans.{ArePlannedItems, IsPlan}
-use Rattle.catalog_units.specs.catalog_tables.Rules.{KeepsRules}
-use Rattle.catalog_units.specs.catalog_tables.Tables.{Catalogued, Tables, item_at, records_of}
-use Rattle.catalog_units.proofs.catalog_tables.NewRecords.{HasRoom}
-use Rattle.catalog_units.proofs.catalog_tables.TableItems.{allowed, from_map, key_total, said}
+use Rattle.plan_records.specs.catalog_tables.Rules.{KeepsRules}
+use Rattle.plan_records.specs.catalog_tables.Tables.{Catalogued, Tables, item_at, records_of}
+use Rattle.plan_records.proofs.catalog_tables.NewRecords.{HasRoom}
+use Rattle.plan_records.proofs.catalog_tables.TableItems.{allowed, from_map, key_total, said}
 
 -- no two records have one key
 abbrev pub keys_apart : List Entry → Bool

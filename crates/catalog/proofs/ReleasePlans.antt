@@ -7,27 +7,27 @@ use Rattle.std.proofs.lemmas.Option.{none-some}
 use Rattle.asm_formats.specs.Items.{FileHead, Homes, Key}
 use Rattle.asm_formats.specs.Status.{Entry as StatusEntry}
 use Rattle.asm_base.specs.Records.{Entry}
-use Rattle.catalog_units.specs.allocator.UnitMaps.{UnitMap}
-use Rattle.catalog_units.specs.file_directory.Files.{head_at}
-use Rattle.catalog_units.specs.extent_map.Extents.{Chunked, chunk_at, chunk_key, without_chunk}
+use Rattle.plan_records.specs.allocator.UnitMaps.{UnitMap}
+use Rattle.plan_records.specs.file_directory.Files.{head_at}
+use Rattle.plan_records.specs.extent_map.Extents.{Chunked, chunk_at, chunk_key, without_chunk}
 use Rattle.asm_base.specs.Chunks.{Chunk, chunk_cmp}
-use Rattle.catalog_units.proofs.extent_map.ChunkEnds.{takes_chunks}
-use Rattle.catalog_units.proofs.extent_map.FileEnds.{item_at}
-use Rattle.catalog_units.proofs.extent_map.Laws.{chunk_total, same_chunk}
-use Rattle.catalog_units.proofs.extent_map.Lookups.{gone_few, gone_here, gone_other, key_is}
-use Rattle.catalog_units.proofs.extent_map.Values.{chunk_numbered}
-use Rattle.catalog_units.specs.staleness_directory.Marks.{Marked, marks_at, without_marks}
-use Rattle.catalog_units.proofs.staleness_directory.Laws as stale_laws
-use Rattle.catalog_units.specs.catalog_tables.Changing.{IsAfter}
+use Rattle.plan_records.proofs.extent_map.ChunkEnds.{takes_chunks}
+use Rattle.plan_records.proofs.extent_map.FileEnds.{item_at}
+use Rattle.plan_records.proofs.extent_map.Laws.{chunk_total, same_chunk}
+use Rattle.plan_records.proofs.extent_map.Lookups.{gone_few, gone_here, gone_other, key_is}
+use Rattle.plan_records.proofs.extent_map.Values.{chunk_numbered}
+use Rattle.plan_records.specs.staleness_directory.Marks.{Marked, marks_at, without_marks}
+use Rattle.plan_records.proofs.staleness_directory.Laws as stale_laws
+use Rattle.plan_records.specs.catalog_tables.Changing.{IsAfter}
 use Rattle.catalog.specs.ExtentPlans.{IsUndue, MayCut, with_cut, with_released}
-use Rattle.catalog_units.specs.catalog_tables.Faults.{IsCatalog, key_of_marks}
-use Rattle.catalog_units.specs.catalog_tables.Placing.{HasUnits, unused_maps}
+use Rattle.plan_records.specs.catalog_tables.Faults.{IsCatalog, key_of_marks}
+use Rattle.plan_records.specs.catalog_tables.Placing.{HasUnits, unused_maps}
 use Rattle.catalog.specs.Plans.{IsPlan}
-use Rattle.catalog_units.specs.catalog_tables.Rules.{HasExtents, has_copies}
-use Rattle.catalog_units.specs.catalog_tables.Tables.{AreTables, Catalogued, Tables}
+use Rattle.plan_records.specs.catalog_tables.Rules.{HasExtents, has_copies}
+use Rattle.plan_records.specs.catalog_tables.Tables.{AreTables, Catalogued, Tables}
 use Rattle.catalog.proofs.EditLaws.{IsEdited, after_two_gone, changed, edited_plan, extent_in, homes_set, marks_set}
-use Rattle.catalog_units.proofs.catalog_tables.NewRecords.{nothing_room}
-use Rattle.catalog_units.proofs.catalog_tables.EntryLaws.{either}
+use Rattle.plan_records.proofs.catalog_tables.NewRecords.{nothing_room}
+use Rattle.plan_records.proofs.catalog_tables.EntryLaws.{either}
 use Rattle.catalog.proofs.MarkPlans.{some_of}
 use Rattle.catalog.proofs.UnitEdits.{units_gone}
 

@@ -15,29 +15,30 @@ use Rattle.asm_formats.specs.Items.{FileHead, Key, Node, Pending, file_item, is_
 use Rattle.asm_formats.specs.Values.{value}
 use Rattle.asm_base.specs.Records.{Entry, is_key}
 use Rattle.asm_base.specs.Tables.{IsItemTable, item_record}
-use Rattle.catalog_units.specs.file_directory.Files.{File, head_at, is_file, without_file}
-use Rattle.catalog_units.proofs.file_directory.Laws.{remove_keeps_table}
-use Rattle.catalog_units.specs.extent_map.Extents.{Chunked}
-use Rattle.alias_edits.specs.alias_tree.Nodes.{IsTable, Numbered, is_before, item_of, node_at, without_node}
-use Rattle.alias_edits.specs.alias_tree.Nodes as nodes
-use Rattle.alias_edits.proofs.alias_tree.Keeping.{Pruned, at_without, pruned_keeps_table, without_items}
-use Rattle.alias_edits.proofs.alias_tree.OpenLaws.{record_gone}
-use Rattle.alias_edits.proofs.alias_tree.Readings.{number_is_some}
-use Rattle.catalog_units.specs.operations_directory.Operations as operations
-use Rattle.catalog_units.proofs.operations_directory.ChangeLaws as operation_laws
-use Rattle.catalog_units.specs.catalog_tables.Faults.{IsCatalog, file_key, node_key}
-use Rattle.catalog.specs.FilePlans.{IsRemovalPlan, is_on_file, removal_of, without_names}
+use Rattle.plan_records.specs.file_directory.Files.{File, head_at, is_file, without_file}
+use Rattle.plan_records.proofs.file_directory.Laws.{remove_keeps_table}
+use Rattle.plan_records.specs.extent_map.Extents.{Chunked}
+use Rattle.plan_records.specs.alias_tree.Nodes.{IsTable, Numbered, is_before, item_of, node_at, without_node}
+use Rattle.plan_records.specs.alias_tree.Nodes as nodes
+use Rattle.plan_records.proofs.alias_tree.Keeping.{Pruned, at_without, pruned_keeps_table, without_items}
+use Rattle.plan_records.proofs.alias_tree.OpenLaws.{record_gone}
+use Rattle.plan_records.proofs.alias_tree.Readings.{number_is_some}
+use Rattle.plan_records.specs.operations_directory.Operations as operations
+use Rattle.plan_records.proofs.operations_directory.ChangeLaws as operation_laws
+use Rattle.plan_records.specs.catalog_tables.Faults.{IsCatalog, file_key, node_key}
+use Rattle.plan_records.specs.Operations.{removal_of}
+use Rattle.catalog.specs.FilePlans.{IsRemovalPlan, is_on_file, without_names}
 use Rattle.catalog.specs.Plans.{AreOwned, IsPlan}
 use Rattle.asm_placement.specs.Naming.{is_directory, is_named_as, kind_eq, names_back}
-use Rattle.catalog_units.specs.catalog_tables.Rules.{HasExtents, KeepsRules, are_within_head, first_wrong, has_names, is_named_back, is_owned, keeps_copies, names_file}
-use Rattle.catalog_units.specs.catalog_tables.Tables.{AreTables, Catalogued, Tables, records_of}
-use Rattle.catalog_units.proofs.catalog_tables.NumberedLists.{all_there, either, gone_at, gone_few, number_is, number_itself}
+use Rattle.plan_records.specs.catalog_tables.Rules.{HasExtents, KeepsRules, are_within_head, first_wrong, has_names, is_named_back, is_owned, keeps_copies, names_file}
+use Rattle.plan_records.specs.catalog_tables.Tables.{AreTables, Catalogued, Tables, records_of}
+use Rattle.plan_records.proofs.catalog_tables.NumberedLists.{all_there, either, gone_at, gone_few, number_is, number_itself}
 use Rattle.catalog.proofs.NumberedEntries.{found_passes, passes_where, rest_all, rest_passes}
 use Rattle.catalog.proofs.Owners.{of_file}
 use Rattle.catalog.proofs.PlanLaws.{pending_key}
-use Rattle.catalog_units.proofs.catalog_tables.SetLaws.{file_gone, nodes_set, operations_set}
-use Rattle.catalog_units.proofs.catalog_tables.TableItems.{among_found, numbers_exact}
-use Rattle.catalog_units.proofs.catalog_tables.NewRecords.{HasRoom, old_room}
+use Rattle.plan_records.proofs.catalog_tables.SetLaws.{file_gone, nodes_set, operations_set}
+use Rattle.plan_records.proofs.catalog_tables.TableItems.{among_found, numbers_exact}
+use Rattle.plan_records.proofs.catalog_tables.NewRecords.{HasRoom, old_room}
 use Rattle.catalog.proofs.PutItems.{plan_is}
 
 system_of_item : (f : ℕ) (head : FileHead) → is_item (file_item f head) ≡ true → 0 < head.system

@@ -16,27 +16,29 @@ use Rattle.asm_formats.specs.Values.{value}
 use Rattle.asm_base.specs.Records.{Entry, is_key}
 use Rattle.asm_base.specs.Tables.{item_record}
 use Rattle.asm_placement.specs.Layout.{first_of_set, start}
-use Rattle.catalog_units.specs.page_map.Changes.{value_after}
-use Rattle.catalog_units.specs.file_directory.Files.{File, IsTable, head_at, record_of, with_head}
-use Rattle.catalog_units.proofs.file_directory.Laws.{put_keeps_table}
-use Rattle.catalog_units.specs.extent_map.Extents.{Chunked}
-use Rattle.alias_edits.specs.alias_tree.Nodes.{Numbered}
-use Rattle.catalog_units.specs.operations_directory.Operations as operations
-use Rattle.catalog_units.proofs.operations_directory.ChangeLaws as operation_laws
-use Rattle.catalog_units.specs.catalog_tables.Changing.{Sets}
-use Rattle.catalog_units.specs.catalog_tables.Faults.{IsCatalog, file_key}
-use Rattle.catalog.specs.FilePlans.{HasSoMany, IsSizePlan, MayGrow, is_on_file, sized, with_size}
+use Rattle.plan_records.specs.page_map.Changes.{value_after}
+use Rattle.plan_records.specs.file_directory.Files.{File, IsTable, head_at, record_of, with_head}
+use Rattle.plan_records.proofs.file_directory.Laws.{put_keeps_table}
+use Rattle.plan_records.specs.extent_map.Extents.{Chunked}
+use Rattle.plan_records.specs.alias_tree.Nodes.{Numbered}
+use Rattle.plan_records.specs.operations_directory.Operations as operations
+use Rattle.plan_records.proofs.operations_directory.ChangeLaws as operation_laws
+use Rattle.plan_records.specs.catalog_tables.Changing.{Sets}
+use Rattle.plan_records.specs.catalog_tables.Faults.{IsCatalog, file_key}
+use Rattle.plan_records.specs.Heads.{with_size}
+use Rattle.plan_records.specs.Operations.{HasSoMany}
+use Rattle.catalog.specs.FilePlans.{IsSizePlan, MayGrow, is_on_file, sized}
 use Rattle.catalog.specs.Plans.{AreOwned, IsPlan}
 use Rattle.asm_placement.specs.Naming.{is_directory, is_pending, names_back}
-use Rattle.catalog_units.specs.catalog_tables.Rules.{HasExtents, KeepsRules, are_within_head, blocks_used, first_wrong, has_names, is_due, is_named_back, is_owned, keeps_copies}
-use Rattle.catalog_units.specs.catalog_tables.Tables.{AreTables, Catalogued, Tables, records_of}
-use Rattle.catalog_units.proofs.catalog_tables.NumberedLists.{all_there, either, number_is, put_at, there_as_long}
+use Rattle.plan_records.specs.catalog_tables.Rules.{HasExtents, KeepsRules, are_within_head, blocks_used, first_wrong, has_names, is_due, is_named_back, is_owned, keeps_copies}
+use Rattle.plan_records.specs.catalog_tables.Tables.{AreTables, Catalogued, Tables, records_of}
+use Rattle.plan_records.proofs.catalog_tables.NumberedLists.{all_there, either, number_is, put_at, there_as_long}
 use Rattle.catalog.proofs.NumberedEntries.{found_passes, passes_where, put_all, put_passes}
 use Rattle.catalog.proofs.Owners.{of_file}
 use Rattle.catalog.proofs.PlanLaws.{or_false, pending_key}
-use Rattle.catalog_units.proofs.catalog_tables.SetLaws.{operations_set}
+use Rattle.plan_records.proofs.catalog_tables.SetLaws.{operations_set}
 use Rattle.catalog.proofs.TreePlans.{head_put}
-use Rattle.catalog_units.proofs.catalog_tables.NewRecords.{HasRoom, head_there, old_room, two_old_room}
+use Rattle.plan_records.proofs.catalog_tables.NewRecords.{HasRoom, head_there, old_room, two_old_room}
 use Rattle.catalog.proofs.PutItems.{is_once, plan_is}
 
 -- ---- the head

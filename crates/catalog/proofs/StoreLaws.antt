@@ -4,13 +4,13 @@ use Rattle.asm_group.specs.Shape.{Shape}
 use Rattle.asm_formats.specs.Items.{Key}
 use Rattle.asm_formats.specs.Status as status
 use Rattle.asm_base.specs.Records.{Entry}
-use Rattle.catalog_units.specs.catalog_tables.declared.error.CatalogError.{CatalogError}
-use Rattle.catalog_units.specs.catalog_tables.declared.error.CatalogError.TheVariants as answer
-use Rattle.catalog_units.specs.catalog_tables.Tables.{AreTables, Catalogued, HasRecords, Tables}
-use Rattle.catalog_units.specs.catalog_tables.Rules.{AreOnRegular, KeepsRules, blocks_used, first_unknown}
-use Rattle.catalog_units.specs.catalog_tables.Placing.{HasUnits}
-use Rattle.catalog_units.specs.catalog_tables.Faults.{BreaksRule, IsAtFault, IsCatalog, IsCatalogOf, NamesFault}
-use Rattle.catalog_units.specs.catalog_tables.Faults as fault
+use Rattle.plan_records.specs.catalog_tables.declared.error.CatalogError.{CatalogError}
+use Rattle.plan_records.specs.catalog_tables.declared.error.CatalogError.TheVariants as answer
+use Rattle.plan_records.specs.catalog_tables.Tables.{AreTables, Catalogued, HasRecords, Tables}
+use Rattle.plan_records.specs.catalog_tables.Rules.{AreOnRegular, KeepsRules, blocks_used, first_unknown}
+use Rattle.plan_records.specs.catalog_tables.Placing.{HasUnits}
+use Rattle.plan_records.specs.catalog_tables.Faults.{BreaksRule, IsAtFault, IsCatalog, IsCatalogOf, NamesFault}
+use Rattle.plan_records.specs.catalog_tables.Faults as fault
 
 pub broken_at : (content : List Entry) (s : Shape) (es : List status.Entry) (t : Tables) (k : Key) → AreTables t → HasRecords content t → BreaksRule s es t k → IsAtFault content s es k
 broken_at content s es t k are has b = fault.broken t are has b

@@ -9,14 +9,14 @@ use Rattle.asm_formats.specs.Items.{Key}
 use Rattle.asm_formats.specs.Values.{value}
 use Rattle.asm_base.specs.Records.{Entry}
 use Rattle.asm_base.specs.Tables.{item_record}
-use Rattle.attribute_values.specs.template_directory.Tables as templates
-use Rattle.attribute_values.proofs.template_directory.ChangeLaws as template_laws
-use Rattle.catalog_units.specs.catalog_tables.Faults.{IsCatalog, templates_key}
+use Rattle.plan_records.specs.template_directory.Tables as templates
+use Rattle.plan_records.proofs.template_directory.ChangeLaws as template_laws
+use Rattle.plan_records.specs.catalog_tables.Faults.{IsCatalog, templates_key}
 use Rattle.catalog.specs.Plans.{IsPlan, IsTemplatePlan}
-use Rattle.catalog_units.specs.catalog_tables.Tables.{AreTables, Catalogued, Tables}
-use Rattle.catalog_units.proofs.catalog_tables.NewRecords.{old_room, templates_there}
+use Rattle.plan_records.specs.catalog_tables.Tables.{AreTables, Catalogued, Tables}
+use Rattle.plan_records.proofs.catalog_tables.NewRecords.{old_room, templates_there}
 use Rattle.catalog.proofs.PlanLaws.{after_put}
-use Rattle.catalog_units.proofs.catalog_tables.SetLaws.{templates_set}
+use Rattle.plan_records.proofs.catalog_tables.SetLaws.{templates_set}
 use Rattle.catalog.proofs.PutItems.{plan_is}
 
 pub with_templates : (t : Tables) (new : templates.Table) → AreTables t → templates.IsTable new → AreTables (record t { templates = new })

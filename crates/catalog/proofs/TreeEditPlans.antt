@@ -17,21 +17,21 @@ use Rattle.asm_base.specs.Refusals.{said}
 use Rattle.asm_base.specs.declared.refusal.Refusal.{Refusal}
 use Rattle.asm_base.specs.declared.refusal.Refusal.TheVariants as cause
 use Rattle.asm_base.proofs.Exact.{some_is}
-use Rattle.alias_edits.specs.declared.editing.TreeError.{TreeError}
-use Rattle.alias_edits.specs.declared.planning.TreeChange.{TreeChange}
-use Rattle.alias_edits.specs.declared.planning.TreeChange.TheVariants as change
-use Rattle.alias_edits.specs.Edits.{ChangesNodes, IsChange, IsPut, IsRefusal, cause_said, nodes_after}
-use Rattle.alias_edits.specs.alias_tree.Nodes.{IsTable, Numbered, kind_is_directory, node_at, number_of, with_node}
-use Rattle.alias_edits.specs.alias_tree.Trees.{tree_of}
-use Rattle.alias_edits.proofs.Allowed.{both_false, dir_node, four_false, not_false, number_is, three_false, two_false}
-use Rattle.alias_edits.proofs.Done.{drops_dir, entry_number, named_file}
-use Rattle.alias_edits.proofs.alias_tree.IndexLaws.{at_member}
-use Rattle.alias_edits.proofs.alias_tree.Leading.{any_of, leads_is, member_among, shows}
-use Rattle.catalog_units.specs.file_directory.Files.{File, head_at, is_file as is_held}
+use Rattle.plan_records.specs.alias_edits.declared.editing.TreeError.{TreeError}
+use Rattle.plan_records.specs.alias_edits.declared.planning.TreeChange.{TreeChange}
+use Rattle.plan_records.specs.alias_edits.declared.planning.TreeChange.TheVariants as change
+use Rattle.plan_records.specs.alias_edits.Edits.{ChangesNodes, IsChange, IsPut, IsRefusal, cause_said, nodes_after}
+use Rattle.plan_records.specs.alias_tree.Nodes.{IsTable, Numbered, kind_is_directory, node_at, number_of, with_node}
+use Rattle.plan_records.specs.alias_tree.Trees.{tree_of}
+use Rattle.plan_records.proofs.alias_edits.Allowed.{both_false, dir_node, four_false, not_false, number_is, three_false, two_false}
+use Rattle.plan_records.proofs.alias_edits.Done.{drops_dir, entry_number, named_file}
+use Rattle.plan_records.proofs.alias_tree.IndexLaws.{at_member}
+use Rattle.plan_records.proofs.alias_tree.Leading.{any_of, leads_is, member_among, shows}
+use Rattle.plan_records.specs.file_directory.Files.{File, head_at, is_file as is_held}
 use Rattle.catalog.specs.Plans.{IsPlan}
 use Rattle.asm_placement.specs.Naming.{is_directory, names_back}
-use Rattle.catalog_units.specs.catalog_tables.Rules.{KeepsRules}
-use Rattle.catalog_units.specs.catalog_tables.Tables.{Catalogued, Tables}
+use Rattle.plan_records.specs.catalog_tables.Rules.{KeepsRules}
+use Rattle.plan_records.specs.catalog_tables.Tables.{Catalogued, Tables}
 use Rattle.catalog.specs.TreePlans.{HasNoAlias, IsTreeFull, IsTreePlan, IsTreeRefusal, LacksNode, MayChange, aliased, aliased_head, files_after, heads_after, keeps_files, makes_node}
 use Rattle.asm_group.specs.Shape.{Shape}
 use Rattle.catalog.proofs.TreePlans.{named_of}

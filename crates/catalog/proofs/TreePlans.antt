@@ -15,27 +15,28 @@ use Rattle.asm_formats.specs.Values.{value}
 use Rattle.asm_base.specs.Records.{Entry, is_key}
 use Rattle.asm_base.specs.Tables.{item_record}
 use Rattle.asm_base.proofs.Exact.{some_is}
-use Rattle.catalog_units.specs.extent_map.Extents.{Chunked}
-use Rattle.catalog_units.specs.file_directory.Files as files
-use Rattle.catalog_units.specs.file_directory.Changing as changing
-use Rattle.catalog_units.specs.file_directory.Files.{File, head_at, with_head}
-use Rattle.catalog_units.proofs.file_directory.Laws.{put_keeps_table}
-use Rattle.alias_edits.specs.alias_tree.Nodes as nodes
-use Rattle.alias_edits.specs.alias_tree.Opening as opening
-use Rattle.alias_edits.specs.alias_tree.Nodes.{Numbered, node_at, with_node, without_node}
-use Rattle.alias_edits.proofs.alias_tree.IndexLaws.{item_at}
-use Rattle.alias_edits.proofs.alias_tree.Keeping.{at_with, at_without}
-use Rattle.catalog_units.specs.catalog_tables.Changing.{IsAfter, Sets}
-use Rattle.catalog_units.specs.catalog_tables.Faults.{IsCatalog, file_key, node_key}
+use Rattle.plan_records.specs.extent_map.Extents.{Chunked}
+use Rattle.plan_records.specs.file_directory.Files as files
+use Rattle.plan_records.specs.file_directory.Changing as changing
+use Rattle.plan_records.specs.file_directory.Files.{File, head_at, with_head}
+use Rattle.plan_records.proofs.file_directory.Laws.{put_keeps_table}
+use Rattle.plan_records.specs.alias_tree.Nodes as nodes
+use Rattle.plan_records.specs.alias_tree.Opening as opening
+use Rattle.plan_records.specs.alias_tree.Nodes.{Numbered, node_at, with_node, without_node}
+use Rattle.plan_records.proofs.alias_tree.IndexLaws.{item_at}
+use Rattle.plan_records.proofs.alias_tree.Keeping.{at_with, at_without}
+use Rattle.plan_records.specs.catalog_tables.Changing.{IsAfter, Sets}
+use Rattle.plan_records.specs.catalog_tables.Faults.{IsCatalog, file_key, node_key}
 use Rattle.catalog.specs.Plans.{IsPlan}
 use Rattle.asm_placement.specs.Naming.{is_directory, is_named_as, is_pending, kind_eq, names_back}
-use Rattle.catalog_units.specs.catalog_tables.Rules.{HasExtents, KeepsRules, are_within_head, blocks_used, first_wrong, has_names, is_named_back, is_owned, keeps_copies, names_file}
-use Rattle.catalog_units.specs.catalog_tables.Tables.{AreTables, Catalogued, Tables, records_of}
-use Rattle.catalog.specs.TreePlans.{HasNoAlias, IsNewAlias, KeepsName, aliased_head, heads_without, with_alias}
-use Rattle.catalog_units.proofs.catalog_tables.NumberedLists.{all_there, either, gone_few, new_longer, number_is, number_itself, put_at, there_all, there_as_long}
+use Rattle.plan_records.specs.catalog_tables.Rules.{HasExtents, KeepsRules, are_within_head, blocks_used, first_wrong, has_names, is_named_back, is_owned, keeps_copies, names_file}
+use Rattle.plan_records.specs.catalog_tables.Tables.{AreTables, Catalogued, Tables, records_of}
+use Rattle.plan_records.specs.Heads.{with_alias}
+use Rattle.catalog.specs.TreePlans.{HasNoAlias, IsNewAlias, KeepsName, aliased_head, heads_without}
+use Rattle.plan_records.proofs.catalog_tables.NumberedLists.{all_there, either, gone_few, new_longer, number_is, number_itself, put_at, there_all, there_as_long}
 use Rattle.catalog.proofs.PlanLaws.{after_gone, after_put}
-use Rattle.catalog_units.proofs.catalog_tables.SetLaws.{files_set, nodes_set}
-use Rattle.catalog_units.proofs.catalog_tables.NewRecords.{first_room, head_there, no_node, nothing_room, old_room, one_room}
+use Rattle.plan_records.proofs.catalog_tables.SetLaws.{files_set, nodes_set}
+use Rattle.plan_records.proofs.catalog_tables.NewRecords.{first_room, head_there, no_node, nothing_room, old_room, one_room}
 use Rattle.catalog.proofs.PutItems.{plan_is}
 
 -- ---- entries that are right

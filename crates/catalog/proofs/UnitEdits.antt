@@ -10,20 +10,20 @@ use Rattle.asm_placement.specs.Layout.{units_of}
 use Rattle.asm_placement.specs.Placed.{Placed, placed_copies, placed_extents}
 use Rattle.asm_base.specs.Records.{Ascend}
 use Rattle.asm_base.proofs.Exact.{bind_some, some_is}
-use Rattle.catalog_units.specs.allocator.UnitMaps.{UnitMap, with_run}
-use Rattle.catalog_units.specs.extent_map.Extents.{Chunked, chunk_at}
+use Rattle.plan_records.specs.allocator.UnitMaps.{UnitMap, with_run}
+use Rattle.plan_records.specs.extent_map.Extents.{Chunked, chunk_at}
 use Rattle.asm_base.specs.Chunks.{Chunk, chunk_cmp, is_before}
-use Rattle.catalog_units.proofs.extent_map.Laws.{chunk_total, same_chunk}
-use Rattle.catalog_units.proofs.extent_map.Lookups.{both_ways}
-use Rattle.catalog_units.proofs.extent_map.Numbering.{is_same, tail_up}
-use Rattle.catalog_units.specs.Giving.{but, chunks_kept}
-use Rattle.catalog_units.specs.catalog_tables.Placing.{after_chunks, after_homes, home_taken, homes_of}
-use Rattle.catalog_units.proofs.ChangeUnits.{kept_same}
-use Rattle.catalog_units.proofs.ChunkUnits.{and_false, and_true, kept_all, kept_no, kept_yes, none_out, one_out, tail_none}
-use Rattle.catalog_units.proofs.catalog_tables.EntryLaws.{either}
-use Rattle.catalog_units.proofs.catalog_tables.HomeUnits.{chunks_are_homes, takes}
-use Rattle.catalog_units.proofs.catalog_tables.PlacingLaws.{after_append}
-use Rattle.catalog_units.proofs.UnitOrder.{front_last}
+use Rattle.plan_records.proofs.extent_map.Laws.{chunk_total, same_chunk}
+use Rattle.plan_records.proofs.extent_map.Lookups.{both_ways}
+use Rattle.plan_records.proofs.extent_map.Numbering.{is_same, tail_up}
+use Rattle.plan_records.specs.catalog_units.Giving.{but, chunks_kept}
+use Rattle.plan_records.specs.catalog_tables.Placing.{after_chunks, after_homes, home_taken, homes_of}
+use Rattle.plan_records.proofs.catalog_units.ChangeUnits.{kept_same}
+use Rattle.plan_records.proofs.catalog_units.ChunkUnits.{and_false, and_true, kept_all, kept_no, kept_yes, none_out, one_out, tail_none}
+use Rattle.plan_records.proofs.catalog_tables.EntryLaws.{either}
+use Rattle.plan_records.proofs.catalog_tables.HomeUnits.{chunks_are_homes, takes}
+use Rattle.plan_records.proofs.catalog_tables.PlacingLaws.{after_append}
+use Rattle.plan_records.proofs.catalog_units.UnitOrder.{front_last}
 
 -- ---- rows of homes
 

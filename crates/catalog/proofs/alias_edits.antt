@@ -1,2 +1,2 @@
 -- What crates above cite of the proofs of `alias_edits`.
-pub use Rattle.alias_edits.proofs.Growing
+pub use Rattle.plan_records.proofs.alias_edits.Growing

@@ -1,5 +1,5 @@
 -- What crates above cite of the proofs of `extent_map`.
-pub use Rattle.catalog_units.proofs.extent_map.FileEnds
-pub use Rattle.catalog_units.proofs.extent_map.Laws
-pub use Rattle.catalog_units.proofs.extent_map.Lookups
-pub use Rattle.catalog_units.proofs.extent_map.Numbering
+pub use Rattle.plan_records.proofs.extent_map.FileEnds
+pub use Rattle.plan_records.proofs.extent_map.Laws
+pub use Rattle.plan_records.proofs.extent_map.Lookups
+pub use Rattle.plan_records.proofs.extent_map.Numbering

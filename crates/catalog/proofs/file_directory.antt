@@ -1,2 +1,2 @@
 -- What crates above cite of the proofs of `file_directory`.
-pub use Rattle.catalog_units.proofs.file_directory.Laws
+pub use Rattle.plan_records.proofs.file_directory.Laws

@@ -1,2 +1,2 @@
 -- What crates above cite of the proofs of `operations_directory`.
-pub use Rattle.catalog_units.proofs.operations_directory.Laws
+pub use Rattle.plan_records.proofs.operations_directory.Laws

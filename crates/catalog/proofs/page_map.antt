@@ -1,2 +1,2 @@
 -- What crates above cite of the proofs of `page_map`.
-pub use Rattle.catalog_units.proofs.page_map.Keys
+pub use Rattle.plan_records.proofs.page_map.Keys

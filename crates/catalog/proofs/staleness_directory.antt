@@ -1,2 +1,2 @@
 -- What crates above cite of the proofs of `staleness_directory`.
-pub use Rattle.catalog_units.proofs.staleness_directory.Laws
+pub use Rattle.plan_records.proofs.staleness_directory.Laws

@@ -1,2 +1,2 @@
 -- What crates above cite of the proofs of `template_directory`.
-pub use Rattle.attribute_values.proofs.template_directory.ReadingLaws
+pub use Rattle.plan_records.proofs.template_directory.ReadingLaws

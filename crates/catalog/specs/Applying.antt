@@ -3,11 +3,11 @@ use Rattle.std.specs.Prelude.{◌≡◌, ℕ, List, Option, Some, None}
 use Rattle.asm_formats.specs.Items.{Key}
 use Rattle.asm_formats.specs.Status as status
 use Rattle.asm_base.specs.Records.{Entry}
-use Rattle.catalog_units.specs.allocator.UnitMaps.{UnitMap}
-use Rattle.catalog_units.specs.catalog_tables.Changing.{IsAfter}
-use Rattle.catalog_units.specs.catalog_tables.Placing.{HasUnits, OtherMapsStay, put_maps}
-use Rattle.catalog_units.specs.catalog_tables.Rules.{KeepsRules}
-use Rattle.catalog_units.specs.catalog_tables.Tables.{Catalogued, Tables}
+use Rattle.plan_records.specs.allocator.UnitMaps.{UnitMap}
+use Rattle.plan_records.specs.catalog_tables.Changing.{IsAfter}
+use Rattle.plan_records.specs.catalog_tables.Placing.{HasUnits, OtherMapsStay, put_maps}
+use Rattle.plan_records.specs.catalog_tables.Rules.{KeepsRules}
+use Rattle.plan_records.specs.catalog_tables.Tables.{Catalogued, Tables}
 
 -- The change leaves these tables, which keep the rules, and whose homes find their units free.
 pub record Leaves (c : Catalogued) (put : List Entry) (gone : List Key) (u : Tables) : Type 0 where

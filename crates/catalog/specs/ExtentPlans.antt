@@ -9,15 +9,15 @@ use Rattle.asm_formats.specs.Items.{FileHead, Home, Homes, Item, chunk_len}
 use Rattle.asm_placement.specs.Layout.{units_of}
 use Rattle.asm_placement.specs.Moves.{with_current, with_home, without_bit}
 use Rattle.asm_placement.specs.Placed.{placed_extents}
-use Rattle.catalog_units.specs.extent_map.Extents.{HasExtent, chunk_at, chunk_or_blank, count_in, cut_to, follows, has_extent, has_home, with_chunk, with_extent, with_more, without_chunk}
-use Rattle.catalog_units.specs.file_directory.Files.{head_at, is_file}
-use Rattle.catalog_units.specs.staleness_directory.Marks.{Marked, marks_at, marks_to, with_marks, without_marks}
-use Rattle.catalog_units.specs.catalog_tables.Faults.{IsCatalog}
-use Rattle.catalog_units.specs.catalog_tables.Items.{AreItemsOf}
-use Rattle.catalog_units.specs.catalog_tables.Placing.{after_homes, home_taken}
+use Rattle.plan_records.specs.extent_map.Extents.{HasExtent, chunk_at, chunk_or_blank, count_in, cut_to, follows, has_extent, has_home, with_chunk, with_extent, with_more, without_chunk}
+use Rattle.plan_records.specs.file_directory.Files.{head_at, is_file}
+use Rattle.plan_records.specs.staleness_directory.Marks.{Marked, marks_at, marks_to, with_marks, without_marks}
+use Rattle.plan_records.specs.catalog_tables.Faults.{IsCatalog}
+use Rattle.plan_records.specs.catalog_tables.Items.{AreItemsOf}
+use Rattle.plan_records.specs.catalog_tables.Placing.{after_homes, home_taken}
 use Rattle.asm_placement.specs.Naming.{is_pending}
-use Rattle.catalog_units.specs.catalog_tables.Rules.{are_marks_of, are_on_disks, are_within_head, blocks_used, is_due, marks_of, homes_at}
-use Rattle.catalog_units.specs.catalog_tables.Tables.{Catalogued, Tables}
+use Rattle.plan_records.specs.catalog_tables.Rules.{are_marks_of, are_on_disks, are_within_head, blocks_used, is_due, marks_of, homes_at}
+use Rattle.plan_records.specs.catalog_tables.Tables.{Catalogued, Tables}
 
 -- ---- one extent
 

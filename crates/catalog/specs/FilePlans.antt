@@ -1,18 +1,20 @@
 -- What plans of attributes and of files lead to.
-use Rattle.std.specs.Prelude.{◌≡◌, ◌⊎◌, ◌↔◌, ◌<◌, ◌==◌, ℕ, Bool, true, List, Option, Some, None, if◌then◌else◌}
-use Rattle.asm_group.specs.declared.PendingKind.TheVariants.{Remove, Shrink}
+use Rattle.std.specs.Prelude.{◌≡◌, ◌⊎◌, ◌<◌, ◌==◌, ℕ, Bool, true, List, Option, Some, None, if◌then◌else◌}
+use Rattle.asm_group.specs.declared.PendingKind.TheVariants.{Shrink}
 use Rattle.asm_group.specs.Names.{Bytes}
 use Rattle.asm_group.specs.Shape.{Shape}
 use Rattle.asm_formats.specs.Items.{FileHead, Key, Pending, Settings}
 use Rattle.asm_base.specs.Records.{Entry}
 use Rattle.asm_base.specs.declared.refusal.Refusal.{Refusal}
 use Rattle.asm_base.specs.declared.refusal.Refusal.TheVariants as cause
-use Rattle.catalog_units.specs.file_directory.Files.{File, head_at, is_file, with_head, without_file}
-use Rattle.alias_edits.specs.alias_tree.Nodes.{Numbered, without_node}
-use Rattle.attribute_values.specs.Edits.{settings_with}
+use Rattle.plan_records.specs.file_directory.Files.{File, head_at, is_file, with_head, without_file}
+use Rattle.plan_records.specs.alias_tree.Nodes.{Numbered, without_node}
+use Rattle.plan_records.specs.attribute_values.Edits.{settings_with}
+pub use Rattle.plan_records.specs.Heads.{with_size}
+pub use Rattle.plan_records.specs.Operations.{HasSoMany, removal_of}
 use Rattle.catalog.specs.Plans.{AreOwned, IsPlan}
-use Rattle.catalog_units.specs.catalog_tables.Rules.{HasExtents, is_due}
-use Rattle.catalog_units.specs.catalog_tables.Tables.{Catalogued, Tables}
+use Rattle.plan_records.specs.catalog_tables.Rules.{HasExtents}
+use Rattle.plan_records.specs.catalog_tables.Tables.{Catalogued, Tables}
 
 -- ---- attributes
 
@@ -33,13 +35,6 @@ is_on_file files None = true
 is_on_file files (Some op) = is_file files op.file
 
 -- ---- sizes
-
-abbrev pub with_size : FileHead → ℕ → FileHead
-with_size head size = record head { size = size }
-
--- a file of this head has so many extents
-abbrev pub HasSoMany : Shape → FileHead → ℕ → Type 0
-HasSoMany s head n = (i : ℕ) → (i < n) ↔ (is_due s head i ≡ true)
 
 -- where the file grows to this size, each extent that it has then is there with its copies
 abbrev pub MayGrow : Shape → Tables → ℕ → ℕ → Type 0
@@ -69,10 +64,6 @@ pub record IsSizePlan (c : Catalogued) (f size : ℕ) (put : List Entry) (gone :
 -- the nodes without those of a file's names
 abbrev pub without_names : List Numbered → FileHead → List Numbered
 without_names nodes head = if head.alias == 0 then without_node nodes head.system else without_node (without_node nodes head.system) head.alias
-
--- the removal of a file, which keeps no extent
-abbrev pub removal_of : ℕ → Pending
-removal_of f = record { kind = Remove; file = f; kept = 0 }
 
 -- the tables without a file and its names, whose removal is the pending operation
 abbrev pub removed : Tables → ℕ → FileHead → Tables

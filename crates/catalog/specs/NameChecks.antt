@@ -7,12 +7,13 @@ use Rattle.asm_group.specs.Shape.{Shape}
 use Rattle.asm_group.specs.TreeEdits.{Tree}
 use Rattle.asm_base.specs.Refusals.{said}
 use Rattle.asm_base.specs.declared.refusal.Refusal.{Refusal}
-use Rattle.attribute_values.specs.asm_world.Files.{NewName}
-use Rattle.alias_edits.specs.Filing.{file_causes, nodes_missing}
-use Rattle.alias_edits.specs.alias_tree.Trees.{tree_of}
-use Rattle.catalog.specs.NamePlans.{filed_as, made_file, name_at, path_for, system_path}
+use Rattle.plan_records.specs.asm_world.Files.{NewName}
+use Rattle.plan_records.specs.alias_edits.Filing.{file_causes, nodes_missing}
+use Rattle.plan_records.specs.alias_tree.Trees.{tree_of}
+use Rattle.plan_records.specs.NewNames.{name_at}
+use Rattle.catalog.specs.NamePlans.{filed_as, made_file, path_for, system_path}
 use Rattle.catalog.specs.Numbers.{IsNextFile}
-use Rattle.catalog_units.specs.catalog_tables.Tables.{Catalogued, Tables}
+use Rattle.plan_records.specs.catalog_tables.Tables.{Catalogued, Tables}
 
 -- Why a file of this name, size and number can't be made, in the order in which it is tried.
 abbrev pub check_causes : Shape → Tables → Option NewName → ℕ → ℕ → Causes

@@ -4,29 +4,29 @@ use Rattle.std.specs.List.{All, list_all}
 use Rattle.asm_group.specs.declared.PendingKind.TheVariants.{Create}
 use Rattle.asm_group.specs.declared.Stripe.{Stripe}
 use Rattle.asm_group.specs.Group.{File as WorldFile, Group}
-use Rattle.asm_group.specs.Names.{Bytes, Path, is_part}
+use Rattle.asm_group.specs.Names.{Bytes, Path}
 use Rattle.asm_group.specs.Refusal as r
 use Rattle.asm_group.specs.TreeEdits.{Tree}
-use Rattle.asm_formats.specs.Items.{FileHead, Key, Pending, Settings, is_item, is_redundancy, node_item}
+use Rattle.asm_formats.specs.Items.{FileHead, Key, Pending, is_item, is_redundancy, node_item}
 use Rattle.asm_placement.specs.Layout.{has_extent}
 use Rattle.asm_base.specs.Records.{Entry}
 use Rattle.asm_base.specs.Refusals.{said}
 use Rattle.asm_base.specs.declared.refusal.Refusal.{Refusal}
 use Rattle.asm_base.specs.declared.refusal.Refusal.TheVariants as cause
-use Rattle.attribute_values.specs.asm_world.Files as world
-use Rattle.attribute_values.specs.asm_world.Files.{NewName, new_file_causes, new_name, new_path, next_incarnation, next_number, is_sectors, template_for}
-use Rattle.catalog_units.specs.file_directory.Files.{head_at, with_head}
-use Rattle.catalog_units.specs.extent_map.Extents.{Chunked, extent_at}
-use Rattle.alias_edits.specs.Edits.{are_parts}
-use Rattle.alias_edits.specs.Filing.{IsFiling, file_causes, filed, nodes_missing, with_nodes}
-use Rattle.alias_edits.specs.Filing as of_tree
-use Rattle.alias_edits.specs.alias_tree.Nodes.{IsTable, Numbered, node_at}
-use Rattle.alias_edits.specs.alias_tree.Trees.{tree_of}
+use Rattle.plan_records.specs.asm_world.Files as world
+use Rattle.plan_records.specs.asm_world.Files.{NewName, new_file_causes, new_path, next_incarnation, next_number, is_sectors, template_for}
+use Rattle.plan_records.specs.file_directory.Files.{head_at, with_head}
+use Rattle.plan_records.specs.extent_map.Extents.{Chunked, extent_at}
+use Rattle.plan_records.specs.alias_edits.Filing.{IsFiling, file_causes, filed, nodes_missing, with_nodes}
+use Rattle.plan_records.specs.alias_edits.Filing as of_tree
+use Rattle.plan_records.specs.alias_tree.Nodes.{IsTable, Numbered, node_at}
+use Rattle.plan_records.specs.alias_tree.Trees.{tree_of}
+pub use Rattle.plan_records.specs.NewNames.{name_at}
+use Rattle.plan_records.specs.NextSettings.{settings_next}
 use Rattle.catalog.specs.Plans.{IsPlan}
-use Rattle.catalog_units.specs.catalog_tables.Rules.{are_within, blocks_used, has_copies}
-use Rattle.catalog_units.specs.catalog_tables.Rules as rules
-use Rattle.catalog_units.specs.catalog_tables.Tables.{Catalogued, Tables}
-use Rattle.catalog.specs.declared.plans.system_path.NameParts.{NameParts}
+use Rattle.plan_records.specs.catalog_tables.Rules.{are_within, blocks_used, has_copies}
+use Rattle.plan_records.specs.catalog_tables.Rules as rules
+use Rattle.plan_records.specs.catalog_tables.Tables.{Catalogued, Tables}
 
 -- ---- the file that is made
 
@@ -57,20 +57,6 @@ made_file t = file_of t.operations.pending
 
 -- ---- its name
 
--- The name of a new file, where one may have the path: its parts have at most 80 bytes, and it is as new_name asks.
-abbrev pub name_at : Path → Option NewName
-name_at path = if are_parts path then new_name path else None
-
--- a name with parts of the grammar, of so many bytes at most
-pub record HasParts (name : NewName) : Type 0 where
-  pub db : is_part 80 name.db ≡ true
-  pub type_name : is_part 30 name.type_name ≡ true
-  pub tag : is_part 48 name.tag ≡ true
-
--- the name that the code's parts are
-abbrev pub name_meant : NameParts → NewName
-name_meant parts = record { db = parts.db.now; type_name = parts.kind.now; tag = parts.tag.now }
-
 -- the path of the system name of a file, which has the file's number and the next incarnation behind the tag
 abbrev pub path_for : Tables → NewName → ℕ → Path
 path_for t name file = new_path name file t.templates.settings.incarnation
@@ -95,9 +81,6 @@ pub record AreNewNodes (nodes made : List Numbered) (path : Path) (file : ℕ) :
   pub few : length made ≤ 3
 
 -- ---- the tables with it
-
-abbrev pub settings_next : Settings → Settings
-settings_next s = record s { incarnation = next_incarnation s.incarnation }
 
 -- the head of the file, whose system name is this node
 abbrev pub new_head : Tables → NewName → ℕ → ℕ → Stripe → ℕ → FileHead

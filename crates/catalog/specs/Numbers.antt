@@ -1,8 +1,8 @@
 -- Numbers of files.
 use Rattle.std.specs.Prelude.{◌≡◌, ◌≤◌, ◌<◌, ℕ, Bool, true, false, ◌||◌}
-use Rattle.catalog_units.specs.file_directory.Files.{is_file}
+use Rattle.plan_records.specs.file_directory.Files.{is_file}
 use Rattle.asm_placement.specs.Naming.{is_pending}
-use Rattle.catalog_units.specs.catalog_tables.Tables.{Tables}
+use Rattle.plan_records.specs.catalog_tables.Tables.{Tables}
 
 -- the number is that of a file or of the pending operation
 abbrev pub is_taken : Tables → ℕ → Bool

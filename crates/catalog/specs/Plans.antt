@@ -10,13 +10,13 @@ use Rattle.asm_formats.specs.Status as status
 use Rattle.asm_base.specs.Records.{Entry}
 use Rattle.asm_base.specs.declared.refusal.Refusal.{Refusal}
 use Rattle.asm_base.specs.declared.refusal.Refusal.TheVariants as cause
-use Rattle.catalog_units.specs.allocator.UnitMaps.{UnitMap}
-use Rattle.catalog_units.specs.page_map.Contents.{IsItemOf}
-use Rattle.catalog_units.specs.catalog_tables.Changing.{IsAfter}
-use Rattle.catalog_units.specs.disk_directory.Disks.{Disk, info_at, with_info, without_disk}
-use Rattle.catalog_units.specs.catalog_tables.Placing.{HasUnits}
-use Rattle.catalog_units.specs.catalog_tables.Rules.{KeepsRules, blocks_used, first_wrong, is_owned, new_records}
-use Rattle.catalog_units.specs.catalog_tables.Tables.{Catalogued, Tables}
+use Rattle.plan_records.specs.allocator.UnitMaps.{UnitMap}
+use Rattle.plan_records.specs.page_map.Contents.{IsItemOf}
+use Rattle.plan_records.specs.catalog_tables.Changing.{IsAfter}
+use Rattle.plan_records.specs.disk_directory.Disks.{Disk, info_at, with_info, without_disk}
+use Rattle.plan_records.specs.catalog_tables.Placing.{HasUnits}
+use Rattle.plan_records.specs.catalog_tables.Rules.{KeepsRules, blocks_used, first_wrong, is_owned, new_records}
+use Rattle.plan_records.specs.catalog_tables.Tables.{Catalogued, Tables}
 
 -- each of the records is one of the formats
 abbrev pub ArePlannedItems : List Entry → Type 0

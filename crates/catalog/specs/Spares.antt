@@ -2,12 +2,12 @@
 use Rattle.std.specs.Prelude.{ℕ, List, Option, Some, None, IsTrue, Vec}
 use Rattle.std.specs.declared.alloc.Global.{Global}
 use Rattle.asm_group.specs.Shape.{is_shape}
-use Rattle.catalog_units.specs.allocator.UnitMaps.{UnitMap}
+use Rattle.plan_records.specs.allocator.UnitMaps.{UnitMap}
 use Rattle.catalog.specs.declared.spare.Spare.{Spare}
 use Rattle.catalog.specs.declared.spare.Spare.TheVariants.{Absent, Behind, Ready}
-use Rattle.catalog_units.specs.catalog_tables.Changing.{IsAfter}
-use Rattle.catalog_units.specs.catalog_tables.Faults.{IsCatalog}
-use Rattle.catalog_units.specs.catalog_tables.Tables.{AreTables, Catalogued, Tables}
+use Rattle.plan_records.specs.catalog_tables.Changing.{IsAfter}
+use Rattle.plan_records.specs.catalog_tables.Faults.{IsCatalog}
+use Rattle.plan_records.specs.catalog_tables.Tables.{AreTables, Catalogued, Tables}
 
 -- the tables that the memory was taken for
 abbrev pub ready_tables : Spare → Option Tables

@@ -9,15 +9,16 @@ use Rattle.asm_base.specs.Records.{Entry}
 use Rattle.asm_base.specs.Refusals.{said}
 use Rattle.asm_base.specs.declared.refusal.Refusal.{Refusal}
 use Rattle.asm_base.specs.declared.refusal.Refusal.TheVariants as cause
-use Rattle.alias_edits.specs.declared.planning.TreeChange.{TreeChange}
-use Rattle.alias_edits.specs.declared.planning.TreeChange.TheVariants as change
-use Rattle.alias_edits.specs.Edits.{ChangesNodes}
-use Rattle.alias_edits.specs.alias_tree.Nodes.{Numbered, node_at, number_of}
-use Rattle.alias_edits.specs.alias_tree.Trees.{tree_of}
-use Rattle.catalog_units.specs.file_directory.Files.{File, head_at, is_file, with_head}
+use Rattle.plan_records.specs.alias_edits.declared.planning.TreeChange.{TreeChange}
+use Rattle.plan_records.specs.alias_edits.declared.planning.TreeChange.TheVariants as change
+use Rattle.plan_records.specs.alias_edits.Edits.{ChangesNodes}
+use Rattle.plan_records.specs.alias_tree.Nodes.{Numbered, node_at, number_of}
+use Rattle.plan_records.specs.alias_tree.Trees.{tree_of}
+use Rattle.plan_records.specs.file_directory.Files.{File, head_at, is_file, with_head}
+pub use Rattle.plan_records.specs.Heads.{with_alias}
 use Rattle.catalog.specs.Plans.{IsPlan}
-use Rattle.catalog_units.specs.catalog_tables.Rules.{blocks_used}
-use Rattle.catalog_units.specs.catalog_tables.Tables.{Catalogued, Tables}
+use Rattle.plan_records.specs.catalog_tables.Rules.{blocks_used}
+use Rattle.plan_records.specs.catalog_tables.Tables.{Catalogued, Tables}
 
 -- the edit gives no file its system name, and takes no file's names
 abbrev pub keeps_files : TreeEdit → Bool
@@ -31,10 +32,6 @@ makes_node (MakeDir path) = true
 makes_node (AddAlias alias path) = true
 makes_node (AddFile path file) = true
 makes_node _ = false
-
--- the head of a file with this alias node, or with none by 0
-abbrev pub with_alias : FileHead → ℕ → FileHead
-with_alias head n = record head { alias = n }
 
 abbrev pub aliased_head : List File → ℕ → ℕ → Option FileHead → List File
 aliased_head files f n None = files

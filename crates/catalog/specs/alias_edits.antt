@@ -1,3 +1,3 @@
 -- The definitions of `alias_edits` that crates above name.
-pub use Rattle.alias_edits.specs.Edits
-pub use Rattle.alias_edits.specs.Filing
+pub use Rattle.plan_records.specs.alias_edits.Edits
+pub use Rattle.plan_records.specs.alias_edits.Filing

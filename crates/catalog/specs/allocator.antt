@@ -1,2 +1,2 @@
 -- The definitions of `allocator` that crates above name.
-pub use Rattle.catalog_units.specs.allocator.UnitMaps
+pub use Rattle.plan_records.specs.allocator.UnitMaps

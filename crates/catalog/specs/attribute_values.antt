@@ -1,2 +1,2 @@
 -- The definitions of `attribute_values` that crates above name.
-pub use Rattle.attribute_values.specs.Creations
+pub use Rattle.plan_records.specs.attribute_values.Creations

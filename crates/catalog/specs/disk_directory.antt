@@ -1,2 +1,2 @@
 -- The definitions of `disk_directory` that crates above name.
-pub use Rattle.catalog_units.specs.disk_directory.Disks
+pub use Rattle.plan_records.specs.disk_directory.Disks

@@ -1,3 +1,3 @@
 -- The definitions of `extent_map` that crates above name.
-pub use Rattle.catalog_units.specs.extent_map.Extents
-pub use Rattle.catalog_units.specs.extent_map.Faults
+pub use Rattle.plan_records.specs.extent_map.Extents
+pub use Rattle.plan_records.specs.extent_map.Faults

@@ -1,3 +1,3 @@
 -- The definitions of `file_directory` that crates above name.
-pub use Rattle.catalog_units.specs.file_directory.Entries
-pub use Rattle.catalog_units.specs.file_directory.Files
+pub use Rattle.plan_records.specs.file_directory.Entries
+pub use Rattle.plan_records.specs.file_directory.Files

@@ -1,2 +1,2 @@
 -- The definitions of `partnership` that crates above name.
-pub use Rattle.catalog_units.specs.partnership.UnitsOf
+pub use Rattle.plan_records.specs.partnership.UnitsOf

@@ -1,3 +1,3 @@
 -- The definitions of `staleness_directory` that crates above name.
-pub use Rattle.catalog_units.specs.staleness_directory.MarkEntries
-pub use Rattle.catalog_units.specs.staleness_directory.Marks
+pub use Rattle.plan_records.specs.staleness_directory.MarkEntries
+pub use Rattle.plan_records.specs.staleness_directory.Marks

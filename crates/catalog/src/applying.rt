@@ -3,13 +3,13 @@
 ghost use Rattle.std.specs.Prelude.{◌≡◌, List as Items, None, OnOk, Some};
 ghost use Rattle.asm_formats.specs.Status.{Entry as StatusEntry};
 ghost use Rattle.catalog.specs.Applying.{IsChangeReady, Leaves};
-ghost use Rattle.catalog_units.specs.catalog_tables.Placing.{HasUnits};
-ghost use Rattle.catalog_units.specs.catalog_tables.Tables.{Tables};
+ghost use Rattle.plan_records.specs.catalog_tables.Placing.{HasUnits};
+ghost use Rattle.plan_records.specs.catalog_tables.Tables.{Tables};
 
 use crate::catalog::Catalog;
-use crate::spare::{Spare, brought_up, change_copied};
+use crate::spare::{Spare, brought_up};
 use asm_base::{Change, NoMemory};
-use catalog_units::follow;
+use plan_records::{change_copied, follow};
 use std::alloc::Global;
 use std::mem::replace;
 

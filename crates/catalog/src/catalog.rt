@@ -4,11 +4,11 @@ ghost use Rattle.std.specs.Prelude.{◌≡◌, IfErr, IfOk, IsTrue};
 ghost use Rattle.std.specs.List.{list_all};
 ghost use Rattle.asm_group.specs.Shape.{is_shape};
 ghost use Rattle.asm_formats.specs.Status.{is_entry};
-ghost use Rattle.catalog_units.specs.catalog_tables.Faults.{IsAtFault, IsCatalogOf, NamesFault};
+ghost use Rattle.plan_records.specs.catalog_tables.Faults.{IsAtFault, IsCatalogOf, NamesFault};
 
 use crate::spare::Spare;
 use asm_base::{Records, Shape};
-use catalog_units::{CatalogError, Parts, PstRecord, Units};
+use plan_records::{CatalogError, Parts, PstRecord, Units};
 use std::alloc::Global;
 use std::marker::Model;
 
@@ -28,7 +28,7 @@ pub struct Catalog {
 }
 
 impl Model for Catalog {
-    ghost use Rattle.catalog_units.specs.catalog_tables.Tables.{Catalogued};
+    ghost use Rattle.plan_records.specs.catalog_tables.Tables.{Catalogued};
     ghost use Rattle.catalog.specs.Spares.{IsCatalogWithSpare, ready_tables, units_in};
 
     ghost Value = { Catalogued };

@@ -1,11 +1,10 @@
 //! The catalog of a group: its tables, with the units of its disks, as one value, and the plans of its changes.
 #![tactic(auto)]
 
-pub use alias_edits::TreeEdit;
-pub use attribute_values::{
-    Creation, Settings, are_allowed, settings_value, system, templates_value,
+pub use plan_records::{
+    CatalogError, Creation, DiskInfo, FileHead, Settings, TreeEdit, are_allowed, disk_record,
+    has_home, partners, settings_value, system, templates_value,
 };
-pub use catalog_units::{CatalogError, DiskInfo, FileHead, disk_record, has_home, partners};
 
 mod applying;
 mod catalog;

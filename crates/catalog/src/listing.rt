@@ -4,17 +4,17 @@ ghost use Rattle.std.specs.Prelude.{◌≡◌, ◌≤◌, ◌==◌, ℕ, length,
 ghost use Rattle.std.specs.List.{list_any};
 ghost use Rattle.std.specs.Option.{option_map};
 ghost use Rattle.asm_group.specs.TreeEdits.{entry_at};
-ghost use Rattle.alias_edits.specs.alias_tree.Nodes.{AreByName, is_under, node_at, number_of};
-ghost use Rattle.alias_edits.specs.alias_tree.Spelling.{names_to};
-ghost use Rattle.alias_edits.specs.alias_tree.Trees.{tree_of};
+ghost use Rattle.plan_records.specs.alias_tree.Nodes.{AreByName, is_under, node_at, number_of};
+ghost use Rattle.plan_records.specs.alias_tree.Spelling.{names_to};
+ghost use Rattle.plan_records.specs.alias_tree.Trees.{tree_of};
 ghost use Rattle.asm_formats.specs.Items.{FileHead as FormatHead};
 ghost use Rattle.asm_formats.specs.Nodes.{entry_of_node};
-ghost use Rattle.catalog_units.specs.extent_map.Extents.{chunks_from};
-ghost use Rattle.catalog_units.specs.file_directory.Files.{head_at};
+ghost use Rattle.plan_records.specs.extent_map.Extents.{chunks_from};
+ghost use Rattle.plan_records.specs.file_directory.Files.{head_at};
 
 use crate::catalog::Catalog;
 use asm_base::{Name, NoMemory, Path};
-use catalog_units::Chunk;
+use plan_records::Chunk;
 use std::alloc::Global;
 use std::collections::btree_map::{Iter, Range};
 

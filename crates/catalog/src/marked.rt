@@ -2,13 +2,13 @@
 
 ghost use Rattle.std.specs.Prelude.{◌≡◌, ◌≤◌, ◌<◌, ◌^◌, IfNone, IfSome, length};
 ghost use Rattle.std.specs.Option.{option_copied};
-ghost use Rattle.catalog_units.specs.extent_map.Extents.{chunk_at};
-ghost use Rattle.catalog_units.specs.staleness_directory.Marks.{marks_at, marks_from};
-ghost use Rattle.catalog_units.specs.catalog_tables.MarkedExtents.{HasNoMarkedHome, HasNoneIn, HasNoneMarked, IsFirstIn, IsFirstMarked, IsFirstPlace, first_marked};
+ghost use Rattle.plan_records.specs.extent_map.Extents.{chunk_at};
+ghost use Rattle.plan_records.specs.staleness_directory.Marks.{marks_at, marks_from};
+ghost use Rattle.plan_records.specs.catalog_tables.MarkedExtents.{HasNoMarkedHome, HasNoneIn, HasNoneMarked, IsFirstIn, IsFirstMarked, IsFirstPlace, first_marked};
 
 use crate::catalog::Catalog;
 use asm_base::{ExtentId, Homes};
-use catalog_units::{Marks, has_stale_on};
+use plan_records::{Marks, has_stale_on};
 
 impl Catalog {
     /// The first extent from `least` on, by file and index, that has a stale mark of a copy on a disk. It looks at the

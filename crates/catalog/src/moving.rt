@@ -3,16 +3,16 @@
 ghost use Rattle.std.specs.Bool.{OnTrue};
 ghost use Rattle.std.specs.Prelude.{◌≡◌, ◌<◌, IsTrue, Some, is_some, slice_set};
 ghost use Rattle.asm_placement.specs.Layout.{units_of};
-ghost use Rattle.catalog_units.specs.allocator.UnitMaps.{IsFreeRun};
-ghost use Rattle.catalog_units.specs.extent_map.Extents.{HasExtent};
-ghost use Rattle.catalog_units.specs.file_directory.Files.{head_at};
+ghost use Rattle.plan_records.specs.allocator.UnitMaps.{IsFreeRun};
+ghost use Rattle.plan_records.specs.extent_map.Extents.{HasExtent};
+ghost use Rattle.plan_records.specs.file_directory.Files.{head_at};
 ghost use Rattle.catalog.specs.ExtentPlans.{MayMove, homes_moved, is_copy_of};
-ghost use Rattle.catalog_units.specs.catalog_tables.Placing.{home_taken};
-ghost use Rattle.catalog_units.specs.catalog_tables.Rules.{are_on_disks};
+ghost use Rattle.plan_records.specs.catalog_tables.Placing.{home_taken};
+ghost use Rattle.plan_records.specs.catalog_tables.Rules.{are_on_disks};
 
 use crate::catalog::Catalog;
 use asm_base::{ExtentId, Home, Homes};
-use catalog_units::{Units, are_on_disks};
+use plan_records::{Units, are_on_disks};
 
 impl Catalog {
     /// Whether a copy of an extent may move to a home: the extent is there and may have the copy, its other copies are on

@@ -4,7 +4,7 @@ ghost use Rattle.std.specs.Prelude.{◌≡◌, ◌≤◌, ◌<◌, ◌^◌, ℕ,
 ghost use Rattle.catalog.specs.Numbers.{IsNextFile, IsUntaken, is_taken};
 
 use crate::catalog::Catalog;
-use catalog_units::is_pending;
+use plan_records::is_pending;
 
 /// Files are numbered from this one.
 const FIRST_FILE: u32 = 256;

@@ -3,18 +3,16 @@
 ghost use Rattle.std.specs.Prelude.{◌≡◌, ◌≤◌, ◌+◌, ◌/◌, ℕ, IfNone, IfSome, false};
 ghost use Rattle.std.specs.Option.{option_copied};
 ghost use Rattle.asm_placement.specs.Layout.{units_of};
-ghost use Rattle.alias_edits.specs.alias_tree.Nodes.{node_at, number_of};
-ghost use Rattle.catalog_units.specs.extent_map.Extents.{extent_at};
-ghost use Rattle.catalog_units.specs.file_directory.Files.{IsLeastFrom, head_at, is_file};
-ghost use Rattle.catalog_units.specs.disk_directory.Disks.{info_at};
-ghost use Rattle.catalog_units.specs.catalog_tables.Faults.{IsCatalog};
-ghost use Rattle.catalog_units.specs.catalog_tables.Rules.{blocks_used, marks_of};
+ghost use Rattle.plan_records.specs.alias_tree.Nodes.{node_at, number_of};
+ghost use Rattle.plan_records.specs.extent_map.Extents.{extent_at};
+ghost use Rattle.plan_records.specs.file_directory.Files.{IsLeastFrom, head_at, is_file};
+ghost use Rattle.plan_records.specs.disk_directory.Disks.{info_at};
+ghost use Rattle.plan_records.specs.catalog_tables.Faults.{IsCatalog};
+ghost use Rattle.plan_records.specs.catalog_tables.Rules.{blocks_used, marks_of};
 
 use crate::catalog::Catalog;
-use alias_edits::Node;
 use asm_base::{ExtentId, Homes, Path, Shape};
-use attribute_values::{Settings, Template};
-use catalog_units::{DiskInfo, FileHead, Pending, Units};
+use plan_records::{DiskInfo, FileHead, Node, Pending, Settings, Template, Units};
 
 impl Catalog {
     /// The group's shape. Its clause also shows that the rules hold.
@@ -76,7 +74,7 @@ impl Catalog {
     pub fn units_of(&self, index: u32) -> u32
         ensures { result ≡ units_of self.now.shape.step index }
     {
-        catalog_units::units_of(self.shape.step, index as u64)
+        plan_records::units_of(self.shape.step, index as u64)
     }
 
     /// The units of all disk numbers, those of disk k at place k. Its clause also shows that the rules hold.

@@ -3,10 +3,10 @@
 ghost use Rattle.std.specs.Prelude.{◌≡◌, IfNone, IfOk, IfSome, None};
 ghost use Rattle.catalog.specs.Spares.{IsSpareOf, ready_tables};
 ghost use Rattle.catalog.specs.declared.spare.Spare.TheVariants.{Ready};
-ghost use Rattle.catalog_units.specs.catalog_tables.Tables.{AreTables};
+ghost use Rattle.plan_records.specs.catalog_tables.Tables.{AreTables};
 
-use asm_base::{Change, Key, List, NoMemory, Value};
-use catalog_units::Parts;
+use asm_base::{Change, NoMemory};
+use plan_records::Parts;
 use std::alloc::Global;
 
 /// Tables beside those of a catalog, with the change that lies between the two.
@@ -46,35 +46,4 @@ pub(crate) fn brought_up(alloc: Global, spare: Spare, parts: &Parts) -> Result<P
         } => behind.changed(alloc, &change),
         _ => parts.copy(alloc),
     }
-}
-
-/// An equal change.
-pub(crate) fn change_copied(alloc: Global, change: &Change) -> Result<Change, NoMemory>
-    ensures put { IfOk result (λ copy. copy.put ≡ change.now.put) }
-    ensures gone { IfOk result (λ copy. copy.gone ≡ change.now.gone) }
-{
-    Ok(Change {
-        put: records_copied(alloc, change.put.as_slice())?,
-        gone: keys_copied(alloc, change.gone.as_slice())?,
-    })
-}
-
-fn records_copied(alloc: Global, records: &[(Key, Value)]) -> Result<List<(Key, Value)>, NoMemory>
-    ensures { IfOk result (λ copies. copies ≡ records.now) }
-{
-    let mut copies = List::new(alloc);
-    for (key, value) in records {
-        copies.push((*key, value.copy()?))?;
-    }
-    Ok(copies)
-}
-
-fn keys_copied(alloc: Global, keys: &[Key]) -> Result<List<Key>, NoMemory>
-    ensures { IfOk result (λ copies. copies ≡ keys.now) }
-{
-    let mut copies = List::new(alloc);
-    for key in keys {
-        copies.push(*key)?;
-    }
-    Ok(copies)
 }

@@ -8,7 +8,7 @@ use Rattle.std.specs.declared.cmp.Ordering.TheVariants.{Less, Equal, Greater}
 use Rattle.std.proofs.lemmas.Bool.{true≢false}
 use Rattle.catalog_tables.proofs.asm_base.Exact.{bind_some, some_is}
 use Rattle.catalog_tables.specs.asm_base.Records.{Ascend, Entry, is_key}
-use Rattle.catalog_tables.specs.asm_formats.Items.{Homes, Key, chunk_item}
+use Rattle.asm_formats.specs.Items.{Homes, Key, chunk_item}
 use Rattle.catalog_tables.specs.page_map.Changes.{is_gone, is_put, last_put, value_after}
 use Rattle.catalog_tables.proofs.page_map.Changing.{last_put_none}
 use Rattle.catalog_tables.proofs.page_map.Keys.{same_key}

@@ -9,7 +9,7 @@ use Rattle.std.proofs.lemmas.Bool.{true≢false}
 use Rattle.std.proofs.lemmas.Option.{none-some}
 use Rattle.catalog_tables.specs.asm_base.Records.{Ascend}
 use Rattle.catalog_tables.proofs.asm_base.Exact.{bind_some, some_is}
-use Rattle.catalog_tables.specs.asm_formats.Items.{Homes}
+use Rattle.asm_formats.specs.Items.{Homes}
 use Rattle.catalog_tables.specs.allocator.UnitMaps.{UnitMap}
 use Rattle.catalog_tables.specs.extent_map.Extents.{Chunked, chunk_at}
 use Rattle.catalog_tables.specs.asm_base.Chunks.{Chunk, chunk_cmp, is_before}

@@ -1,7 +1,7 @@
 -- Homes of an extent and of a chunk that are given back.
 use Rattle.std.proofs.Common.{◌≡◌, ℕ, suc, ◌+◌, ◌<◌, ◌≤◌, List, [], ◌∷◌, ◌++◌, drop, length, get_or, add-one, Option, Some, sym, ap, subst, ◌∙◌}
 use Rattle.catalog_tables.proofs.asm_base.Exact.{bind_some, some_is}
-use Rattle.catalog_tables.specs.asm_formats.Items.{Home, Homes}
+use Rattle.asm_formats.specs.Items.{Home, Homes}
 use Rattle.catalog_tables.specs.asm_placement.Layout.{units_of}
 use Rattle.catalog_tables.specs.asm_placement.Placed.{placed_copies, placed_extents}
 use Rattle.catalog_tables.specs.allocator.UnitMaps.{UnitMap}

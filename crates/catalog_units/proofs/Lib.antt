@@ -9,3 +9,4 @@ pub mod file_directory
 pub mod operations_directory
 pub mod page_map
 pub mod staleness_directory
+pub mod ResizedUnits

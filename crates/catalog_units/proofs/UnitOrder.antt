@@ -7,7 +7,7 @@ use Rattle.std.proofs.lemmas.Bool.{cases_eq, cases_lt, leb-true, ltb-true, le-le
 use Rattle.std.proofs.lemmas.List.{append-nil, length-take, length-drop, length-append, length-replicate, get_or_default, get_or_past, get_or-set_same, get_or-set_other, set-set, same_lists}
 use Rattle.std.proofs.lemmas.Option.{slice_get_within, get_or_from_slice_get}
 use Rattle.std.proofs.Math.ListN.{take-append-drop, length-set, set}
-use Rattle.catalog_tables.specs.asm_formats.Items.{Home}
+use Rattle.asm_formats.specs.Items.{Home}
 use Rattle.catalog_tables.specs.asm_placement.Placed.{Placed}
 use Rattle.catalog_tables.specs.allocator.UnitMaps.{IsUsedRun, UnitMap, is_free, with_run}
 use Rattle.catalog_tables.proofs.asm_base.Exact.{bind_some, some_is}

@@ -1,4 +1,5 @@
-//! The used units of each disk, brought up by a change of records in work that goes by the change.
+//! The used units of each disk, brought up by a change of records in work that goes by the change, and the units of the
+//! disks that a status record gives others.
 #![tactic(auto)]
 
 pub use catalog_tables::{
@@ -10,5 +11,7 @@ pub use catalog_tables::{
 
 mod changed_units;
 mod giving;
+mod resized_units;
 
 pub use changed_units::follow;
+pub use resized_units::{changed_maps, put_in};

@@ -1,2 +1,2 @@
 -- The types of `catalog_tables` that crates above name.
-pub use Rattle.catalog_units.specs.catalog_tables.declared.error
+pub use Rattle.plan_records.specs.catalog_tables.declared.error

@@ -1,16 +1,15 @@
 //! The plan of the records of new disks.
 
-ghost use Rattle.std.specs.Prelude.{◌≡◌, ◌≤◌, ◌+◌, ◌++◌, [], IfErr, IfOk, OnOk, length, map, true};
+ghost use Rattle.std.specs.Prelude.{◌≡◌, ◌≤◌, ◌+◌, ◌++◌, IfErr, IfOk, OnOk, length, map, true};
 ghost use Rattle.std.specs.List.{All};
 ghost use Rattle.asm_formats.specs.Items.{disk_item, is_item};
-ghost use Rattle.catalog_units.specs.disk_directory.Disks.{Disk, record_of};
+ghost use Rattle.plan_records.specs.disk_directory.Disks.{Disk, record_of};
 ghost use Rattle.catalog.specs.Plans.{IsAddRefusal, IsPlan, MayAdd, with_records};
-ghost use Rattle.catalog_units.specs.catalog_tables.Rules.{blocks_used};
+ghost use Rattle.plan_records.specs.catalog_tables.Rules.{blocks_used};
 
 use crate::catalog::Catalog;
-use crate::plans::making::no_memory;
 use asm_base::{Change, Key, List, NoMemory, Refusal, Value};
-use catalog_units::{DiskInfo, disk_record};
+use plan_records::{DiskInfo, disk_record, no_memory};
 use std::alloc::Global;
 
 impl Catalog {

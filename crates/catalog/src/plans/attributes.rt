@@ -1,17 +1,15 @@
 //! The plan of another value of an attribute.
 
-ghost use Rattle.std.specs.Prelude.{◌≡◌, ◌⊎◌, IfErr, IfOk, IfNone, IfSome, None, true};
+ghost use Rattle.std.specs.Prelude.{◌≡◌, IfErr, IfOk, IfNone, IfSome, None, true};
 ghost use Rattle.asm_formats.specs.Items.{is_item, settings_item};
-ghost use Rattle.attribute_values.specs.Edits.{settings_with};
-ghost use Rattle.asm_base.specs.Tables.{item_record};
-ghost use Rattle.asm_base.specs.declared.refusal.Refusal.TheVariants.{BadAttribute, NoMemory as WithoutMemory};
+ghost use Rattle.plan_records.specs.attribute_values.Edits.{settings_with};
+ghost use Rattle.asm_base.specs.declared.refusal.Refusal.TheVariants.{BadAttribute};
 ghost use Rattle.catalog.specs.FilePlans.{IsAttributePlan, IsAttributeRefusal};
 ghost use Rattle.catalog.specs.Plans.{IsPlan};
 
 use crate::catalog::Catalog;
-use crate::plans::making::{no_memory, one_put};
-use asm_base::{Change, Key, Name, NoMemory, Refusal, SETTINGS_KEY, Text, Value};
-use attribute_values::{Settings, settings_value, with_attribute};
+use asm_base::{Change, Name, NoMemory, Refusal};
+use plan_records::{Settings, bad_attribute, no_memory, one_put, settings_record, with_attribute};
 use std::alloc::Global;
 
 impl Catalog {
@@ -61,24 +59,5 @@ impl Catalog {
         let entry = settings_record(alloc, settings)?;
         let change = one_put(alloc, entry)?;
         Ok(change)
-    }
-}
-
-/// The record of the settings.
-pub(crate) fn settings_record(alloc: Global, settings: &Settings) -> Result<(Key, Value), NoMemory>
-    requires { is_item (settings_item settings.now) ≡ true }
-    ensures { IfOk result (λ made. made ≡ item_record (settings_item settings.now)) }
-{
-    let value = settings_value(alloc, settings)?;
-    Ok((SETTINGS_KEY, value))
-}
-
-/// The refusal that names the attribute, or want of memory.
-fn bad_attribute(alloc: Global, name: &[u8]) -> Refusal
-    ensures { (result ≡ WithoutMemory) ⊎ (result ≡ BadAttribute name.now) }
-{
-    match Text::from_slice(alloc, name) {
-        Ok(name) => Refusal::BadAttribute { name },
-        Err(error) => no_memory(error),
     }
 }

@@ -1,15 +1,13 @@
 //! Whether a new file may have its name and its size.
 
-ghost use Rattle.std.specs.Prelude.{◌≡◌, ◌%◌, ◌==◌, ◌<◌, ◌^◌, IfErr, IfOk};
+ghost use Rattle.std.specs.Prelude.{◌≡◌, ◌%◌, ◌==◌, ◌<◌, IfErr, IfOk};
 ghost use Rattle.catalog.specs.NameChecks.{IsCheckRefusal, IsNameCheck, IsPathCheck, IsPathRefusal};
-ghost use Rattle.catalog.specs.NamePlans.{HasParts, name_meant};
+ghost use Rattle.plan_records.specs.NewNames.{HasParts, name_meant};
 
 use crate::catalog::Catalog;
 use crate::new_file::NewFile;
-use crate::plans::making::no_memory;
-use crate::plans::system_path::{NameParts, new_name, system_path};
-use crate::plans::tree::refusal_of;
 use asm_base::{Name, Refusal};
+use plan_records::{NameParts, new_name, no_memory, refusal_of, system_path};
 use std::alloc::Global;
 
 impl Catalog {
@@ -19,7 +17,7 @@ impl Catalog {
     ///
     /// NoTemplate: no file may have the path. NotSectors: the size isn't whole sectors. NotDirectory: a directory of the
     /// path is there as a file. NameTaken: the system name is there.
-    #[tactic(auto, using(crate::proofs::NameChecks::no_path, crate::proofs::NameChecks::no_sectors, crate::proofs::NameChecks::name_checked, crate::proofs::NameChecks::name_refused, crate::proofs::NewNames::name_parts))]
+    #[tactic(auto, using(crate::proofs::NameChecks::no_path, crate::proofs::NameChecks::no_sectors, crate::proofs::NameChecks::name_checked, crate::proofs::NameChecks::name_refused, plan_records::proofs::NewNames::name_parts))]
     pub fn check_name(&self, alloc: Global, new: &NewFile) -> Result<u64, Refusal>
         ensures made { IfOk result (IsNameCheck self.now new.now.path.parts new.now.size) }
         ensures refused { IfErr result (IsCheckRefusal self.now new.now.path.parts new.now.size) }
@@ -47,7 +45,7 @@ impl Catalog {
     }
 
     /// How many nodes the name makes for a file of this number.
-    #[tactic(auto, using(crate::proofs::NamePlans::want_of_memory, crate::proofs::NewNames::path_parts, crate::proofs::NameChecks::path_checked, crate::proofs::NameChecks::path_refused))]
+    #[tactic(auto, using(crate::proofs::NamePlans::want_of_memory, plan_records::proofs::NewNames::path_parts, crate::proofs::NameChecks::path_checked, crate::proofs::NameChecks::path_refused))]
     fn check_path(
         &self,
         alloc: Global,

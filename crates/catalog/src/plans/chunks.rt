@@ -2,17 +2,15 @@
 
 ghost use Rattle.std.specs.Prelude.{◌≡◌, ◌≤◌, ◌<◌, ◌+◌, ◌^◌, ◌∷◌, [], length, true, IfErr, IfOk, is_some};
 ghost use Rattle.std.specs.List.{list_all};
-ghost use Rattle.asm_base.specs.declared.refusal.Refusal.TheVariants.{NoMemory as WithoutMemory};
-ghost use Rattle.catalog_units.specs.extent_map.Extents.{chunk_at, chunk_or_blank, count_in, record_of};
-ghost use Rattle.catalog_units.specs.staleness_directory.Marks.{record_of as marks_entry};
+ghost use Rattle.plan_records.specs.extent_map.Extents.{chunk_at, chunk_or_blank, count_in, record_of};
+ghost use Rattle.plan_records.specs.staleness_directory.Marks.{record_of as marks_entry};
 ghost use Rattle.catalog.specs.ExtentPlans.{HasChunkRoom, IsChunkRefusal, MayAppend, are_small, homes_appended, is_small, marks_appended, marks_behind, with_appended};
 ghost use Rattle.catalog.specs.Plans.{IsPlan};
 
 use crate::catalog::Catalog;
-use crate::plans::making::{no_memory, two_put};
 use crate::plans::moves::unit_fits;
 use asm_base::{Change, Home, Homes, NoMemory, Refusal};
-use catalog_units::{Marks, chunk_record, marks_record};
+use plan_records::{Marks, chunk_record, marks_record, no_memory, two_put};
 use std::alloc::Global;
 
 impl Catalog {

@@ -2,15 +2,14 @@
 
 ghost use Rattle.std.specs.Prelude.{◌≡◌, ◌≤◌, ◌<◌, ◌+◌, ◌^◌, IfErr, IfOk};
 ghost use Rattle.asm_base.specs.declared.refusal.Refusal.TheVariants.{NoMemory as WithoutMemory};
-ghost use Rattle.catalog_units.specs.extent_map.Extents.{chunk_or_blank, cut_to, record_of};
-ghost use Rattle.catalog_units.specs.staleness_directory.Marks.{marks_to, record_of as marks_entry};
+ghost use Rattle.plan_records.specs.extent_map.Extents.{chunk_or_blank, cut_to, record_of};
+ghost use Rattle.plan_records.specs.staleness_directory.Marks.{marks_to, record_of as marks_entry};
 ghost use Rattle.catalog.specs.ExtentPlans.{MayCut, marks_or_none, with_cut};
 ghost use Rattle.catalog.specs.Plans.{IsPlan};
 
 use crate::catalog::Catalog;
-use crate::plans::making::{no_memory, two_gone, two_put};
 use asm_base::{Change, Key, NoMemory, Refusal, Value, record_kind};
-use catalog_units::{chunk_record, marks_record};
+use plan_records::{chunk_record, marks_record, no_memory, two_gone, two_put};
 use std::alloc::Global;
 
 impl Catalog {

@@ -4,14 +4,13 @@ ghost use Rattle.std.specs.Prelude.{◌≡◌, ◌<◌, ◌+◌, IfErr, IfOk, No
 ghost use Rattle.std.specs.Bool.{OnFalse, OnTrue};
 ghost use Rattle.std.specs.Option.{option_copied};
 ghost use Rattle.asm_formats.specs.Items.{DiskInfo as FormatInfo, disk_item, is_item};
-ghost use Rattle.catalog_units.specs.disk_directory.Disks.{info_at, with_info, without_disk};
+ghost use Rattle.plan_records.specs.disk_directory.Disks.{info_at, with_info, without_disk};
 ghost use Rattle.catalog.specs.Plans.{IsDiskRefusal, IsPlan, LacksBlock, may_be_record, with_record};
-ghost use Rattle.catalog_units.specs.catalog_tables.Rules.{blocks_used};
+ghost use Rattle.plan_records.specs.catalog_tables.Rules.{blocks_used};
 
 use crate::catalog::Catalog;
-use crate::plans::making::{no_memory, one_gone, one_put};
 use asm_base::{Change, NoMemory, Refusal};
-use catalog_units::{DiskInfo, disk_key, disk_record};
+use plan_records::{DiskInfo, disk_key, disk_record, no_memory, one_gone, one_put};
 use std::alloc::Global;
 
 impl Catalog {

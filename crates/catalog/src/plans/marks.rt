@@ -1,15 +1,14 @@
 //! The plan of an extent's stale marks.
 
-ghost use Rattle.std.specs.Prelude.{◌≡◌, ◌/◌, ◌%◌, ◌∷◌, [], IfErr, IfOk, slice_set};
+ghost use Rattle.std.specs.Prelude.{◌≡◌, ◌/◌, ◌%◌, IfErr, IfOk, slice_set};
 ghost use Rattle.asm_base.specs.declared.refusal.Refusal.TheVariants.{NoMemory as WithoutMemory};
-ghost use Rattle.catalog_units.specs.staleness_directory.Marks.{record_of};
+ghost use Rattle.plan_records.specs.staleness_directory.Marks.{record_of};
 ghost use Rattle.catalog.specs.ExtentPlans.{MayMark, marks_changed, marks_or_none, with_marks_changed};
 ghost use Rattle.catalog.specs.Plans.{IsPlan};
 
 use crate::catalog::Catalog;
-use crate::plans::making::{no_memory, one_put};
 use asm_base::{Change, ExtentId, Key, NoMemory, Refusal, Value};
-use catalog_units::{Marks, marks_record};
+use plan_records::{Marks, marks_record, no_memory, one_put};
 use std::alloc::Global;
 
 impl Catalog {

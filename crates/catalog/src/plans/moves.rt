@@ -4,15 +4,14 @@ ghost use Rattle.std.specs.Prelude.{◌≡◌, ◌<◌, ◌/◌, ◌%◌, ◌^�
 ghost use Rattle.asm_formats.specs.Sets.{has_bit};
 ghost use Rattle.asm_base.specs.declared.refusal.Refusal.TheVariants.{NoMemory as WithoutMemory};
 ghost use Rattle.asm_placement.specs.Moves.{without_bit};
-ghost use Rattle.catalog_units.specs.extent_map.Extents.{chunk_or_blank, record_of};
+ghost use Rattle.plan_records.specs.extent_map.Extents.{chunk_or_blank, record_of};
 ghost use Rattle.catalog.specs.ExtentPlans.{MayMove, with_move};
 ghost use Rattle.catalog.specs.Plans.{IsPlan};
 
 use crate::catalog::Catalog;
 use crate::moving::with_home;
-use crate::plans::making::{no_memory, one_put, two_put};
 use asm_base::{Change, ExtentId, Home, Key, NoMemory, Refusal, Value};
-use catalog_units::{Chunk, chunk_record};
+use plan_records::{Chunk, chunk_record, no_memory, one_put, two_put};
 use std::alloc::Global;
 
 impl Catalog {

@@ -6,24 +6,20 @@ ghost use Rattle.asm_formats.specs.Items.{Node as FormatNode, file_item, is_item
 ghost use Rattle.asm_base.specs.Refusals.{said};
 ghost use Rattle.asm_base.specs.Tables.{item_record};
 ghost use Rattle.asm_group.specs.Refusal.{NoMemory as OutOfMemory};
-ghost use Rattle.alias_edits.specs.Edits.{IsRefusal, are_parts};
-ghost use Rattle.alias_edits.specs.Filing.{IsFiling, filed, nodes_missing, with_nodes};
-ghost use Rattle.alias_edits.specs.alias_tree.Nodes.{IsTable, Numbered, node_at, record_of as node_entry};
-ghost use Rattle.alias_edits.specs.alias_tree.Trees.{tree_of};
-ghost use Rattle.catalog_units.specs.file_directory.Files.{record_of as file_entry};
-ghost use Rattle.catalog.specs.NamePlans.{AreNewNodes, HasParts, IsFileBeingMade, IsNamePlan, IsNameRefusal, made_file, name_at, name_meant, new_head, settings_next, system_path};
-ghost use Rattle.catalog_units.specs.catalog_tables.Rules.{blocks_used};
+ghost use Rattle.plan_records.specs.alias_edits.Edits.{IsRefusal, are_parts};
+ghost use Rattle.plan_records.specs.alias_edits.Filing.{IsFiling, filed, nodes_missing, with_nodes};
+ghost use Rattle.plan_records.specs.alias_tree.Nodes.{IsTable, Numbered, node_at, record_of as node_entry};
+ghost use Rattle.plan_records.specs.alias_tree.Trees.{tree_of};
+ghost use Rattle.plan_records.specs.file_directory.Files.{record_of as file_entry};
+ghost use Rattle.plan_records.specs.NewNames.{HasParts, name_at, name_meant};
+ghost use Rattle.plan_records.specs.NextSettings.{settings_next};
+ghost use Rattle.catalog.specs.NamePlans.{AreNewNodes, IsFileBeingMade, IsNamePlan, IsNameRefusal, made_file, new_head, system_path};
+ghost use Rattle.plan_records.specs.catalog_tables.Rules.{blocks_used};
 
 use crate::catalog::Catalog;
 use crate::new_file::NewFile;
-use crate::plans::attributes::settings_record;
-use crate::plans::making::no_memory;
-use crate::plans::system_path::{NameParts, new_name, system_path};
-use crate::plans::tree::refusal_of;
-use alias_edits::{Node, TreeError, node_record, plan_file};
 use asm_base::{Change, Key, List, Name, NoMemory, PENDING_KEY, Path, Refusal, Stripe, Value};
-use attribute_values::Settings;
-use catalog_units::{FileHead, record_of};
+use plan_records::{FileHead, NameParts, Node, TreeError, new_name, no_memory, node_record, plan_file, record_of, refusal_of, settings_next, settings_record, system_path};
 use std::alloc::Global;
 
 impl Catalog {
@@ -33,7 +29,7 @@ impl Catalog {
     ///
     /// NoTemplate: no file may have the path. NotDirectory: a directory of the path is there as a file. NameTaken: the
     /// system name is there. DirectoryFull: the head and the new nodes need more blocks than are free.
-    #[tactic(auto, using(crate::proofs::NamePlans::no_path, crate::proofs::NamePlans::name_refused, crate::proofs::NamePlans::lacks_room, crate::proofs::NamePlans::no_memory, crate::proofs::NewNames::name_parts))]
+    #[tactic(auto, using(crate::proofs::NamePlans::no_path, crate::proofs::NamePlans::name_refused, crate::proofs::NamePlans::lacks_room, crate::proofs::NamePlans::no_memory, plan_records::proofs::NewNames::name_parts))]
     pub fn plan_name(
         &self,
         alloc: Global,
@@ -64,7 +60,7 @@ impl Catalog {
     }
 
     /// The nodes of the name of the file that is being made.
-    #[tactic(auto, using(crate::proofs::NamePlans::want_of_memory, crate::proofs::NewNames::path_parts))]
+    #[tactic(auto, using(crate::proofs::NamePlans::want_of_memory, plan_records::proofs::NewNames::path_parts))]
     fn name_nodes(
         &self,
         alloc: Global,
@@ -213,13 +209,4 @@ fn put_nodes(
         put.push(node_record(alloc, *number, node)?)?;
     }
     Ok(())
-}
-
-/// The settings with the incarnation after the next.
-fn settings_next(settings: &Settings) -> Result<Settings, NoMemory>
-    ensures { IfOk result (λ next. next ≡ settings_next settings.now) }
-{
-    let mut next = settings.copy()?;
-    next.incarnation = next.incarnation.saturating_add(1);
-    Ok(next)
 }

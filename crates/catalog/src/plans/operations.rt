@@ -1,14 +1,13 @@
 //! Plans of the rebalance and of the pending operation.
 
-ghost use Rattle.std.specs.Prelude.{◌≡◌, ◌<◌, ◌^◌, ◌∷◌, [], IfErr, IfOk, None, Some, true};
+ghost use Rattle.std.specs.Prelude.{◌≡◌, ◌<◌, ◌^◌, IfErr, IfOk, None, Some, true};
 ghost use Rattle.asm_formats.specs.Items.{is_item, pending_item};
 ghost use Rattle.asm_base.specs.declared.refusal.Refusal.TheVariants.{NoMemory as WithoutMemory};
 ghost use Rattle.catalog.specs.Plans.{AreOwned, IsPlan};
 
 use crate::catalog::Catalog;
-use crate::plans::making::{no_memory, one_gone, one_put};
 use asm_base::{Change, Key, NoMemory, PENDING_KEY, REBALANCE_KEY, Refusal};
-use catalog_units::{Pending, pending_record, rebalance_record};
+use plan_records::{Pending, no_memory, one_gone, one_put, pending_record, rebalance_record};
 use std::alloc::Global;
 
 impl Catalog {

@@ -1,17 +1,15 @@
 //! The plan of an edit of the templates.
 
-ghost use Rattle.std.specs.Prelude.{◌≡◌, ◌∷◌, [], IfErr, IfOk, IsTrue, true};
+ghost use Rattle.std.specs.Prelude.{◌≡◌, IfErr, IfOk, IsTrue, true};
 ghost use Rattle.asm_group.specs.NewGroup.{templates_by_name};
 ghost use Rattle.asm_group.specs.TemplateEdits.{templates_edited};
 ghost use Rattle.asm_formats.specs.Items.{is_item, templates_item};
-ghost use Rattle.asm_base.specs.Tables.{item_record};
-ghost use Rattle.attribute_values.specs.template_directory.Meant.{IsRefusal, edit_meant, is_edit};
+ghost use Rattle.plan_records.specs.template_directory.Meant.{IsRefusal, edit_meant, is_edit};
 ghost use Rattle.catalog.specs.Plans.{IsPlan, IsTemplatePlan};
 
 use crate::catalog::Catalog;
-use crate::plans::making::{no_memory, one_put};
-use asm_base::{Change, Key, NoMemory, Refusal, TEMPLATES_KEY, Value};
-use attribute_values::{Template, TemplateEdit, templates_value};
+use asm_base::{Change, NoMemory, Refusal};
+use plan_records::{Template, TemplateEdit, no_memory, one_put, templates_record};
 use std::alloc::Global;
 
 impl Catalog {
@@ -45,13 +43,4 @@ impl Catalog {
         let change = one_put(alloc, entry)?;
         Ok(change)
     }
-}
-
-/// The record of the templates.
-fn templates_record(alloc: Global, templates: &[Template]) -> Result<(Key, Value), NoMemory>
-    requires { is_item (templates_item templates.now) ≡ true }
-    ensures { IfOk result (λ made. made ≡ item_record (templates_item templates.now)) }
-{
-    let value = templates_value(alloc, templates)?;
-    Ok((TEMPLATES_KEY, value))
 }

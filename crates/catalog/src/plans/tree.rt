@@ -1,23 +1,20 @@
 //! The plan of an edit of the tree of names.
 
-ghost use Rattle.std.specs.Prelude.{◌≡◌, ◌⊎◌, ◌<◌, ◌^◌, ◌+◌, [], IfErr, IfOk, IsTrue, None, Ok, Some, true};
+ghost use Rattle.std.specs.Prelude.{◌≡◌, ◌⊎◌, ◌<◌, ◌+◌, IfErr, IfOk, IsTrue, None, Ok, Some, true};
 ghost use Rattle.asm_group.specs.TreeEdits as edits;
 ghost use Rattle.asm_group.specs.declared.NodeKind.TheVariants.{Alias};
-ghost use Rattle.asm_base.specs.Refusals.{said};
 ghost use Rattle.asm_base.specs.declared.refusal.Refusal.TheVariants.{DirectoryFull, NoMemory as WithoutMemory};
-ghost use Rattle.alias_edits.specs.Edits.{ChangesNodes, IsChange, IsRefusal, cause_said, edit_meant, is_edit, nodes_after};
-ghost use Rattle.alias_edits.specs.alias_tree.Nodes.{IsTable, node_at, with_node, without_node};
-ghost use Rattle.alias_edits.specs.alias_tree.Trees.{tree_of};
-ghost use Rattle.catalog_units.specs.file_directory.Files.{head_at};
+ghost use Rattle.plan_records.specs.alias_edits.Edits.{ChangesNodes, IsChange, IsRefusal, edit_meant, is_edit, nodes_after};
+ghost use Rattle.plan_records.specs.alias_tree.Nodes.{IsTable, node_at, with_node, without_node};
+ghost use Rattle.plan_records.specs.alias_tree.Trees.{tree_of};
+ghost use Rattle.plan_records.specs.file_directory.Files.{head_at};
 ghost use Rattle.catalog.specs.Plans.{IsPlan};
-ghost use Rattle.catalog_units.specs.catalog_tables.Rules.{blocks_used};
-ghost use Rattle.catalog.specs.TreePlans.{IsTreeFull, IsNewAlias, IsTreePlan, IsTreeRefusal, KeepsName, MayChange, MayGo, MayPutNode, aliased_head, heads_after, heads_with, heads_without, keeps_files, with_alias};
+ghost use Rattle.plan_records.specs.catalog_tables.Rules.{blocks_used};
+ghost use Rattle.catalog.specs.TreePlans.{IsTreeFull, IsNewAlias, IsTreePlan, IsTreeRefusal, KeepsName, MayChange, MayGo, MayPutNode, aliased_head, heads_after, heads_with, heads_without, keeps_files};
 
 use crate::catalog::Catalog;
-use crate::plans::making::{no_memory, one_gone, one_put, two_put};
-use alias_edits::{Node, TreeChange, TreeEdit, TreeError, node_record, plan};
-use asm_base::{Change, Key, NoMemory, NodeKind, Refusal, Value};
-use catalog_units::{FileHead, node_key, record_of};
+use asm_base::{Change, NoMemory, NodeKind, Refusal};
+use plan_records::{Node, TreeChange, TreeEdit, TreeError, no_memory, node_key, node_record, one_gone, one_put, plan, record_of, refusal_of, two_put, with_alias};
 use std::alloc::Global;
 
 impl Catalog {
@@ -155,37 +152,5 @@ impl Catalog {
         let mut change = one_put(alloc, file)?;
         change.gone.push(node_key(number))?;
         Ok(change)
-    }
-}
-
-/// The head with this alias node, or with none by 0.
-fn with_alias(head: &FileHead, alias: u32) -> Result<FileHead, NoMemory>
-    ensures head { IfOk result (λ h. h ≡ with_alias head.now alias) }
-    ensures small { alias < 2 ^ 32 }
-{
-    Ok(FileHead {
-        copies: head.copies,
-        stripe: head.stripe,
-        kind: head.kind.copy()?,
-        size: head.size,
-        incarnation: head.incarnation,
-        system: head.system,
-        alias,
-    })
-}
-
-/// The same refusal, as that of a command.
-#[tactic(auto, unfolding(asm_base::specs::Refusals::said))]
-pub(crate) fn refusal_of(error: TreeError) -> Refusal
-    ensures { said (λ n. []) result ≡ cause_said error }
-{
-    match error {
-        TreeError::NoName => Refusal::NoName,
-        TreeError::NameTaken => Refusal::NameTaken,
-        TreeError::NotDirectory => Refusal::NotDirectory,
-        TreeError::NotEmpty => Refusal::NotEmpty,
-        TreeError::HasAlias => Refusal::HasAlias,
-        TreeError::SystemName => Refusal::SystemName,
-        TreeError::NoMemory => Refusal::NoMemory,
     }
 }

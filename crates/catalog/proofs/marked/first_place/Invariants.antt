@@ -1,5 +1,5 @@
 use Rattle.std.proofs.Common.{◌≡◌, ◌<◌, ◌≤◌, ℕ, false, get_or, []}
-use Rattle.catalog_units.specs.catalog_tables.MarkedExtents.{has_stale_on}
+use Rattle.plan_records.specs.catalog_tables.MarkedExtents.{has_stale_on}
 use Rattle.catalog.proofs.marked.first_place.Given as goal
 
 abbrev pub invariant-loop-place : goal.invariant-loop-place

@@ -3,8 +3,8 @@ use Rattle.std.specs.Prelude.{IsTrue, is_some}
 use Rattle.std.specs.Bool.{OnTrue}
 use Rattle.std.proofs.lemmas.Option.{slice_get-get_or}
 use Rattle.asm_formats.specs.Items.{Home}
-use Rattle.catalog_units.specs.allocator.UnitMaps.{UnitMap}
-use Rattle.catalog_units.specs.catalog_tables.Placing.{home_taken}
+use Rattle.plan_records.specs.allocator.UnitMaps.{UnitMap}
+use Rattle.plan_records.specs.catalog_tables.Placing.{home_taken}
 use Rattle.catalog.proofs.MovedHomes.{run_taken}
 use Rattle.catalog.proofs.moving.has_run.Goals as goal
 

@@ -1,4 +1,4 @@
-use Rattle.catalog_units.proofs.catalog_tables.PlacingLaws.{units_some}
+use Rattle.plan_records.proofs.catalog_tables.PlacingLaws.{units_some}
 use Rattle.catalog.proofs.moving.is_free.Goals as goal
 
 pub has_run-requires : goal.has_run-requires

@@ -1,4 +1,4 @@
-use Rattle.catalog.proofs.ResizedUnits.{units_are_resized, units_resize}
+use Rattle.catalog.proofs.catalog_units.ResizedUnits.{units_are_resized, units_resize}
 use Rattle.catalog_laws.proofs.laws.units_resize.Goals as goal
 
 pub returns-clause-there : goal.returns-clause-there

@@ -1,7 +1,7 @@
 use Rattle.std.proofs.Common.{◌/◌, ◌%◌, ℕ, ◌∷◌, [], ap, ◌∙◌}
 use Rattle.std.specs.Prelude.{slice_set}
 use Rattle.asm_base.specs.Records.{Entry}
-use Rattle.catalog_units.specs.staleness_directory.Marks.{record_of}
+use Rattle.plan_records.specs.staleness_directory.Marks.{record_of}
 use Rattle.catalog.specs.ExtentPlans.{marks_changed, marks_or_none}
 use Rattle.catalog.proofs.MarkPlans.{marks_planned}
 use Rattle.catalog.proofs.catalog.Catalog.change_marks.Goals as goal

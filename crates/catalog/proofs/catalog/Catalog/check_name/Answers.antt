@@ -1,6 +1,6 @@
-use Rattle.catalog.specs.NamePlans.{name_meant}
+use Rattle.plan_records.specs.NewNames.{name_meant}
 use Rattle.catalog.proofs.NameChecks.{no_path}
-use Rattle.catalog.proofs.NewNames.{name_parts}
+use Rattle.plan_records.proofs.NewNames.{name_parts}
 use Rattle.catalog.proofs.catalog.Catalog.check_name.Goals as goal
 
 pub returns-in_default-clause-refused : goal.returns-in_default-clause-refused

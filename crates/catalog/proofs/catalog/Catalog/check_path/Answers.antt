@@ -1,8 +1,8 @@
 use Rattle.std.proofs.Common.{ap, sym}
 use Rattle.asm_formats.specs.Items.{Settings}
-use Rattle.catalog.specs.NamePlans.{name_meant}
+use Rattle.plan_records.specs.NewNames.{name_meant}
 use Rattle.catalog.proofs.NameChecks.{path_refused}
-use Rattle.catalog.proofs.NewNames.{path_parts}
+use Rattle.plan_records.proofs.NewNames.{path_parts}
 use Rattle.catalog.proofs.catalog.Catalog.check_path.Goals as goal
 
 pub file_nodes-requires-clause-parts : goal.file_nodes-requires-clause-parts

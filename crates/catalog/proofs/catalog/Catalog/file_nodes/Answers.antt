@@ -1,8 +1,8 @@
 use Rattle.std.proofs.Common.{◌≡◌, subst}
 use Rattle.std.specs.Prelude.{IfOk, Ok}
-use Rattle.alias_edits.specs.Filing.{filed, with_nodes}
-use Rattle.alias_edits.specs.alias_tree.Trees.{tree_of}
-use Rattle.catalog_units.specs.catalog_tables.Tables.{Catalogued}
+use Rattle.plan_records.specs.alias_edits.Filing.{filed, with_nodes}
+use Rattle.plan_records.specs.alias_tree.Trees.{tree_of}
+use Rattle.plan_records.specs.catalog_tables.Tables.{Catalogued}
 use Rattle.catalog.specs.declared.catalog.Catalog.TheInside.{Inside}
 use Rattle.catalog.proofs.catalog.Catalog.file_nodes.Goals as goal
 

@@ -1,7 +1,7 @@
 use Rattle.std.proofs.Common.{◌≡◌, subst}
-use Rattle.catalog_units.specs.staleness_directory.Marks.{marks_from}
-use Rattle.catalog_units.specs.catalog_tables.MarkedExtents.{first_marked}
-use Rattle.catalog_units.specs.catalog_tables.Tables.{Catalogued}
+use Rattle.plan_records.specs.staleness_directory.Marks.{marks_from}
+use Rattle.plan_records.specs.catalog_tables.MarkedExtents.{first_marked}
+use Rattle.plan_records.specs.catalog_tables.Tables.{Catalogued}
 use Rattle.catalog.proofs.catalog.Catalog.first_marked.Goals as goal
 
 pub returns : goal.returns

@@ -1,8 +1,8 @@
 use Rattle.std.proofs.Common.{List, subst, ◌≡◌, None}
 use Rattle.asm_formats.specs.Status.{Entry}
-use Rattle.catalog_units.specs.catalog_tables.Faults.{BreaksRule}
-use Rattle.catalog_units.specs.catalog_tables.Placing.{HasUnits}
-use Rattle.catalog_units.specs.catalog_tables.Rules.{AreOnRegular, first_unknown}
+use Rattle.plan_records.specs.catalog_tables.Faults.{BreaksRule}
+use Rattle.plan_records.specs.catalog_tables.Placing.{HasUnits}
+use Rattle.plan_records.specs.catalog_tables.Rules.{AreOnRegular, first_unknown}
 use Rattle.catalog.proofs.StoreLaws.{broken_at, catalog_is, invariant_is}
 use Rattle.catalog.proofs.catalog.Catalog.from_store.Goals as goal
 

@@ -1,8 +1,9 @@
 use Rattle.std.proofs.Common.{ap, sym}
 use Rattle.asm_formats.specs.Items.{Settings}
-use Rattle.catalog.specs.NamePlans.{name_meant, system_path}
+use Rattle.plan_records.specs.NewNames.{name_meant}
+use Rattle.catalog.specs.NamePlans.{system_path}
 use Rattle.catalog.proofs.NamePlans.{path_is, tree_refuses}
-use Rattle.catalog.proofs.NewNames.{path_parts}
+use Rattle.plan_records.proofs.NewNames.{path_parts}
 use Rattle.catalog.proofs.catalog.Catalog.name_nodes.Goals as goal
 
 pub file_nodes-requires-clause-parts : goal.file_nodes-requires-clause-parts

@@ -1,7 +1,7 @@
 use Rattle.std.proofs.Common.{ap, List, length, ◌+◌}
-use Rattle.alias_edits.specs.alias_tree.Nodes.{Numbered}
-use Rattle.catalog.specs.NamePlans.{name_meant}
-use Rattle.catalog.proofs.NewNames.{name_parts}
+use Rattle.plan_records.specs.alias_tree.Nodes.{Numbered}
+use Rattle.plan_records.specs.NewNames.{name_meant}
+use Rattle.plan_records.proofs.NewNames.{name_parts}
 use Rattle.catalog.proofs.NamePlans.{lacks_room}
 use Rattle.catalog.proofs.catalog.Catalog.plan_name.Goals as goal
 

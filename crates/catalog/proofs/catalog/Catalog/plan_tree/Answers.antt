@@ -1,5 +1,5 @@
-use Rattle.alias_edits.specs.Edits.{edit_meant, nodes_after}
-use Rattle.alias_edits.specs.alias_tree.Trees.{tree_of}
+use Rattle.plan_records.specs.alias_edits.Edits.{edit_meant, nodes_after}
+use Rattle.plan_records.specs.alias_tree.Trees.{tree_of}
 use Rattle.catalog.proofs.TreeEditPlans.{may_change, plan_refused}
 use Rattle.catalog.proofs.catalog.Catalog.plan_tree.Goals as goal
 

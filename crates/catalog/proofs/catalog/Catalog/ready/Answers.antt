@@ -1,8 +1,8 @@
 use Rattle.std.proofs.Common.{subst, sym}
 use Rattle.catalog.specs.Applying.{Leaves}
-use Rattle.catalog_units.specs.catalog_tables.Changing.{IsAfter}
+use Rattle.plan_records.specs.catalog_tables.Changing.{IsAfter}
 use Rattle.catalog.specs.Spares.{ready_tables, units_in}
-use Rattle.catalog_units.specs.catalog_tables.Tables.{Catalogued, Tables}
+use Rattle.plan_records.specs.catalog_tables.Tables.{Catalogued, Tables}
 use Rattle.catalog.proofs.ApplyingLaws.{ready_is}
 use Rattle.catalog.proofs.catalog.Catalog.ready.Goals as goal
 

@@ -1,6 +1,6 @@
 use Rattle.std.proofs.Common.{◌≡◌, true, false, List, ◌∙◌, sym, ap}
-use Rattle.catalog_units.specs.allocator.UnitMaps.{UnitMap}
-use Rattle.catalog_units.specs.catalog_tables.Placing.{changed_maps, have_units}
+use Rattle.plan_records.specs.allocator.UnitMaps.{UnitMap}
+use Rattle.plan_records.specs.catalog_tables.Placing.{changed_maps, have_units}
 use Rattle.catalog.specs.Spares.{ready_tables, units_in}
 use Rattle.catalog.proofs.DiskUnitLaws.{covered, made_ready, made_stays, not_same}
 use Rattle.catalog.proofs.catalog.Catalog.ready_disks.Goals as goal

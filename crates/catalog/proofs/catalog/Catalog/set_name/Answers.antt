@@ -1,5 +1,5 @@
-use Rattle.catalog.specs.NamePlans.{name_meant}
-use Rattle.catalog.proofs.NewNames.{name_parts}
+use Rattle.plan_records.specs.NewNames.{name_meant}
+use Rattle.plan_records.proofs.NewNames.{name_parts}
 use Rattle.catalog.proofs.NamePlans.{head_fits, name_planned}
 use Rattle.catalog.proofs.catalog.Catalog.set_name.Goals as goal
 

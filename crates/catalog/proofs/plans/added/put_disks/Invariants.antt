@@ -1,5 +1,5 @@
 use Rattle.std.proofs.Common.{◌≡◌, ◌++◌, map, take}
-use Rattle.catalog_units.specs.disk_directory.Disks.{record_of}
+use Rattle.plan_records.specs.disk_directory.Disks.{record_of}
 use Rattle.catalog.proofs.plans.added.put_disks.Given as goal
 
 abbrev pub invariant-loop-number : goal.invariant-loop-number

@@ -1,5 +1,5 @@
 use Rattle.std.proofs.Common.{◌≡◌, ◌++◌, map, take}
-use Rattle.alias_edits.specs.alias_tree.Nodes.{record_of}
+use Rattle.plan_records.specs.alias_tree.Nodes.{record_of}
 use Rattle.catalog.proofs.plans.names.put_nodes.Given as goal
 
 abbrev pub invariant-loop-number : goal.invariant-loop-number

@@ -1,0 +1,12 @@
+pub mod NewNames
+pub mod alias_edits
+pub mod alias_tree
+pub mod catalog_tables
+pub mod catalog_units
+pub mod disk_directory
+pub mod extent_map
+pub mod file_directory
+pub mod operations_directory
+pub mod page_map
+pub mod staleness_directory
+pub mod template_directory

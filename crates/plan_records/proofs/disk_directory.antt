@@ -1,0 +1,2 @@
+-- What crates above cite of the proofs of `disk_directory`.
+pub use Rattle.catalog_units.proofs.disk_directory.DiskLaws

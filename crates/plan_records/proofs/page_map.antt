@@ -1,0 +1,2 @@
+-- What crates above cite of the proofs of `page_map`.
+pub use Rattle.catalog_units.proofs.page_map.Keys

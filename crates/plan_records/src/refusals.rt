@@ -1,0 +1,43 @@
+//! Why a plan is refused, as a refusal of a command.
+
+ghost use Rattle.std.specs.Prelude.{◌≡◌, ◌⊎◌, []};
+ghost use Rattle.asm_base.specs.Refusals.{said};
+ghost use Rattle.asm_base.specs.declared.refusal.Refusal.TheVariants.{BadAttribute, NoMemory as WithoutMemory};
+ghost use Rattle.alias_edits.specs.Edits.{cause_said};
+
+use alias_edits::TreeError;
+use asm_base::{NoMemory, Refusal, Text};
+use std::alloc::Global;
+
+/// Want of memory as a refusal.
+pub fn no_memory(_: NoMemory) -> Refusal
+    ensures { result ≡ WithoutMemory }
+{
+    Refusal::NoMemory
+}
+
+/// Why an edit of the tree of names is refused.
+#[tactic(auto, unfolding(asm_base::specs::Refusals::said))]
+pub fn refusal_of(error: TreeError) -> Refusal
+    ensures { said (λ n. []) result ≡ cause_said error }
+{
+    match error {
+        TreeError::NoName => Refusal::NoName,
+        TreeError::NameTaken => Refusal::NameTaken,
+        TreeError::NotDirectory => Refusal::NotDirectory,
+        TreeError::NotEmpty => Refusal::NotEmpty,
+        TreeError::HasAlias => Refusal::HasAlias,
+        TreeError::SystemName => Refusal::SystemName,
+        TreeError::NoMemory => Refusal::NoMemory,
+    }
+}
+
+/// The refusal that names the attribute, or want of memory.
+pub fn bad_attribute(alloc: Global, name: &[u8]) -> Refusal
+    ensures { (result ≡ WithoutMemory) ⊎ (result ≡ BadAttribute name.now) }
+{
+    match Text::from_slice(alloc, name) {
+        Ok(name) => Refusal::BadAttribute { name },
+        Err(error) => no_memory(error),
+    }
+}
