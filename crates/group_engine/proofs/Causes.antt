@@ -33,7 +33,7 @@ use Rattle.status_register.proofs.Holding.{among_below}
 use Rattle.status_register.proofs.Ordering.{row_runs}
 use Rattle.status_register.proofs.Tallying.{still_read}
 use Rattle.group_engine.specs.Commits.{DismountCause, IsLostIn, LosesMajority, StatusCause}
-use Rattle.group_engine.specs.Dropping.{HasWritten}
+use Rattle.status_register.specs.RegisterCalls.{HasWritten}
 use Rattle.group_engine.specs.Mounts.{MountedGroup, IsMounted, IsOwn, IsReady, IsWhole, Takes, slot_at}
 use Rattle.group_engine.specs.Own.{IsSameGroup, KeepsGroup, OnOwnDisks}
 use Rattle.group_engine.specs.declared.attached.Attached.{Attached}
@@ -180,7 +180,7 @@ module _ (m : MountedGroup) (whole : IsWhole m) where
   pub written_own : {s t u : BayState} (next : Status) (answer : Result ℕ Dead) (reg : Registered) → Runs (IsOwn m) (OnOwnDisks m) s t → HasWritten m.register next answer reg t u → Runs (IsOwn m) (OnOwnDisks m) s u
   written_own {s} {t} {u} next answer reg before written = run_on (own_joins m) before
       (run_less (own_member next) (row_own next (status_spelling (numbered m.register next)))
-      (row_runs (status_gate m.register.id) (attached_to m.register.members next) (status_spelling (numbered m.register next)) t u written.runs))
+      (row_runs (status_gate m.register.id) (attached_to m.register.members next) (status_spelling (numbered m.register next)) t u written.calls.runs))
 
   -- ---- causes
 

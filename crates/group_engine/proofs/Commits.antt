@@ -41,7 +41,8 @@ use Rattle.status_register.proofs.Telling.{slots_long}
 use Rattle.group_engine.specs.Becoming.{LeadsToGroup}
 use Rattle.group_engine.specs.Changes.{AreAfter, AppliesChange, CommitsRecords}
 use Rattle.group_engine.specs.Commits.{LeadsTo, StandsIn}
-use Rattle.group_engine.specs.Dropping.{HasWritten, WritesFewer}
+use Rattle.status_register.specs.RegisterCalls.{HasWritten}
+use Rattle.group_engine.specs.Dropping.{WritesFewer}
 use Rattle.group_engine.specs.Mounts.{MountedGroup, IsWhole, Mounts}
 use Rattle.std.specs.Prelude.{MatchResult, OnOk}
 use Rattle.status_register.specs.Writes.{after_write}
@@ -101,7 +102,7 @@ pub keeps_over_row : (m : MountedGroup) (new : Stored) (next : Status) (t w : Ba
 keeps_over_row m new next t w answer reg written keeps =
     let ms = attached_to m.register.members next in
     let body = status_spelling (numbered m.register next) in
-    keeps_elsewhere new (λ x y c among row. row_region m.register.id ms body x y c row) written.attached (row_runs (status_gate m.register.id) ms body t w written.runs) keeps
+    keeps_elsewhere new (λ x y c among row. row_region m.register.id ms body x y c row) written.calls.attached (row_runs (status_gate m.register.id) ms body t w written.calls.runs) keeps
 
 -- ---- what each image is held for
 
@@ -187,7 +188,7 @@ module _ (m : MountedGroup) (put : List Entry) (gone : List Key) (n : ℕ) (s : 
     }
 
     run : Runs (tallies.IsSlotOf ms) (PutsRow (status_gate id) ms (status_spelling (numbered m.register next))) t w
-    run = row_runs (status_gate id) ms (status_spelling (numbered m.register next)) t w writes.written.runs
+    run = row_runs (status_gate id) ms (status_spelling (numbered m.register next)) t w writes.written.calls.runs
 
     the_moments : LeavesOnly t w (StandsIn n id (g ∷ h ∷ []) (record { completed = r; begun = []; slots = kept.slots }))
     the_moments = record_moments n (g ∷ h ∷ []) kept.slots m.register reg next answer_2 t w sound to.turns allowed register_keeps both_are long run writes.written.history
@@ -214,7 +215,7 @@ module _ (m : MountedGroup) (put : List Entry) (gone : List Key) (n : ℕ) (s : 
           refl,
           subst (λ (x : Registered). Mounts n (record m { catalog = cat; store = new; register = x }) w h kept_later) (sym is) (record {
             whole = subst (λ (x : Registered). IsWhole (record m { catalog = cat; store = new; register = x })) is whole;
-            ready = still_ready m now_later s w refl refl keeps (attached-trans commits.attached writes.written.attached) mounts.ready;
+            ready = still_ready m now_later s w refl refl keeps (attached-trans commits.attached writes.written.calls.attached) mounts.ready;
             represents = represents_after cat new later mounts.represents (now_leads cat applies same) applies.shape refl;
             own = mounts.own;
             completed = refl;

@@ -232,7 +232,7 @@ module _ (m : MountedGroup) (whole : IsWhole m) (s : BayState) (ready : IsReady 
         runs = written_own m whole next answer reg copy_runs writes.written
 
         both : KeepsAttached s w
-        both = attached-trans attached writes.written.attached
+        both = attached-trans attached writes.written.calls.attached
 
         -- the record may be written
         has_records : (y : bay.Image) → t.leaves t.calls y → HasCopyRecords m.store.table m.store.number c y
@@ -283,7 +283,7 @@ module _ (m : MountedGroup) (whole : IsWhole m) (s : BayState) (ready : IsReady 
         -- a majority was lost at it
         pub ends_unnamed : (dead : Dead) (refusal : Refusal) (after : MountedGroup) → answer ≡ Err dead → IsDismountedBy now dead.slot refusal after → CopiesTo m d (Err refusal) after s w
         ends_unnamed dead refusal after is by =
-            let lost : IsLostIn m after.register.value by.number s w = dead_lost m whole after.register.value s t w next answer dead by.number run.faults is writes.written.answered by.found in
+            let lost : IsLostIn m after.register.value by.number s w = dead_lost m whole after.register.value s t w next answer dead by.number run.faults is writes.written.answer by.found in
             record {
               keeps = keeps_dismounted m now after s w dead.slot refusal same_group by both runs;
               flight = ap (λ (v : MountedGroup). v.flight) by.new_is;

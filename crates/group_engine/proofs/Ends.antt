@@ -119,7 +119,7 @@ module _ (was : MountedGroup) (mounted : IsMounted was) (whole : IsWhole was) (p
     fewer = record was { catalog = cat; store = new; register = reg }
 
     abbrev attached : KeepsAttached s w
-    attached = attached-trans commits.attached writes.written.attached
+    attached = attached-trans commits.attached writes.written.calls.attached
 
     same_group : IsSameGroup was fewer
     same_group = record {
@@ -169,7 +169,7 @@ module _ (was : MountedGroup) (mounted : IsMounted was) (whole : IsWhole was) (p
     -- a majority was lost at that record
     pub ends_dead : (dead : Dead) (refusal : Refusal) (after : MountedGroup) → answer ≡ Err dead → IsDismountedBy fewer dead.slot refusal after → CommitsChange was put gone (Err refusal) after s w
     ends_dead dead refusal after is by =
-        let lost : IsLostIn was after.register.value by.number s w = dead_lost was whole after.register.value s t w next answer dead by.number commits.runs.faults is writes.written.answered by.found in
+        let lost : IsLostIn was after.register.value by.number s w = dead_lost was whole after.register.value s t w next answer dead by.number commits.runs.faults is writes.written.answer by.found in
         record {
           keeps = keeps_dismounted was fewer after s w dead.slot refusal same_group by attached runs;
           flight = ap (λ (v : MountedGroup). v.flight) by.new_is;

@@ -9,7 +9,7 @@ use Rattle.status_register.specs.Registered.{Registered}
 use Rattle.status_register.specs.declared.error.Dead.{Dead}
 use Rattle.status_register.specs.declared.member.Member.{Member}
 use Rattle.group_engine.specs.Commits.{IsDismountedBy, IsLostIn}
-use Rattle.group_engine.specs.Dropping.{HasWritten}
+use Rattle.status_register.specs.RegisterCalls.{HasWritten}
 use Rattle.group_engine.specs.Gone.{GoneCause, EndsGroup, gone_of}
 use Rattle.group_engine.specs.Mounts.{IsOwn, IsWhole, MountedGroup}
 use Rattle.group_engine.specs.Own.{IsSameGroup, OnOwnDisks}
@@ -49,7 +49,7 @@ module _ (was : MountedGroup) (whole : IsWhole was) (s t : BayState) (answer : R
       record {
         keeps = record {
           same = record { name = refl; id = same_group.id; shape = refl; members = same_group.members; disks = refl; flight = inl refl };
-          attached = written.attached;
+          attached = written.calls.attached;
           runs = runs;
           whole = λ takes. absurd (not_open after refl takes);
           ready = λ takes. absurd (not_open after refl takes);
@@ -62,9 +62,9 @@ module _ (was : MountedGroup) (whole : IsWhole was) (s t : BayState) (answer : R
   -- a majority was lost
   pub ends_unmarked : (dead : Dead) (refusal : Refusal) (after : MountedGroup) → answer ≡ Err dead → IsDismountedBy now dead.slot refusal after → EndsGroup was (Err refusal) after s t
   ends_unmarked dead refusal after is by =
-      let lost : IsLostIn was after.register.value by.number s t = dead_lost was whole after.register.value s s t next answer dead by.number (λ k. omega arith) is written.answered by.found in
+      let lost : IsLostIn was after.register.value by.number s t = dead_lost was whole after.register.value s s t next answer dead by.number (λ k. omega arith) is written.answer by.found in
       record {
-        keeps = keeps_dismounted was now after s t dead.slot refusal same_group by written.attached runs;
+        keeps = keeps_dismounted was now after s t dead.slot refusal same_group by written.calls.attached runs;
         closed = out_of_calls now after dead.slot refusal by;
         gone = tt;
         cause = subst (λ (x : Refusal). GoneCause was after s t x) (sym by.refusal_is) (inr (ap (λ (v : MountedGroup). v.access) by.new_is, lost));

@@ -17,7 +17,7 @@ use Rattle.status_register.specs.Writes.{after_write}
 use Rattle.status_register.specs.declared.error.Dead.{Dead}
 use Rattle.group_engine.specs.Changes.{IsAsBefore}
 use Rattle.group_engine.specs.Commits.{IsDismountedBy, IsLostIn, StatusCause, turns_at_most}
-use Rattle.group_engine.specs.Dropping.{HasWritten}
+use Rattle.status_register.specs.RegisterCalls.{HasWritten}
 use Rattle.group_engine.specs.Forgetting.{KeepsNamed}
 use Rattle.group_engine.specs.Mounts.{IsMounted, IsOwn, IsReady, IsWhole, MountedGroup}
 use Rattle.group_engine.specs.Own.{IsSameGroup, OnOwnDisks}
@@ -85,10 +85,10 @@ module _ (was : MountedGroup) (mounted : IsMounted was) (whole : IsWhole was) (n
         record {
           keeps = record {
             same = record { name = refl; id = same_group.id; shape = shape; members = same_group.members; disks = refl; flight = inl refl };
-            attached = written.attached;
+            attached = written.calls.attached;
             runs = runs;
             whole = λ takes. later;
-            ready = λ takes. still_ready was then s t same_group.members refl keeps written.attached ready;
+            ready = λ takes. still_ready was then s t same_group.members refl keeps written.calls.attached ready;
           };
           flight = refl;
           tables = tables;
@@ -105,9 +105,9 @@ module _ (was : MountedGroup) (mounted : IsMounted was) (whole : IsWhole was) (n
     -- a majority was lost
     pub ends_lost : (dead : Dead) (refusal : Refusal) (after : MountedGroup) → answer ≡ Err dead → IsDismountedBy now dead.slot refusal after → WritesStatus was next (Err refusal) after s t
     ends_lost dead refusal after is by =
-        let lost : IsLostIn was after.register.value by.number s t = dead_lost was whole after.register.value s s t next answer dead by.number (λ k. omega arith) is written.answered by.found in
+        let lost : IsLostIn was after.register.value by.number s t = dead_lost was whole after.register.value s s t next answer dead by.number (λ k. omega arith) is written.answer by.found in
         record {
-          keeps = keeps_dismounted was now after s t dead.slot refusal same_group by written.attached runs;
+          keeps = keeps_dismounted was now after s t dead.slot refusal same_group by written.calls.attached runs;
           flight = ap (λ (v : MountedGroup). v.flight) by.new_is;
           tables = ap (λ (v : MountedGroup). v.catalog.tables) by.new_is ∙ tables;
           units = λ same. ap (λ (v : MountedGroup). v.catalog.units) by.new_is ∙ maps same;

@@ -35,7 +35,7 @@ use Rattle.status_register.proofs.Ordering.{row_runs}
 use Rattle.status_register.proofs.RowFits.{AreLong}
 use Rattle.status_register.proofs.Telling.{slots_long}
 use Rattle.group_engine.specs.Commits.{StandsIn}
-use Rattle.group_engine.specs.Dropping.{HasWritten}
+use Rattle.status_register.specs.RegisterCalls.{HasWritten}
 use Rattle.group_engine.specs.Forgetting.{IsUnnamed, KeepsNamed}
 use Rattle.group_engine.specs.Mounts.{MountedGroup, AreCopiesOf, IsReady, IsWhole, Mounts, slot_at}
 use Rattle.group_engine.specs.Recorded.{MayBeWritten, MayGet}
@@ -128,7 +128,7 @@ module _ (n : ℕ) (m : MountedGroup) (next : Status) (s t : BayState) (sound : 
   long = record { now = λ image left k among. slots_long k.slot k.sector sound (have_slots s m.register.members next mounts.ready.register.slots k among) image left }
 
   run : Runs (tallies.IsSlotOf ms) (PutsRow (status_gate id) ms (status_spelling (numbered m.register next))) s t
-  run = row_runs (status_gate id) ms (status_spelling (numbered m.register next)) s t written.runs
+  run = row_runs (status_gate id) ms (status_spelling (numbered m.register next)) s t written.calls.runs
 
   -- While the record is put, each image is held for the group.
   pub status_moments : LeavesOnly s t (StandsIn n id (g ∷ []) kept)
@@ -153,7 +153,7 @@ module _ (n : ℕ) (m : MountedGroup) (next : Status) (s t : BayState) (sound : 
         refl,
         subst (λ (x : Registered). Mounts n (record m { catalog = cat; store = new; register = x }) t g kept_later) (sym is) (record {
           whole = subst (λ (x : Registered). IsWhole (record m { catalog = cat; store = new; register = x })) is whole;
-          ready = still_ready m now_later s t refl refl keeps written.attached mounts.ready;
+          ready = still_ready m now_later s t refl refl keeps written.calls.attached mounts.ready;
           represents = record {
             name = mounts.represents.name;
             shape = mounts.represents.shape ∙ sym shape;

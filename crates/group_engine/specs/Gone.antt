@@ -5,7 +5,7 @@ use Rattle.asm_base.specs.declared.refusal.Refusal.{Refusal}
 use Rattle.asm_base.specs.declared.refusal.Refusal.TheVariants as cause
 use Rattle.asm_formats.specs.Status.{Status}
 use Rattle.group_engine.specs.Commits.{DismountCause}
-use Rattle.group_engine.specs.Dropping.{HasWritten}
+use Rattle.status_register.specs.RegisterCalls.{HasWritten}
 use Rattle.group_engine.specs.Mounts.{IsMounted, MountedGroup}
 use Rattle.group_engine.specs.Own.{KeepsGroup}
 use Rattle.group_engine.specs.declared.access.Access.TheVariants as access

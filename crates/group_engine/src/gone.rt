@@ -3,7 +3,7 @@ ghost use Rattle.std.specs.Prelude.{◌≡◌, false, IfErr, IsTrue, OnOk};
 ghost use Rattle.asm_formats.specs.Status.{is_status};
 ghost use Rattle.status_register.specs.Keeping.{IsReady as IsWritable};
 ghost use Rattle.status_register.specs.Reaching.{Reaches};
-ghost use Rattle.group_engine.specs.Dropping.{HasWritten};
+ghost use Rattle.status_register.specs.RegisterCalls.{HasWritten};
 ghost use Rattle.group_engine.specs.Gone.{GoneCause, EndsGroup, IsGone, gone_of};
 ghost use Rattle.group_engine.specs.Mounts.{IsMounted, IsReady, IsWhole};
 ghost use Rattle.group_engine.specs.Own.{KeepsGroup};

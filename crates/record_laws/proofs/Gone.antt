@@ -100,7 +100,7 @@ module _ (s t : BayState) (sound : IsSound s) (n : ℕ) (old new : MountedGroup)
   long = record { now = λ x left k among. slots_long k.slot k.sector sound (have_slots s old.register.members next mounts.ready.register.slots k among) x left }
 
   run : Runs (tallies.IsSlotOf ms) (PutsRow (status_gate id) ms (status_spelling q)) s t
-  run = row_runs (status_gate id) ms (status_spelling q) s t gone.written.runs
+  run = row_runs (status_gate id) ms (status_spelling q) s t gone.written.calls.runs
 
   wide : (b : ℕ) → n ≤ b → KeepsOn old.register next (Ok gone.failed) new.register s t b (Some r) []
   wide b le = history_wide n (g ∷ []) kept.slots old.register new.register next (Ok gone.failed) s t sound turns gone.written.allowed mounts.register stand long run gone.written.history b le

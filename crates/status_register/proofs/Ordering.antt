@@ -8,7 +8,7 @@ use Rattle.bay.specs.Moments.{Runs, Ends}
 use Rattle.bay.specs.State.{BayState}
 use Rattle.bay.proofs.Calls.{both_done, done_less, goes_on, stops, widened}
 use Rattle.bay.proofs.Images.{same-refl, same-trans}
-use Rattle.bay.proofs.OneCall.{cheaper}
+use Rattle.bay.proofs.OneCall.{cheaper, wider}
 use Rattle.asm_formats.specs.Among.{IsAmong}
 use Rattle.asm_images.specs.Bridge.{shown}
 use Rattle.asm_formats.specs.Status.{Status}
@@ -107,6 +107,11 @@ module _ (gate_of : ℕ → Image → ℕ) (body : List ℕ) where
 -- a run in order is one of a row
 pub row_runs : (gate_of : ℕ → Image → ℕ) (ms : List Member) (body : List ℕ) (s t : BayState) → RunsInOrder gate_of ms body s t → Runs (IsSlotOf ms) (PutsRow gate_of ms body) s t
 row_runs gate_of ms body s t run = widened (order_row gate_of body (λ slot. Rose (s.faults slot) (t.faults slot)) ms) run
+
+-- so are the calls
+pub row_calls : (gate_of : ℕ → Image → ℕ) (ms : List Member) (body : List ℕ) (s t : BayState) → CallsInOrder gate_of ms body s t
+    → Calls (IsSlotOf ms) (PutsRow gate_of ms body) (cost_of_puts (length ms)) s t
+row_calls gate_of ms body s t calls = wider (order_row gate_of body (λ slot. Rose (s.faults slot) (t.faults slot)) ms) calls
 
 -- the puts on all of them
 pub all_in_order : (gate_of : ℕ → Image → ℕ) (body : List ℕ) {ms : List Member} {s t : BayState} {i : ℕ} → take i ms ≡ ms → i ≤ length ms

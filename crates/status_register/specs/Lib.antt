@@ -14,5 +14,6 @@ pub mod OrderLaws
 pub mod Writes
 pub mod Keeping
 pub mod Reaching
+pub mod RegisterCalls
 pub mod Elsewhere
 pub mod status_table

@@ -7,9 +7,11 @@ use Rattle.bay.specs.Moments.{Ends, Runs}
 use Rattle.bay.specs.Calls.{Cost, cost, Calls}
 use Rattle.asm_formats.specs.Among.{IsAmong}
 use Rattle.asm_images.specs.Bridge.{shown}
-use Rattle.status_register.specs.Slots.{MayPutNext, PutsNext, first_gate, second_gate}
+use Rattle.status_register.specs.Slots.{MayPutNext, PutsNext, first_gate, next_gate, second_gate}
+use Rattle.status_register.specs.Surveys.{AreRead}
 use Rattle.status_register.specs.Tallies.{IsSlotOf}
 use Rattle.status_register.specs.declared.member.Member.{Member}
+use Rattle.status_register.specs.declared.places.SlotPair.{SlotPair}
 use Rattle.status_register.specs.declared.places.SlotPair.TheVariants.{Claims, Records}
 
 -- some puts of a body on disks of these members, each whole or in part
@@ -47,6 +49,18 @@ HasBody first second body slot image = (shown image slot first ≡ Some body) �
 -- each of these disks shows the body, whatever it showed before
 abbrev pub HaveBody : ℕ → ℕ → List ℕ → List Member → Image → Image → Type 0
 HaveBody first second body took old new = (m : Member) → IsAmong took m → HasBody first second body m.slot new
+
+-- A body was put on these members in their order, past faults, and some of them took it.
+pub record PutsOnAll (pair : SlotPair) (id : ℕ) (ms : List Member) (body : List ℕ)
+    (result : List Member) (s t : BayState) : Type 0 where
+  -- a member is left out only where its slot failed
+  pub took : AreRead (λ slot. Rose (s.faults slot) (t.faults slot)) ms result
+  -- the disks of those that took it show it from then on
+  pub done : Ends (HaveBody (first_gate pair) (second_gate pair) body result) s t
+  -- the puts come in their order
+  pub calls : CallsInOrder (next_gate pair id) ms body s t
+  -- the same calls where their order doesn't matter
+  pub row : Calls (IsSlotOf ms) (PutsRow (next_gate pair id) ms body) (cost_of_puts (length ms)) s t
 
 -- a claim slot, and a status slot, of a disk shows the body
 abbrev pub HasClaim : List ℕ → ℕ → Image → Type 0

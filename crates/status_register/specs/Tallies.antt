@@ -1,7 +1,8 @@
 -- How the members are read one after another.
-use Rattle.std.specs.Prelude.{◌≡◌, ◌⊎◌, ℕ, List, [], ◌∷◌, ◌++◌, max, Option}
+use Rattle.std.specs.Prelude.{◌≡◌, ◌⊎◌, ℕ, ◌*◌, List, [], ◌∷◌, ◌++◌, length, max, Option}
 use Rattle.std.specs.Option.{option_map, option_or}
-use Rattle.bay.specs.Image.{Image}
+use Rattle.bay.specs.Calls.{Calls, cost}
+use Rattle.bay.specs.Image.{Image, Same}
 use Rattle.bay.specs.State.{BayState}
 use Rattle.bay.specs.Counts.{Rose}
 use Rattle.asm_formats.specs.Among.{IsAmong}
@@ -12,7 +13,8 @@ use Rattle.asm_images.specs.Members.{claims_of_group, of_group}
 use Rattle.asm_images.specs.Register.{greatest}
 use Rattle.status_register.specs.Places.{HasSlots}
 use Rattle.bay.specs.Told.{Told}
-use Rattle.status_register.specs.Surveys.{disk_in, greatest_epoch, greater_of}
+use Rattle.status_register.specs.Sayings.{IsOwnRecord}
+use Rattle.status_register.specs.Surveys.{AreRead, Says, disk_in, greatest_epoch, greater_of}
 use Rattle.status_register.specs.declared.member.Member.{Member}
 use Rattle.status_register.specs.declared.tally.Tally.{Tally}
 
@@ -36,3 +38,14 @@ Adds id m s t old new =
     (Rose (s.faults m.slot) (t.faults m.slot) × (new ≡ old))
     ⊎ ((epoch : ℕ) × (status : Option Status) × (block : Option ℕ) × Told s t (SlotsSay id m.slot epoch status block)
     × (new ≡ record { read = old.read ++ m ∷ []; epoch = max old.epoch epoch; status = greater_of old.status status; damage = option_or old.damage (option_map (λ b. (m.slot, b)) block) }))
+
+-- What the slots of these members say of a group was read, past faults.
+pub record ReadsMembers (id : ℕ) (ms : List Member) (result : Tally) (s t : BayState) : Type 0 where
+  -- a member is left out only where its slot failed
+  pub read : AreRead (λ slot. Rose (s.faults slot) (t.faults slot)) ms result.read
+  -- the record is one of the formats and of the group, whatever the disks hold
+  pub own : IsOwnRecord id result.status
+  -- the tally is what those that were read say
+  pub says : Told s t (Says id result.read result.epoch result.status result.damage)
+  -- nothing is written
+  pub calls : Calls (IsSlotOf ms) Same (cost (8 * length ms) 0) s t

@@ -1,5 +1,5 @@
 -- What a write of a record answers, and what it leaves.
-use Rattle.std.specs.Prelude.{◌≡◌, ℕ, ◌<◌, ◌≤◌, ◌*◌, Bool, true, false, ◌&&◌, ◌==◌, not, List, length, MatchResult, Result, Ok, Err, Some, None, replicate}
+use Rattle.std.specs.Prelude.{◌≡◌, ℕ, ◌<◌, ◌≤◌, ◌*◌, Bool, true, false, ◌&&◌, ◌==◌, not, List, length, IfErr, MatchResult, OnOk, Result, Ok, Err, Some, None, replicate}
 use Rattle.std.specs.List.{list_any}
 use Rattle.bay.specs.Image.{Image}
 use Rattle.bay.specs.State.{BayState}
@@ -11,7 +11,8 @@ use Rattle.asm_formats.specs.Status.{Status, status_spelling}
 use Rattle.asm_formats.specs.Following.{Holder, sets, disks_of}
 use Rattle.status_register.specs.Holders.{next_turn, numbered, attached_to}
 use Rattle.status_register.specs.Registered.{Registered, all_placed}
-use Rattle.status_register.specs.Rows.{HasStatus, HaveStatus}
+use Rattle.status_register.specs.Rows.{CallsInOrder, HasStatus, HaveStatus}
+use Rattle.status_register.specs.Slots.{status_gate}
 use Rattle.status_register.specs.Surveys.{AreRead, missing, seen_of}
 use Rattle.status_register.specs.Tallies.{IsSlotOf}
 use Rattle.status_register.specs.declared.member.Member.{Member}
@@ -87,3 +88,13 @@ first_register r ms = record {
 -- the slot is that of one of the members, and failed
 abbrev pub IsDeadOf : List Member → ℕ → BayState → BayState → Type 0
 IsDeadOf ms slot s t = IsSlotOf ms slot × Rose (s.faults slot) (t.faults slot)
+
+-- A record was put on these disks in their order, past faults. Each of them must take it.
+pub record WritesOnAll (id : ℕ) (ms : List Member) (r : Status) (result : Result (Unit {0}) Dead)
+    (s t : BayState) : Type 0 where
+  -- at Ok each of them shows it
+  pub done : OnOk result (Ends (HaveStatus (status_spelling r) ms) s t)
+  -- it fails only where the slot of one of them failed, which it names
+  pub cause : IfErr result (λ dead. IsDeadOf ms dead.slot s t)
+  -- the puts come in their order
+  pub calls : CallsInOrder (status_gate id) ms (status_spelling r) s t

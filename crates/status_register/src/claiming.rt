@@ -1,13 +1,8 @@
 // The claim of a group's first epoch is put on its members.
-ghost use Rattle.std.specs.Prelude.{◌≤◌, ◌+◌, ◌*◌, length, IfErr, OnOk};
-ghost use Rattle.asm_formats.specs.Claim.{claim_spelling};
-ghost use Rattle.bay.specs.State.{KeepsAttached};
-ghost use Rattle.bay.specs.Moments.{Runs, Ends};
-ghost use Rattle.status_register.specs.Keeping.{KeepsNoRecord, MayBeFirst};
-ghost use Rattle.status_register.specs.Rows.{AreApart, HaveClaim, PutsRow};
-ghost use Rattle.status_register.specs.Slots.{claim_gate};
-ghost use Rattle.status_register.specs.Tallies.{HaveSlots, IsSlotOf};
-ghost use Rattle.status_register.specs.Writes.{IsDeadOf};
+ghost use Rattle.std.specs.Prelude.{◌≤◌, length};
+ghost use Rattle.status_register.specs.RegisterCalls.{ClaimsFirst};
+ghost use Rattle.status_register.specs.Rows.{AreApart};
+ghost use Rattle.status_register.specs.Tallies.{HaveSlots};
 
 use crate::losses::first_failed;
 use crate::places::SlotPair;
@@ -23,13 +18,7 @@ pub fn claim_first<B: Bay>(bay: &mut B, id: u64, epoch: u64, members: &[Member])
     requires slots { HaveSlots (B.state bay.old) members.now }
     requires few { length members.now ≤ 512 }
     requires apart { AreApart members.now }
-    ensures done { OnOk result (Ends (HaveClaim (claim_spelling (record { id = id; epoch = epoch })) members.now) (B.state bay.old) (B.state bay.new)) }
-    ensures cause { IfErr result (λ dead. IsDeadOf members.now dead.slot (B.state bay.old) (B.state bay.new)) }
-    ensures attached { KeepsAttached (B.state bay.old) (B.state bay.new) }
-    ensures calls { (B.state bay.new).calls ≤ (B.state bay.old).calls + 13 * length members.now }
-    ensures runs { Runs (IsSlotOf members.now) (PutsRow (claim_gate id) members.now (claim_spelling (record { id = id; epoch = epoch }))) (B.state bay.old) (B.state bay.new) }
-    ensures moments { KeepsNoRecord id members.now (B.state bay.old) (B.state bay.new) }
-    ensures kept { OnOk result (MayBeFirst id epoch members.now (B.state bay.old) (B.state bay.new)) }
+    ensures { ClaimsFirst id epoch members.now result (B.state bay.old) (B.state bay.new) }
 {
     let mut body = Block::zeros();
     encode_claim(&Claim { id, epoch }, &mut body);

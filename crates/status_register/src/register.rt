@@ -1,23 +1,17 @@
 //! The record of a group whose epoch was claimed.
 
-ghost use Rattle.std.specs.Prelude.{◌≡◌, ◌≤◌, ◌<◌, ◌+◌, ◌*◌, ◌^◌, ◌↔◌, [], None, Some, true, get_or, length, replicate, IsTrue, IfErr, IfOk, OnOk};
-ghost use Rattle.asm_formats.specs.Claim.{claim_spelling};
-ghost use Rattle.asm_formats.specs.Following.{Follows, Holder, disks_of, sets};
-ghost use Rattle.asm_formats.specs.Status.{is_status, status_spelling};
+ghost use Rattle.std.specs.Prelude.{◌≡◌, ◌<◌, ◌↔◌, [], None, true, get_or, length, replicate, IsTrue};
 ghost use Rattle.asm_formats.specs.Among.{IsAmong};
-ghost use Rattle.bay.specs.State.{KeepsAttached};
-ghost use Rattle.bay.specs.Calls.{Calls};
-ghost use Rattle.bay.specs.Moments.{Ends};
+ghost use Rattle.asm_formats.specs.Following.{Follows, Holder, disks_of, sets};
+ghost use Rattle.asm_formats.specs.Status.{is_status};
 ghost use Rattle.status_register.specs.Elsewhere.{with_attached, without_attached};
-ghost use Rattle.status_register.specs.Holders.{HoldSlots, SlotsDiffer, attached_to, numbered};
-ghost use Rattle.status_register.specs.Keeping.{IsReady, KeepsFromFirst, KeepsStanding, KeepsWritten};
+ghost use Rattle.status_register.specs.Holders.{HoldSlots, SlotsDiffer};
 ghost use Rattle.status_register.specs.Reaching.{Reaches};
-ghost use Rattle.status_register.specs.Surveys.{is_there, missing};
-ghost use Rattle.status_register.specs.Writes.{FailedAlone, HoldersShow, IsDeadOf, IsWriteAnswer, ShowBut, after_write, first_holders, first_register};
-ghost use Rattle.status_register.specs.Registered.{AreNumbered, IsClaimAnswer, KeepsHistory, all_placed, next_epoch};
-ghost use Rattle.status_register.specs.Rows.{AreApart, PutsRow, RunsInOrder, cost_of_puts};
-ghost use Rattle.status_register.specs.Slots.{claim_gate, status_gate};
-ghost use Rattle.status_register.specs.Tallies.{HaveSlots, IsSlotOf};
+ghost use Rattle.status_register.specs.RegisterCalls.{ClaimsEpoch, HasWritten, IsStanding, WritesFirst};
+ghost use Rattle.status_register.specs.Registered.{AreNumbered, all_placed};
+ghost use Rattle.status_register.specs.Rows.{AreApart};
+ghost use Rattle.status_register.specs.Surveys.{is_there};
+ghost use Rattle.status_register.specs.Tallies.{HaveSlots};
 
 use crate::holders::{attached_to, is_of_entry};
 use crate::majorities::missing;
@@ -60,12 +54,7 @@ impl Register {
         requires slots { HaveSlots (B.state bay.now) members.now }
         requires apart { AreApart members.now }
         requires numbers { AreNumbered members.now }
-        ensures register { result ≡ first_register value.now members.now }
-        ensures ready { IsReady result (B.state bay.now) }
-        // Where the members are enough for the record, the attached ones are.
-        ensures reaches { missing members.now (Some value.now) ≡ None → Reaches result.members result.value }
-        // Where each image that a stop may leave fits the history in which the record is complete, the register keeps it.
-        ensures history { KeepsStanding result (B.state bay.now) }
+        ensures { IsStanding value.now members.now result (B.state bay.now) }
     {
         let _bay = bay;
         Register {
@@ -135,16 +124,7 @@ impl Register {
         requires apart { AreApart members.now }
         requires numbers { AreNumbered members.now }
         requires holders { (h : Holder) → IsAmong (disks_of value.now.entries value.now.holders) h → IsTrue (is_there members.now h) }
-        ensures register { IfOk result (λ register. register ≡ first_register value.now members.now) }
-        ensures ready { IfOk result (λ register. IsReady register (B.state bay.new)) }
-        // Where the members are enough for the record, the attached ones are.
-        ensures reaches { IfOk result (λ register. missing members.now (Some value.now) ≡ None → Reaches register.members register.value) }
-        ensures shown { OnOk result (Ends (HoldersShow members.now value.now) (B.state bay.old) (B.state bay.new)) }
-        ensures cause { IfErr result (λ dead. IsDeadOf members.now dead.slot (B.state bay.old) (B.state bay.new)) }
-        ensures attached { KeepsAttached (B.state bay.old) (B.state bay.new) }
-        ensures calls { (B.state bay.new).calls ≤ (B.state bay.old).calls + 13 * length (first_holders value.now members.now) }
-        ensures runs { RunsInOrder (status_gate value.now.id) (first_holders value.now members.now) (status_spelling value.now) (B.state bay.old) (B.state bay.new) }
-        ensures history { KeepsFromFirst value.now members.now result (B.state bay.old) (B.state bay.new) }
+        ensures { WritesFirst value.now members.now result (B.state bay.old) (B.state bay.new) }
     {
         let places = by_number(members, value.entries());
         match write_first(bay, &places, value) {
@@ -173,16 +153,7 @@ impl Register {
         requires slots { HoldSlots (B.state bay.old) self.old.members }
         requires apart { SlotsDiffer self.old.members }
         requires majority { Reaches self.old.members next.now }
-        ensures answer { IsWriteAnswer (attached_to self.old.members next.now) (numbered self.old next.now) result (B.state bay.old) (B.state bay.new) }
-        ensures shown { IfOk result (λ failed. Ends (ShowBut (attached_to self.old.members next.now) failed (numbered self.old next.now)) (B.state bay.old) (B.state bay.new)) }
-        ensures failed { IfOk result (λ failed. FailedAlone (attached_to self.old.members next.now) failed (B.state bay.old) (B.state bay.new)) }
-        ensures register { self.new ≡ after_write self.old next.now result }
-        ensures allowed { IsTrue (is_status (numbered self.old next.now)) }
-        ensures reaches { OnOk result (Reaches self.new.members self.new.value) }
-        ensures attached { KeepsAttached (B.state bay.old) (B.state bay.new) }
-        ensures calls { (B.state bay.new).calls ≤ (B.state bay.old).calls + 13 * length (attached_to self.old.members next.now) }
-        ensures runs { RunsInOrder (status_gate self.old.id) (attached_to self.old.members next.now) (status_spelling (numbered self.old next.now)) (B.state bay.old) (B.state bay.new) }
-        ensures history { KeepsWritten self.old next.now result self.new (B.state bay.old) (B.state bay.new) }
+        ensures { HasWritten self.old next.now result self.new (B.state bay.old) (B.state bay.new) }
     {
         let turn = self.turn.saturating_add(1);
         self.turn = turn;
@@ -224,11 +195,8 @@ pub fn claim_epoch<B: Bay>(
     requires slots { HaveSlots (B.state bay.old) members }
     requires apart { AreApart members }
     requires numbers { AreNumbered members }
-    ensures answer { IsClaimAnswer (record { id = id; members = members; read = []; value = value; epoch = epoch }) result (B.state bay.old) (B.state bay.new) }
-    ensures calls { Calls (IsSlotOf members) (PutsRow (claim_gate id) members (claim_spelling (record { id = id; epoch = next_epoch epoch })))
-        (cost_of_puts (length members)) (B.state bay.old) (B.state bay.new) }
-    ensures history { KeepsHistory (record { id = id; members = members; read = []; value = value; epoch = epoch }) (B.state bay.old) (B.state bay.new) }
-    ensures small { id < 2 ^ 64 }
+    ensures { ClaimsEpoch (record { id = id; members = members; read = []; value = value; epoch = epoch })
+        result (B.state bay.old) (B.state bay.new) }
 {
     let claim = Claim {
         id,

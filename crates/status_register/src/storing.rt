@@ -2,13 +2,10 @@
 ghost use Rattle.std.specs.Prelude.{◌<◌, ◌≤◌, ◌+◌, ◌*◌, length};
 ghost use Rattle.bay.specs.State.{IsSlot};
 ghost use Rattle.bay.specs.Calls.{Call, Calls, Done, cost};
-ghost use Rattle.bay.specs.Counts.{Rose};
-ghost use Rattle.bay.specs.Moments.{Runs, Ends};
 ghost use Rattle.status_register.specs.Places.{HasSlots};
-ghost use Rattle.status_register.specs.Rows.{AreApart, CallsInOrder, HaveBody, PutsRow, Takes};
-ghost use Rattle.status_register.specs.Slots.{MayFill, Fills, MayPutNext, PutsNext, first_gate, next_gate, second_gate};
-ghost use Rattle.status_register.specs.Surveys.{AreRead};
-ghost use Rattle.status_register.specs.Tallies.{HaveSlots, IsSlotOf};
+ghost use Rattle.status_register.specs.Rows.{AreApart, PutsOnAll, Takes};
+ghost use Rattle.status_register.specs.Slots.{MayFill, Fills, MayPutNext, PutsNext, next_gate};
+ghost use Rattle.status_register.specs.Tallies.{HaveSlots};
 
 use crate::Member;
 use crate::gates::next_gate;
@@ -84,11 +81,7 @@ pub fn put_on_all<B: Bay>(
     requires slots { HaveSlots (B.state bay.old) members.now }
     requires few { length members.now ≤ 512 }
     requires apart { AreApart members.now }
-    ensures took { AreRead (λ slot. Rose ((B.state bay.old).faults slot) ((B.state bay.new).faults slot)) members.now result }
-    ensures done { Ends (HaveBody (first_gate pair) (second_gate pair) body.now.bytes result) (B.state bay.old) (B.state bay.new) }
-    ensures calls { CallsInOrder (next_gate pair id) members.now body.now.bytes (B.state bay.old) (B.state bay.new) }
-    // Where their order doesn't matter.
-    ensures row { Runs (IsSlotOf members.now) (PutsRow (next_gate pair id) members.now body.now.bytes) (B.state bay.old) (B.state bay.new) }
+    ensures { PutsOnAll pair id members.now body.now.bytes result (B.state bay.old) (B.state bay.new) }
 {
     let mut took = MemberList::empty();
     for member in members {

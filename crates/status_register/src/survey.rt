@@ -1,20 +1,11 @@
 //! What a mount reads of the members before it claims an epoch.
 
-ghost use Rattle.std.specs.Prelude.{◌≡◌, ◌≤◌, ◌+◌, ◌*◌, length, IfOk, IsTrue};
-ghost use Rattle.bay.specs.Image.{Same};
-ghost use Rattle.bay.specs.State.{KeepsAttached};
-ghost use Rattle.bay.specs.Moments.{Runs};
-ghost use Rattle.bay.specs.Counts.{Rose};
-ghost use Rattle.asm_formats.specs.Status.{is_status};
-ghost use Rattle.status_register.specs.Surveys.{AreRead};
-ghost use Rattle.status_register.specs.Tallies.{HaveSlots, IsSlotOf};
-ghost use Rattle.status_register.specs.Answers.{IsSurveyed, Judges};
-ghost use Rattle.asm_formats.specs.Claim.{claim_spelling};
-ghost use Rattle.status_register.specs.Keeping.{IsReady, KeepsFromClaim};
-ghost use Rattle.status_register.specs.Reaching.{Reaches};
-ghost use Rattle.status_register.specs.Registered.{AreNumbered, IsClaimAnswer, KeepsHistory, claim_of};
-ghost use Rattle.status_register.specs.Rows.{AreApart, PutsRow};
-ghost use Rattle.status_register.specs.Slots.{claim_gate};
+ghost use Rattle.std.specs.Prelude.{◌≡◌, ◌≤◌, length};
+ghost use Rattle.status_register.specs.Answers.{Judges};
+ghost use Rattle.status_register.specs.RegisterCalls.{ClaimsNext, HasSurveyed};
+ghost use Rattle.status_register.specs.Registered.{AreNumbered};
+ghost use Rattle.status_register.specs.Rows.{AreApart};
+ghost use Rattle.status_register.specs.Tallies.{HaveSlots};
 
 use crate::majorities::missing;
 use crate::members::MemberList;
@@ -48,14 +39,7 @@ impl Survey {
     pub fn read<B: Bay>(bay: &mut B, id: u64, members: &[Member]) -> Result<Survey, SurveyError>
         requires slots { HaveSlots (B.state bay.old) members.now }
         requires few { length members.now ≤ 512 }
-        ensures answer { IsSurveyed id members.now result (B.state bay.old) (B.state bay.new) }
-        ensures surveyed { IfOk result (λ survey. (survey.id ≡ id) × (survey.members ≡ members.now)) }
-        // The record is one of the formats and of the group, and the members that were read are told, whatever the disks hold.
-        ensures own { IfOk result (λ survey. IsTrue (is_status survey.value) × (survey.value.id ≡ id)) }
-        ensures seen { IfOk result (λ survey. AreRead (λ slot. Rose ((B.state bay.old).faults slot) ((B.state bay.new).faults slot)) members.now survey.read) }
-        ensures attached { KeepsAttached (B.state bay.old) (B.state bay.new) }
-        ensures calls { (B.state bay.new).calls ≤ (B.state bay.old).calls + 8 * length members.now }
-        ensures runs { Runs (IsSlotOf members.now) Same (B.state bay.old) (B.state bay.new) }
+        ensures { HasSurveyed id members.now result (B.state bay.old) (B.state bay.new) }
     {
         let tally = read_all(bay, id, members);
         judge(id, members, tally)
@@ -67,15 +51,7 @@ impl Survey {
         requires slots { HaveSlots (B.state bay.old) self.members }
         requires apart { AreApart self.members }
         requires numbers { AreNumbered self.members }
-        ensures answer { IsClaimAnswer self result (B.state bay.old) (B.state bay.new) }
-        ensures attached { KeepsAttached (B.state bay.old) (B.state bay.new) }
-        ensures calls { (B.state bay.new).calls ≤ (B.state bay.old).calls + 13 * length self.members }
-        ensures runs { Runs (IsSlotOf self.members) (PutsRow (claim_gate self.id) self.members (claim_spelling (claim_of self))) (B.state bay.old) (B.state bay.new) }
-        ensures history { KeepsHistory self (B.state bay.old) (B.state bay.new) }
-        // The register may be written, and keeps the history that the disks fit.
-        ensures ready { IfOk result (λ register. IsReady register (B.state bay.new)) }
-        ensures reaches { IfOk result (λ register. Reaches register.members register.value) }
-        ensures kept { KeepsFromClaim self result (B.state bay.old) (B.state bay.new) }
+        ensures { ClaimsNext self result (B.state bay.old) (B.state bay.new) }
     {
         claim_epoch(bay, self.id, self.members, self.value, self.epoch)
     }

@@ -1,15 +1,12 @@
 // The members are read one after another.
-ghost use Rattle.std.specs.Prelude.{◌≡◌, ◌<◌, ◌≤◌, ◌*◌, length};
+ghost use Rattle.std.specs.Prelude.{◌≡◌, ◌<◌, ◌≤◌, length};
 ghost use Rattle.std.specs.Option.{option_map, option_or};
 ghost use Rattle.bay.specs.Image.{Same};
 ghost use Rattle.bay.specs.State.{IsSlot};
 ghost use Rattle.bay.specs.Calls.{Calls, cost};
-ghost use Rattle.bay.specs.Counts.{Rose};
 ghost use Rattle.status_register.specs.Places.{HasSlots};
 ghost use Rattle.status_register.specs.Sayings.{IsOwnRecord};
-ghost use Rattle.status_register.specs.Surveys.{AreRead, Says};
-ghost use Rattle.status_register.specs.Tallies.{Adds, HaveSlots, IsSlotOf};
-ghost use Rattle.bay.specs.Told.{Told};
+ghost use Rattle.status_register.specs.Tallies.{Adds, HaveSlots, ReadsMembers};
 
 use crate::Member;
 use crate::members::MemberList;
@@ -63,10 +60,7 @@ fn read_one<B: Bay>(bay: &mut B, id: u64, member: Member, tally: Tally) -> Tally
 pub fn read_all<B: Bay>(bay: &mut B, id: u64, members: &[Member]) -> Tally
     requires slots { HaveSlots (B.state bay.old) members.now }
     requires few { length members.now ≤ 512 }
-    ensures read { AreRead (λ slot. Rose ((B.state bay.old).faults slot) ((B.state bay.new).faults slot)) members.now result.read }
-    ensures own { IsOwnRecord id result.status }
-    ensures says { Told (B.state bay.old) (B.state bay.new) (Says id result.read result.epoch result.status result.damage) }
-    ensures calls { Calls (IsSlotOf members.now) Same (cost (8 * length members.now) 0) (B.state bay.old) (B.state bay.new) }
+    ensures { ReadsMembers id members.now result (B.state bay.old) (B.state bay.new) }
 {
     let mut tally = Tally {
         read: MemberList::empty(),

@@ -1,13 +1,12 @@
 // A record is written on the attached disks of its sets, and judged by those that took it.
-ghost use Rattle.std.specs.Prelude.{◌≡◌, ◌≤◌, length, true, IsTrue, None, Some, OnOk, IfErr};
+ghost use Rattle.std.specs.Prelude.{◌≡◌, ◌≤◌, length, IsTrue, None, Some};
 ghost use Rattle.asm_formats.specs.Status.{is_status, status_spelling};
-ghost use Rattle.bay.specs.Moments.{Ends};
 ghost use Rattle.status_register.specs.Holders.{AreHolders, HoldSlots, SlotsDiffer, attached_to};
-ghost use Rattle.status_register.specs.Rows.{AreApart, CallsInOrder, HaveStatus};
+ghost use Rattle.status_register.specs.Rows.{AreApart, CallsInOrder};
 ghost use Rattle.status_register.specs.Slots.{status_gate};
 ghost use Rattle.status_register.specs.Surveys.{missing};
 ghost use Rattle.status_register.specs.Tallies.{HaveSlots};
-ghost use Rattle.status_register.specs.Writes.{IsDeadOf, IsWriteAnswer};
+ghost use Rattle.status_register.specs.Writes.{IsWriteAnswer, WritesOnAll};
 
 use crate::holders::attached_to;
 use crate::losses::{failed_set, first_failed, lost_disk};
@@ -75,9 +74,7 @@ pub fn write_on_all<B: Bay>(
     requires slots { HaveSlots (B.state bay.old) holders.now }
     requires few { length holders.now ≤ 512 }
     requires apart { AreApart holders.now }
-    ensures done { OnOk result (Ends (HaveStatus (status_spelling status.now) holders.now) (B.state bay.old) (B.state bay.new)) }
-    ensures cause { IfErr result (λ dead. IsDeadOf holders.now dead.slot (B.state bay.old) (B.state bay.new)) }
-    ensures calls { CallsInOrder (status_gate id) holders.now (status_spelling status.now) (B.state bay.old) (B.state bay.new) }
+    ensures { WritesOnAll id holders.now status.now result (B.state bay.old) (B.state bay.new) }
 {
     let body = body_of(status);
     let took = put_on_all(bay, SlotPair::Records, id, holders, &body);
@@ -116,9 +113,8 @@ pub fn write_first<B: Bay>(
     requires places { length places.now ≡ 64 }
     requires slots { HoldSlots (B.state bay.old) places.now }
     requires apart { SlotsDiffer places.now }
-    ensures done { OnOk result (Ends (HaveStatus (status_spelling status.now) (attached_to places.now status.now)) (B.state bay.old) (B.state bay.new)) }
-    ensures cause { IfErr result (λ dead. IsDeadOf (attached_to places.now status.now) dead.slot (B.state bay.old) (B.state bay.new)) }
-    ensures calls { CallsInOrder (status_gate status.now.id) (attached_to places.now status.now) (status_spelling status.now) (B.state bay.old) (B.state bay.new) }
+    ensures { WritesOnAll status.now.id (attached_to places.now status.now) status.now result
+        (B.state bay.old) (B.state bay.new) }
 {
     let holders = attached_to(places, status);
     write_on_all(bay, status.id, holders.members(), status)

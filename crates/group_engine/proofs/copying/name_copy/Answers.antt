@@ -7,7 +7,7 @@ use Rattle.status_register.specs.Holders.{attached_to}
 use Rattle.status_register.specs.Surveys.{missing, shortfall}
 use Rattle.status_register.specs.declared.member.Member.{Member}
 use Rattle.group_engine.specs.Copying.{IsWith}
-use Rattle.group_engine.specs.Dropping.{HasWritten}
+use Rattle.status_register.specs.RegisterCalls.{HasWritten}
 use Rattle.group_engine.proofs.Including.{with_have}
 use Rattle.group_engine.proofs.Records.{record_parts, same_below}
 use Rattle.group_engine.proofs.copying.name_copy.Goals as goal
@@ -44,13 +44,11 @@ returns g c =
     let t = g.B.Bay.state c.write.new.bay in
     let all : c.value.inside.dirs ≡ v.directories = ap (λ (r : Status). r.directories) (c.value.view_is ∙ c.value-value.ensures) in
     let is : c.with_dirs-next.result ≡ record v { directories = more } = c.with_dirs-next.ensures.value ∙ ap (λ (r : Status). record r { directories = more }) c.value-value.ensures in
-    let e = c.write.ensures in
     let with : IsWith more v.directories c.args.disk = subst (λ (n : ℕ). IsWith more n c.args.disk) all c.with-more.ensures in
     let have : have_entries v.entries more ≡ true = with_have more v.directories c.args.disk with v.entries c.requires.entry (record_parts v c.requires.status).have_directories in
     record {
       more = more;
       small = ltb-true more (2 ^ 64) (record_parts (record v { directories = more }) (subst (λ (r : Status). IsTrue (is_status r)) is (c.with_dirs-next.ensures.kept (subst (λ (q : Status). IsTrue (is_status q)) (sym c.value-value.ensures) c.requires.status) (subst (λ (q : Status). IsTrue (have_entries q.entries more)) (sym c.value-value.ensures) have)))).directories;
       with = with;
-      written = subst (λ (n : Status). HasWritten c.args.register.now n c.write.result c.write.new.self s t) is
-          (record { register = e.register; allowed = e.allowed; reaches = e.reaches; answered = e.answer; runs = e.runs; history = e.history; attached = e.attached });
+      written = subst (λ (n : Status). HasWritten c.args.register.now n c.write.result c.write.new.self s t) is c.write.ensures;
     }

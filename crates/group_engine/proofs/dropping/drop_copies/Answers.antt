@@ -6,7 +6,8 @@ use Rattle.asm_images.proofs.Sharing.{follows_itself}
 use Rattle.status_register.specs.Holders.{attached_to}
 use Rattle.status_register.specs.Surveys.{missing, shortfall}
 use Rattle.status_register.specs.declared.member.Member.{Member}
-use Rattle.group_engine.specs.Dropping.{HasWritten, IsWithout}
+use Rattle.status_register.specs.RegisterCalls.{HasWritten}
+use Rattle.group_engine.specs.Dropping.{IsWithout}
 use Rattle.group_engine.proofs.Records.{record_parts, same_below}
 use Rattle.group_engine.proofs.Sets.{bit_element, is_less, left_have_entries}
 use Rattle.group_engine.proofs.dropping.drop_copies.Goals as goal
@@ -44,7 +45,6 @@ returns g c =
     let t = g.B.Bay.state c.write.new.bay in
     let all : c.value.inside.dirs ≡ v.directories = ap (λ (r : Status). r.directories) (c.value.view_is ∙ c.value-value.ensures) in
     let is : c.with_dirs-next.result ≡ record v { directories = left } = c.with_dirs-next.ensures.value ∙ ap (λ (r : Status). record r { directories = left }) c.value-value.ensures in
-    let e = c.write.ensures in
     let less : IsWithout left v.directories c.args.gone = subst (λ (n : ℕ). IsWithout left n c.args.gone) all c.without-left.ensures in
     let have : have_entries v.entries left ≡ true = left_have_entries v.entries left v.directories (λ d h. bit_element left v.directories d h (is_less left v.directories c.args.gone less d h).0)
     (record_parts v c.requires.status).have_directories in
@@ -52,6 +52,5 @@ returns g c =
       fewer = left;
       small = ltb-true left (2 ^ 64) (record_parts (record v { directories = left }) (subst (λ (r : Status). IsTrue (is_status r)) is (c.with_dirs-next.ensures.kept (subst (λ (q : Status). IsTrue (is_status q)) (sym c.value-value.ensures) c.requires.status) (subst (λ (q : Status). IsTrue (have_entries q.entries left)) (sym c.value-value.ensures) have)))).directories;
       without = subst (λ (n : ℕ). IsWithout left n c.args.gone) all c.without-left.ensures;
-      written = subst (λ (n : Status). HasWritten c.args.register.now n c.write.result c.write.new.self s t) is
-          (record { register = e.register; allowed = e.allowed; reaches = e.reaches; answered = e.answer; runs = e.runs; history = e.history; attached = e.attached });
+      written = subst (λ (n : Status). HasWritten c.args.register.now n c.write.result c.write.new.self s t) is c.write.ensures;
     }

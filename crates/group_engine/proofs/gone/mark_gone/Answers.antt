@@ -5,7 +5,7 @@ use Rattle.asm_images.proofs.Sharing.{follows_itself}
 use Rattle.status_register.specs.Holders.{attached_to}
 use Rattle.status_register.specs.Surveys.{missing, shortfall}
 use Rattle.status_register.specs.declared.member.Member.{Member}
-use Rattle.group_engine.specs.Dropping.{HasWritten}
+use Rattle.status_register.specs.RegisterCalls.{HasWritten}
 use Rattle.group_engine.specs.Gone.{gone_of}
 use Rattle.group_engine.proofs.Gones.{same_holders}
 use Rattle.group_engine.proofs.gone.mark_gone.Goals as goal
@@ -32,6 +32,4 @@ returns g c =
     let s = g.B.Bay.state c.args.bay.now in
     let t = g.B.Bay.state c.write.new.bay in
     let is : c.with_gone-next.result ≡ gone_of v = c.with_gone-next.ensures.value ∙ ap gone_of c.value-value.ensures in
-    let e = c.write.ensures in
-    subst (λ (n : Status). HasWritten c.args.register.now n c.write.result c.write.new.self s t) is
-    (record { register = e.register; allowed = e.allowed; reaches = e.reaches; answered = e.answer; runs = e.runs; history = e.history; attached = e.attached })
+    subst (λ (n : Status). HasWritten c.args.register.now n c.write.result c.write.new.self s t) is c.write.ensures

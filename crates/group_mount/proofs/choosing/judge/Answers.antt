@@ -17,7 +17,7 @@ pub read-answer-requires-clause-few : goal.read-answer-requires-clause-few
 read-answer-requires-clause-few g c = omega (arith, c.requires.few, ap length c.deref.ensures.value, ap length c.in_ok-members.ensures, fewer_members c.args.id c.args.headed.now)
 
 pub returns-clause-calls : goal.returns-clause-calls
-returns-clause-calls g c = omega (arith, c.read-answer.ensures.calls, ap length c.deref.ensures.value, ap length c.in_ok-members.ensures)
+returns-clause-calls g c = omega (arith, c.read-answer.ensures.calls.calls, ap length c.deref.ensures.value, ap length c.in_ok-members.ensures)
 
 pub returns-clause-judged : goal.returns-clause-judged
 returns-clause-judged g c =
@@ -36,8 +36,8 @@ returns-clause-judged g c =
     )
 
 pub returns-clause-runs : goal.returns-clause-runs
-returns-clause-runs g c = on_more (λ slot of. members_in c.args.id c.args.headed.now slot (of.0, subst (λ (l : List Member). IsAmong l of.0) (c.deref.ensures.value ∙ c.in_ok-members.ensures) of.1, of.2)) c.read-answer.ensures.runs
+returns-clause-runs g c = on_more (λ slot of. members_in c.args.id c.args.headed.now slot (of.0, subst (λ (l : List Member). IsAmong l of.0) (c.deref.ensures.value ∙ c.in_ok-members.ensures) of.1, of.2)) c.read-answer.ensures.calls.runs
 
 pub returns-in_err-note_unread-clause-runs : goal.returns-in_err-note_unread-clause-runs
 returns-in_err-note_unread-clause-runs g c =
-    on_more (λ slot of. members_in c.args.id c.args.headed.now slot (of.0, subst (λ (l : List Member). IsAmong l of.0) (c.deref.ensures.value ∙ c.in_ok-members.ensures) of.1, of.2)) c.read-answer.ensures.runs
+    on_more (λ slot of. members_in c.args.id c.args.headed.now slot (of.0, subst (λ (l : List Member). IsAmong l of.0) (c.deref.ensures.value ∙ c.in_ok-members.ensures) of.1, of.2)) c.read-answer.ensures.calls.runs

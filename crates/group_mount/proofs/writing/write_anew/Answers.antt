@@ -13,10 +13,10 @@ pub write-requires-clause-follows : goal.write-requires-clause-follows
 write-requires-clause-follows g c = same_sets_follow c.args.register.value c.args.next.now c.requires.sets
 
 pub returns-in-Ok-clause-calls : goal.returns-in-Ok-clause-calls
-returns-in-Ok-clause-calls g c = omega (arith, c.write.ensures.calls, few_holders c.args.register.members c.args.next.now 64)
+returns-in-Ok-clause-calls g c = omega (arith, c.write.ensures.calls.calls, few_holders c.args.register.members c.args.next.now 64)
 
 pub returns-in-Err-clause-calls : goal.returns-in-Err-clause-calls
-returns-in-Err-clause-calls g c = omega (arith, c.write.ensures.calls, few_holders c.args.register.members c.args.next.now 64)
+returns-in-Err-clause-calls g c = omega (arith, c.write.ensures.calls.calls, few_holders c.args.register.members c.args.next.now 64)
 
 pub returns-in-Ok-clause-answer : goal.returns-in-Ok-clause-answer
 returns-in-Ok-clause-answer g c =
@@ -26,7 +26,7 @@ returns-in-Ok-clause-answer g c =
     (a.0, kept_among (RoseAt s t) (attached_to c.args.register.members c.args.next.now) a.0 a.1, a.2, a.3.0, c.in-Ok.ensures.register)
 
 pub returns-in-Ok-clause-runs : goal.returns-in-Ok-clause-runs
-returns-in-Ok-clause-runs g c = row_runs (status_gate c.args.register.id) (attached_to c.args.register.members c.args.next.now) (status_spelling (numbered c.args.register c.args.next.now)) (g.B.Bay.state c.args.bay.now) (g.B.Bay.state c.write.new.bay) c.write.ensures.runs
+returns-in-Ok-clause-runs g c = row_runs (status_gate c.args.register.id) (attached_to c.args.register.members c.args.next.now) (status_spelling (numbered c.args.register c.args.next.now)) (g.B.Bay.state c.args.bay.now) (g.B.Bay.state c.write.new.bay) c.write.ensures.calls.runs
 
 pub returns-in-Err-clause-runs : goal.returns-in-Err-clause-runs
-returns-in-Err-clause-runs g c = row_runs (status_gate c.args.register.id) (attached_to c.args.register.members c.args.next.now) (status_spelling (numbered c.args.register c.args.next.now)) (g.B.Bay.state c.args.bay.now) (g.B.Bay.state c.write.new.bay) c.write.ensures.runs
+returns-in-Err-clause-runs g c = row_runs (status_gate c.args.register.id) (attached_to c.args.register.members c.args.next.now) (status_spelling (numbered c.args.register c.args.next.now)) (g.B.Bay.state c.args.bay.now) (g.B.Bay.state c.write.new.bay) c.write.ensures.calls.runs

@@ -19,28 +19,28 @@ pub claim_first-requires-clause-apart : goal.claim_first-requires-clause-apart
 claim_first-requires-clause-apart g c = subst AreApart (sym (c.deref.ensures.value ∙ c.requires.lists.holders)) (holders_are_apart c.args.draft.now c.requires.agrees)
 
 pub write_record-requires-clause-disks : goal.write_record-requires-clause-disks
-write_record-requires-clause-disks g c = disks_stay c.args.draft.now.disks.items c.claim_first.ensures.attached c.requires.disks
+write_record-requires-clause-disks g c = disks_stay c.args.draft.now.disks.items c.claim_first.ensures.calls.attached c.requires.disks
 
 pub returns-in-Ok-clause-front : goal.returns-in-Ok-clause-front
 returns-in-Ok-clause-front g c =
-    front_on c.args.draft.now.disks.items (claims_front _ c.args.draft.now.status.holders c.args.draft.now.disks.items _ _ (c.deref.ensures.value ∙ c.requires.lists.holders) c.claim_first.ensures.runs) c.write_record.ensures.front
+    front_on c.args.draft.now.disks.items (claims_front _ c.args.draft.now.status.holders c.args.draft.now.disks.items _ _ (c.deref.ensures.value ∙ c.requires.lists.holders) c.claim_first.ensures.calls.runs) c.write_record.ensures.front
 
 pub returns-in-Err-clause-front : goal.returns-in-Err-clause-front
 returns-in-Err-clause-front g c =
-    claims_front _ c.args.draft.now.status.holders c.args.draft.now.disks.items _ _ (c.deref.ensures.value ∙ c.requires.lists.holders) c.claim_first.ensures.runs
+    claims_front _ c.args.draft.now.status.holders c.args.draft.now.disks.items _ _ (c.deref.ensures.value ∙ c.requires.lists.holders) c.claim_first.ensures.calls.runs
 
 pub returns-in-Ok-clause-works : goal.returns-in-Ok-clause-works
 returns-in-Ok-clause-works g c =
-    works_on (front_works c.args.draft.now.disks.items c.claim_first.ensures.attached
-    (claims_front _ c.args.draft.now.status.holders c.args.draft.now.disks.items _ _ (c.deref.ensures.value ∙ c.requires.lists.holders) c.claim_first.ensures.runs)) c.write_record.ensures.works
+    works_on (front_works c.args.draft.now.disks.items c.claim_first.ensures.calls.attached
+    (claims_front _ c.args.draft.now.status.holders c.args.draft.now.disks.items _ _ (c.deref.ensures.value ∙ c.requires.lists.holders) c.claim_first.ensures.calls.runs)) c.write_record.ensures.works
 
 pub returns-in-Err-clause-works : goal.returns-in-Err-clause-works
 returns-in-Err-clause-works g c =
-    front_works c.args.draft.now.disks.items c.claim_first.ensures.attached
-    (claims_front _ c.args.draft.now.status.holders c.args.draft.now.disks.items _ _ (c.deref.ensures.value ∙ c.requires.lists.holders) c.claim_first.ensures.runs)
+    front_works c.args.draft.now.disks.items c.claim_first.ensures.calls.attached
+    (claims_front _ c.args.draft.now.status.holders c.args.draft.now.disks.items _ _ (c.deref.ensures.value ∙ c.requires.lists.holders) c.claim_first.ensures.calls.runs)
 
 pub returns-in-Ok-clause-cause : goal.returns-in-Ok-clause-cause
-returns-in-Ok-clause-cause g c = IfErr-weaker c.write_record.result _ _ (λ e is. cause_before c.args.draft.now.disks.items (g.B.Bay.state c.write_record.new.bay) c.claim_first.ensures.runs e is) c.write_record.ensures.cause
+returns-in-Ok-clause-cause g c = IfErr-weaker c.write_record.result _ _ (λ e is. cause_before c.args.draft.now.disks.items (g.B.Bay.state c.write_record.new.bay) c.claim_first.ensures.calls.runs e is) c.write_record.ensures.cause
 
 pub returns-in-Err-clause-cause : goal.returns-in-Err-clause-cause
 returns-in-Err-clause-cause g c = holder_cause c.args.draft.now.status.holders c.args.draft.now.disks.items _ (g.B.Bay.state c.args.bay.now) (g.B.Bay.state c.claim_first.new.bay) (c.deref.ensures.value ∙ c.requires.lists.holders) _ c.in-Err.ensures.cause

@@ -33,24 +33,24 @@ first-requires-clause-holders g c =
 pub returns-in-Ok-clause-front : goal.returns-in-Ok-clause-front
 returns-in-Ok-clause-front g c =
     first_front c.args.draft.now.disks.items _ _ (c.deref.ensures.value ∙ c.requires.lists.members)
-    (subst AreNumbered (sym (c.deref.ensures.value ∙ c.requires.lists.members)) (members_numbered c.args.draft.now c.requires.agrees)) c.first.ensures.runs
+    (subst AreNumbered (sym (c.deref.ensures.value ∙ c.requires.lists.members)) (members_numbered c.args.draft.now c.requires.agrees)) c.first.ensures.calls.runs
 
 pub returns-in-Err-clause-front : goal.returns-in-Err-clause-front
 returns-in-Err-clause-front g c =
     first_front c.args.draft.now.disks.items _ _ (c.deref.ensures.value ∙ c.requires.lists.members)
-    (subst AreNumbered (sym (c.deref.ensures.value ∙ c.requires.lists.members)) (members_numbered c.args.draft.now c.requires.agrees)) c.first.ensures.runs
+    (subst AreNumbered (sym (c.deref.ensures.value ∙ c.requires.lists.members)) (members_numbered c.args.draft.now c.requires.agrees)) c.first.ensures.calls.runs
 
 pub returns-in-Ok-clause-works : goal.returns-in-Ok-clause-works
 returns-in-Ok-clause-works g c =
-    front_works c.args.draft.now.disks.items c.first.ensures.attached
+    front_works c.args.draft.now.disks.items c.first.ensures.calls.attached
     (first_front c.args.draft.now.disks.items _ _ (c.deref.ensures.value ∙ c.requires.lists.members)
-    (subst AreNumbered (sym (c.deref.ensures.value ∙ c.requires.lists.members)) (members_numbered c.args.draft.now c.requires.agrees)) c.first.ensures.runs)
+    (subst AreNumbered (sym (c.deref.ensures.value ∙ c.requires.lists.members)) (members_numbered c.args.draft.now c.requires.agrees)) c.first.ensures.calls.runs)
 
 pub returns-in-Err-clause-works : goal.returns-in-Err-clause-works
 returns-in-Err-clause-works g c =
-    front_works c.args.draft.now.disks.items c.first.ensures.attached
+    front_works c.args.draft.now.disks.items c.first.ensures.calls.attached
     (first_front c.args.draft.now.disks.items _ _ (c.deref.ensures.value ∙ c.requires.lists.members)
-    (subst AreNumbered (sym (c.deref.ensures.value ∙ c.requires.lists.members)) (members_numbered c.args.draft.now c.requires.agrees)) c.first.ensures.runs)
+    (subst AreNumbered (sym (c.deref.ensures.value ∙ c.requires.lists.members)) (members_numbered c.args.draft.now c.requires.agrees)) c.first.ensures.calls.runs)
 
 pub returns-in-Ok-clause-register : goal.returns-in-Ok-clause-register
 returns-in-Ok-clause-register g c = c.in-Ok.ensures.register ∙ ap (first_register c.args.draft.now.status) (c.deref.ensures.value ∙ c.requires.lists.members)

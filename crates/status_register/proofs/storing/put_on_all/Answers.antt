@@ -11,7 +11,7 @@ use Rattle.status_register.specs.declared.member.Member.{Member}
 use Rattle.status_register.specs.Tallies.{IsSlotOf}
 use Rattle.status_register.proofs.Filling.{short_sector}
 use Rattle.status_register.proofs.Shown.{same_next_gate}
-use Rattle.status_register.proofs.Ordering.{AreTried, all_in_order, none_tried, row_runs, run_on, tried_on}
+use Rattle.status_register.proofs.Ordering.{AreTried, all_in_order, none_tried, row_calls, run_on, tried_on}
 use Rattle.status_register.proofs.Tallying.{RoseAt, among_get, member_slots}
 use Rattle.status_register.proofs.Taking.{none_have, takes_few, takes_kept, takes_more, kept_among, earlier_slot, next_gate_either}
 use Rattle.status_register.proofs.storing.put_on_all.Goals as goal
@@ -69,18 +69,20 @@ loop-member-preserved g c =
       };
     }
 
-pub returns-clause-took : goal.returns-clause-took
-returns-clause-took g c =
-    subst (λ (l : List Member). AreRead (RoseAt (g.B.Bay.state c.args.bay.now) (g.B.Bay.state c.loop-member.bay)) l c.loop-member.took)
-    (take_all c.loop-member.member-index c.args.members.now c.loop-member-test.false) c.loop-member.invariant.took
-
-pub returns-clause-calls : goal.returns-clause-calls
-returns-clause-calls g c =
-    let few : c.loop-member.member-index ≤ length c.args.members.now = omega arith in
-    all_in_order (next_gate c.args.pair c.args.id) c.args.body.now.bytes (take_all c.loop-member.member-index c.args.members.now c.loop-member-test.false) few c.loop-member.invariant.calls
-
-pub returns-clause-row : goal.returns-clause-row
-returns-clause-row g c =
-    let few : c.loop-member.member-index ≤ length c.args.members.now = omega arith in
-    let all = all_in_order (next_gate c.args.pair c.args.id) c.args.body.now.bytes (take_all c.loop-member.member-index c.args.members.now c.loop-member-test.false) few c.loop-member.invariant.calls in
-    row_runs (next_gate c.args.pair c.args.id) c.args.members.now c.args.body.now.bytes (g.B.Bay.state c.args.bay.now) (g.B.Bay.state c.loop-member.bay) all.runs
+pub returns : goal.returns
+returns g c =
+    let s = g.B.Bay.state c.args.bay.now in
+    let t = g.B.Bay.state c.loop-member.bay in
+    let ms = c.args.members.now in
+    let body = c.args.body.now.bytes in
+    let gate = next_gate c.args.pair c.args.id in
+    let invariant = c.loop-member.invariant in
+    let few : c.loop-member.member-index ≤ length ms = omega arith in
+    let whole = take_all c.loop-member.member-index ms c.loop-member-test.false in
+    let calls = all_in_order gate body whole few invariant.calls in
+    record {
+      took = subst (λ (l : List Member). AreRead (RoseAt s t) l c.loop-member.took) whole invariant.took;
+      done = invariant.done;
+      calls = calls;
+      row = row_calls gate ms body s t calls;
+    }

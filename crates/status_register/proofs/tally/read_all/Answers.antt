@@ -48,12 +48,17 @@ loop-member-preserved g c =
           (joined same-trans c.loop-member.invariant.calls (stops first) (more_slots (λ slot is. (member, among_get ms i none c.loop-member-test.true, is)) c.read_one-tally.ensures.calls));
     }
 
-pub returns-clause-read : goal.returns-clause-read
-returns-clause-read g c =
-    subst (λ (l : List Member). AreRead (RoseAt (g.B.Bay.state c.args.bay.now) (g.B.Bay.state c.loop-member.bay)) l c.loop-member.tally.read)
-    (take_all c.loop-member.member-index c.args.members.now c.loop-member-test.false) c.loop-member.invariant.read
-
-pub returns-clause-calls : goal.returns-clause-calls
-returns-clause-calls g c =
-    let few : c.loop-member.member-index ≤ length c.args.members.now = omega arith in
-    cheaper (record { calls = omega (arith, few); bytes = λ slot. omega arith }) c.loop-member.invariant.calls
+pub returns : goal.returns
+returns g c =
+    let s = g.B.Bay.state c.args.bay.now in
+    let t = g.B.Bay.state c.loop-member.bay in
+    let ms = c.args.members.now in
+    let invariant = c.loop-member.invariant in
+    let few : c.loop-member.member-index ≤ length ms = omega arith in
+    record {
+      read = subst (λ (l : List Member). AreRead (RoseAt s t) l c.loop-member.tally.read)
+          (take_all c.loop-member.member-index ms c.loop-member-test.false) invariant.read;
+      own = invariant.own;
+      says = invariant.says;
+      calls = cheaper (record { calls = omega (arith, few); bytes = λ slot. omega arith }) invariant.calls;
+    }

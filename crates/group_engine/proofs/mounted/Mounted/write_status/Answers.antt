@@ -7,7 +7,6 @@ use Rattle.bay.specs.State.{IsSound}
 use Rattle.rebalance.specs.catalog_tables.Placing.{HasUnits}
 use Rattle.asm_base.specs.declared.refusal.Refusal.TheVariants as cause
 use Rattle.status_register.specs.Holders.{HoldSlots, SlotsDiffer}
-use Rattle.group_engine.specs.Dropping.{HasWritten}
 use Rattle.group_engine.specs.Mounts.{IsMounted, IsReady, IsWhole, MountedGroup}
 use Rattle.group_engine.specs.Statuses.{IsNextOf, WritesStatus}
 use Rattle.group_engine.proofs.Records.{record_parts}
@@ -46,9 +45,7 @@ forget_others-requires-clause-kept g c =
     let t = g.B.Bay.state c.write.new.bay in
     let was = seen c.self.inside in
     let next = c.args.next.now in
-    let e = c.write.ensures in
-    let written : HasWritten was.register next c.write.result c.write.new.self s t = record { register = e.register; allowed = e.allowed; reaches = e.reaches; answered = e.answer; runs = e.runs; history = e.history; attached = e.attached } in
-    keeps_over_row was was.store next s t c.write.result c.write.new.self written (subst (λ (v : MountedGroup). stores.Keeps v.store s) (sym c.self.view_is) c.requires.ready.store)
+    keeps_over_row was was.store next s t c.write.result c.write.new.self c.write.ensures (subst (λ (v : MountedGroup). stores.Keeps v.store s) (sym c.self.view_is) c.requires.ready.store)
 
 pub returns-in-Ok : goal.returns-in-Ok
 returns-in-Ok g c =
@@ -57,12 +54,10 @@ returns-in-Ok g c =
     let was = seen c.self.inside in
     let next = c.args.next.now in
     let sound : IsSound s = g.met.B.Bay.sound c.args.bay.now in
-    let e = c.write.ensures in
     let d = c.ready_disks.ensures in
-    let written : HasWritten was.register next c.write.result c.write.new.self s t = record { register = e.register; allowed = e.allowed; reaches = e.reaches; answered = e.answer; runs = e.runs; history = e.history; attached = e.attached } in
     subst (λ (v : MountedGroup). WritesStatus v next (Ok tt) (record was { catalog = c.apply_disks.new.self; store = c.forget_others.new.store; register = c.write.new.self }) s t) c.self.view_is
     (ends_written was (subst (λ (v : MountedGroup). IsMounted v) (sym c.self.view_is) c.requires.mounted) (subst (λ (v : MountedGroup). IsWhole v) (sym c.self.view_is) c.requires.whole) next s (subst (λ (v : MountedGroup). IsReady v s) (sym c.self.view_is) c.requires.ready) c.apply_disks.new.self
-    (subst (λ (v : MountedGroup). IsNextOf v next) (sym c.self.view_is) c.requires.next) t sound c.write.result c.write.new.self written (c.apply_disks.ensures.tables ∙ d.tables) (c.apply_disks.ensures.shape ∙ d.shape)
+    (subst (λ (v : MountedGroup). IsNextOf v next) (sym c.self.view_is) c.requires.next) t sound c.write.result c.write.new.self c.write.ensures (c.apply_disks.ensures.tables ∙ d.tables) (c.apply_disks.ensures.shape ∙ d.shape)
     (λ same. c.apply_disks.ensures.kept (d.same was.register.value.entries (subst (λ (v : MountedGroup). IsWhole v) (sym c.self.view_is) c.requires.whole).units same).1 ∙ d.units)
     c.in-Ok.field-0 c.in-Ok.is c.apply_disks.ensures.units c.forget_others.new.store
     (subst (λ (named : ℕ). KeepsNamed was.store c.forget_others.new.store was.disks named 64) (ap (λ (r : Status). r.directories) c.next.view_is) c.forget_others.ensures.named) c.forget_others.ensures.kept)
@@ -74,12 +69,10 @@ returns-in-Err g c =
     let was = seen c.self.inside in
     let next = c.args.next.now in
     let sound : IsSound s = g.met.B.Bay.sound c.args.bay.now in
-    let e = c.write.ensures in
     let d = c.ready_disks.ensures in
-    let written : HasWritten was.register next c.write.result c.write.new.self s t = record { register = e.register; allowed = e.allowed; reaches = e.reaches; answered = e.answer; runs = e.runs; history = e.history; attached = e.attached } in
     subst (λ (v : MountedGroup). WritesStatus v next (Err c.dismount.result) c.dismount.new.self s t) c.self.view_is
     (ends_lost was (subst (λ (v : MountedGroup). IsMounted v) (sym c.self.view_is) c.requires.mounted) (subst (λ (v : MountedGroup). IsWhole v) (sym c.self.view_is) c.requires.whole) next s (subst (λ (v : MountedGroup). IsReady v s) (sym c.self.view_is) c.requires.ready) c.ready_disks.new.self
-    (subst (λ (v : MountedGroup). IsNextOf v next) (sym c.self.view_is) c.requires.next) t sound c.write.result c.write.new.self written d.tables d.shape (λ same. d.units)
+    (subst (λ (v : MountedGroup). IsNextOf v next) (sym c.self.view_is) c.requires.next) t sound c.write.result c.write.new.self c.write.ensures d.tables d.shape (λ same. d.units)
     c.in-Err.dead c.dismount.result c.dismount.new.self c.in-Err.is c.dismount.ensures)
 
 pub invariant_of-self-in-Ok : goal.invariant_of-self-in-Ok

@@ -5,7 +5,7 @@ use Rattle.status_register.specs.Holders.{attached_to, HoldSlots, SlotsDiffer}
 use Rattle.status_register.specs.Keeping.{Keeps}
 use Rattle.status_register.specs.Reaching.{Reaches}
 use Rattle.status_register.specs.Registered.{Registered, all_placed}
-use Rattle.status_register.specs.Rows.{HaveStatus, RunsInOrder}
+use Rattle.status_register.specs.Rows.{CallsInOrder, HaveStatus}
 use Rattle.status_register.specs.Slots.{status_gate}
 use Rattle.status_register.specs.Writes.{IsDeadOf, first_holders, first_register}
 use Rattle.status_register.specs.declared.member.Member.{Member}
@@ -37,75 +37,50 @@ write_first-requires-clause-apart g c =
     let places = places_are g (goal.at.write_first-requires-clause-apart g c).After-by_number-places in
     subst SlotsDiffer (sym places) (places_differ r.entries ms c.requires.numbers c.requires.apart)
 
-pub returns-in-Err-clause-cause : goal.returns-in-Err-clause-cause
-returns-in-Err-clause-cause g c =
+pub returns-in-Err : goal.returns-in-Err
+returns-in-Err g c =
     let s = g.B.Bay.state c.args.bay.now in
+    let t = g.B.Bay.state c.write_first.new.bay in
     let r = c.args.value.now in
     let ms = c.args.members.now in
-    let places = places_are g (goal.at.returns-in-Err-clause-cause g c).After-by_number-places in
-    let t = g.B.Bay.state c.write_first.new.bay in
+    let places = places_are g (goal.at.returns-in-Err g c).After-by_number-places in
+    let calls = subst (λ (l : List (Option Member)). CallsInOrder (status_gate r.id) (attached_to l r) (status_spelling r) s t) places c.write_first.ensures.calls in
+    let run = row_runs (status_gate r.id) (first_holders r ms) (status_spelling r) s t calls.runs in
     let dead = subst (λ (l : List (Option Member)). IsDeadOf (attached_to l r) c.in-Err.dead.slot s t) places c.in-Err.ensures.cause in
-    (first_slot r ms c.requires.numbers c.in-Err.dead.slot dead.0, dead.1)
+    record {
+      register = tt;
+      ready = tt;
+      reaches = tt;
+      shown = tt;
+      cause = (first_slot r ms c.requires.numbers c.in-Err.dead.slot dead.0, dead.1);
+      calls = calls;
+      history = λ slots enough before. record { moments = first_fits s t (g.met.B.Bay.sound c.args.bay.now) r c.requires.status ms c.requires.numbers c.requires.slots run slots before; after = tt };
+    }
 
-pub returns-in-Err-clause-runs : goal.returns-in-Err-clause-runs
-returns-in-Err-clause-runs g c =
+pub returns-in-Ok : goal.returns-in-Ok
+returns-in-Ok g c =
     let s = g.B.Bay.state c.args.bay.now in
-    let r = c.args.value.now in
-    let ms = c.args.members.now in
-    let places = places_are g (goal.at.returns-in-Err-clause-runs g c).After-by_number-places in
     let t = g.B.Bay.state c.write_first.new.bay in
-    subst (λ (l : List (Option Member)). RunsInOrder (status_gate r.id) (attached_to l r) (status_spelling r) s t) places c.write_first.ensures.calls.runs
-
-pub returns-in-Err-clause-history : goal.returns-in-Err-clause-history
-returns-in-Err-clause-history g c =
-    let s = g.B.Bay.state c.args.bay.now in
     let r = c.args.value.now in
     let ms = c.args.members.now in
-    let places = places_are g (goal.at.returns-in-Err-clause-history g c).After-by_number-places in
-    let t = g.B.Bay.state c.write_first.new.bay in
-    let run = row_runs (status_gate r.id) (first_holders r ms) (status_spelling r) s t (subst (λ (l : List (Option Member)). RunsInOrder (status_gate r.id) (attached_to l r) (status_spelling r) s t) places c.write_first.ensures.calls.runs) in
-    λ slots enough before. record { moments = first_fits s t (g.met.B.Bay.sound c.args.bay.now) r c.requires.status ms c.requires.numbers c.requires.slots run slots before; after = tt }
-
-pub returns-in-Ok-clause-ready : goal.returns-in-Ok-clause-ready
-returns-in-Ok-clause-ready g c =
-    let s = g.B.Bay.state c.args.bay.now in
-    let r = c.args.value.now in
-    let ms = c.args.members.now in
-    let places = places_are g (goal.at.returns-in-Ok-clause-ready g c).After-by_number-places in
-    let t = g.B.Bay.state c.write_first.new.bay in
-    let made : Registered = record { id = c.value.inside.id; members = c.by_number-places.result; value = c.copy.result; epoch = c.value.inside.epoch; turn = c.value.inside.turn; is_fresh = false } in
-    places_ready r.entries ms c.requires.numbers s t made places c.requires.slots c.requires.apart c.write_first.ensures.calls.attached
-
-pub returns-in-Ok-clause-reaches : goal.returns-in-Ok-clause-reaches
-returns-in-Ok-clause-reaches g c =
-    let r = c.args.value.now in
-    let ms = c.args.members.now in
-    let places = places_are g (goal.at.returns-in-Ok-clause-reaches g c).After-by_number-places in
-    λ enough. subst (λ (v : Status). Reaches c.by_number-places.result v) (sym c.copy.ensures)
-    (subst (λ (l : List (Option Member)). Reaches l r) (sym places) (placed_reach r ms ms c.requires.numbers (λ m h. h) enough))
-
-pub returns-in-Ok-clause-shown : goal.returns-in-Ok-clause-shown
-returns-in-Ok-clause-shown g c =
-    let s = g.B.Bay.state c.args.bay.now in
-    let r = c.args.value.now in
-    let ms = c.args.members.now in
-    let places = places_are g (goal.at.returns-in-Ok-clause-shown g c).After-by_number-places in
-    let t = g.B.Bay.state c.write_first.new.bay in
-    holders_show r ms c.requires.numbers s t c.requires.holders (subst (λ (l : List (Option Member)). Ends (HaveStatus (status_spelling r) (attached_to l r)) s t) places c.in-Ok.ensures.done)
-
-pub returns-in-Ok-clause-history : goal.returns-in-Ok-clause-history
-returns-in-Ok-clause-history g c =
-    let s = g.B.Bay.state c.args.bay.now in
-    let r = c.args.value.now in
-    let ms = c.args.members.now in
-    let places = places_are g (goal.at.returns-in-Ok-clause-history g c).After-by_number-places in
-    let t = g.B.Bay.state c.write_first.new.bay in
-    let run = row_runs (status_gate r.id) (first_holders r ms) (status_spelling r) s t (subst (λ (l : List (Option Member)). RunsInOrder (status_gate r.id) (attached_to l r) (status_spelling r) s t) places c.write_first.ensures.calls.runs) in
+    let sound = g.met.B.Bay.sound c.args.bay.now in
+    let places = places_are g (goal.at.returns-in-Ok g c).After-by_number-places in
+    let calls = subst (λ (l : List (Option Member)). CallsInOrder (status_gate r.id) (attached_to l r) (status_spelling r) s t) places c.write_first.ensures.calls in
+    let run = row_runs (status_gate r.id) (first_holders r ms) (status_spelling r) s t calls.runs in
     let done = subst (λ (l : List (Option Member)). Ends (HaveStatus (status_spelling r) (attached_to l r)) s t) places c.in-Ok.ensures.done in
     let made : Registered = record { id = c.value.inside.id; members = c.by_number-places.result; value = c.copy.result; epoch = c.value.inside.epoch; turn = c.value.inside.turn; is_fresh = false } in
     let made_is : made ≡ first_register r ms = λ i. record { id = (c.value.view_is i).id; members = places i; value = c.copy.ensures i; epoch = (c.value.view_is i).epoch; turn = (c.value.view_is i).turn; is_fresh = false } in
-    λ slots enough before. record {
-      moments = first_fits s t (g.met.B.Bay.sound c.args.bay.now) r c.requires.status ms c.requires.numbers c.requires.slots run slots before;
-      after = subst (λ (register : Registered). Keeps slots register (Some r) [] t) (sym made_is)
-          (first_completed s t (g.met.B.Bay.sound c.args.bay.now) r c.requires.status ms c.requires.numbers c.requires.slots run slots before done enough);
+    record {
+      register = made_is;
+      ready = places_ready r.entries ms c.requires.numbers s t made places c.requires.slots c.requires.apart calls.attached;
+      reaches = λ enough. subst (λ (v : Status). Reaches c.by_number-places.result v) (sym c.copy.ensures)
+          (subst (λ (l : List (Option Member)). Reaches l r) (sym places) (placed_reach r ms ms c.requires.numbers (λ m h. h) enough));
+      shown = holders_show r ms c.requires.numbers s t c.requires.holders done;
+      cause = tt;
+      calls = calls;
+      history = λ slots enough before. record {
+        moments = first_fits s t sound r c.requires.status ms c.requires.numbers c.requires.slots run slots before;
+        after = subst (λ (register : Registered). Keeps slots register (Some r) [] t) (sym made_is)
+            (first_completed s t sound r c.requires.status ms c.requires.numbers c.requires.slots run slots before done enough);
+      };
     }

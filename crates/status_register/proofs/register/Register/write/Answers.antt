@@ -44,81 +44,53 @@ pub write_record-requires-clause-majority : goal.write_record-requires-clause-ma
 write_record-requires-clause-majority g c =
     (given g (goal.at.write_record-requires-clause-majority g c).After-renumbered-status (g.B.Bay.state c.args.bay.now)).majority c.requires.majority
 
-pub returns-in-Err-clause-answer : goal.returns-in-Err-clause-answer
-returns-in-Err-clause-answer g c =
-    (given g (goal.at.returns-in-Err-clause-answer g c).After-renumbered-status (g.B.Bay.state c.write_record.new.bay)).answer (Err c.in-Err.dead) c.in-Err.ensures.answer
-
-pub returns-in-Err-clause-calls : goal.returns-in-Err-clause-calls
-returns-in-Err-clause-calls g c =
-    ((given g (goal.at.returns-in-Err-clause-calls g c).After-renumbered-status (g.B.Bay.state c.write_record.new.bay)).calls c.write_record.ensures.calls).calls
-
-pub returns-in-Err-clause-runs : goal.returns-in-Err-clause-runs
-returns-in-Err-clause-runs g c =
-    ((given g (goal.at.returns-in-Err-clause-runs g c).After-renumbered-status (g.B.Bay.state c.write_record.new.bay)).calls c.write_record.ensures.calls).runs
-
-pub returns-in-Err-clause-allowed : goal.returns-in-Err-clause-allowed
-returns-in-Err-clause-allowed g c = allowed g (goal.at.returns-in-Err-clause-allowed g c).After-renumbered-status
-
-pub returns-in-Err-clause-history : goal.returns-in-Err-clause-history
-returns-in-Err-clause-history g c =
+pub returns-in-Err : goal.returns-in-Err
+returns-in-Err g c =
     let s = g.B.Bay.state c.args.bay.now in
     let t = g.B.Bay.state c.write_record.new.bay in
     let old = c.args.self.now in
     let next = c.args.next.now in
-    let place = (goal.at.returns-in-Err-clause-history g c).After-renumbered-status in
+    let place = (goal.at.returns-in-Err g c).After-renumbered-status in
     let said = given g place t in
-    let run = row_runs (status_gate old.id) (attached_to old.members next) (status_spelling (numbered old next)) s t (said.calls c.write_record.ensures.calls).runs in
+    let calls = said.calls c.write_record.ensures.calls in
+    let answer = said.answer (Err c.in-Err.dead) c.in-Err.ensures.answer in
+    let run = row_runs (status_gate old.id) (attached_to old.members next) (status_spelling (numbered old next)) s t calls.runs in
     let made : Registered = record { id = c.self.inside.id; members = c.self.inside.members; value = c.self.inside.value; epoch = c.self.inside.epoch; turn = c.saturating_add-turn.result; is_fresh = c.self.inside.is_fresh } in
     let made_is : made ≡ after_write old next (Err c.in-Err.dead) = λ i. record (c.self.view_is i) { turn = turn_is g place i } in
-    λ slots completed begun room keeps. subst (λ (r : Registered). KeepsOn old next (Err c.in-Err.dead) r s t slots completed begun) (sym made_is)
-    (written s t (g.met.B.Bay.sound c.args.bay.now) old next (allowed g place) c.requires.group c.requires.follows c.requires.fresh c.requires.slots run slots completed begun room keeps (Err c.in-Err.dead) (said.answer (Err c.in-Err.dead) c.in-Err.ensures.answer))
+    record {
+      answer = answer;
+      shown = tt;
+      failed = tt;
+      register = made_is;
+      allowed = allowed g place;
+      reaches = tt;
+      calls = calls;
+      history = λ slots completed begun room keeps. subst (λ (r : Registered). KeepsOn old next (Err c.in-Err.dead) r s t slots completed begun) (sym made_is)
+          (written s t (g.met.B.Bay.sound c.args.bay.now) old next (allowed g place) c.requires.group c.requires.follows c.requires.fresh c.requires.slots run slots completed begun room keeps (Err c.in-Err.dead) answer);
+    }
 
-pub returns-in-Ok-clause-answer : goal.returns-in-Ok-clause-answer
-returns-in-Ok-clause-answer g c =
-    (given g (goal.at.returns-in-Ok-clause-answer g c).After-renumbered-status (g.B.Bay.state c.write_record.new.bay)).answer (Ok c.in-Ok.failed) c.in-Ok.ensures.answer
-
-pub returns-in-Ok-clause-calls : goal.returns-in-Ok-clause-calls
-returns-in-Ok-clause-calls g c =
-    ((given g (goal.at.returns-in-Ok-clause-calls g c).After-renumbered-status (g.B.Bay.state c.write_record.new.bay)).calls c.write_record.ensures.calls).calls
-
-pub returns-in-Ok-clause-runs : goal.returns-in-Ok-clause-runs
-returns-in-Ok-clause-runs g c =
-    ((given g (goal.at.returns-in-Ok-clause-runs g c).After-renumbered-status (g.B.Bay.state c.write_record.new.bay)).calls c.write_record.ensures.calls).runs
-
-pub returns-in-Ok-clause-allowed : goal.returns-in-Ok-clause-allowed
-returns-in-Ok-clause-allowed g c = allowed g (goal.at.returns-in-Ok-clause-allowed g c).After-renumbered-status
-
-pub returns-in-Ok-clause-history : goal.returns-in-Ok-clause-history
-returns-in-Ok-clause-history g c =
+pub returns-in-Ok : goal.returns-in-Ok
+returns-in-Ok g c =
     let s = g.B.Bay.state c.args.bay.now in
     let t = g.B.Bay.state c.write_record.new.bay in
     let old = c.args.self.now in
     let next = c.args.next.now in
-    let place = (goal.at.returns-in-Ok-clause-history g c).After-renumbered-status in
+    let ms = attached_to old.members next in
+    let place = (goal.at.returns-in-Ok g c).After-renumbered-status in
     let said = given g place t in
-    let run = row_runs (status_gate old.id) (attached_to old.members next) (status_spelling (numbered old next)) s t (said.calls c.write_record.ensures.calls).runs in
+    let calls = said.calls c.write_record.ensures.calls in
+    let answer = said.answer (Ok c.in-Ok.failed) c.in-Ok.ensures.answer in
+    let run = row_runs (status_gate old.id) ms (status_spelling (numbered old next)) s t calls.runs in
     let made : Registered = record { id = c.self.inside.id; members = c.self.inside.members; value = c.renumbered-status.result; epoch = c.self.inside.epoch; turn = c.saturating_add-turn.result; is_fresh = false } in
     let made_is : made ≡ after_write old next (Ok c.in-Ok.failed) = λ i. record (c.self.view_is i) { value = status_is g place i; turn = turn_is g place i; is_fresh = false } in
-    λ slots completed begun room keeps. subst (λ (r : Registered). KeepsOn old next (Ok c.in-Ok.failed) r s t slots completed begun) (sym made_is)
-    (written s t (g.met.B.Bay.sound c.args.bay.now) old next (allowed g place) c.requires.group c.requires.follows c.requires.fresh c.requires.slots run slots completed begun room keeps (Ok c.in-Ok.failed) (said.answer (Ok c.in-Ok.failed) c.in-Ok.ensures.answer))
-
-pub returns-in-Ok-clause-shown : goal.returns-in-Ok-clause-shown
-returns-in-Ok-clause-shown g c =
-    let old = c.args.self.now in
-    let next = c.args.next.now in
-    let answer = (given g (goal.at.returns-in-Ok-clause-shown g c).After-renumbered-status (g.B.Bay.state c.write_record.new.bay)).answer (Ok c.in-Ok.failed) c.in-Ok.ensures.answer in
-    show_but (g.B.Bay.state c.args.bay.now) (g.B.Bay.state c.write_record.new.bay) (numbered old next) (attached_to old.members next) answer.0 c.in-Ok.failed (λ m h. (are_holders old.members next m h).0) answer.2 answer.3.1
-
-pub returns-in-Ok-clause-failed : goal.returns-in-Ok-clause-failed
-returns-in-Ok-clause-failed g c =
-    let answer = (given g (goal.at.returns-in-Ok-clause-failed g c).After-renumbered-status (g.B.Bay.state c.write_record.new.bay)).answer (Ok c.in-Ok.failed) c.in-Ok.ensures.answer in
-    failed_alone (g.B.Bay.state c.args.bay.now) (g.B.Bay.state c.write_record.new.bay) (attached_to c.args.self.now.members c.args.next.now) answer.0 c.in-Ok.failed answer.1 answer.3.1
-
-pub returns-in-Ok-clause-reaches : goal.returns-in-Ok-clause-reaches
-returns-in-Ok-clause-reaches g c =
-    let old = c.args.self.now in
-    let next = c.args.next.now in
-    let place = (goal.at.returns-in-Ok-clause-reaches g c).After-renumbered-status in
-    let made : Registered = record { id = c.self.inside.id; members = c.self.inside.members; value = c.renumbered-status.result; epoch = c.self.inside.epoch; turn = c.saturating_add-turn.result; is_fresh = false } in
-    let made_is : made ≡ after_write old next (Ok c.in-Ok.failed) = λ i. record (c.self.view_is i) { value = status_is g place i; turn = turn_is g place i; is_fresh = false } in
-    subst (λ (r : Registered). Reaches r.members r.value) (sym made_is) (written_reaches old next c.requires.majority)
+    record {
+      answer = answer;
+      shown = show_but s t (numbered old next) ms answer.0 c.in-Ok.failed (λ m h. (are_holders old.members next m h).0) answer.2 answer.3.1;
+      failed = failed_alone s t ms answer.0 c.in-Ok.failed answer.1 answer.3.1;
+      register = made_is;
+      allowed = allowed g place;
+      reaches = subst (λ (r : Registered). Reaches r.members r.value) (sym made_is) (written_reaches old next c.requires.majority);
+      calls = calls;
+      history = λ slots completed begun room keeps. subst (λ (r : Registered). KeepsOn old next (Ok c.in-Ok.failed) r s t slots completed begun) (sym made_is)
+          (written s t (g.met.B.Bay.sound c.args.bay.now) old next (allowed g place) c.requires.group c.requires.follows c.requires.fresh c.requires.slots run slots completed begun room keeps (Ok c.in-Ok.failed) answer);
+    }

@@ -3,17 +3,17 @@ use Rattle.status_register.proofs.Answering.{answered, judged}
 use Rattle.status_register.proofs.Tallying.{RoseAt}
 use Rattle.status_register.proofs.survey.Survey.read.Goals as goal
 
-pub returns-clause-answer : goal.returns-clause-answer
-returns-clause-answer g c =
-    answered (g.B.Bay.state c.args.bay.now) (g.B.Bay.state c.read_all-tally.new.bay) c.args.id c.args.members.now c.read_all-tally.result c.judge.result
-    c.read_all-tally.ensures.read c.read_all-tally.ensures.says c.judge.ensures
-
-pub returns-clause-surveyed : goal.returns-clause-surveyed
-returns-clause-surveyed g c = judged c.args.id c.args.members.now c.read_all-tally.result c.judge.result c.judge.ensures
-
-pub returns-clause-own : goal.returns-clause-own
-returns-clause-own g c = value_own c.args.id c.args.members.now c.read_all-tally.result c.judge.result c.judge.ensures c.read_all-tally.ensures.own
-
-pub returns-clause-seen : goal.returns-clause-seen
-returns-clause-seen g c =
-    answer_read (RoseAt (g.B.Bay.state c.args.bay.now) (g.B.Bay.state c.read_all-tally.new.bay)) c.args.id c.args.members.now c.read_all-tally.result c.judge.result c.judge.ensures c.read_all-tally.ensures.read
+pub returns : goal.returns
+returns g c =
+    let s = g.B.Bay.state c.args.bay.now in
+    let t = g.B.Bay.state c.read_all-tally.new.bay in
+    let ms = c.args.members.now in
+    let tally = c.read_all-tally.result in
+    let said = c.read_all-tally.ensures in
+    record {
+      answer = answered s t c.args.id ms tally c.judge.result said.read said.says c.judge.ensures;
+      surveyed = judged c.args.id ms tally c.judge.result c.judge.ensures;
+      own = value_own c.args.id ms tally c.judge.result c.judge.ensures said.own;
+      seen = answer_read (RoseAt s t) c.args.id ms tally c.judge.result c.judge.ensures said.read;
+      calls = said.calls;
+    }

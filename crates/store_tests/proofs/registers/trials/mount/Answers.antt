@@ -8,7 +8,7 @@ use Rattle.store_tests.proofs.registers.trials.mount.Goals as goal
 
 pub claim-requires-clause-slots : goal.claim-requires-clause-slots
 claim-requires-clause-slots g c = subst (λ (l : List Member). HaveSlots (g.B.Bay.state c.read.new.bay) l) (sym c.in-Ok.ensures.surveyed.1)
-    (λ m h. still_slots (c.attach_all.ensures c.if-not-attach_all.false m h) c.read.ensures.attached)
+    (λ m h. still_slots (c.attach_all.ensures c.if-not-attach_all.false m h) c.read.ensures.calls.attached)
 
 pub claim-requires-clause-apart : goal.claim-requires-clause-apart
 claim-requires-clause-apart g c = subst AreApart (sym c.in-Ok.ensures.surveyed.1) (c.may_be_members.ensures.apart c.if-not-may_be_members.false)
